@@ -1,0 +1,6 @@
+pub mod Keys
+pub mod Placed
+pub mod Users
+pub mod Shown
+pub mod Cells
+pub mod Names

@@ -1,0 +1,29 @@
+-- What each kind of cell shows, and the room that is reserved in it, which nobody sees.
+use Rattle.std.specs.Prelude.{ℕ, List, Option}
+use Rattle.dbtg_cells.specs.declared.key.DbKey.{DbKey}
+use Rattle.dbtg_cells.specs.declared.usage.Mode.{Mode}
+use Rattle.dbtg_cells.specs.declared.extent.Number.{Number}
+use Rattle.dbtg_cells.specs.declared.ring.Occurrence.{Occurrence}
+use Rattle.dbtg_cells.specs.declared.slot.Stored.{Stored}
+
+-- who has an area open, in the order of opening; room for further ones
+pub record UsageView : Type 0 where
+  pub users : List (ℕ × Mode)
+  pub room : ℕ
+
+-- the numbers of a record type, from 1; room for further live ones
+pub record ExtentView : Type 0 where
+  pub numbers : List Number
+  pub room : ℕ
+
+-- an occurrence, or none; the keys for which there is a place
+pub record RingView : Type 0 where
+  pub occurrence : Option Occurrence
+  pub reserved : List DbKey
+
+-- what a cell shows
+pub data CellValue : Type 0 where
+  UsageValue : List (ℕ × Mode) → CellValue
+  ExtentValue : List Number → CellValue
+  RingValue : Option Occurrence → CellValue
+  SlotValue : Option Stored → CellValue

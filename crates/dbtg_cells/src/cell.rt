@@ -1,0 +1,13 @@
+use crate::extent::Extent;
+use crate::ring::Ring;
+use crate::slot::Slot;
+use crate::usage::Usage;
+
+/// What a run-unit takes, holds and gives back.
+#[derive(Drop)]
+pub enum Cell {
+    Usage(Usage),
+    Extent(Extent),
+    Ring(Ring),
+    Slot(Slot),
+}

@@ -1,0 +1,4 @@
+pub mod Lists
+pub mod Lookups
+pub mod Closure
+pub mod Structure

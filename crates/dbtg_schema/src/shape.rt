@@ -1,0 +1,91 @@
+use std::marker::Model;
+use crate::numbers::{AreaNo, ItemNo, RecordNo, SetNo};
+use crate::row::Row;
+
+#[derive(Clone, Copy, Debug, PartialEq, Eq)]
+pub enum Picture {
+    /// 9(n)
+    Number(u8),
+    /// X(n)
+    Text(u8),
+}
+
+#[derive(Drop)]
+pub struct Area {
+    pub name: Row<u8>,
+}
+
+#[derive(Drop)]
+pub struct Item {
+    pub name: Row<u8>,
+    pub picture: Picture,
+}
+
+#[derive(Drop)]
+pub struct Calc {
+    pub items: Row<ItemNo>,
+    pub duplicates_allowed: bool,
+}
+
+#[derive(Drop)]
+pub struct RecordType {
+    pub name: Row<u8>,
+    pub area: AreaNo,
+    pub items: Row<Item>,
+    pub calc: Option<Calc>,
+}
+
+#[derive(Clone, Copy, Debug, PartialEq, Eq)]
+pub enum Duplicates {
+    First,
+    Last,
+    NotAllowed,
+}
+
+#[derive(Clone, Copy, Debug, PartialEq, Eq)]
+pub enum Order {
+    First,
+    Last,
+    Next,
+    Prior,
+    Sorted { ascending: bool, duplicates: Duplicates },
+}
+
+#[derive(Clone, Copy, Debug, PartialEq, Eq)]
+pub enum Class {
+    MandatoryAutomatic,
+    MandatoryManual,
+    OptionalAutomatic,
+    OptionalManual,
+}
+
+#[derive(Clone, Copy, Debug, PartialEq, Eq)]
+pub struct Member {
+    pub rtype: RecordNo,
+    pub class: Class,
+    pub key: Option<ItemNo>,
+}
+
+#[derive(Drop)]
+pub struct SetType {
+    pub name: Row<u8>,
+    pub order: Order,
+    pub owner: Option<RecordNo>,
+    pub members: Row<Member>,
+}
+
+#[derive(Drop)]
+pub struct Schema {
+    name: Row<u8>,
+    areas: Row<Area>,
+    types: Row<RecordType>,
+    sets: Row<SetType>,
+}
+
+impl Model for Schema {
+    ghost use Rattle.dbtg_schema.specs.Lists.{Lists};
+
+    ghost Value = { Lists };
+
+    ghost view = { λ a. record { name = a.name; areas = a.areas; types = a.types; sets = a.sets } };
+}

@@ -1,0 +1,13 @@
+pub mod Schemas
+pub mod RowOne
+pub mod RowSix
+pub mod RowsMore
+pub mod Listing
+pub mod KeyLemmas
+pub mod OpenLegal
+pub mod StoreLegal
+pub mod RemoveLocal
+pub mod Determined
+pub mod Rows
+pub mod Sets
+pub mod Orders

@@ -1,0 +1,159 @@
+-- The checks of a statement that need the unit alone.
+use Rattle.std.specs.Prelude.{ℕ, Bool, true, false, not, ◌&&◌, ◌==◌, nat_lt, List, [], ◌∷◌, Option, Some, None, is_none, is_some, map, option_map, option_and_then, unwrap_or}
+use Rattle.std.specs.List.{list_any}
+use Rattle.dbtg_schema.specs.Lists.{Lists}
+use Rattle.dbtg_schema.specs.declared.shape.Class.{Class}
+use Rattle.dbtg_cells.specs.declared.key.DbKey.{DbKey}
+use Rattle.dbtg_cells.specs.declared.usage.Mode.{Mode}
+use Rattle.dbtg_cells.specs.declared.usage.Mode.TheVariants.{Retrieval, Update, ProtectedRetrieval, ProtectedUpdate, ExclusiveRetrieval, ExclusiveUpdate}
+use Rattle.dbtg_unit.specs.declared.statement.Form.{Form}
+use Rattle.dbtg_unit.specs.declared.statement.Form.TheVariants.{Key, CurrentOfUnit, CurrentOfType, CurrentOfSet, CurrentOfArea, InSet, InArea, OwnerOf, Calc, NextDuplicate, Sorted}
+use Rattle.dbtg_unit.specs.declared.statement.Statement.{Statement}
+use Rattle.dbtg_unit.specs.declared.statement.Statement.TheVariants.{OpenArea, CloseArea, Find, Get, Store, Insert, Remove, Modify, Delete, Keep, Free}
+use Rattle.dbtg_unit.specs.declared.unit.Unit.{Unit}
+use Rattle.dbtg_unit.specs.declared.unit.Cause.{Cause}
+use Rattle.dbtg_unit.specs.declared.unit.Cause.TheVariants.{AreaNotOpen, NoSuchCurrent, UpdateModeNeeded, NoCurrentOfRunUnit, MandatoryAutomatic as MandatoryAutomaticSet, Mandatory, OtherRecordType, NoneSatisfies, AreaAlreadyOpen, NotKept}
+use Rattle.dbtg_schema.specs.Lookups.{at, some_and, first_cause}
+use Rattle.dbtg_unit.specs.Units.{place_in, key_of_place, kept_version}
+use Rattle.dbtg_unit.specs.Found.{needs_position}
+use Rattle.dbtg_schema.specs.Structure.{area_of, automatic_sets, erase_areas, home, is_automatic, is_mandatory, member_clause, rekeyed_sets, set_member_types}
+
+abbrev pub is_update : Mode → Bool
+is_update Retrieval = false
+is_update Update = true
+is_update ProtectedRetrieval = false
+is_update ProtectedUpdate = true
+is_update ExclusiveRetrieval = false
+is_update ExclusiveUpdate = true
+
+-- the type of the current of run-unit
+abbrev pub current_type : Unit → Option ℕ
+current_type unit = option_map (λ k. k.rtype) unit.currency.run_unit
+
+abbrev pub area_of_current : Lists → Option DbKey → List ℕ
+area_of_current schema None = []
+area_of_current schema (Some k) = area_of schema k.rtype ∷ []
+
+-- the areas of a FIND
+abbrev pub find_areas : Lists → Unit → Form → List ℕ
+find_areas schema unit (Key k) = area_of schema k.rtype ∷ []
+find_areas schema unit CurrentOfUnit = area_of_current schema unit.currency.run_unit
+find_areas schema unit (CurrentOfType r) = area_of schema r ∷ []
+find_areas schema unit (CurrentOfSet s) = area_of_current schema (option_and_then key_of_place (place_in schema unit s))
+find_areas schema unit (CurrentOfArea a) = area_of_current schema (at unit.currency.areas a)
+find_areas schema unit (InSet which r s) = home schema s ∷ map (area_of schema) (unwrap_or (option_map (λ t. t ∷ []) r) (set_member_types schema s))
+find_areas schema unit (InArea which r a) = a ∷ []
+find_areas schema unit (OwnerOf s) = home schema s ∷ []
+find_areas schema unit (Calc r values) = area_of schema r ∷ []
+find_areas schema unit (NextDuplicate r) = area_of schema r ∷ []
+find_areas schema unit (Sorted value s) = home schema s ∷ map (area_of schema) (set_member_types schema s)
+
+-- the areas of a statement
+abbrev pub areas_of : Lists → Unit → Statement → List ℕ
+areas_of schema unit (OpenArea a mode) = a ∷ []
+areas_of schema unit (CloseArea a) = a ∷ []
+areas_of schema unit (Find form suppress) = find_areas schema unit form
+areas_of schema unit (Get r) = area_of_current schema unit.currency.run_unit
+areas_of schema unit (Store r items suppress) = area_of schema r ∷ map (home schema) (automatic_sets schema r)
+areas_of schema unit (Insert s) = home schema s ∷ area_of_current schema unit.currency.run_unit
+areas_of schema unit (Remove s) = home schema s ∷ area_of_current schema unit.currency.run_unit
+areas_of schema unit (Modify r changes) = area_of schema r ∷ map (home schema) (rekeyed_sets schema r (map (λ c. c.item) changes))
+areas_of schema unit (Delete option) = unwrap_or (option_map (erase_areas schema) (current_type unit)) []
+areas_of schema unit Keep = area_of_current schema unit.currency.run_unit
+areas_of schema unit (Free all) = []
+
+-- GET, INSERT, REMOVE, MODIFY, DELETE, KEEP, FREE without ALL and FIND CURRENT OF RUN-UNIT
+abbrev pub needs_current : Statement → Bool
+needs_current (OpenArea a mode) = false
+needs_current (CloseArea a) = false
+needs_current (Find CurrentOfUnit suppress) = true
+needs_current (Find form suppress) = false
+needs_current (Get r) = true
+needs_current (Store r items suppress) = false
+needs_current (Insert s) = true
+needs_current (Remove s) = true
+needs_current (Modify r changes) = true
+needs_current (Delete option) = true
+needs_current Keep = true
+needs_current (Free all) = not all
+
+-- whether a statement that needs the current of run-unit may have one of type t
+abbrev pub accepts_type : Lists → Statement → ℕ → Bool
+accepts_type schema (Get (Some r)) t = t == r
+accepts_type schema (Modify r changes) t = t == r
+accepts_type schema (Insert s) t = is_some (member_clause schema s t)
+accepts_type schema (Remove s) t = is_some (member_clause schema s t)
+accepts_type schema _ t = true
+
+-- the class of the current of run-unit in the set of an INSERT or REMOVE
+abbrev pub class_in : Lists → Unit → ℕ → Option Class
+class_in schema unit s = option_and_then (λ t. option_map (λ m. m.class) (member_clause schema s t)) (current_type unit)
+
+abbrev pub is_inserting_mandatory_automatic : Lists → Unit → Statement → Bool
+is_inserting_mandatory_automatic schema unit (Insert s) = some_and (λ c. is_mandatory c && is_automatic c) (class_in schema unit s)
+is_inserting_mandatory_automatic schema unit _ = false
+
+abbrev pub is_removing_mandatory : Lists → Unit → Statement → Bool
+is_removing_mandatory schema unit (Remove s) = some_and is_mandatory (class_in schema unit s)
+is_removing_mandatory schema unit _ = false
+
+abbrev pub is_opening_again : Unit → Statement → Bool
+is_opening_again unit (OpenArea a mode) = is_some (at unit.modes a)
+is_opening_again unit _ = false
+
+-- a FIND whose current is null
+abbrev pub find_lacks_current : Lists → Unit → Form → Bool
+find_lacks_current schema unit (Key k) = false
+find_lacks_current schema unit CurrentOfUnit = false
+find_lacks_current schema unit (CurrentOfType r) = is_none (at unit.currency.types r)
+find_lacks_current schema unit (CurrentOfSet s) = is_none (option_and_then key_of_place (place_in schema unit s))
+find_lacks_current schema unit (CurrentOfArea a) = is_none (at unit.currency.areas a)
+find_lacks_current schema unit (InSet which r s) = is_none (place_in schema unit s)
+find_lacks_current schema unit (InArea which r a) = needs_position which && is_none (at unit.currency.areas a)
+find_lacks_current schema unit (OwnerOf s) = is_none (place_in schema unit s)
+find_lacks_current schema unit (Calc r values) = false
+find_lacks_current schema unit (NextDuplicate r) = is_none (at unit.currency.types r)
+find_lacks_current schema unit (Sorted value s) = is_none (place_in schema unit s)
+
+abbrev pub lacks_current : Lists → Unit → Statement → Bool
+lacks_current schema unit (Find form suppress) = find_lacks_current schema unit form
+lacks_current schema unit (Store r items suppress) = list_any (λ s. is_none (place_in schema unit s)) (automatic_sets schema r)
+lacks_current schema unit (Insert s) = is_none (place_in schema unit s)
+lacks_current schema unit _ = false
+
+abbrev pub is_open_statement : Statement → Bool
+is_open_statement (OpenArea a mode) = true
+is_open_statement _ = false
+
+abbrev pub changes_records : Statement → Bool
+changes_records (Store r items suppress) = true
+changes_records (Insert s) = true
+changes_records (Remove s) = true
+changes_records (Modify r changes) = true
+changes_records (Delete option) = true
+changes_records _ = false
+
+abbrev pub is_beyond : ℕ → Statement → Bool
+is_beyond capacity (Find (Key k) suppress) = nat_lt capacity k.number
+is_beyond capacity _ = false
+
+abbrev pub frees_what_is_not_kept : Unit → Statement → Bool
+frees_what_is_not_kept unit (Free false) = is_none (option_and_then (kept_version unit) unit.currency.run_unit)
+frees_what_is_not_kept unit _ = false
+
+-- the first check that applies, of those that need no cell
+abbrev pub refused_at_once : Lists → ℕ → Unit → Statement → Option Cause
+refused_at_once schema capacity unit statement =
+    let areas = areas_of schema unit statement in
+    first_cause (
+      (needs_current statement && is_none unit.currency.run_unit, NoCurrentOfRunUnit)
+      ∷ (some_and (λ t. not (accepts_type schema statement t)) (current_type unit), OtherRecordType)
+      ∷ (is_inserting_mandatory_automatic schema unit statement, MandatoryAutomaticSet)
+      ∷ (is_removing_mandatory schema unit statement, Mandatory)
+      ∷ (is_opening_again unit statement, AreaAlreadyOpen)
+      ∷ (lacks_current schema unit statement, NoSuchCurrent)
+      ∷ (not (is_open_statement statement) && list_any (λ a. is_none (at unit.modes a)) areas, AreaNotOpen)
+      ∷ (changes_records statement && list_any (λ a. not (some_and is_update (at unit.modes a))) areas, UpdateModeNeeded)
+      ∷ (is_beyond capacity statement, NoneSatisfies)
+      ∷ (frees_what_is_not_kept unit statement, NotKept)
+      ∷ [])

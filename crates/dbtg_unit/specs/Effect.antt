@@ -1,0 +1,335 @@
+-- The effect of each statement on a database and a unit.
+use Rattle.std.specs.Prelude.{ℕ, ◌+◌, Bool, true, false, not, ◌&&◌, ◌||◌, ◌==◌, nat_lt, List, [], ◌∷◌, ◌++◌, Option, Some, None, Result, Ok, Err, is_none, is_some, map, filter, length, slice_set, option_map, option_and_then, unwrap_or, if◌then◌else◌}
+use Rattle.std.specs.List.{list_any, range_with_len, flat_map}
+use Rattle.dbtg_schema.specs.Lists.{Lists}
+use Rattle.dbtg_schema.specs.declared.shape.Order.{Order}
+use Rattle.dbtg_schema.specs.declared.shape.Order.TheVariants.{First, Last, Next, Prior, Sorted}
+use Rattle.dbtg_schema.specs.declared.shape.Duplicates.{Duplicates}
+use Rattle.dbtg_schema.specs.declared.shape.Duplicates.TheVariants.{NotAllowed, Last as LastAmongEqual, First as FirstAmongEqual}
+use Rattle.dbtg_cells.specs.declared.key.DbKey.{DbKey}
+use Rattle.dbtg_cells.specs.declared.key.Owner.{Owner}
+use Rattle.dbtg_cells.specs.declared.key.Owner.TheVariants.{System, Rec}
+use Rattle.dbtg_cells.specs.declared.key.Value.{Value}
+use Rattle.dbtg_cells.specs.declared.usage.Mode.{Mode}
+use Rattle.dbtg_cells.specs.declared.usage.Mode.TheVariants.{ProtectedRetrieval, ProtectedUpdate, ExclusiveRetrieval, ExclusiveUpdate}
+use Rattle.dbtg_cells.specs.Keys.{key_eq, owner_eq, value_lt, value_eq}
+use Rattle.dbtg_cells.specs.Placed.{Spot, Front, Back, After, Before, Among, placed}
+use Rattle.dbtg_unit.specs.declared.statement.Change.{Change}
+use Rattle.dbtg_unit.specs.declared.statement.Erase.{Erase}
+use Rattle.dbtg_unit.specs.declared.statement.Erase.TheVariants.{Plain}
+use Rattle.dbtg_unit.specs.declared.statement.Statement.{Statement}
+use Rattle.dbtg_unit.specs.declared.statement.Statement.TheVariants.{OpenArea, CloseArea, Find, Get, Store, Insert, Remove, Modify, Delete, Keep, Free}
+use Rattle.dbtg_unit.specs.declared.statement.Suppress.{Suppress}
+use Rattle.dbtg_unit.specs.declared.unit.Place.{Place}
+use Rattle.dbtg_unit.specs.declared.unit.Unit.{Unit}
+use Rattle.dbtg_unit.specs.declared.unit.Answer.{Answer}
+use Rattle.dbtg_unit.specs.declared.unit.Status.TheVariants.{Done, Refused}
+use Rattle.dbtg_unit.specs.declared.unit.Cause.{Cause}
+use Rattle.dbtg_unit.specs.declared.unit.Cause.TheVariants.{ChangedByAnother, DuplicatesNotAllowed, NoRoom, NoCurrentOfRunUnit, AlreadyMember, Deleted, NotMember, PositionLost, UsageConflict, OwnerHasMembers}
+use Rattle.dbtg_schema.specs.Lookups.{first, some_and, first_cause}
+use Rattle.dbtg_unit.specs.Base.{Database, Record, is_live, items_of, key_at, members_of, is_member, owner_of, calc_items, key_item, sort_key}
+use Rattle.dbtg_unit.specs.Units.{place_in, seen, kept_version, forgotten, noted}
+use Rattle.dbtg_unit.specs.Found.{found, is_lost, with_calc}
+use Rattle.dbtg_unit.specs.Doomed.{doomed}
+use Rattle.dbtg_unit.specs.Checks.{refused_at_once, is_update}
+use Rattle.dbtg_schema.specs.Structure.{automatic_sets, calc_of, order_of, owns, rekeyed_sets, set_numbers}
+
+pub record Outcome : Type 0 where
+  pub database : Database
+  pub unit : Unit
+  pub answer : Answer
+
+-- done: a database, a unit, a key or none, items or none
+abbrev pub done : Database → Unit → Option DbKey → Option (List Value) → Outcome
+done db unit key items = record { database = db; unit = unit; answer = record { status = Done; key = key; items = items } }
+
+-- a refusal leaves database and unit as they were
+abbrev pub refused : Database → Unit → Cause → Outcome
+refused db unit cause = record { database = db; unit = unit; answer = record { status = Refused cause; key = None; items = None } }
+
+-- refused for the first cause, if there is one, and else this outcome
+abbrev pub unless_refused : Database → Unit → Option Cause → Outcome → Outcome
+unless_refused db unit (Some cause) outcome = refused db unit cause
+unless_refused db unit None outcome = outcome
+
+-- OPEN
+
+abbrev pub is_exclusive : Mode → Bool
+is_exclusive ExclusiveRetrieval = true
+is_exclusive ExclusiveUpdate = true
+is_exclusive _ = false
+
+abbrev pub is_protected : Mode → Bool
+is_protected ProtectedRetrieval = true
+is_protected ProtectedUpdate = true
+is_protected _ = false
+
+abbrev pub conflict : Mode → Mode → Bool
+conflict a b = is_exclusive a || is_exclusive b || (is_protected a && is_update b) || (is_protected b && is_update a)
+
+-- PLACES IN SETS
+
+-- one key strictly before another, in the direction of the set
+abbrev pub key_below : Bool → Option Value → Option Value → Bool
+key_below true a b = some_and (λ v. some_and (value_lt v) b) a
+key_below false a b = some_and (λ v. some_and (value_lt v) a) b
+
+-- a member with key x comes before a new one with key m: duplicates LAST go behind their equals
+abbrev pub comes_before : Bool → Duplicates → Option Value → Option Value → Bool
+comes_before ascending LastAmongEqual x m = not (key_below ascending m x)
+comes_before ascending FirstAmongEqual x m = key_below ascending x m
+comes_before ascending NotAllowed x m = key_below ascending x m
+
+abbrev pub after_position : Option DbKey → Spot DbKey
+after_position None = Front
+after_position (Some p) = After (key_eq p)
+
+abbrev pub before_position : Option DbKey → Spot DbKey
+before_position None = Back
+before_position (Some p) = Before (key_eq p)
+
+-- where m goes in a list of an order, from a position
+abbrev pub spot : Order → Option DbKey → (DbKey → Option Value) → DbKey → Spot DbKey
+spot First p key m = Front
+spot Last p key m = Back
+spot Next p key m = after_position p
+spot Prior p key m = before_position p
+spot (Sorted ascending duplicates) p key m = Among (λ x. comes_before ascending duplicates (key x) (key m))
+
+abbrev pub uses_position : Order → Bool
+uses_position Next = true
+uses_position Prior = true
+uses_position _ = false
+
+abbrev pub refuses_equal : Order → Bool
+refuses_equal (Sorted ascending NotAllowed) = true
+refuses_equal _ = false
+
+abbrev pub option_value_eq : Option Value → Option Value → Bool
+option_value_eq a b = some_and (λ v. some_and (value_eq v) b) a
+
+-- m, with this sort key, into the current occurrence of set s: owner deleted, position lost, duplicates
+abbrev pub place_checks : Lists → Database → Unit → ℕ → Option Value → List (Bool × Cause)
+place_checks schema db unit s key =
+    let place = unwrap_or (place_in schema unit s) (record { owner = System; at = None }) in
+    let list = members_of db s place.owner in
+    (is_none (db.lists s place.owner), Deleted)
+    ∷ (uses_position (order_of schema s) && is_lost place.at list, PositionLost)
+    ∷ (refuses_equal (order_of schema s) && list_any (λ x. option_value_eq (sort_key schema db s x) key) list, DuplicatesNotAllowed)
+    ∷ []
+
+-- the list with m in its place
+abbrev pub joined : Lists → Database → Unit → ℕ → DbKey → List DbKey → List DbKey
+joined schema db unit s m list =
+    placed (spot (order_of schema s) (option_and_then (λ place. place.at) (place_in schema unit s)) (sort_key schema db s) m) m list
+
+abbrev pub without : DbKey → List DbKey → List DbKey
+without k = filter (λ x. not (key_eq k x))
+
+abbrev pub is_current_owner : Lists → Unit → ℕ → Owner → Bool
+is_current_owner schema unit s o = some_and (λ place. owner_eq place.owner o) (place_in schema unit s)
+
+-- STORE
+
+-- the least number of type t that no live record has and that is not spent
+abbrev pub free_number : ℕ → Database → ℕ → Option ℕ
+free_number capacity db t = first (filter (λ n. not (is_live db (key_at db t n)) && nat_lt (db.last t n) 255) (range_with_len 1 capacity))
+
+abbrev pub new_key : Database → ℕ → ℕ → DbKey
+new_key db t n = record { rtype = t; number = n; generation = db.last t n + 1 }
+
+-- the database with the record k
+abbrev pub with_record : Database → DbKey → Record → Database
+with_record db k r = record db { records = λ x. if key_eq k x then Some r else db.records x }
+
+-- the database with the new record k, an empty list in each set that it owns
+abbrev pub with_new : Lists → Database → DbKey → List Value → Database
+with_new schema db k items =
+    record {
+      records = λ x. if key_eq k x then Some (record { items = items; version = 1 }) else db.records x;
+      lists = λ s o. if owns schema s k.rtype && owner_eq (Rec k) o then Some [] else db.lists s o;
+      last = λ t n. if t == k.rtype && n == k.number then k.generation else db.last t n;
+      usage = db.usage;
+    }
+
+-- the database with m placed in these sets, in the current owner's lists
+abbrev pub connected_in : Lists → Database → Unit → List ℕ → DbKey → Database
+connected_in schema db unit sets m =
+    record db {
+      lists = λ s o. if list_any (λ s'. s' == s) sets && is_current_owner schema unit s o then option_map (joined schema db unit s m) (db.lists s o) else db.lists s o
+    }
+
+-- a live record of type t with these CALC items, where their duplicates are not allowed, beside those that are left out
+abbrev pub calc_taken : Lists → ℕ → Database → ℕ → List Value → (DbKey → Bool) → Bool
+calc_taken schema capacity db t items is_left_out =
+    some_and (λ calc. not calc.duplicates_allowed && list_any (λ k. not (is_left_out k)) (with_calc schema capacity db t (calc_items schema t items))) (calc_of schema t)
+
+abbrev pub store_checks : Lists → ℕ → Database → Unit → ℕ → List Value → List (Bool × Cause)
+store_checks schema capacity db unit t items =
+    (is_none (free_number capacity db t), NoRoom)
+    ∷ (calc_taken schema capacity db t items (λ k. false), DuplicatesNotAllowed)
+    ∷ flat_map (λ s. place_checks schema db unit s (key_item schema s t items)) (automatic_sets schema t)
+
+abbrev pub stored : Lists → ℕ → Database → Unit → DbKey → List Value → Suppress → Outcome
+stored schema capacity db unit k items suppress =
+    let new = connected_in schema (with_new schema db k items) unit (automatic_sets schema k.rtype) k in
+    done new (seen schema capacity new unit k suppress) (Some k) None
+
+-- VERSIONS
+
+-- the database in which the records that pass the test have the next version
+abbrev pub next_version : Record → Record
+next_version r = record { items = r.items; version = r.version + 1 }
+
+abbrev pub raised : (DbKey → Bool) → Database → Database
+raised test db = record db { records = λ x. if test x then option_map next_version (db.records x) else db.records x }
+
+abbrev pub version_of : Database → DbKey → ℕ
+version_of db k = unwrap_or (option_map (λ r. r.version) (db.records k)) 0
+
+-- the kept list after this unit's own statement raised the versions of the records that pass the test
+abbrev pub renoted : (DbKey → Bool) → Database → Unit → Unit
+renoted test db unit = record unit { kept = map (λ e. if test e.0 then (e.0, version_of db e.0) else e) unit.kept }
+
+-- the current of run-unit is deleted; it is kept, with another version than it has
+abbrev pub own_checks : Database → Unit → DbKey → List (Bool × Cause)
+own_checks db unit k =
+    (not (is_live db k), Deleted)
+    ∷ (some_and (λ v. not (v == version_of db k)) (kept_version unit k), ChangedByAnother)
+    ∷ []
+
+-- INSERT and REMOVE
+
+abbrev pub insert_checks : Lists → ℕ → Database → Unit → ℕ → DbKey → List (Bool × Cause)
+insert_checks schema capacity db unit s k =
+    own_checks db unit k
+    ++ (is_some (owner_of schema capacity db s k), AlreadyMember)
+    ∷ place_checks schema db unit s (sort_key schema db s k)
+
+abbrev pub moved : Unit → ℕ → Place → Unit
+moved unit s place = record unit { currency = record unit.currency { sets = slice_set unit.currency.sets s (Some place) } }
+
+abbrev pub inserted : Lists → Database → Unit → ℕ → DbKey → Outcome
+inserted schema db unit s k =
+    let new = raised (key_eq k) (connected_in schema db unit (s ∷ []) k) in
+    let owner = unwrap_or (option_map (λ place. place.owner) (place_in schema unit s)) System in
+    done new (renoted (key_eq k) new (moved unit s (record { owner = owner; at = Some k }))) None None
+
+abbrev pub remove_checks : Lists → ℕ → Database → Unit → ℕ → DbKey → List (Bool × Cause)
+remove_checks schema capacity db unit s k = own_checks db unit k ++ (is_none (owner_of schema capacity db s k), NotMember) ∷ []
+
+abbrev pub removed : Database → Unit → ℕ → DbKey → Outcome
+removed db unit s k =
+    let new = raised (key_eq k) (record db { lists = λ s' o. if s' == s then option_map (without k) (db.lists s' o) else db.lists s' o }) in
+    done new (renoted (key_eq k) new unit) None None
+
+-- MODIFY
+
+abbrev pub changed_items : List Change → List Value → List Value
+changed_items [] items = items
+changed_items (c ∷ changes) items = changed_items changes (slice_set items c.item c.value)
+
+abbrev pub with_its_items : List Value → Record → Record
+with_its_items items r = record { items = items; version = r.version }
+
+abbrev pub with_items : Database → DbKey → List Value → Database
+with_items db k items = record db { records = λ x. if key_eq k x then option_map (with_its_items items) (db.records x) else db.records x }
+
+-- the sorted sets whose key item is named and in which k is connected
+abbrev pub replaced_sets : Lists → ℕ → Database → List Change → DbKey → List ℕ
+replaced_sets schema capacity db changes k = filter (λ s. is_some (owner_of schema capacity db s k)) (rekeyed_sets schema k.rtype (map (λ c. c.item) changes))
+
+abbrev pub names_calc : Lists → ℕ → List Change → Bool
+names_calc schema t changes = some_and (λ calc. list_any (λ i. list_any (λ c. c.item == i) changes) calc.items) (calc_of schema t)
+
+abbrev pub modify_checks : Lists → ℕ → Database → Unit → List Change → DbKey → List (Bool × Cause)
+modify_checks schema capacity db unit changes k =
+    let items = changed_items changes (items_of db k) in
+    let new = with_items db k items in
+    own_checks db unit k
+    ++ (names_calc schema k.rtype changes && calc_taken schema capacity db k.rtype items (key_eq k), DuplicatesNotAllowed)
+    ∷ map (λ s.
+        let list = without k (unwrap_or (option_map (members_of db s) (owner_of schema capacity db s k)) []) in
+        (refuses_equal (order_of schema s) && list_any (λ x. option_value_eq (sort_key schema new s x) (sort_key schema new s k)) list, DuplicatesNotAllowed))
+      (replaced_sets schema capacity db changes k)
+
+abbrev pub modified : Lists → ℕ → Database → Unit → List Change → DbKey → Outcome
+modified schema capacity db unit changes k =
+    let with_new_items = with_items db k (changed_items changes (items_of db k)) in
+    let sets = rekeyed_sets schema k.rtype (map (λ c. c.item) changes) in
+    let new = raised (key_eq k) (record with_new_items {
+      lists = λ s o.
+        if list_any (λ s'. s' == s) sets && is_member k (members_of db s o)
+        then option_map (λ list. joined schema with_new_items unit s k (without k list)) (db.lists s o)
+        else db.lists s o
+    }) in
+    done new (renoted (key_eq k) new unit) None None
+
+-- DELETE
+
+abbrev pub is_plain : Erase → Bool
+is_plain Plain = true
+is_plain _ = false
+
+-- k owns a member in some set
+abbrev pub has_members : Lists → Database → DbKey → Bool
+has_members schema db k = list_any (λ s. nat_lt 0 (length (members_of db s (Rec k)))) (set_numbers schema)
+
+abbrev pub delete_checks : Lists → Database → Unit → Erase → DbKey → List (Bool × Cause)
+delete_checks schema db unit option k =
+    own_checks db unit k ++ (is_plain option && has_members schema db k, OwnerHasMembers) ∷ []
+
+abbrev pub is_gone : List DbKey → Owner → Bool
+is_gone gone System = false
+is_gone gone (Rec o) = is_member o gone
+
+-- the records that go, each out of all lists, with their own lists; a member of one of these lists that stays has its next version
+abbrev pub deleted : Lists → ℕ → Database → Unit → Erase → DbKey → Outcome
+deleted schema capacity db unit option k =
+    let gone = doomed schema capacity db option k in
+    let is_taken_out : DbKey → Bool = λ x. not (is_member x gone) && list_any (λ s. list_any (λ o. is_member x (members_of db s (Rec o))) gone) (set_numbers schema) in
+    let new : Database = raised is_taken_out (record db {
+      records = λ x. if is_member x gone then None else db.records x;
+      lists = λ s o. if is_gone gone o then None else option_map (filter (λ x. not (is_member x gone))) (db.lists s o)
+    }) in
+    let after = renoted is_taken_out new unit in
+    done new (record after { currency = record after.currency { run_unit = None }; kept = forgotten k after.kept }) None None
+
+-- THE WHOLE
+
+-- the statement is about the current of run-unit, which passes these checks
+abbrev pub on_current : Database → Unit → Option DbKey → (DbKey → List (Bool × Cause)) → (DbKey → Outcome) → Outcome
+on_current db unit None checks outcome = refused db unit NoCurrentOfRunUnit
+on_current db unit (Some k) checks outcome = unless_refused db unit (first_cause (checks k)) (outcome k)
+
+-- the outcome of a FIND
+abbrev pub finding : Database → Unit → Result DbKey Cause → (DbKey → Unit) → Outcome
+finding db unit (Ok k) after = done db (after k) (Some k) None
+finding db unit (Err cause) after = refused db unit cause
+
+-- the effect of a statement that no check without cells refuses
+abbrev pub effect_on_cells : Lists → ℕ → Database → Unit → Statement → Outcome
+effect_on_cells schema capacity db unit (OpenArea a mode) =
+    unless_refused db unit (first_cause ((list_any (λ e. conflict e.1 mode) (db.usage a), UsageConflict) ∷ []))
+      (done (record db { usage = λ b. if b == a then db.usage b ++ (unit.number, mode) ∷ [] else db.usage b }) (record unit { modes = slice_set unit.modes a (Some mode) }) None None)
+effect_on_cells schema capacity db unit (CloseArea a) =
+    done (record db { usage = λ b. if b == a then filter (λ e. not (e.0 == unit.number)) (db.usage b) else db.usage b }) (record unit { modes = slice_set unit.modes a None }) None None
+effect_on_cells schema capacity db unit (Find form suppress) =
+    finding db unit (found schema capacity db unit form) (λ k. seen schema capacity db unit k suppress)
+effect_on_cells schema capacity db unit (Get r) =
+    on_current db unit unit.currency.run_unit (λ k. (not (is_live db k), Deleted) ∷ []) (λ k. done db unit (Some k) (Some (items_of db k)))
+effect_on_cells schema capacity db unit (Store t items suppress) =
+    unless_refused db unit (first_cause (store_checks schema capacity db unit t items))
+      (stored schema capacity db unit (new_key db t (unwrap_or (free_number capacity db t) 0)) items suppress)
+effect_on_cells schema capacity db unit (Insert s) = on_current db unit unit.currency.run_unit (insert_checks schema capacity db unit s) (inserted schema db unit s)
+effect_on_cells schema capacity db unit (Remove s) = on_current db unit unit.currency.run_unit (remove_checks schema capacity db unit s) (removed db unit s)
+effect_on_cells schema capacity db unit (Modify t changes) = on_current db unit unit.currency.run_unit (modify_checks schema capacity db unit changes) (modified schema capacity db unit changes)
+effect_on_cells schema capacity db unit (Delete option) = on_current db unit unit.currency.run_unit (delete_checks schema db unit option) (deleted schema capacity db unit option)
+effect_on_cells schema capacity db unit Keep =
+    on_current db unit unit.currency.run_unit (λ k. (not (is_live db k), Deleted) ∷ []) (λ k. done db (record unit { kept = noted k (version_of db k) unit.kept }) None None)
+effect_on_cells schema capacity db unit (Free true) = done db (record unit { kept = [] }) None None
+effect_on_cells schema capacity db unit (Free false) = on_current db unit unit.currency.run_unit (λ k. []) (λ k. done db (record unit { kept = forgotten k unit.kept }) None None)
+
+unfoldable pub effect : Lists → ℕ → Database → Unit → Statement → Outcome
+effect schema capacity db unit statement =
+    unless_refused db unit (refused_at_once schema capacity unit statement) (effect_on_cells schema capacity db unit statement)

@@ -1,0 +1,16 @@
+pub mod Base
+pub mod Units
+pub mod Found
+pub mod Doomed
+pub mod Checks
+pub mod Effect
+pub mod Cells
+pub mod Replay
+pub mod Fits
+pub mod Legal
+pub mod Guesses
+pub mod Hands
+pub mod CellNames
+pub mod Erasing
+pub mod Needs
+pub mod Local

@@ -1,0 +1,12 @@
+//! What a sequential network database is: statements, units, and the effect of each statement.
+#![tactic(auto)]
+
+mod held;
+mod laws;
+mod statement;
+mod unit;
+
+pub use held::{Held, Need};
+pub use laws::doomed_is_least;
+pub use statement::{Change, Erase, Form, Statement, Suppress, Which};
+pub use unit::{Answer, Cause, Currency, Entry, Place, Status, Unit};
