@@ -1,4 +1,5 @@
 pub mod Schemas
+pub mod OwnSchemas
 pub mod Listing
 pub mod KeyLemmas
 pub mod OpenLegal

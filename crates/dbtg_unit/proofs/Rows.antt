@@ -12,3 +12,9 @@ pub mod UsageModes
 pub mod TwoUnits
 pub mod KeptVersions
 pub mod Generations
+pub mod PlacesOfNewMembers
+pub mod EveryFind
+pub mod Suppress
+pub mod LeavesInTwoLists
+pub mod ChangedByAnother
+pub mod OrderOfChecks

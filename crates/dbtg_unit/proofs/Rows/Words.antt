@@ -51,6 +51,13 @@ by unit = map (λ statement. (unit, statement))
 abbrev pub text : String → Value
 text letters = Text (codes letters)
 
+-- a record's first key, and its key in a later generation
+abbrev pub key : ℕ → ℕ → DbKey
+key t n = record { rtype = t; number = n; generation = 1 }
+
+abbrev pub again : DbKey → ℕ → DbKey
+again k g = record k { generation = g }
+
 abbrev pub customer_key : ℕ → DbKey
 customer_key n = record { rtype = 0; number = n; generation = 1 }
 
