@@ -9,3 +9,4 @@ pub mod Determined
 pub mod Rows
 pub mod Sets
 pub mod Orders
+pub mod Openings

@@ -18,3 +18,8 @@ pub mod Suppress
 pub mod LeavesInTwoLists
 pub mod ChangedByAnother
 pub mod OrderOfChecks
+pub mod ModesOfAreas
+pub mod Fitting
+pub mod CellsToTake
+pub mod CellsOfADatabase
+pub mod Histories
