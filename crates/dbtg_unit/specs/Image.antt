@@ -21,6 +21,7 @@ pub record Image : Type 0 where
   pub last : List (List ℕ)
   pub usage : List (List (ℕ × Mode))
 
+-- the image of a database
 unfoldable pub image_of : Lists → ℕ → Database → Image
 image_of schema capacity db =
     let keys = all_keys schema capacity db in
