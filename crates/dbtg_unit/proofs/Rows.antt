@@ -23,3 +23,5 @@ pub mod Fitting
 pub mod CellsToTake
 pub mod CellsOfADatabase
 pub mod Histories
+pub mod GuessesAfter
+pub mod NamesOfCells

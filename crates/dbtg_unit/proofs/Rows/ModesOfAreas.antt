@@ -2,15 +2,16 @@
 -- Two modes conflict where either is exclusive, or where one is protected and the other is an update mode.
 use Rattle.std.specs.Prelude.{◌≡◌, refl, List, drop, [], ◌∷◌, Option}
 use Rattle.std.specs.List.{flat_map}
+use Rattle.dbtg_cells.specs.declared.key.Value.TheVariants.{Num}
 use Rattle.dbtg_cells.specs.declared.usage.Mode.{Mode}
 use Rattle.dbtg_cells.specs.declared.usage.Mode.TheVariants.{Retrieval, Update, ProtectedRetrieval, ProtectedUpdate, ExclusiveRetrieval, ExclusiveUpdate}
 use Rattle.dbtg_unit.specs.declared.statement.Statement.TheVariants.{OpenArea, CloseArea}
 use Rattle.dbtg_unit.specs.declared.unit.Answer.{Answer}
-use Rattle.dbtg_unit.specs.declared.unit.Cause.TheVariants.{AreaAlreadyOpen, AreaNotOpen, UsageConflict}
+use Rattle.dbtg_unit.specs.declared.unit.Cause.TheVariants.{AreaAlreadyOpen, AreaNotOpen, UpdateModeNeeded, UsageConflict}
 use Rattle.dbtg_unit.specs.Effect.{effect}
 use Rattle.dbtg_unit.specs.Image.{image_of}
-use Rattle.dbtg_unit.proofs.Schemas.{shop, main, side}
-use Rattle.dbtg_unit.proofs.Rows.Words.{done, no, run}
+use Rattle.dbtg_unit.proofs.Schemas.{shop, main, side, customers}
+use Rattle.dbtg_unit.proofs.Rows.Words.{by, customer_key, done, found, no, run, store, text}
 
 -- what a second unit is answered that opens the area in each of the six modes
 abbrev pub beside : Mode → List (Option Answer)
@@ -60,3 +61,10 @@ in_order_of_opening_usage : (run shop 10 3 (
     ≡ ((2, Update) ∷ (3, Retrieval) ∷ (1, Retrieval) ∷ []) ∷ ((2, ExclusiveUpdate) ∷ []) ∷ []
 unfolding effect image_of
 in_order_of_opening_usage = refl
+
+-- records are changed in the update modes alone
+update_modes : flat_map (λ mode. drop 1 (run shop 10 1 (by 1 (OpenArea main mode ∷ store customers (Num 7 ∷ text "ADA     " ∷ []) ∷ []))).answers)
+      (Retrieval ∷ Update ∷ ProtectedRetrieval ∷ ProtectedUpdate ∷ ExclusiveRetrieval ∷ ExclusiveUpdate ∷ [])
+    ≡ no UpdateModeNeeded ∷ found (customer_key 1) ∷ no UpdateModeNeeded ∷ found (customer_key 1) ∷ no UpdateModeNeeded ∷ found (customer_key 1) ∷ []
+unfolding effect image_of
+update_modes = refl

@@ -111,6 +111,44 @@ what_is_deleted_units : (run shop 100 2 what_is_deleted).units
 unfolding effect image_of
 what_is_deleted_units = refl
 
+-- already a member comes before the deleted owner of the current occurrence
+abbrev pub already_member_before_deleted_owner : List (ℕ × Statement)
+already_member_before_deleted_owner =
+    by 1 (
+    OpenArea main Update ∷ OpenArea side Update ∷ store customers (Num 1 ∷ text "        " ∷ [])
+    ∷ store orders (Num 1 ∷ []) ∷ store items (text "    " ∷ Num 1 ∷ []) ∷ store orders (Num 2 ∷ []) ∷ [])
+    ++ by 2 (
+    OpenArea main Update ∷ OpenArea side Update ∷ find (Key (ordr_key 2))
+    ∷ Find (Key (item_key 1)) (record { types = false; areas = false; sets = 2 }) ∷ [])
+    ++ by 1 (
+    Delete Plain ∷ [])
+    ++ by 2 (
+    Insert lines ∷ Remove lines ∷ Insert lines ∷ [])
+
+already_member_before_deleted_owner_answers : (run shop 10 2 already_member_before_deleted_owner).answers
+    ≡ done ∷ done ∷ found (customer_key 1) ∷ found (ordr_key 1) ∷ found (item_key 1) ∷ found (ordr_key 2) ∷ done
+      ∷ done ∷ found (ordr_key 2) ∷ found (item_key 1) ∷ done ∷ no AlreadyMember ∷ done ∷ no Deleted ∷ []
+unfolding effect image_of
+already_member_before_deleted_owner_answers = refl
+
+-- the deleted owner comes before the position that is lost with its list
+abbrev pub deleted_owner_before_lost_position : List (ℕ × Statement)
+deleted_owner_before_lost_position =
+    by 1 (
+    OpenArea room Update ∷ store desks (Num 1 ∷ []) ∷ store tags (Num 1 ∷ Num 1 ∷ []) ∷ [])
+    ++ by 2 (
+    OpenArea room Update ∷ find (Key (key tags 1)) ∷ [])
+    ++ by 1 (
+    find (OwnerOf shows) ∷ Delete Only ∷ [])
+    ++ by 2 (
+    store tags (Num 2 ∷ Num 2 ∷ []) ∷ Insert shows ∷ find_in_set Next shows ∷ find_in_set Prior shows ∷ [])
+
+deleted_owner_before_lost_position_answers : (run desk 10 2 deleted_owner_before_lost_position).answers
+    ≡ done ∷ found (key desks 1) ∷ found (key tags 1) ∷ done ∷ found (key tags 1) ∷ found (key desks 1) ∷ done
+      ∷ no Deleted ∷ no Deleted ∷ no Deleted ∷ no Deleted ∷ []
+unfolding effect image_of
+deleted_owner_before_lost_position_answers = refl
+
 -- no room, then the CALC items, then set by set: owner deleted, position lost, sort key. Of an INSERT: already member, then the place
 abbrev pub what_the_cells_decide : List (ℕ × Statement)
 what_the_cells_decide =
