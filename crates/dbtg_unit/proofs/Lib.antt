@@ -1,7 +1,5 @@
 pub mod Schemas
-pub mod RowOne
-pub mod RowSix
-pub mod RowsMore
+pub mod OwnSchemas
 pub mod Listing
 pub mod KeyLemmas
 pub mod OpenLegal
@@ -11,3 +9,4 @@ pub mod Determined
 pub mod Rows
 pub mod Sets
 pub mod Orders
+pub mod Openings

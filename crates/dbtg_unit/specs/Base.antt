@@ -27,9 +27,11 @@ pub record Database : Type 0 where
 
 -- WHAT A DATABASE HAS
 
+-- a record has the key
 abbrev pub is_live : Database → DbKey → Bool
 is_live db k = is_some (db.records k)
 
+-- the items of a record
 abbrev pub items_of : Database → DbKey → List Value
 items_of db k = unwrap_or (option_map (λ r. r.items) (db.records k)) []
 
@@ -46,6 +48,7 @@ abbrev pub owners : Lists → ℕ → Database → ℕ → List Owner
 owners schema capacity db s =
     if is_system schema s then System ∷ [] else unwrap_or (option_map (λ t. map Rec (live_keys capacity db t)) (owner_type schema s)) []
 
+-- the members of an occurrence, in order
 abbrev pub members_of : Database → ℕ → Owner → List DbKey
 members_of db s o = unwrap_or (db.lists s o) []
 
@@ -68,6 +71,7 @@ calc_items schema t items = unwrap_or (option_map (λ calc. picked calc.items it
 abbrev pub key_item : Lists → ℕ → ℕ → List Value → Option Value
 key_item schema s t items = option_and_then (λ m. option_map (λ i. slice_index_or items i (Num 0)) m.key) (member_clause schema s t)
 
+-- the key item of a stored record in set s, where the set is sorted
 abbrev pub sort_key : Lists → Database → ℕ → DbKey → Option Value
 sort_key schema db s k = key_item schema s k.rtype (items_of db k)
 

@@ -28,10 +28,12 @@ slot_of schema capacity db k r =
 abbrev pub ring_of : Lists → Database → ℕ → Owner → List DbKey → Occurrence
 ring_of schema db s o list = record { owner = o; members = map (λ k. (k, sort_key schema db s k)) list }
 
+-- the owner of a ring: SYSTEM, or the latest key of the number
 abbrev pub owner_at : Database → Option (ℕ × ℕ) → Owner
 owner_at db None = System
 owner_at db (Some p) = Rec (key_at db p.0 p.1)
 
+-- what a cell shows of a database
 unfoldable pub cell : Lists → ℕ → Database → CellName → CellValue
 cell schema capacity db (Usage a) = UsageValue (db.usage a)
 cell schema capacity db (Extent t) = ExtentValue (map (number_of schema db t) (range_with_len 1 capacity))

@@ -30,6 +30,7 @@ is_update ExclusiveUpdate = true
 abbrev pub current_type : Unit → Option ℕ
 current_type unit = option_map (λ k. k.rtype) unit.currency.run_unit
 
+-- the area of a current, if there is one
 abbrev pub area_of_current : Lists → Option DbKey → List ℕ
 area_of_current schema None = []
 area_of_current schema (Some k) = area_of schema k.rtype ∷ []
@@ -89,14 +90,17 @@ accepts_type schema _ t = true
 abbrev pub class_in : Lists → Unit → ℕ → Option Class
 class_in schema unit s = option_and_then (λ t. option_map (λ m. m.class) (member_clause schema s t)) (current_type unit)
 
+-- an INSERT where STORE alone connects
 abbrev pub is_inserting_mandatory_automatic : Lists → Unit → Statement → Bool
 is_inserting_mandatory_automatic schema unit (Insert s) = some_and (λ c. is_mandatory c && is_automatic c) (class_in schema unit s)
 is_inserting_mandatory_automatic schema unit _ = false
 
+-- a REMOVE where a member has to stay
 abbrev pub is_removing_mandatory : Lists → Unit → Statement → Bool
 is_removing_mandatory schema unit (Remove s) = some_and is_mandatory (class_in schema unit s)
 is_removing_mandatory schema unit _ = false
 
+-- an OPEN of an area that the unit has open
 abbrev pub is_opening_again : Unit → Statement → Bool
 is_opening_again unit (OpenArea a mode) = is_some (at unit.modes a)
 is_opening_again unit _ = false
@@ -115,16 +119,19 @@ find_lacks_current schema unit (Calc r values) = false
 find_lacks_current schema unit (NextDuplicate r) = is_none (at unit.currency.types r)
 find_lacks_current schema unit (Sorted value s) = is_none (place_in schema unit s)
 
+-- a current that the statement needs is null
 abbrev pub lacks_current : Lists → Unit → Statement → Bool
 lacks_current schema unit (Find form suppress) = find_lacks_current schema unit form
 lacks_current schema unit (Store r items suppress) = list_any (λ s. is_none (place_in schema unit s)) (automatic_sets schema r)
 lacks_current schema unit (Insert s) = is_none (place_in schema unit s)
 lacks_current schema unit _ = false
 
+-- OPEN alone needs no open area
 abbrev pub is_open_statement : Statement → Bool
 is_open_statement (OpenArea a mode) = true
 is_open_statement _ = false
 
+-- the statements that want an update mode
 abbrev pub changes_records : Statement → Bool
 changes_records (Store r items suppress) = true
 changes_records (Insert s) = true
@@ -133,10 +140,12 @@ changes_records (Modify r changes) = true
 changes_records (Delete option) = true
 changes_records _ = false
 
+-- a FIND KEY above the capacity
 abbrev pub is_beyond : ℕ → Statement → Bool
 is_beyond capacity (Find (Key k) suppress) = nat_lt capacity k.number
 is_beyond capacity _ = false
 
+-- a FREE of a record that is not kept
 abbrev pub frees_what_is_not_kept : Unit → Statement → Bool
 frees_what_is_not_kept unit (Free false) = is_none (option_and_then (kept_version unit) unit.currency.run_unit)
 frees_what_is_not_kept unit _ = false

@@ -34,6 +34,7 @@ use Rattle.dbtg_unit.specs.Doomed.{doomed}
 use Rattle.dbtg_unit.specs.Checks.{refused_at_once, is_update}
 use Rattle.dbtg_schema.specs.Structure.{automatic_sets, calc_of, order_of, owns, rekeyed_sets, set_numbers}
 
+-- what a statement leaves: a database, a unit, an answer
 pub record Outcome : Type 0 where
   pub database : Database
   pub unit : Unit
@@ -84,6 +85,7 @@ abbrev pub after_position : Option DbKey → Spot DbKey
 after_position None = Front
 after_position (Some p) = After (key_eq p)
 
+-- directly before the position; last where it is the owner
 abbrev pub before_position : Option DbKey → Spot DbKey
 before_position None = Back
 before_position (Some p) = Before (key_eq p)
@@ -96,11 +98,13 @@ spot Next p key m = after_position p
 spot Prior p key m = before_position p
 spot (Sorted ascending duplicates) p key m = Among (λ x. comes_before ascending duplicates (key x) (key m))
 
+-- orders in which a new member goes beside the position
 abbrev pub uses_position : Order → Bool
 uses_position Next = true
 uses_position Prior = true
 uses_position _ = false
 
+-- orders in which sort keys are unique
 abbrev pub refuses_equal : Order → Bool
 refuses_equal (Sorted ascending NotAllowed) = true
 refuses_equal _ = false
@@ -123,9 +127,11 @@ abbrev pub joined : Lists → Database → Unit → ℕ → DbKey → List DbKey
 joined schema db unit s m list =
     placed (spot (order_of schema s) (option_and_then (λ place. place.at) (place_in schema unit s)) (sort_key schema db s) m) m list
 
+-- the list without k
 abbrev pub without : DbKey → List DbKey → List DbKey
 without k = filter (λ x. not (key_eq k x))
 
+-- o is the owner in the current of set s
 abbrev pub is_current_owner : Lists → Unit → ℕ → Owner → Bool
 is_current_owner schema unit s o = some_and (λ place. owner_eq place.owner o) (place_in schema unit s)
 
@@ -135,6 +141,7 @@ is_current_owner schema unit s o = some_and (λ place. owner_eq place.owner o) (
 abbrev pub free_number : ℕ → Database → ℕ → Option ℕ
 free_number capacity db t = first (filter (λ n. not (is_live db (key_at db t n)) && nat_lt (db.last t n) 255) (range_with_len 1 capacity))
 
+-- the next generation of a number
 abbrev pub new_key : Database → ℕ → ℕ → DbKey
 new_key db t n = record { rtype = t; number = n; generation = db.last t n + 1 }
 
@@ -164,12 +171,14 @@ abbrev pub calc_taken : Lists → ℕ → Database → ℕ → List Value → (D
 calc_taken schema capacity db t items is_left_out =
     some_and (λ calc. not calc.duplicates_allowed && list_any (λ k. not (is_left_out k)) (with_calc schema capacity db t (calc_items schema t items))) (calc_of schema t)
 
+-- no room; CALC values taken; then each automatic set
 abbrev pub store_checks : Lists → ℕ → Database → Unit → ℕ → List Value → List (Bool × Cause)
 store_checks schema capacity db unit t items =
     (is_none (free_number capacity db t), NoRoom)
     ∷ (calc_taken schema capacity db t items (λ k. false), DuplicatesNotAllowed)
     ∷ flat_map (λ s. place_checks schema db unit s (key_item schema s t items)) (automatic_sets schema t)
 
+-- the record added, connected in its automatic sets, and seen
 abbrev pub stored : Lists → ℕ → Database → Unit → DbKey → List Value → Suppress → Outcome
 stored schema capacity db unit k items suppress =
     let new = connected_in schema (with_new schema db k items) unit (automatic_sets schema k.rtype) k in
@@ -181,9 +190,11 @@ stored schema capacity db unit k items suppress =
 abbrev pub next_version : Record → Record
 next_version r = record { items = r.items; version = r.version + 1 }
 
+-- the database in which the records that pass the test have the next version
 abbrev pub raised : (DbKey → Bool) → Database → Database
 raised test db = record db { records = λ x. if test x then option_map next_version (db.records x) else db.records x }
 
+-- the version of a record
 abbrev pub version_of : Database → DbKey → ℕ
 version_of db k = unwrap_or (option_map (λ r. r.version) (db.records k)) 0
 
@@ -200,24 +211,29 @@ own_checks db unit k =
 
 -- INSERT and REMOVE
 
+-- already a member; then the place
 abbrev pub insert_checks : Lists → ℕ → Database → Unit → ℕ → DbKey → List (Bool × Cause)
 insert_checks schema capacity db unit s k =
     own_checks db unit k
     ++ (is_some (owner_of schema capacity db s k), AlreadyMember)
     ∷ place_checks schema db unit s (sort_key schema db s k)
 
+-- the unit with another current of set s
 abbrev pub moved : Unit → ℕ → Place → Unit
 moved unit s place = record unit { currency = record unit.currency { sets = slice_set unit.currency.sets s (Some place) } }
 
+-- k in its place in the current occurrence, and current of the set
 abbrev pub inserted : Lists → Database → Unit → ℕ → DbKey → Outcome
 inserted schema db unit s k =
     let new = raised (key_eq k) (connected_in schema db unit (s ∷ []) k) in
     let owner = unwrap_or (option_map (λ place. place.owner) (place_in schema unit s)) System in
     done new (renoted (key_eq k) new (moved unit s (record { owner = owner; at = Some k }))) None None
 
+-- not a member
 abbrev pub remove_checks : Lists → ℕ → Database → Unit → ℕ → DbKey → List (Bool × Cause)
 remove_checks schema capacity db unit s k = own_checks db unit k ++ (is_none (owner_of schema capacity db s k), NotMember) ∷ []
 
+-- k taken out of its list of set s
 abbrev pub removed : Database → Unit → ℕ → DbKey → Outcome
 removed db unit s k =
     let new = raised (key_eq k) (record db { lists = λ s' o. if s' == s then option_map (without k) (db.lists s' o) else db.lists s' o }) in
@@ -225,13 +241,16 @@ removed db unit s k =
 
 -- MODIFY
 
+-- the items after the changes, one after another
 abbrev pub changed_items : List Change → List Value → List Value
 changed_items [] items = items
 changed_items (c ∷ changes) items = changed_items changes (slice_set items c.item c.value)
 
+-- the record with these items
 abbrev pub with_its_items : List Value → Record → Record
 with_its_items items r = record { items = items; version = r.version }
 
+-- the database in which k has these items
 abbrev pub with_items : Database → DbKey → List Value → Database
 with_items db k items = record db { records = λ x. if key_eq k x then option_map (with_its_items items) (db.records x) else db.records x }
 
@@ -239,9 +258,11 @@ with_items db k items = record db { records = λ x. if key_eq k x then option_ma
 abbrev pub replaced_sets : Lists → ℕ → Database → List Change → DbKey → List ℕ
 replaced_sets schema capacity db changes k = filter (λ s. is_some (owner_of schema capacity db s k)) (rekeyed_sets schema k.rtype (map (λ c. c.item) changes))
 
+-- a change names a CALC item
 abbrev pub names_calc : Lists → ℕ → List Change → Bool
 names_calc schema t changes = some_and (λ calc. list_any (λ i. list_any (λ c. c.item == i) changes) calc.items) (calc_of schema t)
 
+-- CALC values taken by another; then the sort key in each set where k has to be placed anew
 abbrev pub modify_checks : Lists → ℕ → Database → Unit → List Change → DbKey → List (Bool × Cause)
 modify_checks schema capacity db unit changes k =
     let items = changed_items changes (items_of db k) in
@@ -253,6 +274,7 @@ modify_checks schema capacity db unit changes k =
         (refuses_equal (order_of schema s) && list_any (λ x. option_value_eq (sort_key schema new s x) (sort_key schema new s k)) list, DuplicatesNotAllowed))
       (replaced_sets schema capacity db changes k)
 
+-- k with its changed items, placed anew
 abbrev pub modified : Lists → ℕ → Database → Unit → List Change → DbKey → Outcome
 modified schema capacity db unit changes k =
     let with_new_items = with_items db k (changed_items changes (items_of db k)) in
@@ -267,6 +289,7 @@ modified schema capacity db unit changes k =
 
 -- DELETE
 
+-- the form that takes the record alone
 abbrev pub is_plain : Erase → Bool
 is_plain Plain = true
 is_plain _ = false
@@ -275,10 +298,12 @@ is_plain _ = false
 abbrev pub has_members : Lists → Database → DbKey → Bool
 has_members schema db k = list_any (λ s. nat_lt 0 (length (members_of db s (Rec k)))) (set_numbers schema)
 
+-- the plain form wants no members
 abbrev pub delete_checks : Lists → Database → Unit → Erase → DbKey → List (Bool × Cause)
 delete_checks schema db unit option k =
     own_checks db unit k ++ (is_plain option && has_members schema db k, OwnerHasMembers) ∷ []
 
+-- the owner is one of the records that go
 abbrev pub is_gone : List DbKey → Owner → Bool
 is_gone gone System = false
 is_gone gone (Rec o) = is_member o gone
@@ -330,6 +355,7 @@ effect_on_cells schema capacity db unit Keep =
 effect_on_cells schema capacity db unit (Free true) = done db (record unit { kept = [] }) None None
 effect_on_cells schema capacity db unit (Free false) = on_current db unit unit.currency.run_unit (λ k. []) (λ k. done db (record unit { kept = forgotten k unit.kept }) None None)
 
+-- the effect of a statement on a database and a unit
 unfoldable pub effect : Lists → ℕ → Database → Unit → Statement → Outcome
 effect schema capacity db unit statement =
     unless_refused db unit (refused_at_once schema capacity unit statement) (effect_on_cells schema capacity db unit statement)

@@ -25,6 +25,7 @@ with_those order (x ∷ xs) = with_those (if is_member x order then order else o
 abbrev pub taken_with : Lists → ℕ → Database → Erase → DbKey → List DbKey
 taken_with schema capacity db option d = flat_map (λ s. filter (takes schema capacity db option s (Rec d)) (members_of db s (Rec d))) (set_numbers schema)
 
+-- the list after its key d
 abbrev pub spread_from : Lists → ℕ → Database → Erase → List DbKey → Option DbKey → List DbKey
 spread_from schema capacity db option order None = order
 spread_from schema capacity db option order (Some d) = with_those order (taken_with schema capacity db option d)
@@ -38,6 +39,7 @@ spread schema capacity db option (suc n) i order = spread schema capacity db opt
 abbrev pub doomed_in_turn : Lists → ℕ → Database → Erase → DbKey → List DbKey
 doomed_in_turn schema capacity db option k = spread schema capacity db option (length (all_keys schema capacity db)) 0 (k ∷ [])
 
+-- the rings that d owns, by set
 abbrev pub own_rings : Lists → DbKey → List CellName
 own_rings schema d = map (λ s. Ring s (Some (d.rtype, d.number))) (filter (λ s. owns schema s d.rtype) (set_numbers schema))
 
@@ -62,6 +64,7 @@ rings_to_member schema db k [] = []
 rings_to_member schema db k (s ∷ sets) =
     Ring s (Some (k.rtype, k.number)) ∷ (if nat_lt 0 (length (members_of db s (Rec k))) then [] else rings_to_member schema db k sets)
 
+-- deleted or changed by another: the slot alone; refused for its members: as far as the first; else all
 abbrev pub delete_cells : Lists → ℕ → Database → Unit → Erase → DbKey → List CellName
 delete_cells schema capacity db unit option k =
     if is_some (first_cause (own_checks db unit k)) then slot_name k ∷ []

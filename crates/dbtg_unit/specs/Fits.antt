@@ -21,6 +21,7 @@ use Rattle.dbtg_schema.specs.Structure.{area_of, calc_of, is_system, member_clau
 abbrev pub is_text_byte : ℕ → Bool
 is_text_byte b = nat_le 32 b && nat_le b 126 && not (b == 34)
 
+-- the value is of the picture
 abbrev pub value_fits : Picture → Value → Bool
 value_fits (Number n) (Num v) = nat_lt v (10 ^ n)
 value_fits (TextPicture n) (Text bytes) = length bytes == n && list_all is_text_byte bytes
@@ -34,20 +35,24 @@ values_fit (p ∷ ps) (v ∷ vs) = value_fits p v && values_fit ps vs
 values_fit [] (v ∷ vs) = false
 values_fit (p ∷ ps) [] = false
 
+-- a record type of the schema
 abbrev pub is_type : Lists → ℕ → Bool
 is_type schema t = nat_lt t (length schema.types)
 
+-- a set of the schema
 abbrev pub is_set : Lists → ℕ → Bool
 is_set schema s = nat_lt s (length schema.sets)
 
+-- an area of the schema
 abbrev pub is_area : Lists → ℕ → Bool
 is_area schema a = nat_lt a (length schema.areas)
 
 -- none, or one that passes
-abbrev pub if_named : (ℕ → Bool) → Option ℕ → Bool
+abbrev pub if_named : {X : Type 0} → (X → Bool) → Option X → Bool
 if_named test None = true
-if_named test (Some r) = test r
+if_named test (Some x) = test x
 
+-- n is from 1 to 999999, from the front or from the end
 abbrev pub which_fits : Which → Bool
 which_fits (Nth (pos zero)) = false
 which_fits (Nth (pos (suc n))) = nat_lt n 999999
@@ -59,6 +64,7 @@ abbrev pub key_fits : Lists → ℕ → Value → Bool
 key_fits schema s v =
     some_and (λ set. list_all (λ m. some_and (λ i. some_and (λ p. value_fits p v) (picture_of schema m.rtype i)) m.key) set.members) (slice_get schema.sets s)
 
+-- the FIND names what the schema has
 abbrev pub form_fits : Lists → Form → Bool
 form_fits schema (Key k) = is_type schema k.rtype && nat_lt 0 k.number && nat_le k.number 999999 && nat_lt 0 k.generation && nat_le k.generation 255
 form_fits schema CurrentOfUnit = true
@@ -85,6 +91,7 @@ distinct_items (c ∷ changes) = not (list_any (λ d. d.item == c.item) changes)
 abbrev pub suppress_fits : Lists → Suppress → Bool
 suppress_fits schema suppress = nat_lt suppress.sets (2 ^ length schema.sets)
 
+-- the statement names what the schema has, with values of their pictures
 abbrev pub fits : Lists → Statement → Bool
 fits schema (OpenArea a mode) = is_area schema a
 fits schema (CloseArea a) = is_area schema a

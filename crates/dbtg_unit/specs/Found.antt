@@ -40,6 +40,7 @@ abbrev pub later : Option DbKey → List DbKey → List DbKey
 later None list = list
 later (Some p) list = behind (key_eq p) list
 
+-- those before it
 abbrev pub earlier : Option DbKey → List DbKey → List DbKey
 earlier None list = list
 earlier (Some p) list = in_front (key_eq p) list
@@ -79,6 +80,7 @@ abbrev pub with_current : {X : Type 0} → Option X → (X → Result DbKey Caus
 with_current None f = Err NoSuchCurrent
 with_current (Some x) f = f x
 
+-- the key that a FIND finds, or the cause why it finds none
 abbrev pub found : Lists → ℕ → Database → Unit → Form → Result DbKey Cause
 found schema capacity db unit (Key k) = if is_live db k then Ok k else Err NoneSatisfies
 found schema capacity db unit CurrentOfUnit = with_current unit.currency.run_unit (λ k. if is_live db k then Ok k else Err Deleted)

@@ -19,6 +19,7 @@ noted_guesses schema capacity db (Insert s) guesses (Some k) = slice_set guesses
 noted_guesses schema capacity db (Remove s) guesses (Some k) = slice_set guesses s None
 noted_guesses schema capacity db _ guesses _ = guesses
 
+-- the statement was not refused
 abbrev pub is_done : Status → Bool
 is_done Done = true
 is_done (Refused cause) = false

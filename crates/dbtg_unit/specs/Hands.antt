@@ -5,6 +5,7 @@ use Rattle.dbtg_cells.specs.declared.cell.Cell.{Cell}
 use Rattle.dbtg_cells.specs.declared.key.Owner.{Owner}
 use Rattle.dbtg_cells.specs.Names.{name_eq}
 
+-- the areas and cells that a statement holds, and by set the owner of the current of run-unit as the unit last saw it
 pub record Hands : Type 0 where
   pub areas : List ℕ
   pub cells : List (CellName × Cell)

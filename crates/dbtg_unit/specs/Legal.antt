@@ -23,6 +23,7 @@ abbrev pub pairwise : {X : Type 0} → (X → X → Bool) → List X → Bool
 pairwise test [] = true
 pairwise test (x ∷ xs) = list_all (test x) xs && pairwise test xs
 
+-- two keys
 abbrev pub differ : DbKey → DbKey → Bool
 differ a b = not (key_eq a b)
 
@@ -37,6 +38,7 @@ keys_in_order (Sorted ascending NotAllowed) a b = key_below ascending a b
 keys_in_order (Sorted ascending duplicates) a b = not (key_below ascending b a)
 keys_in_order order a b = true
 
+-- x may stand before y in a list of set s
 abbrev pub in_order : Lists → Database → ℕ → DbKey → DbKey → Bool
 in_order schema db s x y = keys_in_order (order_of schema s) (sort_key schema db s x) (sort_key schema db s y)
 
@@ -44,6 +46,7 @@ in_order schema db s x y = keys_in_order (order_of schema s) (sort_key schema db
 abbrev pub agree : ℕ × Mode → ℕ × Mode → Bool
 agree a b = not (a.0 == b.0) && not (conflict a.1 b.1)
 
+-- what is true of every database that statements make
 pub record Legal (schema : Lists) (capacity : ℕ) (db : Database) : Type 0 where
   -- a live key has a type of the schema, a number within the capacity, and its number's last generation
   pub keys : (k : DbKey) → is_live db k ≡ true → (k.rtype < length schema.types) × (0 < k.number) × (k.number ≤ capacity) × (0 < k.generation) × (k.generation ≡ db.last k.rtype k.number)

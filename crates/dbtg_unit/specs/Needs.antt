@@ -31,17 +31,21 @@ use Rattle.dbtg_unit.specs.Erasing.{delete_cells_of}
 abbrev pub areas_in_order : Lists → Unit → Statement → List ℕ
 areas_in_order schema unit statement = filter (λ a. list_any (λ b. b == a) (areas_of schema unit statement)) (range_with_len 0 (length schema.areas))
 
+-- the slot of a key, if there is one
 abbrev pub slot_names : Option DbKey → List CellName
 slot_names None = []
 slot_names (Some k) = slot_name k ∷ []
 
+-- the ring of an owner in set s, if there is one
 abbrev pub ring_names : ℕ → Option Owner → List CellName
 ring_names s None = []
 ring_names s (Some o) = Ring s (place_of o) ∷ []
 
+-- the owner in the current of set s
 abbrev pub current_owner : Lists → Unit → ℕ → Option Owner
 current_owner schema unit s = option_map (λ place. place.owner) (place_in schema unit s)
 
+-- the slot of what is found
 abbrev pub found_slot : Result DbKey Cause → List CellName
 found_slot (Ok k) = slot_name k ∷ []
 found_slot (Err cause) = []
@@ -98,6 +102,7 @@ guessed_sets schema unit (Remove s) = s ∷ []
 guessed_sets schema unit (Modify t changes) = rekeyed_sets schema t (map (λ c. c.item) changes)
 guessed_sets schema unit _ = []
 
+-- there is an owner, and it is not the guess
 abbrev pub is_wrong_guess : Option Owner → Option Owner → Bool
 is_wrong_guess truth guess = some_and (λ o. not (some_and (owner_eq o) guess)) truth
 
@@ -124,6 +129,7 @@ next_of None (Some c) stale owners = Take c
 next_of None None true owners = Stale owners
 next_of None None false owners = Ready
 
+-- what is needed next, where no check without cells refuses
 abbrev pub need_of_cells : Lists → ℕ → Database → Unit → Hands → Statement → Need
 need_of_cells schema capacity db unit hands statement =
     next_of

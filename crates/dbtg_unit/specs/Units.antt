@@ -34,6 +34,7 @@ abbrev pub place_in : Lists → Unit → ℕ → Option Place
 place_in schema unit s =
     option_or (at unit.currency.sets s) (if is_system schema s then Some (record { owner = System; at = None }) else None)
 
+-- the key of an owner that is a record
 abbrev pub key_of_owner : Owner → Option DbKey
 key_of_owner System = None
 key_of_owner (Rec k) = Some k
@@ -42,6 +43,7 @@ key_of_owner (Rec k) = Some k
 abbrev pub key_of_place : Place → Option DbKey
 key_of_place place = option_or place.at (key_of_owner place.owner)
 
+-- set s is suppressed
 abbrev pub suppresses : Suppress → ℕ → Bool
 suppresses suppress s = (suppress.sets / 2 ^ s) % 2 == 1
 
@@ -64,9 +66,11 @@ seen_with schema unit k owners suppress =
       }
     }
 
+-- the owner of k in each set
 abbrev pub owners_of : Lists → ℕ → Database → DbKey → List (Option Owner)
 owners_of schema capacity db k = map (λ s. owner_of schema capacity db s k) (set_numbers schema)
 
+-- the unit after a FIND or STORE of k in a database
 abbrev pub seen : Lists → ℕ → Database → Unit → DbKey → Suppress → Unit
 seen schema capacity db unit k suppress = seen_with schema unit k (owners_of schema capacity db k) suppress
 
@@ -74,6 +78,7 @@ seen schema capacity db unit k suppress = seen_with schema unit k (owners_of sch
 abbrev pub kept_version : Unit → DbKey → Option ℕ
 kept_version unit k = option_map (λ e. e.1) (find (λ e. key_eq k e.0) unit.kept)
 
+-- the kept list without k
 abbrev pub forgotten : DbKey → List (DbKey × ℕ) → List (DbKey × ℕ)
 forgotten k = filter (λ e. not (key_eq k e.0))
 
