@@ -11,3 +11,7 @@ pub mod Determined
 pub mod Rows
 pub mod Sets
 pub mod Orders
+pub mod PlacedMaps
+pub mod CellNameLemmas
+pub mod OwnerLemmas
+pub mod SameItems

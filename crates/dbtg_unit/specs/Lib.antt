@@ -14,3 +14,5 @@ pub mod CellNames
 pub mod Erasing
 pub mod Needs
 pub mod Local
+pub mod Edits
+pub mod EditsOf
