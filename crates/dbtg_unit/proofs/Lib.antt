@@ -15,3 +15,5 @@ pub mod PlacedMaps
 pub mod CellNameLemmas
 pub mod OwnerLemmas
 pub mod SameItems
+pub mod InsertCells
+pub mod RangeMaps
