@@ -27,6 +27,8 @@ use Rattle.dbtg_unit.specs.CellNames.{place_of, slot_name}
 use Rattle.dbtg_unit.specs.Edits.{edited_at, edited, member_spot, after_key, before_key, with_members, with_owner, with_next_version}
 use Rattle.dbtg_unit.specs.EditsOf.{insert_edits}
 use Rattle.dbtg_unit.specs.declared.edit.CellEdit.{CellEdit}
+use Rattle.dbtg_unit.proofs.OneMembership.{ChangesMembership, changed_items-same, membership_edits, membership_cells}
+use Rattle.dbtg_unit.specs.declared.edit.Edit.{Edit}
 use Rattle.dbtg_unit.specs.declared.edit.Edit.TheVariants.{PlaceMember, ChangeOwner, RaiseVersion}
 use Rattle.dbtg_unit.proofs.KeyLemmas.{same_key, key_eq-refl, owner_eq-refl, same_owner}
 use Rattle.dbtg_unit.proofs.CellNameLemmas.{same_name, place_eq-refl, same_place}
@@ -59,20 +61,6 @@ module _ (schema : Lists) (capacity : ℕ) (db : Database) (unit : Unit) (s : �
     (legal : Legal schema capacity db) (stands : place_in schema unit s ≡ Some place) (live : is_live db k ≡ true) where
   abbrev pub new : Database
   new = (inserted schema db unit s k).database
-
-  -- a statement that raises versions leaves the items
-  same : SameItems db new
-  same =
-      record {
-        items = λ x. elim (key_eq k x) as (λ b. option_map (λ (r : Record). r.items) (cond b (option_map next_version (db.records x)) (db.records x)) ≡ option_map (λ (r : Record). r.items) (db.records x)) [
-          | true ↦ elim (db.records x) as (λ r. option_map (λ (q : Record). q.items) (option_map next_version r) ≡ option_map (λ (q : Record). q.items) r) [ None ↦ refl | Some r ↦ refl ]
-          | false ↦ refl
-        ];
-        last = λ t n. refl;
-      }
-
-  joins : ℕ → Owner → Bool
-  joins s' o = (eqb s s' || false) && is_current_owner schema unit s' o
 
   owner_is_current : (o : Owner) → is_current_owner schema unit s o ≡ owner_eq place.owner o
   owner_is_current o = rw stands refl
@@ -118,11 +106,8 @@ module _ (schema : Lists) (capacity : ℕ) (db : Database) (unit : Unit) (s : �
         | inr e ↦ ap (λ l. is_member x (unwrap_or l [])) (list-else s' o (λ a b. false≢true (sym e ∙ and_from _ _ (eq-eqb s' s a) (subst (λ p. owner_eq p place.owner ≡ true) (sym b) (owner_eq-refl place.owner)))))
       ]
 
-  owners-here : Legal schema capacity new → is_some (db.lists s place.owner) ≡ true → owners_of schema capacity new k ≡ slice_set (owners_of schema capacity db k) s (Some place.owner)
-  owners-here legal_new present =
-      map-range_set (λ s'. owner_of schema capacity new s' k) (λ s'. owner_of schema capacity db s' k) (Some place.owner) 0 (length schema.sets) s s (omega arith)
-        (owner_is schema capacity new legal_new s place.owner k (has-here present))
-        (λ s' other. owner_of-same same schema capacity s' k (λ o. ap (λ l. is_member k (unwrap_or l [])) (list-else s' o (λ a b. other a))))
+  changes : ChangesMembership schema capacity db new s k place.owner
+  changes = record { records = λ x. refl; last = λ t n. refl; usage = λ a. refl; list_else = list-else; member_else = member-else }
 
   ring-here : (l : Option (List DbKey)) → option_map (ring_of schema new s place.owner) (option_map (joined schema db unit s k) l)
       ≡ option_map (with_members (placed (member_spot (order_of schema s) place.at (sort_key schema db s k)) (k, sort_key schema db s k))) (option_map (ring_of schema db s place.owner) l)
@@ -131,64 +116,15 @@ module _ (schema : Lists) (capacity : ℕ) (db : Database) (unit : Unit) (s : �
       let placed_is : map (λ x. (x, sort_key schema db s x)) (joined schema db unit s k list)
           ≡ placed (member_spot (order_of schema s) place.at (sort_key schema db s k)) (k, sort_key schema db s k) (map (λ x. (x, sort_key schema db s x)) list) =
           rw stands (ring-placed (order_of schema s) place.at (sort_key schema db s) k list) in
-      (λ i. Some (record { owner = place.owner; members = map (λ x. (x, sort_key-same same schema s x i)) (joined schema db unit s k list) }))
+      (λ i. Some (record { owner = place.owner; members = map (λ x. (x, sort_key-same (changed_items-same changes) schema s x i)) (joined schema db unit s k list) }))
       ∙ (λ i. Some (record { owner = place.owner; members = placed_is i }))
 
-  slot-here : Legal schema capacity new → is_some (db.lists s place.owner) ≡ true → (r : Option Record)
-      → option_map (slot_of schema capacity new k) (option_map next_version r) ≡ option_map with_next_version (option_map (with_owner s (Some place.owner)) (option_map (slot_of schema capacity db k) r))
-  slot-here legal_new present None = refl
-  slot-here legal_new present (Some r) = λ i. Some (record { generation = k.generation; version = r.version + 1; items = r.items; owners = owners-here legal_new present i })
-
-  edits : List CellEdit
-  edits =
-      record { name = Ring s (place_of place.owner); edit = PlaceMember (order_of schema s) place.at k (key_item schema s k.rtype (items_of db k)) }
-      ∷ record { name = slot_name k; edit = ChangeOwner s (Some place.owner) }
-      ∷ record { name = slot_name k; edit = RaiseVersion }
-      ∷ []
-
-  edits-are : insert_edits schema db unit s k ≡ edits
-  unfolding edits
-  edits-are = rw stands refl
-
   -- INSERT changes the cells by its edits
-  edits_make : Legal schema capacity new → is_some (db.lists s place.owner) ≡ true → (c : CellName) → cell schema capacity new c ≡ edited_at c edits (cell schema capacity db c)
-  unfolding edits cell
-  edits_make legal_new present (Usage a) = refl
-  edits_make legal_new present (Extent t) = extent-same same schema capacity t
-  edits_make legal_new present (Ring s' q) =
-      elim (cases_Bool (eqb s' s && place_eq q (place_of place.owner))) [
-        | inl e ↦
-          let es = and_parts _ _ e in
-          let set_is = eqb-true s' s es.0 in
-          let place_is = same_place q (place_of place.owner) es.1 in
-          let owner_stands = standing schema capacity db legal s place.owner (sym (legal.pairs s place.owner) ∙ present) in
-          (λ i. RingValue (option_map (ring_of schema new (set_is i) (owner_at new (place_is i))) (new.lists (set_is i) (owner_at new (place_is i)))))
-          ∙ (λ i. RingValue (option_map (ring_of schema new s ((owner_at-same same (place_of place.owner) ∙ owner_stands) i)) (new.lists s ((owner_at-same same (place_of place.owner) ∙ owner_stands) i))))
-          ∙ ap (λ l. RingValue (option_map (ring_of schema new s place.owner) l)) list-here
-          ∙ ap RingValue (ring-here (db.lists s place.owner))
-          ∙ (λ i. RingValue (option_map (with_members (placed (member_spot (order_of schema s) place.at (sort_key schema db s k)) (k, sort_key schema db s k))) (option_map (ring_of schema db s (sym owner_stands i)) (db.lists s (sym owner_stands i)))))
-          ∙ (λ i. edited (PlaceMember (order_of schema s) place.at k (sort_key schema db s k)) (cell schema capacity db (Ring (sym set_is i) (sym place_is i))))
-          ∙ ap (λ b. cond b (edited (PlaceMember (order_of schema s) place.at k (sort_key schema db s k)) (cell schema capacity db (Ring s' q))) (cell schema capacity db (Ring s' q))) (sym e)
-        | inr e ↦
-          ring-same same schema capacity s' q (list-else s' (owner_at db q) (λ a b. false≢true (sym e ∙ and_from _ _ (eq-eqb s' s a) (subst (λ p. place_eq p (place_of place.owner) ≡ true) (ap place_of (sym b) ∙ owner_at-place db q) (place_eq-refl (place_of place.owner))))))
-          ∙ ap (λ b. cond b (edited (PlaceMember (order_of schema s) place.at k (sort_key schema db s k)) (cell schema capacity db (Ring s' q))) (cell schema capacity db (Ring s' q))) (sym e)
-      ]
-  edits_make legal_new present (Slot t n) =
-      elim (cases_Bool (eqb t k.rtype && eqb n k.number)) [
-        | inl e ↦
-          let es = and_parts _ _ e in
-          let at : key_at db t n ≡ k = (λ i. key_at db (eqb-true t k.rtype es.0 i) (eqb-true n k.number es.1 i)) ∙ latest schema capacity db legal k live in
-          let raised_is : new.records k ≡ option_map next_version (db.records k) = ap (λ b. cond b (option_map next_version (db.records k)) (db.records k)) (key_eq-refl k) in
-          (λ i. SlotValue (option_map (slot_of schema capacity new ((key_at-same same t n ∙ at) i)) (new.records ((key_at-same same t n ∙ at) i))))
-          ∙ ap (λ r. SlotValue (option_map (slot_of schema capacity new k) r)) raised_is
-          ∙ ap SlotValue (slot-here legal_new present (db.records k))
-          ∙ (λ i. SlotValue (option_map with_next_version (option_map (with_owner s (Some place.owner)) (option_map (slot_of schema capacity db (sym at i)) (db.records (sym at i))))))
-          ∙ ap (λ b. cond b (edited RaiseVersion (cond b (edited (ChangeOwner s (Some place.owner)) (cell schema capacity db (Slot t n))) (cell schema capacity db (Slot t n)))) (cond b (edited (ChangeOwner s (Some place.owner)) (cell schema capacity db (Slot t n))) (cell schema capacity db (Slot t n)))) (sym e)
-        | inr e ↦
-          let other : key_eq k (key_at db t n) ≡ false = false_from_ne_true _ (λ h. false≢true (sym e ∙ same_numbers (same_key k (key_at db t n) h))) in
-          let other' : key_eq (key_at db t n) k ≡ false = false_from_ne_true _ (λ h. false≢true (sym e ∙ same_numbers (sym (same_key (key_at db t n) k h)))) in
-          slot-same same schema capacity t n (ap (λ b. cond b (option_map next_version (db.records (key_at db t n))) (db.records (key_at db t n))) other) (member-else (key_at db t n) other')
-          ∙ ap (λ b. cond b (edited RaiseVersion (cond b (edited (ChangeOwner s (Some place.owner)) (cell schema capacity db (Slot t n))) (cell schema capacity db (Slot t n)))) (cond b (edited (ChangeOwner s (Some place.owner)) (cell schema capacity db (Slot t n))) (cell schema capacity db (Slot t n)))) (sym e)
-      ] where
-    same_numbers : k ≡ key_at db t n → (eqb t k.rtype && eqb n k.number) ≡ true
-    same_numbers h = and_from _ _ (eq-eqb t k.rtype (sym (ap (λ x. x.rtype) h))) (eq-eqb n k.number (sym (ap (λ x. x.number) h)))
+  pub insert_makes : Legal schema capacity new → is_some (db.lists s place.owner) ≡ true → (c : CellName) → cell schema capacity new c ≡ edited_at c (insert_edits schema db unit s k) (cell schema capacity db c)
+  insert_makes legal_new present c =
+      let key = key_item schema s k.rtype (items_of db k) in
+      let edit : Edit = PlaceMember (order_of schema s) place.at k key in
+      let edits_are : insert_edits schema db unit s k ≡ membership_edits changes legal live edit (Some place.owner) = rw stands refl in
+      membership_cells changes legal live edit (Some place.owner) present (owner_is schema capacity new legal_new s place.owner k (has-here present))
+        (ap (λ l. RingValue (option_map (ring_of schema new s place.owner) l)) list-here ∙ ap RingValue (ring-here (db.lists s place.owner))) c
+      ∙ ap (λ es. edited_at c es (cell schema capacity db c)) (sym edits_are)

@@ -17,3 +17,5 @@ pub mod OwnerLemmas
 pub mod SameItems
 pub mod InsertCells
 pub mod RangeMaps
+pub mod RemoveCells
+pub mod OneMembership

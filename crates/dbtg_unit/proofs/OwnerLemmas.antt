@@ -91,7 +91,8 @@ has_owner schema capacity db legal s (Rec k) h =
     (subst (λ o. Has (Rec k) (unwrap_or (option_map (λ t. map Rec (live_keys capacity db t)) o) [])) (sym set.1)
       (has-map Rec k (live_keys capacity db k.rtype) (has_live schema capacity db legal k hs.1)))
 
-some_list : (l : Option (List DbKey)) (m : DbKey) → is_member m (unwrap_or l []) ≡ true → is_some l ≡ true
+-- a list that has a member is there
+pub some_list : (l : Option (List DbKey)) (m : DbKey) → is_member m (unwrap_or l []) ≡ true → is_some l ≡ true
 some_list None m h = absurd (false≢true h)
 some_list (Some list) m h = refl
 
