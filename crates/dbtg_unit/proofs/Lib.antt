@@ -19,3 +19,4 @@ pub mod InsertCells
 pub mod RangeMaps
 pub mod RemoveCells
 pub mod OneMembership
+pub mod EditLemmas

@@ -126,3 +126,11 @@ no_owner schema capacity db legal s m h o = false_from_ne_true _ (λ has. absurd
 pub standing : (schema : Lists) (capacity : ℕ) (db : Database) → Legal schema capacity db → (s : ℕ) (o : Owner) → has_occurrence schema db s o ≡ true → owner_at db (place_of o) ≡ o
 standing schema capacity db legal s System h = refl
 standing schema capacity db legal s (Rec k) h = ap Rec (latest schema capacity db legal k (and_parts _ _ h).1)
+
+-- in two legal databases, a record that is in the same lists of a set has the same owner there
+pub owner_of-by_members : (schema : Lists) (capacity : ℕ) (db new : Database) → Legal schema capacity db → Legal schema capacity new → (s : ℕ) (x : DbKey)
+    → ((o : Owner) → is_member x (members_of new s o) ≡ is_member x (members_of db s o)) → owner_of schema capacity new s x ≡ owner_of schema capacity db s x
+owner_of-by_members schema capacity db new legal legal_new s x same = known (owner_of schema capacity db s x) refl where
+  known : (found : Option Owner) → owner_of schema capacity db s x ≡ found → owner_of schema capacity new s x ≡ owner_of schema capacity db s x
+  known None h = find-none (λ o. is_member x (members_of new s o)) _ (λ o. same o ∙ no_owner schema capacity db legal s x h o) ∙ sym h
+  known (Some o) h = owner_is schema capacity new legal_new s o x (same o ∙ owner_has schema capacity db s o x h) ∙ sym h
