@@ -20,3 +20,4 @@ pub mod RangeMaps
 pub mod RemoveCells
 pub mod OneMembership
 pub mod EditLemmas
+pub mod StoreCells

@@ -46,7 +46,7 @@ abbrev pub store_edits : Lists → Unit → DbKey → List Value → List CellEd
 store_edits schema unit k items =
     record { name = Extent k.rtype; edit = EnterNumber k.number (calc_items schema k.rtype items) }
     ∷ flat_map (λ s. joining_edits schema unit s k (key_item schema s k.rtype items)) (automatic_sets schema k.rtype)
-    ++ map (λ s. record { name = Ring s (Some (k.rtype, k.number)); edit = OpenRing (Rec k) }) (filter (λ s. owns schema s k.rtype) (set_numbers schema))
+    ++ flat_map (λ s. record { name = Ring s (Some (k.rtype, k.number)); edit = OpenRing (Rec k) } ∷ []) (filter (λ s. owns schema s k.rtype) (set_numbers schema))
     ++ slot_edit k (Fill (record { generation = k.generation; version = 1; items = items; owners = first_owners schema unit k.rtype }))
     ∷ []
 

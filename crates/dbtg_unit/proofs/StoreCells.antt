@@ -1,0 +1,178 @@
+-- STORE changes the cells by its edits, and no other cell.
+use Rattle.std.proofs.Common.{◌≡◌, ◌≢◌, refl, sym, ◌∙◌, ap, subst, ℕ, ◌+◌, ◌<◌, ◌≤◌, Bool, true, false, cond, not, ◌&&◌, ◌||◌, List, [], ◌∷◌, ◌++◌, Option, Some, None, map, length, arith, eqb, inl, inr}
+use Rattle.std.specs.Prelude.{is_some, option_map, unwrap_or, filter}
+use Rattle.std.specs.List.{list_any, list_all, range_with_len, flat_map}
+use Rattle.std.proofs.lemmas.Bool.{and_parts, and_from, cases_Bool, eqb-true, eq-eqb, false≢true, false_from_ne_true, or_parts}
+use Rattle.dbtg_schema.specs.Lists.{Lists}
+use Rattle.dbtg_schema.specs.Structure.{automatic_sets, order_of, owns, set_numbers}
+use Rattle.dbtg_cells.specs.declared.key.DbKey.{DbKey}
+use Rattle.dbtg_cells.specs.declared.key.Owner.{Owner}
+use Rattle.dbtg_cells.specs.declared.key.Owner.TheVariants.{System, Rec}
+use Rattle.dbtg_cells.specs.declared.key.Value.{Value}
+use Rattle.dbtg_cells.specs.declared.name.CellName.{CellName}
+use Rattle.dbtg_cells.specs.declared.name.CellName.TheVariants.{Usage, Extent, Ring, Slot}
+use Rattle.dbtg_cells.specs.Shown.{CellValue, ExtentValue, RingValue, SlotValue}
+use Rattle.dbtg_cells.specs.Keys.{key_eq, owner_eq}
+use Rattle.dbtg_cells.specs.Names.{name_eq, place_eq}
+use Rattle.dbtg_cells.specs.Placed.{placed}
+use Rattle.dbtg_unit.specs.declared.edit.Edit.{Edit}
+use Rattle.dbtg_unit.specs.declared.edit.Edit.TheVariants.{EnterNumber, OpenRing, PlaceMember, Fill}
+use Rattle.dbtg_unit.specs.declared.edit.CellEdit.{CellEdit}
+use Rattle.dbtg_unit.specs.declared.unit.Place.{Place}
+use Rattle.dbtg_unit.specs.declared.unit.Unit.{Unit}
+use Rattle.dbtg_unit.specs.Base.{Database, Record, is_live, items_of, members_of, is_member, owner_of, sort_key, key_item, key_at, calc_items}
+use Rattle.dbtg_unit.specs.Units.{place_in, owners_of}
+use Rattle.dbtg_unit.specs.Effect.{connected_in, with_new, is_current_owner, joined}
+use Rattle.dbtg_unit.specs.Legal.{Legal}
+use Rattle.dbtg_unit.specs.Cells.{cell, owner_at, slot_of, ring_of, number_of}
+use Rattle.dbtg_unit.specs.CellNames.{place_of, slot_name}
+use Rattle.dbtg_unit.specs.Edits.{with_number, edited_at, edited, entered, with_members, member_spot}
+use Rattle.dbtg_unit.specs.EditsOf.{store_edits, joining_edits, first_owners, slot_edit}
+use Rattle.dbtg_unit.proofs.KeyLemmas.{same_key, key_eq-refl, owner_eq-refl, same_owner}
+use Rattle.dbtg_unit.proofs.CellNameLemmas.{same_place, place_eq-refl}
+use Rattle.dbtg_unit.proofs.Listing.{any-placed}
+use Rattle.dbtg_unit.proofs.InsertCells.{ring-placed}
+use Rattle.dbtg_unit.proofs.RemoveLocal.{owner_at-place}
+use Rattle.dbtg_unit.proofs.RangeMaps.{map-range_same, map-range_changed}
+use Rattle.dbtg_unit.proofs.OwnerLemmas.{latest, standing, owner_is, find-none, owner_of-by_members}
+use Rattle.dbtg_unit.proofs.StoreLegal.{joins, member-connected, member-new, not_member}
+use Rattle.dbtg_unit.proofs.EditLemmas.{edited_at-append, edits-miss, edits-hit, has_number, distinct, differ}
+
+module _ (schema : Lists) (capacity : ℕ) (db : Database) (unit : Unit) (k : DbKey) (items : List Value) (legal : Legal schema capacity db)
+    (counted : 1 ≤ k.number) (next : k.generation ≡ db.last k.rtype k.number + 1) (vacant : is_live db (key_at db k.rtype k.number) ≡ false)
+    (stands : (s : ℕ) → has_number s (automatic_sets schema k.rtype) ≡ true → (place : Place) × (place_in schema unit s ≡ Some place) × (is_some (db.lists s place.owner) ≡ true)) where
+  abbrev pub entered_db : Database
+  entered_db = with_new schema db k items
+
+  abbrev pub new : Database
+  new = connected_in schema entered_db unit (automatic_sets schema k.rtype) k
+
+  abbrev pub is_its_number : ℕ → ℕ → Bool
+  is_its_number t n = eqb t k.rtype && eqb n k.number
+
+  fresh : is_live db k ≡ false
+  fresh = false_from_ne_true _ (λ live. let last : k.generation ≡ db.last k.rtype k.number = (legal.keys k live).4 in absurd (omega (arith, next, last)))
+
+  -- NUMBERS AND KEYS
+
+  last-here : new.last k.rtype k.number ≡ k.generation
+  last-here = ap (λ b. cond b k.generation (db.last k.rtype k.number)) (and_from _ _ (eq-eqb k.rtype k.rtype refl) (eq-eqb k.number k.number refl))
+
+  last-else : (t n : ℕ) → is_its_number t n ≡ false → new.last t n ≡ db.last t n
+  last-else t n e = ap (λ b. cond b k.generation (db.last t n)) e
+
+  key_at-here : key_at new k.rtype k.number ≡ k
+  key_at-here = λ i. record { rtype = k.rtype; number = k.number; generation = last-here i }
+
+  key_at-else : (t n : ℕ) → is_its_number t n ≡ false → key_at new t n ≡ key_at db t n
+  key_at-else t n e = λ i. record { rtype = t; number = n; generation = last-else t n e i }
+
+  its_number : (t n : ℕ) → is_its_number t n ≡ true → (t ≡ k.rtype) × (n ≡ k.number)
+  its_number t n e = let es = and_parts _ _ e in (eqb-true t k.rtype es.0, eqb-true n k.number es.1)
+
+  key-else : (t n : ℕ) → is_its_number t n ≡ false → key_eq k (key_at db t n) ≡ false
+  key-else t n e =
+      false_from_ne_true _ (λ h. let same = same_key k (key_at db t n) h in
+        false≢true (sym e ∙ and_from _ _ (eq-eqb t k.rtype (sym (ap (λ x. x.rtype) same))) (eq-eqb n k.number (sym (ap (λ x. x.number) same)))))
+
+  records-here : new.records k ≡ Some (record { items = items; version = 1 })
+  records-here = ap (λ b. cond b (Some (record { items = items; version = 1 })) (db.records k)) (key_eq-refl k)
+
+  records-else : (x : DbKey) → key_eq k x ≡ false → new.records x ≡ db.records x
+  records-else x e = ap (λ b. cond b (Some (record { items = items; version = 1 })) (db.records x)) e
+
+  -- MEMBERS AND OWNERS
+
+  not_k : (x : DbKey) → key_eq k x ≡ false → key_eq x k ≡ false
+  not_k x e = false_from_ne_true _ (λ h. false≢true (sym e ∙ subst (λ y. key_eq k y ≡ true) (sym (same_key x k h)) (key_eq-refl k)))
+
+  and_never : (a : Bool) → (a && false) ≡ false
+  and_never true = refl
+  and_never false = refl
+
+  -- a list that was there is as it was before k joins
+  present-else : (s : ℕ) (o : Owner) → is_some (db.lists s o) ≡ true → entered_db.lists s o ≡ db.lists s o
+  present-else s o present =
+      ap (λ b. cond b (Some []) (db.lists s o))
+        (false_from_ne_true _ (λ h. let same = same_owner (Rec k) o (and_parts _ _ h).1 in
+          false≢true (sym (legal.pairs s (Rec k) ∙ ap (λ b. owns schema s k.rtype && b) fresh ∙ and_never (owns schema s k.rtype)) ∙ subst (λ (p : Owner). is_some (db.lists s p) ≡ true) (sym same) present)))
+
+  joined_at : ℕ → Owner → Bool
+  joined_at s o = joins schema unit (automatic_sets schema k.rtype) s o && is_some (entered_db.lists s o)
+
+  member-new_db : (x : DbKey) (s : ℕ) (o : Owner) → is_member x (members_of new s o) ≡ ((joined_at s o && key_eq x k) || is_member x (members_of entered_db s o))
+  unfolding joined_at
+  member-new_db x s o = member-connected schema entered_db unit (automatic_sets schema k.rtype) k s o x
+
+  member-else : (x : DbKey) → key_eq k x ≡ false → (s : ℕ) (o : Owner) → is_member x (members_of new s o) ≡ is_member x (members_of db s o)
+  member-else x e s o =
+      member-new_db x s o
+      ∙ ap (λ b. (joined_at s o && b) || is_member x (members_of entered_db s o)) (not_k x e)
+      ∙ ap (λ b. b || is_member x (members_of entered_db s o)) (and_never (joined_at s o))
+      ∙ member-new schema capacity db k items legal fresh s o x
+
+  list-else : (s : ℕ) (o : Owner) → has_number s (automatic_sets schema k.rtype) ≡ false → new.lists s o ≡ entered_db.lists s o
+  list-else s o e = ap (λ b. cond (b && is_current_owner schema unit s o) (option_map (joined schema entered_db unit s k) (entered_db.lists s o)) (entered_db.lists s o)) e
+
+  list-here : (s : ℕ) (place : Place) → has_number s (automatic_sets schema k.rtype) ≡ true → place_in schema unit s ≡ Some place → is_some (db.lists s place.owner) ≡ true
+      → new.lists s place.owner ≡ option_map (joined schema entered_db unit s k) (db.lists s place.owner)
+  list-here s place e at present =
+      let current : is_current_owner schema unit s place.owner ≡ true = rw at (owner_eq-refl place.owner) in
+      ap (λ b. cond b (option_map (joined schema entered_db unit s k) (entered_db.lists s place.owner)) (entered_db.lists s place.owner)) (and_from _ _ e current)
+      ∙ ap (option_map (joined schema entered_db unit s k)) (present-else s place.owner present)
+
+  member-here : (s : ℕ) (place : Place) → has_number s (automatic_sets schema k.rtype) ≡ true → place_in schema unit s ≡ Some place → is_some (db.lists s place.owner) ≡ true
+      → is_member k (members_of new s place.owner) ≡ true
+  member-here s place e at present =
+      ap (λ l. is_member k (unwrap_or l [])) (list-here s place e at present)
+      ∙ elim (db.lists s place.owner) as (λ l. is_some l ≡ true → is_member k (unwrap_or (option_map (joined schema entered_db unit s k) l) []) ≡ true) [
+        | None ↦ λ h. absurd (false≢true h)
+        | Some list ↦ λ h. any-placed (key_eq k) _ k list ∙ ap (λ b. b || is_member k list) (key_eq-refl k)
+      ] present
+
+  owner-here : Legal schema capacity new → (s : ℕ) → owner_of schema capacity new s k ≡ cond (has_number s (automatic_sets schema k.rtype)) (option_map (λ place. place.owner) (place_in schema unit s)) None
+  owner-here legal_new s =
+      elim (cases_Bool (has_number s (automatic_sets schema k.rtype))) [
+        | inl e ↦
+          let at = stands s e in
+          owner_is schema capacity new legal_new s at.0.owner k (member-here s at.0 e at.1 at.2)
+          ∙ ap (option_map (λ place. place.owner)) (sym at.1)
+          ∙ ap (λ b. cond b (option_map (λ place. place.owner) (place_in schema unit s)) None) (sym e)
+        | inr e ↦
+          find-none (λ o. is_member k (members_of new s o)) _
+            (λ o. ap (λ l. is_member k (unwrap_or l [])) (list-else s o e) ∙ member-new schema capacity db k items legal fresh s o k ∙ false_from_ne_true _ (not_member schema capacity db k legal fresh s o))
+          ∙ ap (λ b. cond b (option_map (λ place. place.owner) (place_in schema unit s)) None) (sym e)
+      ]
+
+  -- THE EXTENT
+
+  number-else : (t n : ℕ) → is_its_number t n ≡ false → number_of schema new t n ≡ number_of schema db t n
+  number-else t n e =
+      λ i. record {
+        last = last-else t n e i;
+        calc = (ap (λ x. option_map (λ (r : Record). calc_items schema t r.items) (new.records x)) (key_at-else t n e)
+          ∙ ap (option_map (λ (r : Record). calc_items schema t r.items)) (records-else (key_at db t n) (key-else t n e))) i
+      }
+
+  extent-here : map (number_of schema new k.rtype) (range_with_len 1 capacity) ≡ with_number k.number (entered (calc_items schema k.rtype items)) (map (number_of schema db k.rtype) (range_with_len 1 capacity))
+  extent-here =
+      map-range_changed (number_of schema new k.rtype) (number_of schema db k.rtype) (entered (calc_items schema k.rtype items)) 1 capacity k.number k.number (omega arith) counted
+        (λ i. record { last = (last-here ∙ next) i; calc = (ap (λ x. option_map (λ (r : Record). calc_items schema k.rtype r.items) (new.records x)) key_at-here ∙ ap (option_map (λ (r : Record). calc_items schema k.rtype r.items)) records-here) i })
+        (λ n other. number-else k.rtype n (and_second (eqb k.rtype k.rtype) (differ n k.number other))) where
+    and_second : (a : Bool) {b : Bool} → b ≡ false → (a && b) ≡ false
+    and_second true h = h
+    and_second false h = refl
+
+  -- THE SLOTS
+
+  slot-here : Legal schema capacity new → option_map (slot_of schema capacity new k) (new.records k) ≡ Some (record { generation = k.generation; version = 1; items = items; owners = first_owners schema unit k.rtype })
+  slot-here legal_new =
+      ap (option_map (slot_of schema capacity new k)) records-here
+      ∙ (λ i. Some (record { generation = k.generation; version = 1; items = items; owners = map (λ s. owner-here legal_new s i) (set_numbers schema) }))
+
+  slot-else : Legal schema capacity new → (t n : ℕ) → is_its_number t n ≡ false → option_map (slot_of schema capacity new (key_at new t n)) (new.records (key_at new t n)) ≡ option_map (slot_of schema capacity db (key_at db t n)) (db.records (key_at db t n))
+  slot-else legal_new t n e =
+      let x = key_at db t n in
+      let other = key-else t n e in
+      (λ i. option_map (slot_of schema capacity new (key_at-else t n e i)) (new.records (key_at-else t n e i)))
+      ∙ (λ i. option_map (λ r. record { generation = x.generation; version = r.version; items = r.items; owners = map (λ s. owner_of-by_members schema capacity db new legal legal_new s x (member-else x other s) i) (set_numbers schema) }) (records-else x other i))
