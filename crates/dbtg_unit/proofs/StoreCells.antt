@@ -27,7 +27,7 @@ use Rattle.dbtg_unit.specs.Legal.{Legal}
 use Rattle.dbtg_unit.specs.Cells.{cell, owner_at, slot_of, ring_of, number_of}
 use Rattle.dbtg_unit.specs.CellNames.{place_of, slot_name}
 use Rattle.dbtg_unit.specs.Edits.{with_number, edited_at, edited, entered, with_members, member_spot}
-use Rattle.dbtg_unit.specs.EditsOf.{store_edits, joining_edits, first_owners, slot_edit}
+use Rattle.dbtg_unit.specs.EditsOf.{placed_at, ring_edits, store_edits, joining_edits, first_owners, slot_edit}
 use Rattle.dbtg_unit.proofs.KeyLemmas.{same_key, key_eq-refl, owner_eq-refl, same_owner}
 use Rattle.dbtg_unit.proofs.CellNameLemmas.{same_place, place_eq-refl}
 use Rattle.dbtg_unit.proofs.Listing.{any-placed}
@@ -176,3 +176,91 @@ module _ (schema : Lists) (capacity : ℕ) (db : Database) (unit : Unit) (k : Db
       let other = key-else t n e in
       (λ i. option_map (slot_of schema capacity new (key_at-else t n e i)) (new.records (key_at-else t n e i)))
       ∙ (λ i. option_map (λ r. record { generation = x.generation; version = r.version; items = r.items; owners = map (λ s. owner_of-by_members schema capacity db new legal legal_new s x (member-else x other s) i) (set_numbers schema) }) (records-else x other i))
+
+  -- THE RINGS
+
+  sort_key-here : (s : ℕ) → sort_key schema new s k ≡ key_item schema s k.rtype items
+  sort_key-here s = ap (λ o. key_item schema s k.rtype (unwrap_or (option_map (λ (r : Record). r.items) o) [])) records-here
+
+  sort_key-else : (s : ℕ) (x : DbKey) → key_eq k x ≡ false → sort_key schema new s x ≡ sort_key schema db s x
+  sort_key-else s x e = ap (λ o. key_item schema s x.rtype (unwrap_or (option_map (λ (r : Record). r.items) o) [])) (records-else x e)
+
+  keys-else : (s : ℕ) (list : List DbKey) → is_member k list ≡ false → map {B = DbKey × Option Value} (λ x. (x, sort_key schema new s x)) list ≡ map {B = DbKey × Option Value} (λ x. (x, sort_key schema db s x)) list
+  keys-else s [] h = refl
+  keys-else s (x ∷ xs) h = let hs = or_parts (key_eq k x) (is_member k xs) h in λ i. (x, sort_key-else s x hs.0 i) ∷ keys-else s xs hs.1 i
+
+  not_in : (s : ℕ) (o : Owner) → is_member k (members_of db s o) ≡ false
+  not_in s o = false_from_ne_true _ (not_member schema capacity db k legal fresh s o)
+
+  -- a ring that k does not join shows as before
+  ring-else : (s : ℕ) (o : Owner) → option_map (ring_of schema new s o) (db.lists s o) ≡ option_map (ring_of schema db s o) (db.lists s o)
+  ring-else s o =
+      elim (db.lists s o) as (λ l. is_member k (unwrap_or l []) ≡ false → option_map (ring_of schema new s o) l ≡ option_map (ring_of schema db s o) l) [
+        | None ↦ λ h. refl
+        | Some list ↦ λ h i. Some (record { owner = o; members = keys-else s list h i })
+      ] (not_in s o)
+
+  ring-here : (s : ℕ) (place : Place) → place_in schema unit s ≡ Some place
+      → option_map (ring_of schema new s place.owner) (option_map (joined schema entered_db unit s k) (db.lists s place.owner))
+      ≡ option_map (with_members (placed (member_spot (order_of schema s) place.at (key_item schema s k.rtype items)) (k, key_item schema s k.rtype items))) (option_map (ring_of schema db s place.owner) (db.lists s place.owner))
+  ring-here s place at =
+      elim (db.lists s place.owner) as (λ l. is_member k (unwrap_or l []) ≡ false
+        → option_map (ring_of schema new s place.owner) (option_map (joined schema entered_db unit s k) l)
+        ≡ option_map (with_members (placed (member_spot (order_of schema s) place.at (key_item schema s k.rtype items)) (k, key_item schema s k.rtype items))) (option_map (ring_of schema db s place.owner) l)) [
+        | None ↦ λ h. refl
+        | Some list ↦ λ h.
+          let placed_is : map {B = DbKey × Option Value} (λ x. (x, sort_key schema new s x)) (joined schema entered_db unit s k list)
+              ≡ placed (member_spot (order_of schema s) place.at (sort_key schema new s k)) (k, sort_key schema new s k) (map {B = DbKey × Option Value} (λ x. (x, sort_key schema new s x)) list) =
+              rw at (ring-placed (order_of schema s) place.at (sort_key schema new s) k list) in
+          (λ i. Some (record { owner = place.owner; members = placed_is i }))
+          ∙ (λ i. Some (record { owner = place.owner; members = placed (member_spot (order_of schema s) place.at (sort_key-here s i)) (k, sort_key-here s i) (keys-else s list h i) }))
+      ] (not_in s place.owner)
+
+  -- the place of k's number is nobody's in the database before
+  place_k : Option (ℕ × ℕ)
+  place_k = Some (k.rtype, k.number)
+
+  owner-not_k : (s : ℕ) (o : Owner) → is_some (db.lists s o) ≡ true → place_eq place_k (place_of o) ≡ false
+  unfolding place_k
+  owner-not_k s o present =
+      false_from_ne_true _ (λ h.
+        let named : place_of o ≡ Some (k.rtype, k.number) = sym (same_place (Some (k.rtype, k.number)) (place_of o) h) in
+        let stands_at : owner_at db (place_of o) ≡ o = standing schema capacity db legal s o (sym (legal.pairs s o) ∙ present) in
+        let is_key : Rec (key_at db k.rtype k.number) ≡ o = sym (ap (owner_at db) named) ∙ stands_at in
+        let there : is_some (db.lists s (Rec (key_at db k.rtype k.number))) ≡ true = subst (λ p. is_some (db.lists s p) ≡ true) (sym is_key) present in
+        false≢true (sym vacant ∙ (and_parts _ _ (sym (legal.pairs s (Rec (key_at db k.rtype k.number))) ∙ there)).1))
+
+  -- THE EDITS
+
+  joining : ℕ → List CellEdit
+  joining s = joining_edits schema unit s k (key_item schema s k.rtype items)
+
+  opening_edits : ℕ → List CellEdit
+  opening_edits s = record { name = Ring s (Some (k.rtype, k.number)); edit = OpenRing (Rec k) } ∷ []
+
+  joined_cells : CellName → CellValue → CellValue
+  joined_cells c value = edited_at c (flat_map joining (automatic_sets schema k.rtype)) value
+
+  opened_cells : CellName → CellValue → CellValue
+  opened_cells c value = edited_at c (flat_map opening_edits (filter (λ s. owns schema s k.rtype) (set_numbers schema))) value
+
+  -- edits that are of rings alone miss every other cell
+  joining-misses : (c : CellName) (s : ℕ) (value : CellValue) → ((p : Option (ℕ × ℕ)) → name_eq c (Ring s p) ≡ false) → edited_at c (joining s) value ≡ value
+  unfolding joining
+  joining-misses c s value miss =
+      elim (place_in schema unit s) as (λ p. edited_at c (ring_edits s (option_map (λ place. place.owner) p) (unwrap_or (option_map (λ place. placed_at schema s k (key_item schema s k.rtype items) place ∷ []) p) [])) value ≡ value) [
+        | None ↦ refl
+        | Some place ↦ ap (λ b. cond b (edited (placed_at schema s k (key_item schema s k.rtype items) place) value) value) (miss (place_of place.owner))
+      ]
+
+  edits-in_turn : (c : CellName) (value : CellValue)
+      → edited_at c (store_edits schema unit k items) value
+      ≡ edited_at c (slot_edit k (Fill (record { generation = k.generation; version = 1; items = items; owners = first_owners schema unit k.rtype })) ∷ [])
+        (opened_cells c (joined_cells c (cond (name_eq c (Extent k.rtype)) (edited (EnterNumber k.number (calc_items schema k.rtype items)) value) value)))
+  unfolding joined_cells opened_cells joining opening_edits
+  edits-in_turn c value =
+      let filled = slot_edit k (Fill (record { generation = k.generation; version = 1; items = items; owners = first_owners schema unit k.rtype })) ∷ [] in
+      let own = flat_map opening_edits (filter (λ s. owns schema s k.rtype) (set_numbers schema)) in
+      let first = cond (name_eq c (Extent k.rtype)) (edited (EnterNumber k.number (calc_items schema k.rtype items)) value) value in
+      edited_at-append c (flat_map joining (automatic_sets schema k.rtype)) (own ++ filled) first
+      ∙ edited_at-append c own filled (edited_at c (flat_map joining (automatic_sets schema k.rtype)) first)

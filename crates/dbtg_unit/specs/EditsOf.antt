@@ -1,5 +1,5 @@
 -- The edits by which each statement, when nothing refuses it, changes the cells.
-use Rattle.std.specs.Prelude.{ℕ, Bool, true, false, cond, not, ◌&&◌, ◌==◌, List, [], ◌∷◌, ◌++◌, Option, Some, None, is_some, map, filter, option_map, unwrap_or, if◌then◌else◌}
+use Rattle.std.specs.Prelude.{ℕ, Bool, true, false, cond, not, ◌&&◌, ◌==◌, List, [], ◌∷◌, ◌++◌, Option, Some, None, is_some, map, filter, option_map, option_and_then, unwrap_or, if◌then◌else◌}
 use Rattle.std.specs.List.{list_any, flat_map}
 use Rattle.dbtg_schema.specs.Lists.{Lists}
 use Rattle.dbtg_schema.specs.Structure.{automatic_sets, order_of, owns, rekeyed_sets, set_numbers}
@@ -45,10 +45,9 @@ first_owners schema unit t =
 abbrev pub store_edits : Lists → Unit → DbKey → List Value → List CellEdit
 store_edits schema unit k items =
     record { name = Extent k.rtype; edit = EnterNumber k.number (calc_items schema k.rtype items) }
-    ∷ flat_map (λ s. joining_edits schema unit s k (key_item schema s k.rtype items)) (automatic_sets schema k.rtype)
-    ++ flat_map (λ s. record { name = Ring s (Some (k.rtype, k.number)); edit = OpenRing (Rec k) } ∷ []) (filter (λ s. owns schema s k.rtype) (set_numbers schema))
-    ++ slot_edit k (Fill (record { generation = k.generation; version = 1; items = items; owners = first_owners schema unit k.rtype }))
-    ∷ []
+    ∷ (flat_map (λ s. joining_edits schema unit s k (key_item schema s k.rtype items)) (automatic_sets schema k.rtype)
+    ++ (flat_map (λ s. record { name = Ring s (Some (k.rtype, k.number)); edit = OpenRing (Rec k) } ∷ []) (filter (λ s. owns schema s k.rtype) (set_numbers schema))
+    ++ slot_edit k (Fill (record { generation = k.generation; version = 1; items = items; owners = first_owners schema unit k.rtype })) ∷ []))
 
 abbrev pub insert_edits : Lists → Database → Unit → ℕ → DbKey → List CellEdit
 insert_edits schema db unit s k =
@@ -65,13 +64,11 @@ remove_edits schema capacity db s k =
 abbrev pub replacing_edits : Lists → ℕ → Database → Unit → DbKey → List Value → ℕ → List CellEdit
 replacing_edits schema capacity db unit k items s =
     ring_edits s (owner_of schema capacity db s k)
-      (TakeOut k ∷ PlaceMember (order_of schema s) None k (key_item schema s k.rtype items) ∷ [])
+      (TakeOut k ∷ PlaceMember (order_of schema s) (option_and_then (λ place. place.at) (place_in schema unit s)) k (key_item schema s k.rtype items) ∷ [])
 
 abbrev pub modify_edits : Lists → ℕ → Database → Unit → List Change → DbKey → List CellEdit
 modify_edits schema capacity db unit changes k =
     let items = changed_items changes (items_of db k) in
     (if names_calc schema k.rtype changes then record { name = Extent k.rtype; edit = ChangeNumber k.number (calc_items schema k.rtype items) } ∷ [] else [])
-    ++ flat_map (replacing_edits schema capacity db unit k items) (replaced_sets schema capacity db changes k)
-    ++ slot_edit k (ChangeItems items)
-    ∷ slot_edit k RaiseVersion
-    ∷ []
+    ++ (flat_map (replacing_edits schema capacity db unit k items) (replaced_sets schema capacity db changes k)
+    ++ slot_edit k (ChangeItems items) ∷ (slot_edit k RaiseVersion ∷ []))
