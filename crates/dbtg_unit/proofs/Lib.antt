@@ -21,3 +21,4 @@ pub mod RemoveCells
 pub mod OneMembership
 pub mod EditLemmas
 pub mod StoreCells
+pub mod PlacedLemmas

@@ -1,5 +1,5 @@
 -- STORE changes the cells by its edits, and no other cell.
-use Rattle.std.proofs.Common.{◌≡◌, ◌≢◌, refl, sym, ◌∙◌, ap, subst, ℕ, ◌+◌, ◌<◌, ◌≤◌, Bool, true, false, cond, not, ◌&&◌, ◌||◌, List, [], ◌∷◌, ◌++◌, Option, Some, None, map, length, arith, eqb, inl, inr}
+use Rattle.std.proofs.Common.{◌⊎◌, ◌≡◌, ◌≢◌, refl, sym, ◌∙◌, ap, subst, ℕ, ◌+◌, ◌<◌, ◌≤◌, Bool, true, false, cond, not, ◌&&◌, ◌||◌, List, [], ◌∷◌, ◌++◌, Option, Some, None, map, length, arith, eqb, inl, inr}
 use Rattle.std.specs.Prelude.{is_some, option_map, unwrap_or, filter}
 use Rattle.std.specs.List.{list_any, list_all, range_with_len, flat_map}
 use Rattle.std.proofs.lemmas.Bool.{and_parts, and_from, cases_Bool, eqb-true, eq-eqb, false≢true, false_from_ne_true, or_parts}
@@ -36,7 +36,8 @@ use Rattle.dbtg_unit.proofs.RemoveLocal.{owner_at-place}
 use Rattle.dbtg_unit.proofs.RangeMaps.{map-range_same, map-range_changed}
 use Rattle.dbtg_unit.proofs.OwnerLemmas.{latest, standing, owner_is, find-none, owner_of-by_members}
 use Rattle.dbtg_unit.proofs.StoreLegal.{joins, member-connected, member-new, not_member}
-use Rattle.dbtg_unit.proofs.EditLemmas.{edited_at-append, edits-miss, edits-hit, has_number, distinct, differ}
+use Rattle.dbtg_unit.proofs.PlacedLemmas.{pairwise-filter}
+use Rattle.dbtg_unit.proofs.EditLemmas.{edited_at-append, edits-miss, edits-hit, has_number, differ, range-distinct}
 
 module _ (schema : Lists) (capacity : ℕ) (db : Database) (unit : Unit) (k : DbKey) (items : List Value) (legal : Legal schema capacity db)
     (counted : 1 ≤ k.number) (next : k.generation ≡ db.last k.rtype k.number + 1) (vacant : is_live db (key_at db k.rtype k.number) ≡ false)
@@ -264,3 +265,42 @@ module _ (schema : Lists) (capacity : ℕ) (db : Database) (unit : Unit) (k : Db
       let first = cond (name_eq c (Extent k.rtype)) (edited (EnterNumber k.number (calc_items schema k.rtype items)) value) value in
       edited_at-append c (flat_map joining (automatic_sets schema k.rtype)) (own ++ filled) first
       ∙ edited_at-append c own filled (edited_at c (flat_map joining (automatic_sets schema k.rtype)) first)
+
+  -- no edit of a ring is of a cell of another kind
+  rings-miss : (c : CellName) (value : CellValue) → ((s : ℕ) (p : Option (ℕ × ℕ)) → name_eq c (Ring s p) ≡ false) → opened_cells c (joined_cells c value) ≡ value
+  unfolding joined_cells opened_cells joining opening_edits
+  rings-miss c value miss =
+      edits-miss c opening_edits (filter (λ s. owns schema s k.rtype) (set_numbers schema)) (joined_cells c value) (λ s v h. ap (λ b. cond b (edited (OpenRing (Rec k)) v) v) (miss s (Some (k.rtype, k.number))))
+      ∙ edits-miss c joining (automatic_sets schema k.rtype) value (λ s v h. joining-misses c s v (miss s))
+
+  -- the rings of other sets
+  joining-other : (s s' : ℕ) (q : Option (ℕ × ℕ)) (value : CellValue) → s ≢ s' → edited_at (Ring s' q) (joining s) value ≡ value
+  joining-other s s' q value other = joining-misses (Ring s' q) s value (λ p. ap (λ b. b && place_eq q p) (differ s' s (λ h. other (sym h))))
+
+  opened-elsewhere : (s : ℕ) (q : Option (ℕ × ℕ)) (value : CellValue) → place_eq q (Some (k.rtype, k.number)) ≡ false → opened_cells (Ring s q) value ≡ value
+  unfolding opened_cells opening_edits
+  opened-elsewhere s q value e =
+      edits-miss (Ring s q) opening_edits (filter (λ s'. owns schema s' k.rtype) (set_numbers schema)) value
+        (λ s' v h. ap (λ b. cond b (edited (OpenRing (Rec k)) v) v) (ap (λ b. eqb s s' && b) e ∙ and_never (eqb s s')))
+
+  joined-elsewhere : (s : ℕ) (q : Option (ℕ × ℕ)) (value : CellValue) → ((place : Place) → place_in schema unit s ≡ Some place → has_number s (automatic_sets schema k.rtype) ≡ true → place_eq q (place_of place.owner) ≡ false)
+      → joined_cells (Ring s q) value ≡ value
+  unfolding joined_cells joining
+  joined-elsewhere s q value other =
+      edits-miss (Ring s q) joining (automatic_sets schema k.rtype) value (λ s' v h. of_set s' v h (cases_Bool (eqb s s'))) where
+    of_set : (s' : ℕ) (v : CellValue) → has_number s' (automatic_sets schema k.rtype) ≡ true → (eqb s s' ≡ true) ⊎ (eqb s s' ≡ false) → edited_at (Ring s q) (joining s') v ≡ v
+    of_set s' v h (inr e) = joining-misses (Ring s q) s' v (λ p. ap (λ b. b && place_eq q p) e)
+    of_set s' v h (inl e) =
+        let here = eqb-true s s' e in
+        let automatic : has_number s (automatic_sets schema k.rtype) ≡ true = subst (λ x. has_number x (automatic_sets schema k.rtype) ≡ true) (sym here) h in
+        let at = stands s automatic in
+        let miss : edited_at (Ring s q) (joining s) v ≡ v = rw (at.1) (ap (λ b. cond b (edited (placed_at schema s k (key_item schema s k.rtype items) at.0) v) v) (ap (λ b. eqb s s && b) (other at.0 at.1 automatic) ∙ and_never (eqb s s))) in
+        subst (λ x. edited_at (Ring s q) (joining x) v ≡ v) here miss
+
+  joined-here : (s : ℕ) (place : Place) (value : CellValue) → has_number s (automatic_sets schema k.rtype) ≡ true → place_in schema unit s ≡ Some place
+      → joined_cells (Ring s (place_of place.owner)) value ≡ edited (PlaceMember (order_of schema s) place.at k (key_item schema s k.rtype items)) value
+  unfolding joined_cells joining
+  joined-here s place value automatic at =
+      edits-hit (Ring s (place_of place.owner)) joining (automatic_sets schema k.rtype) s value (pairwise-filter _ _ (set_numbers schema) (range-distinct 0 (length schema.sets))) automatic
+        (λ s' v other. joining-other s' s (place_of place.owner) v other)
+      ∙ rw at (ap (λ b. cond b (edited (PlaceMember (order_of schema s) place.at k (key_item schema s k.rtype items)) value) value) (and_from _ _ (eq-eqb s s refl) (place_eq-refl (place_of place.owner))))
