@@ -1,5 +1,5 @@
 -- The value of a cell after many edits.
-use Rattle.std.proofs.Common.{◌≡◌, ◌≢◌, refl, sym, ◌∙◌, ap, subst, ℕ, zero, suc, ◌+◌, ◌<◌, arith, Bool, true, false, cond, not, ◌&&◌, ◌||◌, List, [], ◌∷◌, ◌++◌, eqb, inl, inr}
+use Rattle.std.proofs.Common.{◌≡◌, ◌≢◌, refl, sym, ◌∙◌, ap, subst, ℕ, zero, suc, ◌+◌, ◌<◌, ◌≤◌, arith, Bool, true, false, cond, not, ◌&&◌, ◌||◌, List, [], ◌∷◌, ◌++◌, eqb, inl, inr}
 use Rattle.std.specs.Prelude.{filter}
 use Rattle.std.specs.List.{list_any, list_all, flat_map, range_with_len}
 use Rattle.std.proofs.lemmas.Bool.{false_from_ne_true, and_parts, and_from, cases_Bool, eqb-true, eq-eqb, eqb-false, false≢true, or_parts}
@@ -76,3 +76,39 @@ above-all x from (suc count) h =
 pub range-distinct : (from count : ℕ) → distinct (range_with_len from count) ≡ true
 range-distinct from zero = refl
 range-distinct from (suc count) = and_from _ _ (above-all from (from + 1) count (omega arith)) (range-distinct (from + 1) count)
+
+-- what a filter leaves passes, and what passes is left
+pub has_number-passes : (p : ℕ → Bool) (s : ℕ) (xs : List ℕ) → has_number s (filter p xs) ≡ true → p s ≡ true
+has_number-passes p s [] h = absurd (false≢true h)
+has_number-passes p s (x ∷ xs) h =
+    elim (cases_Bool (p x)) [
+      | inl e ↦
+        elim (cases_Bool (eqb x s)) [
+          | inl same ↦ ap p (sym (eqb-true x s same)) ∙ e
+          | inr other ↦ has_number-passes p s xs (sym (ap (λ b. has_number s (cond b (x ∷ filter p xs) (filter p xs))) e ∙ ap (λ b. b || has_number s (filter p xs)) other) ∙ h)
+        ]
+      | inr e ↦ has_number-passes p s xs (sym (ap (λ b. has_number s (cond b (x ∷ filter p xs) (filter p xs))) e) ∙ h)
+    ]
+
+pub has_number-filter : (p : ℕ → Bool) (s : ℕ) (xs : List ℕ) → p s ≡ true → has_number s xs ≡ true → has_number s (filter p xs) ≡ true
+has_number-filter p s [] passes h = absurd (false≢true h)
+has_number-filter p s (x ∷ xs) passes h =
+    elim (cases_Bool (eqb x s)) [
+      | inl e ↦
+        ap (λ b. has_number s (cond b (x ∷ filter p xs) (filter p xs))) (ap p (eqb-true x s e) ∙ passes)
+        ∙ ap (λ b. b || has_number s (filter p xs)) e
+      | inr e ↦
+        let rest = has_number-filter p s xs passes (sym (ap (λ b. b || has_number s xs) e) ∙ h) in
+        elim (p x) as (λ b. has_number s (cond b (x ∷ filter p xs) (filter p xs)) ≡ true) [
+          | true ↦ ap (λ b. b || has_number s (filter p xs)) e ∙ rest
+          | false ↦ rest
+        ]
+    ]
+
+pub has_number-range : (s from count : ℕ) → from ≤ s → s < from + count → has_number s (range_with_len from count) ≡ true
+has_number-range s from zero low high = absurd (omega (arith, low, high))
+has_number-range s from (suc count) low high =
+    elim (cases_Bool (eqb from s)) [
+      | inl e ↦ ap (λ b. b || has_number s (range_with_len (from + 1) count)) e
+      | inr e ↦ ap (λ b. b || has_number s (range_with_len (from + 1) count)) e ∙ has_number-range s (from + 1) count (omega (arith, low, eqb-false from s e)) (omega (arith, high))
+    ]

@@ -134,3 +134,16 @@ owner_of-by_members schema capacity db new legal legal_new s x same = known (own
   known : (found : Option Owner) → owner_of schema capacity db s x ≡ found → owner_of schema capacity new s x ≡ owner_of schema capacity db s x
   known None h = find-none (λ o. is_member x (members_of new s o)) _ (λ o. same o ∙ no_owner schema capacity db legal s x h o) ∙ sym h
   known (Some o) h = owner_is schema capacity new legal_new s o x (same o ∙ owner_has schema capacity db s o x h) ∙ sym h
+
+within : {X : Type 0} (xs : List X) (i : ℕ) → is_some (slice_get xs i) ≡ true → i < length xs
+within [] i h = absurd (false≢true h)
+within (x ∷ xs) zero h = omega arith
+within (x ∷ xs) (suc i) h = let r = within xs i h in omega arith
+
+-- a set with an owner type is a set of the schema
+pub set_within : (schema : Lists) (s t : ℕ) → owns schema s t ≡ true → s < length schema.sets
+set_within schema s t h =
+    within schema.sets s (elim (slice_get schema.sets s) as (λ o. some_and (λ owner. eqb owner t) (option_and_then (λ set. set.owner) o) ≡ true → is_some o ≡ true) [
+      | None ↦ λ h. absurd (false≢true h)
+      | Some set ↦ λ h. refl
+    ] h)

@@ -23,7 +23,7 @@ use Rattle.dbtg_unit.specs.declared.unit.Unit.{Unit}
 use Rattle.dbtg_unit.specs.Base.{Database, Record, is_live, items_of, members_of, is_member, owner_of, sort_key, key_item, key_at, calc_items}
 use Rattle.dbtg_unit.specs.Units.{place_in, owners_of}
 use Rattle.dbtg_unit.specs.Effect.{connected_in, with_new, is_current_owner, joined}
-use Rattle.dbtg_unit.specs.Legal.{Legal}
+use Rattle.dbtg_unit.specs.Legal.{Legal, has_occurrence}
 use Rattle.dbtg_unit.specs.Cells.{cell, owner_at, slot_of, ring_of, number_of}
 use Rattle.dbtg_unit.specs.CellNames.{place_of, slot_name}
 use Rattle.dbtg_unit.specs.Edits.{with_number, edited_at, edited, entered, with_members, member_spot}
@@ -34,10 +34,10 @@ use Rattle.dbtg_unit.proofs.Listing.{any-placed}
 use Rattle.dbtg_unit.proofs.InsertCells.{ring-placed}
 use Rattle.dbtg_unit.proofs.RemoveLocal.{owner_at-place}
 use Rattle.dbtg_unit.proofs.RangeMaps.{map-range_same, map-range_changed}
-use Rattle.dbtg_unit.proofs.OwnerLemmas.{latest, standing, owner_is, find-none, owner_of-by_members}
+use Rattle.dbtg_unit.proofs.OwnerLemmas.{set_within, latest, standing, owner_is, find-none, owner_of-by_members}
 use Rattle.dbtg_unit.proofs.StoreLegal.{joins, member-connected, member-new, not_member}
 use Rattle.dbtg_unit.proofs.PlacedLemmas.{pairwise-filter}
-use Rattle.dbtg_unit.proofs.EditLemmas.{edited_at-append, edits-miss, edits-hit, has_number, differ, range-distinct}
+use Rattle.dbtg_unit.proofs.EditLemmas.{edited_at-append, edits-miss, edits-hit, has_number, differ, range-distinct, has_number-passes, has_number-filter, has_number-range}
 
 module _ (schema : Lists) (capacity : ℕ) (db : Database) (unit : Unit) (k : DbKey) (items : List Value) (legal : Legal schema capacity db)
     (counted : 1 ≤ k.number) (next : k.generation ≡ db.last k.rtype k.number + 1) (vacant : is_live db (key_at db k.rtype k.number) ≡ false)
@@ -217,12 +217,8 @@ module _ (schema : Lists) (capacity : ℕ) (db : Database) (unit : Unit) (k : Db
           ∙ (λ i. Some (record { owner = place.owner; members = placed (member_spot (order_of schema s) place.at (sort_key-here s i)) (k, sort_key-here s i) (keys-else s list h i) }))
       ] (not_in s place.owner)
 
-  -- the place of k's number is nobody's in the database before
-  place_k : Option (ℕ × ℕ)
-  place_k = Some (k.rtype, k.number)
-
-  owner-not_k : (s : ℕ) (o : Owner) → is_some (db.lists s o) ≡ true → place_eq place_k (place_of o) ≡ false
-  unfolding place_k
+  -- no owner of a list has k's number in the database before
+  owner-not_k : (s : ℕ) (o : Owner) → is_some (db.lists s o) ≡ true → place_eq (Some (k.rtype, k.number)) (place_of o) ≡ false
   owner-not_k s o present =
       false_from_ne_true _ (λ h.
         let named : place_of o ≡ Some (k.rtype, k.number) = sym (same_place (Some (k.rtype, k.number)) (place_of o) h) in
@@ -304,3 +300,183 @@ module _ (schema : Lists) (capacity : ℕ) (db : Database) (unit : Unit) (k : Db
       edits-hit (Ring s (place_of place.owner)) joining (automatic_sets schema k.rtype) s value (pairwise-filter _ _ (set_numbers schema) (range-distinct 0 (length schema.sets))) automatic
         (λ s' v other. joining-other s' s (place_of place.owner) v other)
       ∙ rw at (ap (λ b. cond b (edited (PlaceMember (order_of schema s) place.at k (key_item schema s k.rtype items)) value) value) (and_from _ _ (eq-eqb s s refl) (place_eq-refl (place_of place.owner))))
+
+  -- A RING OF K'S OWN NUMBER
+
+  not_current : (s : ℕ) → has_number s (automatic_sets schema k.rtype) ≡ true → is_current_owner schema unit s (Rec k) ≡ false
+  not_current s automatic =
+      let at = stands s automatic in
+      false_from_ne_true _ (λ h.
+        let current : owner_eq at.0.owner (Rec k) ≡ true = rw at.1 at h in
+        false≢true (sym fresh ∙ (and_parts _ _ (sym (legal.pairs s (Rec k)) ∙ subst (λ p. is_some (db.lists s p) ≡ true) (same_owner at.0.owner (Rec k) current) at.2)).1))
+
+  own_list : (s : ℕ) → new.lists s (Rec k) ≡ entered_db.lists s (Rec k)
+  own_list s =
+      elim (cases_Bool (has_number s (automatic_sets schema k.rtype))) [
+        | inl e ↦ ap (λ b. cond (has_number s (automatic_sets schema k.rtype) && b) (option_map (joined schema entered_db unit s k) (entered_db.lists s (Rec k))) (entered_db.lists s (Rec k))) (not_current s e)
+          ∙ ap (λ b. cond b (option_map (joined schema entered_db unit s k) (entered_db.lists s (Rec k))) (entered_db.lists s (Rec k))) (and_never (has_number s (automatic_sets schema k.rtype)))
+        | inr e ↦ list-else s (Rec k) e
+      ]
+
+  no_list : (s : ℕ) (o : Owner) → has_occurrence schema db s o ≡ false → db.lists s o ≡ None
+  no_list s o h = nothing (db.lists s o) (legal.pairs s o ∙ h) where
+    nothing : (l : Option (List DbKey)) → is_some l ≡ false → l ≡ None
+    nothing None h = refl
+    nothing (Some list) h = absurd (false≢true (sym h))
+
+  own_ring : (s : ℕ) → option_map (ring_of schema new s (Rec k)) (new.lists s (Rec k)) ≡ cond (owns schema s k.rtype) (Some (record { owner = Rec k; members = [] })) None
+  own_ring s =
+      ap (option_map (ring_of schema new s (Rec k))) (own_list s)
+      ∙ elim (cases_Bool (owns schema s k.rtype)) [
+        | inl e ↦
+          ap (λ b. option_map (ring_of schema new s (Rec k)) (cond b (Some []) (db.lists s (Rec k)))) (and_from _ _ e (key_eq-refl k))
+          ∙ ap (λ b. cond b (Some (record { owner = Rec k; members = [] })) None) (sym e)
+        | inr e ↦
+          ap (λ b. option_map (ring_of schema new s (Rec k)) (cond (b && key_eq k k) (Some []) (db.lists s (Rec k)))) e
+          ∙ ap (option_map (ring_of schema new s (Rec k))) (no_list s (Rec k) (ap (λ b. b && is_live db k) e))
+          ∙ ap (λ b. cond b (Some (record { owner = Rec k; members = [] })) None) (sym e)
+      ]
+
+  own_ring-before : (s : ℕ) → cell schema capacity db (Ring s (Some (k.rtype, k.number))) ≡ RingValue None
+  unfolding cell
+  own_ring-before s =
+      let o = Rec (key_at db k.rtype k.number) in
+      ap (λ l. RingValue (option_map (ring_of schema db s o) l)) (no_list s o (ap (λ b. owns schema s k.rtype && b) vacant ∙ and_never (owns schema s k.rtype)))
+
+  opened-own : (s : ℕ) → opened_cells (Ring s (Some (k.rtype, k.number))) (RingValue None) ≡ RingValue (cond (owns schema s k.rtype) (Some (record { owner = Rec k; members = [] })) None)
+  unfolding opened_cells opening_edits
+  opened-own s =
+      let name = Ring s (Some (k.rtype, k.number)) in
+      elim (cases_Bool (owns schema s k.rtype)) [
+        | inl e ↦
+          edits-hit name opening_edits (filter (λ s'. owns schema s' k.rtype) (set_numbers schema)) s (RingValue None) (pairwise-filter _ _ (set_numbers schema) (range-distinct 0 (length schema.sets))) (has_owned s e)
+            (λ s' v other. ap (λ b. cond b (edited (OpenRing (Rec k)) v) v) (ap (λ b. b && place_eq (Some (k.rtype, k.number)) (Some (k.rtype, k.number))) (differ s s' (λ h. other (sym h)))))
+          ∙ ap (λ b. cond b (edited (OpenRing (Rec k)) (RingValue None)) (RingValue None)) (and_from _ _ (eq-eqb s s refl) (place_eq-refl (Some (k.rtype, k.number))))
+          ∙ ap (λ b. RingValue (cond b (Some (record { owner = Rec k; members = [] })) None)) (sym e)
+        | inr e ↦
+          edits-miss name opening_edits (filter (λ s'. owns schema s' k.rtype) (set_numbers schema)) (RingValue None)
+            (λ s' v h. ap (λ b. cond b (edited (OpenRing (Rec k)) v) v) (ap (λ b. b && place_eq (Some (k.rtype, k.number)) (Some (k.rtype, k.number)))
+              (differ s s' (λ same. false≢true (sym e ∙ ap (λ x. owns schema x k.rtype) same ∙ has_number-passes (λ x. owns schema x k.rtype) s' (set_numbers schema) h)))))
+          ∙ ap (λ b. RingValue (cond b (Some (record { owner = Rec k; members = [] })) None)) (sym e)
+      ] where
+    has_owned : (s : ℕ) → owns schema s k.rtype ≡ true → has_number s (filter (λ s'. owns schema s' k.rtype) (set_numbers schema)) ≡ true
+    has_owned s e = has_number-filter (λ s'. owns schema s' k.rtype) s (set_numbers schema) e (has_number-range s 0 (length schema.sets) (omega arith) (omega (arith, set_within schema s k.rtype e)))
+
+  -- CELL BY CELL
+
+  entry : Edit
+  entry = EnterNumber k.number (calc_items schema k.rtype items)
+
+  filled : Edit
+  filled = Fill (record { generation = k.generation; version = 1; items = items; owners = first_owners schema unit k.rtype })
+
+  extent-made : (t : ℕ) → cell schema capacity new (Extent t) ≡ cond (eqb t k.rtype) (edited entry (cell schema capacity db (Extent t))) (cell schema capacity db (Extent t))
+  unfolding cell entry
+  extent-made t =
+      let value = cell schema capacity db (Extent t) in
+      elim (cases_Bool (eqb t k.rtype)) [
+        | inl e ↦
+          let here = eqb-true t k.rtype e in
+          (λ i. ExtentValue (map (number_of schema new (here i)) (range_with_len 1 capacity)))
+          ∙ ap ExtentValue extent-here
+          ∙ (λ i. edited entry (ExtentValue (map (number_of schema db (sym here i)) (range_with_len 1 capacity))))
+          ∙ ap (λ b. cond b (edited entry value) value) (sym e)
+        | inr e ↦
+          (λ i. ExtentValue (map (λ n. number-else t n (ap (λ b. b && eqb n k.number) e) i) (range_with_len 1 capacity)))
+          ∙ ap (λ b. cond b (edited entry value) value) (sym e)
+      ]
+
+  slot-made : Legal schema capacity new → (t n : ℕ) → cell schema capacity new (Slot t n) ≡ cond (is_its_number t n) (edited filled (cell schema capacity db (Slot t n))) (cell schema capacity db (Slot t n))
+  unfolding cell filled
+  slot-made legal_new t n =
+      let value = cell schema capacity db (Slot t n) in
+      elim (cases_Bool (is_its_number t n)) [
+        | inl e ↦
+          let its = its_number t n e in
+          (λ i. SlotValue (option_map (slot_of schema capacity new (key_at new (its.0 i) (its.1 i))) (new.records (key_at new (its.0 i) (its.1 i)))))
+          ∙ (λ i. SlotValue (option_map (slot_of schema capacity new (key_at-here i)) (new.records (key_at-here i))))
+          ∙ ap SlotValue (slot-here legal_new)
+          ∙ ap (λ b. cond b (edited filled value) value) (sym e)
+        | inr e ↦ ap SlotValue (slot-else legal_new t n e) ∙ ap (λ b. cond b (edited filled value) value) (sym e)
+      ]
+
+  owner_at-other : (q : Option (ℕ × ℕ)) → place_eq q (Some (k.rtype, k.number)) ≡ false → owner_at new q ≡ owner_at db q
+  owner_at-other None e = refl
+  owner_at-other (Some p) e = ap Rec (key_at-else p.0 p.1 e)
+
+  not_k_at : (q : Option (ℕ × ℕ)) → place_eq q (Some (k.rtype, k.number)) ≡ false → owner_eq (Rec k) (owner_at db q) ≡ false
+  not_k_at None e = refl
+  not_k_at (Some p) e = key-else p.0 p.1 e
+
+  -- the ring of k's own number
+  own-made : (s : ℕ) → cell schema capacity new (Ring s (Some (k.rtype, k.number))) ≡ opened_cells (Ring s (Some (k.rtype, k.number))) (joined_cells (Ring s (Some (k.rtype, k.number))) (cell schema capacity db (Ring s (Some (k.rtype, k.number)))))
+  unfolding cell
+  own-made s =
+      let name = Ring s (Some (k.rtype, k.number)) in
+      (λ i. RingValue (option_map (ring_of schema new s (Rec (key_at-here i))) (new.lists s (Rec (key_at-here i)))))
+      ∙ ap RingValue (own_ring s)
+      ∙ sym (opened-own s)
+      ∙ ap (opened_cells name) (sym (own_ring-before s) ∙ sym (joined-elsewhere s (Some (k.rtype, k.number)) (cell schema capacity db name)
+          (λ place at automatic. let there = stands s automatic in
+            let same : there.0 ≡ place = ap (λ p. unwrap_or p place) (sym there.1 ∙ at) in
+            owner-not_k s place.owner (subst (λ (p : Place). is_some (db.lists s p.owner) ≡ true) same there.2))))
+
+  -- the ring of another owner
+  ring-made : (s : ℕ) (q : Option (ℕ × ℕ)) → place_eq q (Some (k.rtype, k.number)) ≡ false → RingValue (option_map (ring_of schema new s (owner_at db q)) (new.lists s (owner_at db q))) ≡ joined_cells (Ring s q) (cell schema capacity db (Ring s q))
+  unfolding cell
+  ring-made s q e =
+      let o = owner_at db q in
+      let entered_is : entered_db.lists s o ≡ db.lists s o = ap (λ b. cond b (Some []) (db.lists s o)) (ap (λ b. owns schema s k.rtype && b) (not_k_at q e) ∙ and_never (owns schema s k.rtype)) in
+      elim (cases_Bool (has_number s (automatic_sets schema k.rtype) && is_current_owner schema unit s o)) [
+        | inl h ↦
+          let hs = and_parts _ _ h in
+          let at = stands s hs.0 in
+          let current : owner_eq at.0.owner o ≡ true = rw at.1 at hs.1 in
+          let same : at.0.owner ≡ o = same_owner at.0.owner o current in
+          let named : place_of at.0.owner ≡ q = ap place_of same ∙ owner_at-place db q in
+          (λ i. RingValue (option_map (ring_of schema new s (sym same i)) (new.lists s (sym same i))))
+          ∙ ap (λ l. RingValue (option_map (ring_of schema new s at.0.owner) l)) (list-here s at.0 hs.0 at.1 at.2)
+          ∙ ap RingValue (ring-here s at.0 at.1)
+          ∙ (λ i. edited (PlaceMember (order_of schema s) at.0.at k (key_item schema s k.rtype items)) (RingValue (option_map (ring_of schema db s (same i)) (db.lists s (same i)))))
+          ∙ sym (joined-here s at.0 (cell schema capacity db (Ring s q)) hs.0 at.1)
+          ∙ (λ i. joined_cells (Ring s (named i)) (cell schema capacity db (Ring s q)))
+        | inr h ↦
+          ap (λ b. RingValue (option_map (ring_of schema new s o) (cond b (option_map (joined schema entered_db unit s k) (entered_db.lists s o)) (entered_db.lists s o)))) h
+          ∙ ap (λ l. RingValue (option_map (ring_of schema new s o) l)) entered_is
+          ∙ ap RingValue (ring-else s o)
+          ∙ sym (joined-elsewhere s q (cell schema capacity db (Ring s q))
+              (λ place at automatic. false_from_ne_true _ (λ same.
+                let named = same_place q (place_of place.owner) same in
+                let there = stands s automatic in
+                let present : is_some (db.lists s place.owner) ≡ true = subst (λ (p : Place). is_some (db.lists s p.owner) ≡ true) (ap (λ p. unwrap_or p place) (sym there.1 ∙ at)) there.2 in
+                let is_owner : place.owner ≡ o = sym (standing schema capacity db legal s place.owner (sym (legal.pairs s place.owner) ∙ present)) ∙ ap (owner_at db) (sym named) in
+                let current : is_current_owner schema unit s o ≡ true = rw at (subst (λ p. owner_eq place.owner p ≡ true) is_owner (owner_eq-refl place.owner)) in
+                false≢true (sym h ∙ and_from _ _ automatic current))))
+      ]
+
+  -- STORE changes the cells by its edits
+  pub store_makes : Legal schema capacity new → (c : CellName) → cell schema capacity new c ≡ edited_at c (store_edits schema unit k items) (cell schema capacity db c)
+  unfolding entry filled cell
+  store_makes legal_new (Usage a) = sym (rings-miss (Usage a) (cell schema capacity db (Usage a)) (λ s p. refl)) ∙ sym (edits-in_turn (Usage a) (cell schema capacity db (Usage a)))
+  store_makes legal_new (Extent t) =
+      let value = cell schema capacity db (Extent t) in
+      extent-made t ∙ sym (rings-miss (Extent t) (cond (eqb t k.rtype) (edited entry value) value) (λ s p. refl)) ∙ sym (edits-in_turn (Extent t) value)
+  store_makes legal_new (Slot t n) =
+      let value = cell schema capacity db (Slot t n) in
+      slot-made legal_new t n
+      ∙ ap (λ v. cond (is_its_number t n) (edited filled v) v) (sym (rings-miss (Slot t n) value (λ s p. refl)))
+      ∙ sym (edits-in_turn (Slot t n) value)
+  store_makes legal_new (Ring s q) =
+      let value = cell schema capacity db (Ring s q) in
+      elim (cases_Bool (place_eq q (Some (k.rtype, k.number)))) [
+        | inl e ↦
+          let own = same_place q (Some (k.rtype, k.number)) e in
+          (λ i. cell schema capacity new (Ring s (own i)))
+          ∙ own-made s
+          ∙ (λ i. opened_cells (Ring s (sym own i)) (joined_cells (Ring s (sym own i)) (cell schema capacity db (Ring s (sym own i)))))
+        | inr e ↦
+          (λ i. RingValue (option_map (ring_of schema new s (owner_at-other q e i)) (new.lists s (owner_at-other q e i))))
+          ∙ ring-made s q e
+          ∙ sym (opened-elsewhere s q (joined_cells (Ring s q) value) e)
+      ]
+      ∙ sym (edits-in_turn (Ring s q) value)
