@@ -22,3 +22,4 @@ pub mod OneMembership
 pub mod EditLemmas
 pub mod StoreCells
 pub mod PlacedLemmas
+pub mod ModifyCells
