@@ -1,5 +1,5 @@
 -- The value of a cell after many edits.
-use Rattle.std.proofs.Common.{◌≡◌, ◌≢◌, refl, sym, ◌∙◌, ap, subst, ℕ, zero, suc, ◌+◌, ◌<◌, ◌≤◌, arith, Bool, true, false, cond, not, ◌&&◌, ◌||◌, List, [], ◌∷◌, ◌++◌, eqb, inl, inr}
+use Rattle.std.proofs.Common.{◌⊎◌, ◌≡◌, ◌≢◌, refl, sym, ◌∙◌, ap, subst, ℕ, zero, suc, ◌+◌, ◌<◌, ◌≤◌, arith, Bool, true, false, cond, not, ◌&&◌, ◌||◌, List, [], ◌∷◌, ◌++◌, eqb, inl, inr}
 use Rattle.std.specs.Prelude.{filter}
 use Rattle.std.specs.List.{list_any, list_all, flat_map, range_with_len}
 use Rattle.std.proofs.lemmas.Bool.{false_from_ne_true, and_parts, and_from, cases_Bool, eqb-true, eq-eqb, eqb-false, false≢true, or_parts}
@@ -112,3 +112,15 @@ has_number-range s from (suc count) low high =
       | inl e ↦ ap (λ b. b || has_number s (range_with_len (from + 1) count)) e
       | inr e ↦ ap (λ b. b || has_number s (range_with_len (from + 1) count)) e ∙ has_number-range s (from + 1) count (omega (arith, low, eqb-false from s e)) (omega (arith, high))
     ]
+
+-- what a filter leaves was there
+pub has_number-unfiltered : (p : ℕ → Bool) (s : ℕ) (xs : List ℕ) → has_number s (filter p xs) ≡ true → has_number s xs ≡ true
+has_number-unfiltered p s [] h = h
+has_number-unfiltered p s (x ∷ xs) h =
+    elim (cases_Bool (eqb x s)) [
+      | inl e ↦ ap (λ b. b || has_number s xs) e
+      | inr e ↦ ap (λ b. b || has_number s xs) e ∙ has_number-unfiltered p s xs (rest (cases_Bool (p x)) e)
+    ] where
+  rest : (p x ≡ true) ⊎ (p x ≡ false) → eqb x s ≡ false → has_number s (filter p xs) ≡ true
+  rest (inl passes) e = sym (ap (λ b. has_number s (cond b (x ∷ filter p xs) (filter p xs))) passes ∙ ap (λ b. b || has_number s (filter p xs)) e) ∙ h
+  rest (inr fails) e = sym (ap (λ b. has_number s (cond b (x ∷ filter p xs) (filter p xs))) fails) ∙ h

@@ -1,12 +1,13 @@
 -- MODIFY changes the cells by its edits, and no other cell.
 use Rattle.std.proofs.Common.{◌⊎◌, ◌≡◌, ◌≢◌, refl, sym, ◌∙◌, ap, subst, ℕ, ◌+◌, ◌<◌, ◌≤◌, Bool, true, false, cond, not, ◌&&◌, ◌||◌, List, [], ◌∷◌, ◌++◌, Option, Some, None, map, length, arith, eqb, inl, inr, get_or-set_other}
-use Rattle.std.specs.Prelude.{is_some, option_map, option_and_then, unwrap_or, filter, slice_index_or, slice_set}
-use Rattle.std.specs.List.{list_any, list_all, range_with_len, flat_map}
+use Rattle.std.specs.Prelude.{is_some, option_map, option_and_then, unwrap_or, filter, slice_index_or, slice_set, slice_get}
+use Rattle.std.specs.List.{find, list_any, list_all, range_with_len, flat_map}
 use Rattle.std.proofs.lemmas.Bool.{and_parts, and_from, cases_Bool, eqb-true, eq-eqb, eqb-false, false≢true, false_from_ne_true, or_parts}
 use Rattle.dbtg_schema.specs.Lists.{Lists}
 use Rattle.dbtg_schema.specs.Lookups.{some_and}
 use Rattle.dbtg_schema.specs.Structure.{order_of, set_numbers, rekeyed_sets, member_clause, calc_of}
 use Rattle.dbtg_schema.specs.declared.shape.Member.{Member}
+use Rattle.dbtg_schema.specs.declared.shape.SetType.{SetType}
 use Rattle.dbtg_schema.specs.declared.shape.Calc.{Calc}
 use Rattle.dbtg_cells.specs.declared.key.DbKey.{DbKey}
 use Rattle.dbtg_cells.specs.declared.key.Owner.{Owner}
@@ -40,9 +41,9 @@ use Rattle.dbtg_unit.proofs.InsertCells.{ring-placed}
 use Rattle.dbtg_unit.proofs.RemoveCells.{without_gone}
 use Rattle.dbtg_unit.proofs.RemoveLocal.{owner_at-place, member-without}
 use Rattle.dbtg_unit.proofs.RangeMaps.{map-range_changed}
-use Rattle.dbtg_unit.proofs.OwnerLemmas.{latest, standing, owner_is, owner_has, owner_of-by_members, some_list}
+use Rattle.dbtg_unit.proofs.OwnerLemmas.{within, latest, standing, owner_is, owner_has, owner_of-by_members, some_list}
 use Rattle.dbtg_unit.proofs.PlacedLemmas.{pairwise-filter}
-use Rattle.dbtg_unit.proofs.EditLemmas.{edited_at-append, edits-miss, edits-hit, has_number, differ, range-distinct, has_number-passes, has_number-filter, has_number-range}
+use Rattle.dbtg_unit.proofs.EditLemmas.{edited_at-append, edits-miss, edits-hit, has_number, differ, range-distinct, has_number-passes, has_number-filter, has_number-range, has_number-unfiltered}
 
 -- an item that is not named stays
 pub changed_items-else : (changes : List Change) (items : List Value) (i : ℕ) (other : Value) → list_any (λ c. eqb c.item i) changes ≡ false → slice_index_or (changed_items changes items) i other ≡ slice_index_or items i other
@@ -239,3 +240,171 @@ module _ (schema : Lists) (capacity : ℕ) (db : Database) (unit : Unit) (change
             | false ↦ refl
           ]
       ]
+
+  -- THE RINGS
+
+  items-else : (x : DbKey) → key_eq k x ≡ false → items_of new x ≡ items_of db x
+  items-else x e = ap (λ o. unwrap_or (option_map (λ (r : Record). r.items) o) []) (records-else x e)
+
+  items-here : items_of new k ≡ new_items
+  items-here =
+      ap (λ o. unwrap_or (option_map (λ (r : Record). r.items) o) []) records-here
+      ∙ elim (db.records k) as (λ r. is_some r ≡ true → unwrap_or (option_map (λ (r : Record). r.items) (option_map next_version (option_map (with_its_items new_items) r))) [] ≡ new_items) [
+        | None ↦ λ h. absurd (false≢true h)
+        | Some r ↦ λ h. refl
+      ] live
+
+  -- raising the version leaves the items
+  items-raised : (x : DbKey) → items_of new x ≡ items_of changed_db x
+  items-raised x =
+      elim (key_eq k x) as (λ b. unwrap_or (option_map (λ (r : Record). r.items) (cond b (option_map next_version (changed_db.records x)) (changed_db.records x))) [] ≡ items_of changed_db x) [
+        | true ↦ elim (changed_db.records x) as (λ r. unwrap_or (option_map (λ (q : Record). q.items) (option_map next_version r)) [] ≡ unwrap_or (option_map (λ (q : Record). q.items) r) []) [ None ↦ refl | Some r ↦ refl ]
+        | false ↦ refl
+      ]
+
+  sort_key-raised : (s : ℕ) (x : DbKey) → sort_key schema new s x ≡ sort_key schema changed_db s x
+  sort_key-raised s x = ap (key_item schema s x.rtype) (items-raised x)
+
+  sort_key-here : (s : ℕ) → sort_key schema changed_db s k ≡ key_item schema s k.rtype new_items
+  sort_key-here s = ap (key_item schema s k.rtype) (sym (items-raised k) ∙ items-here)
+
+  keys-else : (s : ℕ) (list : List DbKey) → is_member k list ≡ false → map {B = DbKey × Option Value} (λ x. (x, sort_key schema new s x)) list ≡ map {B = DbKey × Option Value} (λ x. (x, sort_key schema db s x)) list
+  keys-else s [] h = refl
+  keys-else s (x ∷ xs) h =
+      let hs = or_parts (key_eq k x) (is_member k xs) h in
+      λ i. (x, key_item schema s x.rtype (items-else x hs.0 i)) ∷ keys-else s xs hs.1 i
+
+  -- where k's own key stays, so do all
+  keys-stay : (s : ℕ) → key_item schema s k.rtype new_items ≡ key_item schema s k.rtype (items_of db k) → (list : List DbKey)
+      → map {B = DbKey × Option Value} (λ x. (x, sort_key schema new s x)) list ≡ map {B = DbKey × Option Value} (λ x. (x, sort_key schema db s x)) list
+  keys-stay s stays [] = refl
+  keys-stay s stays (x ∷ xs) = λ i. (x, key-stays x (cases_Bool (key_eq k x)) i) ∷ keys-stay s stays xs i where
+    key-stays : (x : DbKey) → (key_eq k x ≡ true) ⊎ (key_eq k x ≡ false) → sort_key schema new s x ≡ sort_key schema db s x
+    key-stays x (inr e) = ap (key_item schema s x.rtype) (items-else x e)
+    key-stays x (inl e) = subst (λ y. sort_key schema new s y ≡ sort_key schema db s y) (same_key k x e) (ap (key_item schema s k.rtype) items-here ∙ stays)
+
+  abbrev pub placing : ℕ → Edit
+  placing s = PlaceMember (order_of schema s) (option_and_then (λ place. place.at) (place_in schema unit s)) k (key_item schema s k.rtype new_items)
+
+  -- the list that has k shows as the ring without k, and k placed anew
+  ring-replaced : (s : ℕ) (o : Owner) (list : List DbKey)
+      → ring_of schema new s o (joined schema changed_db unit s k (without k list))
+      ≡ with_members (placed (member_spot (order_of schema s) (option_and_then (λ place. place.at) (place_in schema unit s)) (key_item schema s k.rtype new_items)) (k, key_item schema s k.rtype new_items)) (with_members (members_without k) (ring_of schema db s o list))
+  ring-replaced s o list =
+      let at = option_and_then (λ place. place.at) (place_in schema unit s) in
+      let rest = without k list in
+      let shown = ring-placed (order_of schema s) at (sort_key schema changed_db s) k rest in
+      let rest_is : map {B = DbKey × Option Value} (λ x. (x, sort_key schema changed_db s x)) rest ≡ members_without k (map (λ x. (x, sort_key schema db s x)) list) =
+          (λ i. map {B = DbKey × Option Value} (λ x. (x, sym (sort_key-raised s x) i)) rest)
+          ∙ keys-else s rest (without_gone k list)
+          ∙ map-filter {Y = DbKey × Option Value} (λ x. (x, sort_key schema db s x)) (λ m. not (key_eq k m.0)) list in
+      (λ i. record { owner = o; members = map (λ x. (x, sort_key-raised s x i)) (joined schema changed_db unit s k rest) })
+      ∙ (λ i. record { owner = o; members = shown i })
+      ∙ (λ i. record { owner = o; members = placed (member_spot (order_of schema s) at (sort_key-here s i)) (k, sort_key-here s i) (rest_is i) })
+
+  ring-edits : CellName → CellValue → CellValue
+  ring-edits c value = edited_at c (flat_map (replacing_edits schema capacity db unit k new_items) (replaced_sets schema capacity db changes k)) value
+
+  -- edits of rings miss other cells
+  replacing-misses : (c : CellName) (s : ℕ) (value : CellValue) → ((o : Owner) → owner_of schema capacity db s k ≡ Some o → name_eq c (Ring s (place_of o)) ≡ false) → edited_at c (replacing_edits schema capacity db unit k new_items s) value ≡ value
+  replacing-misses c s value miss = known (owner_of schema capacity db s k) refl where
+    known : (found : Option Owner) → owner_of schema capacity db s k ≡ found → edited_at c (replacing_edits schema capacity db unit k new_items s) value ≡ value
+    known None h = rw h refl
+    known (Some o) h =
+        rw h (ap (λ b. cond b (edited (placing s) (cond b (edited (TakeOut k) value) value)) (cond b (edited (TakeOut k) value) value)) (miss o h))
+
+  rings-miss : (c : CellName) (value : CellValue) → ((s : ℕ) (p : Option (ℕ × ℕ)) → name_eq c (Ring s p) ≡ false) → ring-edits c value ≡ value
+  unfolding ring-edits
+  rings-miss c value miss = edits-miss c (replacing_edits schema capacity db unit k new_items) (replaced_sets schema capacity db changes k) value (λ s v h. replacing-misses c s v (λ o is. miss s (place_of o)))
+
+  -- the sets whose key item is named
+  rekeys : ℕ → Bool
+  rekeys s = some_and (λ (m : Member). some_and (λ i. list_any (λ j. eqb j i) (map (λ c. c.item) changes)) m.key) (member_clause schema s k.rtype)
+
+  rekeyed-else : (s : ℕ) → has_number s rekeyed ≡ false → rekeys s ≡ false
+  unfolding rekeys
+  rekeyed-else s h =
+      false_from_ne_true _ (λ e. false≢true (sym h ∙ has_number-filter rekeys s (set_numbers schema) e (has_number-range s 0 (length schema.sets) (omega arith) (omega (arith, in_schema e))))) where
+    in_schema : rekeys s ≡ true → s < length schema.sets
+    in_schema e = within schema.sets s (elim (slice_get schema.sets s) as (λ o. some_and (λ (m : Member). some_and (λ i. list_any (λ j. eqb j i) (map (λ c. c.item) changes)) m.key) (option_and_then (λ (set : SetType). find (λ (m : Member). eqb m.rtype k.rtype) set.members) o) ≡ true → is_some o ≡ true) [
+      | None ↦ λ h. absurd (false≢true h)
+      | Some set ↦ λ h. refl
+    ] e)
+
+  ring-made : (s : ℕ) (q : Option (ℕ × ℕ)) → cell schema capacity new (Ring s q) ≡ ring-edits (Ring s q) (cell schema capacity db (Ring s q))
+  unfolding cell ring-edits rekeys
+  ring-made s q =
+      let o = owner_at db q in
+      let value = cell schema capacity db (Ring s q) in
+      elim (cases_Bool (has_number s rekeyed && is_member k (members_of db s o))) [
+        | inl e ↦
+          let es = and_parts _ _ e in
+          let stands : owner_of schema capacity db s k ≡ Some o = owner_is schema capacity db legal s o k es.1 in
+          let there : has_number s (replaced_sets schema capacity db changes k) ≡ true = has_number-filter (λ s'. is_some (owner_of schema capacity db s' k)) s rekeyed (ap is_some stands) es.0 in
+          let once = pairwise-filter _ _ rekeyed (pairwise-filter _ _ (set_numbers schema) (range-distinct 0 (length schema.sets))) in
+          let named : (eqb s s && place_eq q (place_of o)) ≡ true = and_from _ _ (eq-eqb s s refl) (ap (place_eq q) (owner_at-place db q) ∙ place_eq-refl q) in
+          let hit : edited_at (Ring s q) (replacing_edits schema capacity db unit k new_items s) value ≡ edited (placing s) (edited (TakeOut k) value) =
+              rw stands (ap (λ b. cond b (edited (placing s) (cond b (edited (TakeOut k) value) value)) (cond b (edited (TakeOut k) value) value)) named) in
+          ap (λ b. RingValue (option_map (ring_of schema new s o) (cond b (option_map (λ list. joined schema changed_db unit s k (without k list)) (db.lists s o)) (db.lists s o)))) e
+          ∙ shown s o (db.lists s o)
+          ∙ sym hit
+          ∙ sym (edits-hit (Ring s q) (replacing_edits schema capacity db unit k new_items) (replaced_sets schema capacity db changes k) s value once there
+            (λ s' v other. replacing-misses (Ring s q) s' v (λ p is. ap (λ b. b && place_eq q (place_of p)) (differ s s' (λ same. other (sym same))))))
+        | inr e ↦
+          ap (λ b. RingValue (option_map (ring_of schema new s o) (cond b (option_map (λ list. joined schema changed_db unit s k (without k list)) (db.lists s o)) (db.lists s o)))) e
+          ∙ ap RingValue (stays s o e)
+          ∙ sym (edits-miss (Ring s q) (replacing_edits schema capacity db unit k new_items) (replaced_sets schema capacity db changes k) value
+            (λ s' v h. replacing-misses (Ring s q) s' v (λ p is. false_from_ne_true _ (λ same.
+              let sames = and_parts (eqb s s') (place_eq q (place_of p)) same in
+              let set_is = eqb-true s s' sames.0 in
+              let has : is_member k (members_of db s' p) ≡ true = owner_has schema capacity db s' p k is in
+              let owner : o ≡ p = ap (owner_at db) (same_place q (place_of p) sames.1) ∙ standing schema capacity db legal s' p (sym (legal.pairs s' p) ∙ some_list (db.lists s' p) k has) in
+              let rekeyed_there : has_number s rekeyed ≡ true = subst (λ x. has_number x rekeyed ≡ true) (sym set_is) (has_number-unfiltered (λ x. is_some (owner_of schema capacity db x k)) s' rekeyed h) in
+              false≢true (sym e ∙ and_from _ _ rekeyed_there (λ i. (subst (λ x. is_member k (members_of db x o) ≡ true) (sym set_is) (subst (λ u. is_member k (members_of db s' u) ≡ true) (sym owner) has)) i))))))
+      ] where
+    shown : (s : ℕ) (o : Owner) (l : Option (List DbKey)) → RingValue (option_map (ring_of schema new s o) (option_map (λ list. joined schema changed_db unit s k (without k list)) l)) ≡ edited (placing s) (edited (TakeOut k) (RingValue (option_map (ring_of schema db s o) l)))
+    shown s o None = refl
+    shown s o (Some list) = λ i. RingValue (Some (ring-replaced s o list i))
+    stays : (s : ℕ) (o : Owner) → (has_number s rekeyed && is_member k (members_of db s o)) ≡ false → option_map (ring_of schema new s o) (db.lists s o) ≡ option_map (ring_of schema db s o) (db.lists s o)
+    stays s o e =
+        elim (db.lists s o) as (λ l. (has_number s rekeyed && is_member k (unwrap_or l [])) ≡ false → option_map (ring_of schema new s o) l ≡ option_map (ring_of schema db s o) l) [
+          | None ↦ λ h. refl
+          | Some list ↦ λ h i. Some (record { owner = o; members = keys-are s list h i })
+        ] e where
+      keys-are : (s : ℕ) (list : List DbKey) → (has_number s rekeyed && is_member k list) ≡ false → map {B = DbKey × Option Value} (λ x. (x, sort_key schema new s x)) list ≡ map {B = DbKey × Option Value} (λ x. (x, sort_key schema db s x)) list
+      keys-are s list h =
+          elim (cases_Bool (is_member k list)) [
+            | inl has ↦
+              let other : has_number s rekeyed ≡ false = false_from_ne_true _ (λ there. false≢true (sym h ∙ and_from _ _ there has)) in
+              keys-stay s (key_item-else schema s k.rtype changes (items_of db k) (rekeyed-else s other)) list
+            | inr absent ↦ keys-else s list absent
+          ]
+
+  -- MODIFY changes the cells by its edits
+  pub modify_makes : Legal schema capacity new → (c : CellName) → cell schema capacity new c ≡ edited_at c (modify_edits schema capacity db unit changes k) (cell schema capacity db c)
+  unfolding ring-edits extent-edits cell
+  modify_makes legal_new c = made c ∙ sym (in_turn c (cell schema capacity db c)) where
+    slots : List CellEdit
+    slots = slot_edit k (ChangeItems new_items) ∷ (slot_edit k RaiseVersion ∷ [])
+    in_turn : (c : CellName) (value : CellValue) → edited_at c (modify_edits schema capacity db unit changes k) value ≡ edited_at c (slot_edit k (ChangeItems new_items) ∷ (slot_edit k RaiseVersion ∷ [])) (ring-edits c (edited_at c extent-edits value))
+    in_turn c value =
+        let rings = flat_map (replacing_edits schema capacity db unit k new_items) (replaced_sets schema capacity db changes k) in
+        edited_at-append c extent-edits (rings ++ slot_edit k (ChangeItems new_items) ∷ (slot_edit k RaiseVersion ∷ [])) value
+        ∙ edited_at-append c rings (slot_edit k (ChangeItems new_items) ∷ (slot_edit k RaiseVersion ∷ [])) (edited_at c extent-edits value)
+    extent-misses : (c : CellName) (value : CellValue) → name_eq c (Extent k.rtype) ≡ false → edited_at c extent-edits value ≡ value
+    extent-misses c value miss =
+        let edit = ChangeNumber k.number (calc_items schema k.rtype new_items) in
+        elim (names_calc schema k.rtype changes) as (λ b. edited_at c (cond b (record { name = Extent k.rtype; edit = edit } ∷ []) []) value ≡ value) [
+          | true ↦ ap (λ b. cond b (edited edit value) value) miss
+          | false ↦ refl
+        ]
+    made : (c : CellName) → cell schema capacity new c ≡ edited_at c (slot_edit k (ChangeItems new_items) ∷ (slot_edit k RaiseVersion ∷ [])) (ring-edits c (edited_at c extent-edits (cell schema capacity db c)))
+    made (Usage a) =
+        let value = cell schema capacity db (Usage a) in
+        sym (rings-miss (Usage a) (edited_at (Usage a) extent-edits value) (λ s p. refl) ∙ extent-misses (Usage a) value refl)
+    made (Extent t) = extent-made t ∙ sym (rings-miss (Extent t) (edited_at (Extent t) extent-edits (cell schema capacity db (Extent t))) (λ s p. refl))
+    made (Ring s q) = ring-made s q ∙ ap (ring-edits (Ring s q)) (sym (extent-misses (Ring s q) (cell schema capacity db (Ring s q)) refl))
+    made (Slot t n) =
+        let value = cell schema capacity db (Slot t n) in
+        slot-made legal_new t n
+        ∙ ap (edited_at (Slot t n) (slot_edit k (ChangeItems new_items) ∷ (slot_edit k RaiseVersion ∷ []))) (sym (rings-miss (Slot t n) (edited_at (Slot t n) extent-edits value) (λ s p. refl) ∙ extent-misses (Slot t n) value refl))

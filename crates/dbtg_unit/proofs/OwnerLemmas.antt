@@ -135,7 +135,8 @@ owner_of-by_members schema capacity db new legal legal_new s x same = known (own
   known None h = find-none (λ o. is_member x (members_of new s o)) _ (λ o. same o ∙ no_owner schema capacity db legal s x h o) ∙ sym h
   known (Some o) h = owner_is schema capacity new legal_new s o x (same o ∙ owner_has schema capacity db s o x h) ∙ sym h
 
-within : {X : Type 0} (xs : List X) (i : ℕ) → is_some (slice_get xs i) ≡ true → i < length xs
+-- an index at which a list has something
+pub within : {X : Type 0} (xs : List X) (i : ℕ) → is_some (slice_get xs i) ≡ true → i < length xs
 within [] i h = absurd (false≢true h)
 within (x ∷ xs) zero h = omega arith
 within (x ∷ xs) (suc i) h = let r = within xs i h in omega arith
