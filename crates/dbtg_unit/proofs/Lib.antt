@@ -10,3 +10,15 @@ pub mod Rows
 pub mod Sets
 pub mod Orders
 pub mod Openings
+pub mod PlacedMaps
+pub mod CellNameLemmas
+pub mod OwnerLemmas
+pub mod SameItems
+pub mod InsertCells
+pub mod RangeMaps
+pub mod RemoveCells
+pub mod OneMembership
+pub mod EditLemmas
+pub mod StoreCells
+pub mod PlacedLemmas
+pub mod ModifyCells

@@ -18,3 +18,5 @@ pub mod Needs
 pub mod Local
 pub mod Belongs
 pub mod LegalWith
+pub mod Edits
+pub mod EditsOf

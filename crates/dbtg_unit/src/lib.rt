@@ -1,11 +1,13 @@
 //! What a sequential network database is: statements, units, and the effect of each statement.
 #![tactic(auto)]
 
+mod edit;
 mod held;
 mod laws;
 mod statement;
 mod unit;
 
+pub use edit::{CellEdit, Edit};
 pub use held::{Held, Need};
 pub use laws::doomed_is_least;
 pub use statement::{Change, Erase, Form, Statement, Suppress, Which};

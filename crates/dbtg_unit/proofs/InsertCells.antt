@@ -1,0 +1,130 @@
+-- INSERT changes the cells by its edits, and no other cell.
+use Rattle.std.proofs.Common.{◌≡◌, refl, sym, ◌∙◌, ap, subst, ℕ, zero, suc, ◌+◌, ◌<◌, ◌≤◌, Bool, true, false, cond, ◌&&◌, ◌||◌, List, [], ◌∷◌, Option, Some, None, map, length, arith, eqb, inl, inr, ◌⊎◌, ⊎_elim}
+use Rattle.std.specs.Prelude.{is_some, option_map, unwrap_or, slice_set, slice_get}
+use Rattle.std.specs.List.{list_any, range_with_len}
+use Rattle.std.proofs.lemmas.Bool.{and_parts, and_from, cases_Bool, eqb-true, eq-eqb, false≢true, false_from_ne_true, or_parts}
+use Rattle.dbtg_schema.specs.Lists.{Lists}
+use Rattle.dbtg_schema.specs.Structure.{order_of, set_numbers}
+use Rattle.dbtg_schema.specs.declared.shape.Order.{Order}
+use Rattle.dbtg_schema.specs.declared.shape.Order.TheVariants.{First, Last, Next, Prior, Sorted}
+use Rattle.dbtg_cells.specs.declared.key.DbKey.{DbKey}
+use Rattle.dbtg_cells.specs.declared.key.Owner.{Owner}
+use Rattle.dbtg_cells.specs.declared.key.Value.{Value}
+use Rattle.dbtg_cells.specs.declared.name.CellName.{CellName}
+use Rattle.dbtg_cells.specs.declared.name.CellName.TheVariants.{Usage, Extent, Ring, Slot}
+use Rattle.dbtg_cells.specs.Shown.{CellValue, RingValue, SlotValue}
+use Rattle.dbtg_cells.specs.Keys.{key_eq, owner_eq}
+use Rattle.dbtg_cells.specs.Names.{name_eq, place_eq}
+use Rattle.dbtg_cells.specs.Placed.{placed, Spot, Front, Back, After, Before, Among}
+use Rattle.dbtg_unit.specs.declared.unit.Place.{Place}
+use Rattle.dbtg_unit.specs.declared.unit.Unit.{Unit}
+use Rattle.dbtg_unit.specs.Base.{key_item, Database, Record, is_live, items_of, members_of, is_member, owner_of, sort_key, key_at}
+use Rattle.dbtg_unit.specs.Units.{place_in, owners_of}
+use Rattle.dbtg_unit.specs.Effect.{inserted, connected_in, raised, next_version, spot, after_position, before_position, comes_before, is_current_owner, joined}
+use Rattle.dbtg_unit.specs.Legal.{Legal, has_occurrence}
+use Rattle.dbtg_unit.specs.Cells.{cell, owner_at, slot_of, ring_of}
+use Rattle.dbtg_unit.specs.CellNames.{place_of, slot_name}
+use Rattle.dbtg_unit.specs.Edits.{edited_at, edited, member_spot, after_key, before_key, with_members, with_owner, with_next_version}
+use Rattle.dbtg_unit.specs.EditsOf.{insert_edits}
+use Rattle.dbtg_unit.specs.declared.edit.CellEdit.{CellEdit}
+use Rattle.dbtg_unit.proofs.OneMembership.{ChangesMembership, changed_items-same, membership_edits, membership_cells}
+use Rattle.dbtg_unit.specs.declared.edit.Edit.{Edit}
+use Rattle.dbtg_unit.specs.declared.edit.Edit.TheVariants.{PlaceMember, ChangeOwner, RaiseVersion}
+use Rattle.dbtg_unit.proofs.KeyLemmas.{same_key, key_eq-refl, owner_eq-refl, same_owner}
+use Rattle.dbtg_unit.proofs.CellNameLemmas.{same_name, place_eq-refl, same_place}
+use Rattle.dbtg_unit.proofs.PlacedMaps.{map-placed, spot_before_map}
+use Rattle.dbtg_unit.proofs.Listing.{any-placed}
+use Rattle.dbtg_unit.proofs.RangeMaps.{map-range_set}
+use Rattle.dbtg_unit.proofs.RemoveLocal.{owner_at-place}
+use Rattle.dbtg_unit.proofs.OwnerLemmas.{latest, standing, owner_is, no_owner}
+use Rattle.dbtg_unit.proofs.SameItems.{SameItems, extent-same, ring-same, slot-same, owner_of-same, sort_key-same, owner_at-same, key_at-same}
+
+-- a spot in a ring is the spot in the list, by the members' keys
+spot-members : (order : Order) (position : Option DbKey) (key : DbKey → Option Value) (m : DbKey)
+    → spot order position key m ≡ spot_before_map (λ x. (x, key x)) (member_spot order position (key m))
+spot-members First position key m = refl
+spot-members Last position key m = refl
+spot-members Next None key m = refl
+spot-members Next (Some p) key m = refl
+spot-members Prior None key m = refl
+spot-members Prior (Some p) key m = refl
+spot-members (Sorted ascending duplicates) position key m = refl
+
+-- a list with a new member shows in its ring as the ring with that member
+pub ring-placed : (order : Order) (position : Option DbKey) (key : DbKey → Option Value) (m : DbKey) (list : List DbKey)
+    → map (λ x. (x, key x)) (placed (spot order position key m) m list) ≡ placed (member_spot order position (key m)) (m, key m) (map (λ x. (x, key x)) list)
+ring-placed order position key m list =
+    ap (λ s. map (λ x. (x, key x)) (placed s m list)) (spot-members order position key m)
+    ∙ map-placed (λ x. (x, key x)) (member_spot order position (key m)) m list
+
+module _ (schema : Lists) (capacity : ℕ) (db : Database) (unit : Unit) (s : ℕ) (k : DbKey) (place : Place)
+    (legal : Legal schema capacity db) (stands : place_in schema unit s ≡ Some place) (live : is_live db k ≡ true) where
+  abbrev pub new : Database
+  new = (inserted schema db unit s k).database
+
+  owner_is_current : (o : Owner) → is_current_owner schema unit s o ≡ owner_eq place.owner o
+  owner_is_current o = rw stands refl
+
+  -- the list of the current owner has k, and every other list is as it was
+  list-else : (s' : ℕ) (o : Owner) → (s' ≡ s → o ≡ place.owner → ⊥) → new.lists s' o ≡ db.lists s' o
+  list-else s' o other =
+      elim (cases_Bool (eqb s s')) [
+        | inl e ↦
+          let here = eqb-true s s' e in
+          let not_owner : is_current_owner schema unit s' o ≡ false =
+              false_from_ne_true _ (λ h. other (sym here) (sym (same_owner place.owner o (sym (owner_is_current o) ∙ ap (λ u. is_current_owner schema unit u o) here ∙ h)))) in
+          rw (e, not_owner) refl
+        | inr e ↦ rw e refl
+      ]
+
+  list-here : new.lists s place.owner ≡ option_map (joined schema db unit s k) (db.lists s place.owner)
+  list-here = rw (eq-eqb s s refl, owner_is_current place.owner, owner_eq-refl place.owner) refl
+
+  has-here : is_some (db.lists s place.owner) ≡ true → is_member k (members_of new s place.owner) ≡ true
+  has-here present =
+      ap (λ l. is_member k (unwrap_or l [])) list-here
+      ∙ elim (db.lists s place.owner) as (λ l. is_some l ≡ true → is_member k (unwrap_or (option_map (joined schema db unit s k) l) []) ≡ true) [
+        | None ↦ λ h. absurd (false≢true h)
+        | Some list ↦ λ h. any-placed (key_eq k) _ k list ∙ ap (λ b. b || is_member k list) (key_eq-refl k)
+      ] present
+
+  -- another record is in the lists where it was
+  member-else : (x : DbKey) → key_eq x k ≡ false → (s' : ℕ) (o : Owner) → is_member x (members_of new s' o) ≡ is_member x (members_of db s' o)
+  member-else x other s' o =
+      elim (cases_Bool (eqb s' s && owner_eq o place.owner)) [
+        | inl e ↦
+          let es = and_parts _ _ e in
+          let set_is = eqb-true s' s es.0 in
+          let owner = same_owner o place.owner es.1 in
+          (λ i. is_member x (members_of new (set_is i) (owner i)))
+          ∙ ap (λ l. is_member x (unwrap_or l [])) list-here
+          ∙ elim (db.lists s place.owner) as (λ l. is_member x (unwrap_or (option_map (joined schema db unit s k) l) []) ≡ is_member x (unwrap_or l [])) [
+            | None ↦ refl
+            | Some list ↦ any-placed (key_eq x) _ k list ∙ ap (λ b. b || is_member x list) other
+          ]
+          ∙ (λ i. is_member x (members_of db (sym set_is i) (sym owner i)))
+        | inr e ↦ ap (λ l. is_member x (unwrap_or l [])) (list-else s' o (λ a b. false≢true (sym e ∙ and_from _ _ (eq-eqb s' s a) (subst (λ p. owner_eq p place.owner ≡ true) (sym b) (owner_eq-refl place.owner)))))
+      ]
+
+  changes : ChangesMembership schema capacity db new s k place.owner
+  changes = record { records = λ x. refl; last = λ t n. refl; usage = λ a. refl; list_else = list-else; member_else = member-else }
+
+  ring-here : (l : Option (List DbKey)) → option_map (ring_of schema new s place.owner) (option_map (joined schema db unit s k) l)
+      ≡ option_map (with_members (placed (member_spot (order_of schema s) place.at (sort_key schema db s k)) (k, sort_key schema db s k))) (option_map (ring_of schema db s place.owner) l)
+  ring-here None = refl
+  ring-here (Some list) =
+      let placed_is : map (λ x. (x, sort_key schema db s x)) (joined schema db unit s k list)
+          ≡ placed (member_spot (order_of schema s) place.at (sort_key schema db s k)) (k, sort_key schema db s k) (map (λ x. (x, sort_key schema db s x)) list) =
+          rw stands (ring-placed (order_of schema s) place.at (sort_key schema db s) k list) in
+      (λ i. Some (record { owner = place.owner; members = map (λ x. (x, sort_key-same (changed_items-same changes) schema s x i)) (joined schema db unit s k list) }))
+      ∙ (λ i. Some (record { owner = place.owner; members = placed_is i }))
+
+  -- INSERT changes the cells by its edits
+  pub insert_makes : Legal schema capacity new → is_some (db.lists s place.owner) ≡ true → (c : CellName) → cell schema capacity new c ≡ edited_at c (insert_edits schema db unit s k) (cell schema capacity db c)
+  insert_makes legal_new present c =
+      let key = key_item schema s k.rtype (items_of db k) in
+      let edit : Edit = PlaceMember (order_of schema s) place.at k key in
+      let edits_are : insert_edits schema db unit s k ≡ membership_edits changes legal live edit (Some place.owner) = rw stands refl in
+      membership_cells changes legal live edit (Some place.owner) present (owner_is schema capacity new legal_new s place.owner k (has-here present))
+        (ap (λ l. RingValue (option_map (ring_of schema new s place.owner) l)) list-here ∙ ap RingValue (ring-here (db.lists s place.owner))) c
+      ∙ ap (λ es. edited_at c es (cell schema capacity db c)) (sym edits_are)

@@ -1,0 +1,74 @@
+-- The edits by which each statement, when nothing refuses it, changes the cells.
+use Rattle.std.specs.Prelude.{ℕ, Bool, true, false, cond, not, ◌&&◌, ◌==◌, List, [], ◌∷◌, ◌++◌, Option, Some, None, is_some, map, filter, option_map, option_and_then, unwrap_or, if◌then◌else◌}
+use Rattle.std.specs.List.{list_any, flat_map}
+use Rattle.dbtg_schema.specs.Lists.{Lists}
+use Rattle.dbtg_schema.specs.Structure.{automatic_sets, order_of, owns, rekeyed_sets, set_numbers}
+use Rattle.dbtg_cells.specs.declared.key.DbKey.{DbKey}
+use Rattle.dbtg_cells.specs.declared.key.Owner.{Owner}
+use Rattle.dbtg_cells.specs.declared.key.Owner.TheVariants.{Rec}
+use Rattle.dbtg_cells.specs.declared.key.Value.{Value}
+use Rattle.dbtg_cells.specs.declared.name.CellName.{CellName}
+use Rattle.dbtg_cells.specs.declared.name.CellName.TheVariants.{Usage, Extent, Ring, Slot}
+use Rattle.dbtg_unit.specs.declared.edit.Edit.{Edit}
+use Rattle.dbtg_unit.specs.declared.edit.Edit.TheVariants.{EnterUser, LeaveUser, EnterNumber, ChangeNumber, OpenRing, PlaceMember, TakeOut, Fill, ChangeItems, ChangeOwner, RaiseVersion}
+use Rattle.dbtg_unit.specs.declared.edit.CellEdit.{CellEdit}
+use Rattle.dbtg_unit.specs.declared.statement.Change.{Change}
+use Rattle.dbtg_unit.specs.declared.unit.Place.{Place}
+use Rattle.dbtg_unit.specs.declared.unit.Unit.{Unit}
+use Rattle.dbtg_unit.specs.Base.{Database, items_of, calc_items, key_item, owner_of}
+use Rattle.dbtg_unit.specs.CellNames.{slot_name, place_of}
+use Rattle.dbtg_unit.specs.Units.{place_in}
+use Rattle.dbtg_unit.specs.Effect.{changed_items, names_calc, replaced_sets}
+
+-- an edit of the ring of an owner, where there is one
+abbrev pub ring_edits : ℕ → Option Owner → List Edit → List CellEdit
+ring_edits s None edits = []
+ring_edits s (Some o) edits = map (λ edit. record { name = Ring s (place_of o); edit = edit }) edits
+
+-- m, with this sort key, into the current occurrence of set s
+abbrev pub placed_at : Lists → ℕ → DbKey → Option Value → Place → Edit
+placed_at schema s m key place = PlaceMember (order_of schema s) place.at m key
+
+abbrev pub joining_edits : Lists → Unit → ℕ → DbKey → Option Value → List CellEdit
+joining_edits schema unit s m key =
+    ring_edits s (option_map (λ place. place.owner) (place_in schema unit s))
+      (unwrap_or (option_map (λ place. placed_at schema s m key place ∷ []) (place_in schema unit s)) [])
+
+abbrev pub slot_edit : DbKey → Edit → CellEdit
+slot_edit k edit = record { name = slot_name k; edit = edit }
+
+-- the owners of a record as STORE connects it
+abbrev pub first_owners : Lists → Unit → ℕ → List (Option Owner)
+first_owners schema unit t =
+    map (λ s. if list_any (λ s'. s' == s) (automatic_sets schema t) then option_map (λ place. place.owner) (place_in schema unit s) else None) (set_numbers schema)
+
+abbrev pub store_edits : Lists → Unit → DbKey → List Value → List CellEdit
+store_edits schema unit k items =
+    record { name = Extent k.rtype; edit = EnterNumber k.number (calc_items schema k.rtype items) }
+    ∷ (flat_map (λ s. joining_edits schema unit s k (key_item schema s k.rtype items)) (automatic_sets schema k.rtype)
+    ++ (flat_map (λ s. record { name = Ring s (Some (k.rtype, k.number)); edit = OpenRing (Rec k) } ∷ []) (filter (λ s. owns schema s k.rtype) (set_numbers schema))
+    ++ slot_edit k (Fill (record { generation = k.generation; version = 1; items = items; owners = first_owners schema unit k.rtype })) ∷ []))
+
+abbrev pub insert_edits : Lists → Database → Unit → ℕ → DbKey → List CellEdit
+insert_edits schema db unit s k =
+    joining_edits schema unit s k (key_item schema s k.rtype (items_of db k))
+    ++ slot_edit k (ChangeOwner s (option_map (λ place. place.owner) (place_in schema unit s)))
+    ∷ slot_edit k RaiseVersion
+    ∷ []
+
+abbrev pub remove_edits : Lists → ℕ → Database → ℕ → DbKey → List CellEdit
+remove_edits schema capacity db s k =
+    ring_edits s (owner_of schema capacity db s k) (TakeOut k ∷ []) ++ slot_edit k (ChangeOwner s None) ∷ slot_edit k RaiseVersion ∷ []
+
+-- k, out of its list of set s and placed anew by its new sort key
+abbrev pub replacing_edits : Lists → ℕ → Database → Unit → DbKey → List Value → ℕ → List CellEdit
+replacing_edits schema capacity db unit k items s =
+    ring_edits s (owner_of schema capacity db s k)
+      (TakeOut k ∷ PlaceMember (order_of schema s) (option_and_then (λ place. place.at) (place_in schema unit s)) k (key_item schema s k.rtype items) ∷ [])
+
+abbrev pub modify_edits : Lists → ℕ → Database → Unit → List Change → DbKey → List CellEdit
+modify_edits schema capacity db unit changes k =
+    let items = changed_items changes (items_of db k) in
+    (if names_calc schema k.rtype changes then record { name = Extent k.rtype; edit = ChangeNumber k.number (calc_items schema k.rtype items) } ∷ [] else [])
+    ++ (flat_map (replacing_edits schema capacity db unit k items) (replaced_sets schema capacity db changes k)
+    ++ slot_edit k (ChangeItems items) ∷ (slot_edit k RaiseVersion ∷ []))
