@@ -11,3 +11,4 @@ pub mod Determined
 pub mod Rows
 pub mod Sets
 pub mod Orders
+pub mod PlacedLemmas
