@@ -8,9 +8,13 @@ pub mod Cells
 pub mod Replay
 pub mod Fits
 pub mod Legal
+pub mod Versions
+pub mod Image
 pub mod Guesses
 pub mod Hands
 pub mod CellNames
 pub mod Erasing
 pub mod Needs
 pub mod Local
+pub mod Belongs
+pub mod LegalWith
