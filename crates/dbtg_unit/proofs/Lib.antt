@@ -3,6 +3,8 @@ pub mod RowOne
 pub mod RowSix
 pub mod RowsMore
 pub mod Listing
+pub mod PairwiseLemmas
+pub mod ValueLemmas
 pub mod KeyLemmas
 pub mod OpenLegal
 pub mod StoreLegal
