@@ -5,6 +5,7 @@ pub mod RowsMore
 pub mod Listing
 pub mod PairwiseLemmas
 pub mod ValueLemmas
+pub mod LegalParts
 pub mod KeyLemmas
 pub mod OpenLegal
 pub mod StoreLegal
