@@ -108,6 +108,9 @@ module _ (schema : Lists) (capacity : ℕ) (db : Database) where
 
 -- RAISED VERSIONS
 
+abbrev read : Option Record → List Value
+read r = unwrap_or (option_map (λ (q : Record). q.items) r) []
+
 module _ (test : DbKey → Bool) (db : Database) where
   pub live-raised : is_live (raised test db) ≡ is_live db
   live-raised = λ i k. at k i where
@@ -119,10 +122,7 @@ module _ (test : DbKey → Bool) (db : Database) where
 
   pub items-raised : items_of (raised test db) ≡ items_of db
   items-raised = λ i k. at k i where
-    read : Option Record → List Value
-    read r = unwrap_or (option_map (λ (q : Record). q.items) r) []
     at : (k : DbKey) → items_of (raised test db) k ≡ items_of db k
-    unfolding read
     at k = elim (test k) as (λ b. read (cond b (option_map next_version (db.records k)) (db.records k)) ≡ read (db.records k)) [
       | true ↦ elim (db.records k) as (λ r. read (option_map next_version r) ≡ read r) [ None ↦ refl | Some r ↦ refl ]
       | false ↦ refl

@@ -3,6 +3,7 @@ pub mod RowOne
 pub mod RowSix
 pub mod RowsMore
 pub mod Listing
+pub mod PlacedLemmas
 pub mod PairwiseLemmas
 pub mod ValueLemmas
 pub mod LegalParts
@@ -14,4 +15,3 @@ pub mod Determined
 pub mod Rows
 pub mod Sets
 pub mod Orders
-pub mod PlacedLemmas
