@@ -6,8 +6,9 @@ pub mod Listing
 pub mod PlacedLemmas
 pub mod PairwiseLemmas
 pub mod ValueLemmas
-pub mod LegalParts
 pub mod KeyLemmas
+pub mod LegalParts
+pub mod RingsLemmas
 pub mod OpenLegal
 pub mod StoreLegal
 pub mod RemoveLocal
