@@ -9,6 +9,8 @@ pub mod ValueLemmas
 pub mod KeyLemmas
 pub mod LegalParts
 pub mod RingsLemmas
+pub mod CheckLemmas
+pub mod OwnerLemmas
 pub mod OpenLegal
 pub mod StoreLegal
 pub mod RemoveLocal
