@@ -11,6 +11,8 @@ pub mod LegalParts
 pub mod RingsLemmas
 pub mod CheckLemmas
 pub mod OwnerLemmas
+pub mod SortKeyLemmas
+pub mod LegalConnect
 pub mod OpenLegal
 pub mod StoreLegal
 pub mod RemoveLocal

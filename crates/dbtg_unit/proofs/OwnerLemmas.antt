@@ -60,13 +60,13 @@ find_owner p (x ∷ xs) o h g =
         (or_cases _ _ h)
     ]
 
-pub found_passes : (p : Owner → Bool) (xs : List Owner) (q : Owner) → find p xs ≡ Some q → p q ≡ true
+pub found_passes : {X : Type 0} (p : X → Bool) (xs : List X) (q : X) → find p xs ≡ Some q → p q ≡ true
 found_passes p [] q h = absurd (none_some h) where
   none_some : None ≡ Some q → ⊥
   none_some h = cc
-found_passes p (x ∷ xs) q h =
+found_passes {X} p (x ∷ xs) q h =
     elim (cases_Bool (p x)) [
-      | inl e ↦ let same : Some x ≡ Some q = ap (λ b. cond b (Some x) (find p xs)) (sym e) ∙ h in let s : x ≡ q = cc in subst (λ (y : Owner). p y ≡ true) s e
+      | inl e ↦ let same : Some x ≡ Some q = ap (λ b. cond b (Some x) (find p xs)) (sym e) ∙ h in let s : x ≡ q = cc in subst (λ (y : X). p y ≡ true) s e
       | inr e ↦ found_passes p xs q (ap (λ b. cond b (Some x) (find p xs)) (sym e) ∙ h)
     ]
 
