@@ -13,6 +13,7 @@ pub mod CheckLemmas
 pub mod OwnerLemmas
 pub mod SortKeyLemmas
 pub mod LegalConnect
+pub mod LegalMoves
 pub mod OpenLegal
 pub mod StoreLegal
 pub mod RemoveLocal
