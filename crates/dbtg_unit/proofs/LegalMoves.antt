@@ -15,7 +15,7 @@ use Rattle.dbtg_unit.specs.Effect.{connected_in, inserted, removed, without, is_
 use Rattle.dbtg_unit.specs.Legal.{Legal}
 use Rattle.dbtg_unit.proofs.KeyLemmas.{same_key, key_eq-refl}
 use Rattle.dbtg_unit.proofs.LegalParts.{Rows, Rings, Fixed, is_fixed, members_in, has_list, sound_of, uses_of, legal_raised}
-use Rattle.dbtg_unit.proofs.RingsLemmas.{rings_kept, member-with_placed, member_kept, keeps_member}
+use Rattle.dbtg_unit.proofs.RingsLemmas.{filter-true, rings_kept, member-with_placed, member_kept, keeps_member}
 use Rattle.dbtg_unit.proofs.OwnerLemmas.{no_owner}
 use Rattle.dbtg_unit.proofs.CheckLemmas.{has_number}
 use Rattle.dbtg_unit.proofs.LegalConnect.{CanJoin, connected_rings, joins, spot_in}
@@ -43,10 +43,6 @@ module _ (schema : Lists) (capacity : ℕ) (db : Database) (unit : Unit) (s : �
 
   abbrev lists_after : Rows
   lists_after t o = cond (eqb t s) (option_map (without k) (db.lists t o)) (db.lists t o)
-
-  filter-true : (xs : List DbKey) → xs ≡ filter (λ x. true) xs
-  filter-true [] = refl
-  filter-true (x ∷ xs) = ap (λ ys. x ∷ ys) (filter-true xs)
 
   thin : (t : ℕ) (o : Owner) → (p : DbKey → Bool) × (members_in lists_after t o ≡ filter p (members_in db.lists t o))
   thin t o =

@@ -14,6 +14,8 @@ pub mod OwnerLemmas
 pub mod SortKeyLemmas
 pub mod LegalConnect
 pub mod LegalMoves
+pub mod CalcLemmas
+pub mod LegalStore
 pub mod OpenLegal
 pub mod StoreLegal
 pub mod RemoveLocal

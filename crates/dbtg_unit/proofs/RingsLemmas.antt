@@ -51,6 +51,11 @@ keeps_member x t (y ∷ ys) h g =
     (λ rest. cond_both (t y) _ _ (λ zs. is_member x zs ≡ true) (λ e. or_right _ _ (keeps_member x t ys rest g)) (λ e. keeps_member x t ys rest g))
     (or_cases _ _ h)
 
+-- all are kept
+pub filter-true : (xs : List DbKey) → xs ≡ filter (λ x. true) xs
+filter-true [] = refl
+filter-true (x ∷ xs) = ap (λ ys. x ∷ ys) (filter-true xs)
+
 pub all-members : (q : DbKey → Bool) (xs : List DbKey) → ((x : DbKey) → is_member x xs ≡ true → q x ≡ true) → list_all q xs ≡ true
 all-members q [] w = refl
 all-members q (x ∷ xs) w = and_from _ _ (w x (or_left _ _ (key_eq-refl x))) (all-members q xs (λ y h. w y (or_right _ _ h)))
