@@ -15,6 +15,7 @@ pub mod SortKeyLemmas
 pub mod LegalConnect
 pub mod LegalMoves
 pub mod CalcLemmas
+pub mod ItemLemmas
 pub mod LegalStore
 pub mod OpenLegal
 pub mod StoreLegal

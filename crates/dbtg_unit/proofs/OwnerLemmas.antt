@@ -19,7 +19,7 @@ use Rattle.dbtg_unit.proofs.RingsLemmas.{keeps_member, member_kept}
 use Rattle.dbtg_unit.proofs.CheckLemmas.{has_number, number_in}
 use Rattle.dbtg_schema.specs.Structure.{is_system, owner_type, owns}
 
-any-map : {X Y : Type 0} (p : Y → Bool) (f : X → Y) (xs : List X) → list_any p (map f xs) ≡ list_any (λ x. p (f x)) xs
+pub any-map : {X Y : Type 0} (p : Y → Bool) (f : X → Y) (xs : List X) → list_any p (map f xs) ≡ list_any (λ x. p (f x)) xs
 any-map p f [] = refl
 any-map p f (x ∷ xs) = ap (λ b. p (f x) || b) (any-map p f xs)
 
