@@ -1,7 +1,4 @@
 pub mod Schemas
-pub mod RowOne
-pub mod RowSix
-pub mod RowsMore
 pub mod Listing
 pub mod PlacedLemmas
 pub mod PairwiseLemmas

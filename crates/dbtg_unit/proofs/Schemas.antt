@@ -1,5 +1,5 @@
--- The schemas of the worked rows.
-use Rattle.std.specs.Prelude.{true, false, [], ◌∷◌, Some, None, codes}
+-- The schemas of the worked rows, and the numbers of their areas, record types and sets.
+use Rattle.std.specs.Prelude.{ℕ, true, false, [], ◌∷◌, Some, None, codes}
 use Rattle.dbtg_schema.specs.Lists.{Lists}
 use Rattle.dbtg_schema.specs.declared.shape.RecordType.{RecordType}
 use Rattle.dbtg_schema.specs.declared.shape.Picture.TheVariants.{Number, Text}
@@ -43,3 +43,27 @@ shop =
           ∷ record { name = codes "WATCH"; order = Next; owner = None; members = record { rtype = 2; class = OptionalManual; key = None } ∷ [] }
           ∷ [];
     }
+
+abbrev pub main : ℕ
+main = 0
+
+abbrev pub side : ℕ
+side = 1
+
+abbrev pub customers : ℕ
+customers = 0
+
+abbrev pub orders : ℕ
+orders = 1
+
+abbrev pub items : ℕ
+items = 2
+
+abbrev pub has : ℕ
+has = 0
+
+abbrev pub lines : ℕ
+lines = 1
+
+abbrev pub watch : ℕ
+watch = 2

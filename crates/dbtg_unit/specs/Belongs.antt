@@ -1,5 +1,5 @@
 -- What it is to be a unit of a schema, and to be what a unit of a schema holds.
-use Rattle.std.specs.Prelude.{◌≡◌, ℕ, Bool, true, false, not, ◌&&◌, ◌==◌, nat_lt, nat_le, Option, Some, None, length}
+use Rattle.std.specs.Prelude.{◌≡◌, ℕ, Bool, true, false, not, ◌&&◌, ◌==◌, nat_lt, nat_le, Some, None, length}
 use Rattle.std.specs.List.{list_all}
 use Rattle.dbtg_schema.specs.Lists.{Lists}
 use Rattle.dbtg_schema.specs.Lookups.{at}
@@ -15,14 +15,9 @@ use Rattle.dbtg_cells.specs.Keys.{key_lt}
 use Rattle.dbtg_cells.specs.Names.{name_eq}
 use Rattle.dbtg_unit.specs.declared.unit.Place.{Place}
 use Rattle.dbtg_unit.specs.declared.unit.Unit.{Unit}
-use Rattle.dbtg_unit.specs.Fits.{is_area, is_type}
+use Rattle.dbtg_unit.specs.Fits.{if_named, is_area, is_type}
 use Rattle.dbtg_unit.specs.Hands.{Hands}
 use Rattle.dbtg_unit.specs.Legal.{pairwise}
-
--- null, or one that passes
-abbrev pub if_any : {X : Type 0} → (X → Bool) → Option X → Bool
-if_any test None = true
-if_any test (Some x) = test x
 
 -- a key of a record type of the schema
 abbrev pub is_key_of : Lists → DbKey → Bool
@@ -35,7 +30,7 @@ is_owner_in schema s (Rec k) = owns schema s k.rtype
 
 -- a place that a unit can have in set s
 abbrev pub is_place_in : Lists → ℕ → Place → Bool
-is_place_in schema s place = is_owner_in schema s place.owner && if_any (is_key_of schema) place.at
+is_place_in schema s place = is_owner_in schema s place.owner && if_named (is_key_of schema) place.at
 
 -- a unit of the schema: an entry for each record type, area and set, each of what the schema has
 pub record IsUnitOf (schema : Lists) (unit : Unit) : Type 0 where
@@ -43,11 +38,11 @@ pub record IsUnitOf (schema : Lists) (unit : Unit) : Type 0 where
   pub every_area : length unit.currency.areas ≡ length schema.areas
   pub every_set : length unit.currency.sets ≡ length schema.sets
   pub every_mode : length unit.modes ≡ length schema.areas
-  pub run_unit : if_any (is_key_of schema) unit.currency.run_unit ≡ true
+  pub run_unit : if_named (is_key_of schema) unit.currency.run_unit ≡ true
   -- the current of a record type is of that type
-  pub of_types : (t : ℕ) → if_any (λ k. k.rtype == t) (at unit.currency.types t) ≡ true
-  pub of_areas : (a : ℕ) → if_any (is_key_of schema) (at unit.currency.areas a) ≡ true
-  pub of_sets : (s : ℕ) → if_any (is_place_in schema s) (at unit.currency.sets s) ≡ true
+  pub of_types : (t : ℕ) → if_named (λ k. k.rtype == t) (at unit.currency.types t) ≡ true
+  pub of_areas : (a : ℕ) → if_named (is_key_of schema) (at unit.currency.areas a) ≡ true
+  pub of_sets : (s : ℕ) → if_named (is_place_in schema s) (at unit.currency.sets s) ≡ true
   -- the kept list is in key order, no key twice
   pub kept_keys : list_all (λ e. is_key_of schema e.0) unit.kept ≡ true
   pub kept_order : pairwise (λ e f. key_lt e.0 f.0) unit.kept ≡ true
@@ -63,10 +58,10 @@ owner_within capacity (Rec k) = is_number capacity k.number
 
 -- every current of the unit has a number from 1 to the capacity, so that it has a slot
 pub record IsWithin (capacity : ℕ) (unit : Unit) : Type 0 where
-  pub run_unit : if_any (λ k. is_number capacity k.number) unit.currency.run_unit ≡ true
-  pub types : (t : ℕ) → if_any (λ k. is_number capacity k.number) (at unit.currency.types t) ≡ true
-  pub areas : (a : ℕ) → if_any (λ k. is_number capacity k.number) (at unit.currency.areas a) ≡ true
-  pub sets : (s : ℕ) → if_any (λ place. owner_within capacity place.owner && if_any (λ k. is_number capacity k.number) place.at) (at unit.currency.sets s) ≡ true
+  pub run_unit : if_named (λ k. is_number capacity k.number) unit.currency.run_unit ≡ true
+  pub types : (t : ℕ) → if_named (λ k. is_number capacity k.number) (at unit.currency.types t) ≡ true
+  pub areas : (a : ℕ) → if_named (λ k. is_number capacity k.number) (at unit.currency.areas a) ≡ true
+  pub sets : (s : ℕ) → if_named (λ place. owner_within capacity place.owner && if_named (λ k. is_number capacity k.number) place.at) (at unit.currency.sets s) ≡ true
   pub kept : list_all (λ e. is_number capacity e.0.number) unit.kept ≡ true
 
 -- the name of a cell that the schema has, whatever the capacity
@@ -98,4 +93,4 @@ pub record IsHandsOf (schema : Lists) (hands : Hands) : Type 0 where
   pub cells : list_all (λ e. is_name_of schema e.0 && is_of_kind e.0 e.1) hands.cells ≡ true
   pub cells_once : pairwise (λ e f. not (name_eq e.0 f.0)) hands.cells ≡ true
   pub every_guess : length hands.guesses ≡ length schema.sets
-  pub guesses : (s : ℕ) → if_any (is_owner_in schema s) (at hands.guesses s) ≡ true
+  pub guesses : (s : ℕ) → if_named (is_owner_in schema s) (at hands.guesses s) ≡ true

@@ -44,9 +44,9 @@ abbrev pub is_area : Lists → ℕ → Bool
 is_area schema a = nat_lt a (length schema.areas)
 
 -- none, or one that passes
-abbrev pub if_named : (ℕ → Bool) → Option ℕ → Bool
+abbrev pub if_named : {X : Type 0} → (X → Bool) → Option X → Bool
 if_named test None = true
-if_named test (Some r) = test r
+if_named test (Some x) = test x
 
 abbrev pub which_fits : Which → Bool
 which_fits (Nth (pos zero)) = false
