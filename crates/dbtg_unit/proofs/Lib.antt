@@ -21,3 +21,5 @@ pub mod Determined
 pub mod Rows
 pub mod Sets
 pub mod Orders
+pub mod ValueOrder
+pub mod PlacingOrder
