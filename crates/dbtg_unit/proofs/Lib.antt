@@ -23,3 +23,4 @@ pub mod Sets
 pub mod Orders
 pub mod ValueOrder
 pub mod PlacingOrder
+pub mod Answered
