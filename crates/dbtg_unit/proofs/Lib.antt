@@ -24,3 +24,4 @@ pub mod Orders
 pub mod ValueOrder
 pub mod PlacingOrder
 pub mod Answered
+pub mod LiveKeys
