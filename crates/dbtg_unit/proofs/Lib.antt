@@ -25,3 +25,4 @@ pub mod ValueOrder
 pub mod PlacingOrder
 pub mod Answered
 pub mod LiveKeys
+pub mod ErasedLemmas

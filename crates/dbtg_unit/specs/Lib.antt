@@ -20,3 +20,4 @@ pub mod Belongs
 pub mod LegalWith
 pub mod Placing
 pub mod Answering
+pub mod Erased
