@@ -26,3 +26,4 @@ pub mod PlacingOrder
 pub mod Answered
 pub mod LiveKeys
 pub mod ErasedLemmas
+pub mod ReadingCells
