@@ -21,3 +21,4 @@ pub mod LegalWith
 pub mod Placing
 pub mod Answering
 pub mod Erased
+pub mod Telling

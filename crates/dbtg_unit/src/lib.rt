@@ -7,6 +7,6 @@ mod statement;
 mod unit;
 
 pub use held::{Held, Need};
-pub use laws::{delete_stays_in_its_areas, doomed_is_least, doomed_is_least_set, each_statement_is_answered, placing_keeps_order, reachable_types_are_least};
+pub use laws::{cells_determine, delete_stays_in_its_areas, doomed_is_least, doomed_is_least_set, each_statement_is_answered, placing_keeps_order, reachable_types_are_least};
 pub use statement::{Change, Erase, Form, Statement, Suppress, Which};
 pub use unit::{Answer, Cause, Currency, Entry, Place, Status, Unit};
