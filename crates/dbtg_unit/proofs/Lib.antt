@@ -27,3 +27,5 @@ pub mod Answered
 pub mod LiveKeys
 pub mod ErasedLemmas
 pub mod ReadingCells
+pub mod Outcomes
+pub mod ForwardLemmas

@@ -22,3 +22,4 @@ pub mod Placing
 pub mod Answering
 pub mod Erased
 pub mod Telling
+pub mod Forward
