@@ -57,7 +57,7 @@ forward_from db d h =
     let below : (t n : ℕ) → db.last t n ≤ d.last t n = λ t n. let e = h.last t n in omega arith in
     record { versions = λ k. let v = h.versions k in omega arith; generations = below; spent = spent_stays db d h.live below }
 
-same_forward : (db : Database) → GoesForward db db
+pub same_forward : (db : Database) → GoesForward db db
 same_forward db = forward_from db db (record { versions = λ k. omega arith; live = λ k h. h; last = λ t n. refl })
 
 -- with the next version for some

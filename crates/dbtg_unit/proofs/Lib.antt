@@ -29,3 +29,4 @@ pub mod ErasedLemmas
 pub mod ReadingCells
 pub mod Outcomes
 pub mod ForwardLemmas
+pub mod ReplayLemmas

@@ -23,3 +23,4 @@ pub mod Answering
 pub mod Erased
 pub mod Telling
 pub mod Forward
+pub mod Replaying
