@@ -30,3 +30,4 @@ pub mod ReadingCells
 pub mod Outcomes
 pub mod ForwardLemmas
 pub mod ReplayLemmas
+pub mod LocalCells
