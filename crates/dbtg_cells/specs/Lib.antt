@@ -4,3 +4,4 @@ pub mod Users
 pub mod Shown
 pub mod Cells
 pub mod Names
+pub mod CellOrder

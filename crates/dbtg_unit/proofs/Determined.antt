@@ -1,7 +1,7 @@
 -- The cells of a legal database determine it.
 use Rattle.std.proofs.Common.{◌≡◌, refl, sym, ◌∙◌, ap, ℕ, zero, suc, ◌+◌, ◌-◌, ◌<◌, ◌≤◌, Bool, true, false, ◌&&◌, List, [], ◌∷◌, length, Option, Some, None, inl, inr, ⊎_elim, ◌⊎◌, arith, map, get_or}
 use Rattle.std.specs.Prelude.{is_some, option_map, slice_get, option_and_then}
-use Rattle.std.proofs.lemmas.Bool.{and_parts, false≢true, cases_Bool, cases_lt}
+use Rattle.std.proofs.lemmas.Bool.{and_parts, and_from, lt-ltb, le-leb, false≢true, cases_Bool, cases_lt}
 use Rattle.std.proofs.lemmas.List.FromFn.{get_or-map-range_with_len}
 use Rattle.dbtg_schema.specs.Lists.{Lists}
 use Rattle.dbtg_cells.specs.declared.key.DbKey.{DbKey}
@@ -19,15 +19,9 @@ use Rattle.dbtg_schema.specs.Lookups.{some_and}
 use Rattle.dbtg_unit.specs.Base.{Database, Record, is_live, key_at}
 use Rattle.dbtg_unit.specs.Cells.{cell, number_of, ring_of, slot_of, owner_at}
 use Rattle.dbtg_unit.specs.Legal.{Legal, has_occurrence}
-use Rattle.dbtg_unit.proofs.RemoveLocal.{place_of}
+use Rattle.dbtg_unit.specs.CellNames.{place_of}
+use Rattle.dbtg_unit.specs.Belongs.{is_cell}
 use Rattle.dbtg_schema.specs.Structure.{owns}
-
--- the cells that there are
-abbrev pub IsCell : Lists → ℕ → CellName → Type 0
-IsCell schema capacity (Usage a) = a < length schema.areas
-IsCell schema capacity (Extent t) = t < length schema.types
-IsCell schema capacity (Ring s q) = s < length schema.sets
-IsCell schema capacity (Slot t n) = (t < length schema.types) × (0 < n) × (n ≤ capacity)
 
 abbrev pub usage_in : CellValue → List (ℕ × Mode)
 usage_in (UsageValue l) = l
@@ -65,25 +59,12 @@ back : {X Y : Type 0} (f : X → Y) (g : Y → X) → ((x : X) → g (f x) ≡ x
 back f g h None = refl
 back f g h (Some x) = ap Some (h x)
 
-within : {X : Type 0} (xs : List X) (i : ℕ) → is_some (slice_get xs i) ≡ true → i < length xs
-within [] i h = absurd (false≢true h)
-within (x ∷ xs) zero h = omega arith
-within (x ∷ xs) (suc i) h = let r = within xs i h in omega arith
-
-of_test : {X : Type 0} (test : X → Bool) (o : Option X) → some_and test o ≡ true → is_some o ≡ true
-of_test test None h = absurd (false≢true h)
-of_test test (Some x) h = refl
-
-of_chain : {X Y : Type 0} (f : X → Option Y) (o : Option X) → is_some (option_and_then f o) ≡ true → is_some o ≡ true
-of_chain f None h = absurd (false≢true h)
-of_chain f (Some x) h = refl
-
 module _ (schema : Lists) (capacity : ℕ) (db eb : Database) (ldb : Legal schema capacity db) (leb : Legal schema capacity eb)
-    (same : (c : CellName) → IsCell schema capacity c → cell schema capacity db c ≡ cell schema capacity eb c) where
+    (same : (c : CellName) → is_cell schema capacity c ≡ true → cell schema capacity db c ≡ cell schema capacity eb c) where
   same_usage : (a : ℕ) → db.usage a ≡ eb.usage a
   unfolding cell
   same_usage a =
-      ⊎_elim (λ h. ap usage_in (same (Usage a) h)) (λ h. ldb.no_area a h ∙ sym (leb.no_area a h)) (cases_lt a (length schema.areas))
+      ⊎_elim (λ h. ap usage_in (same (Usage a) (lt-ltb _ _ h))) (λ h. ldb.no_area a h ∙ sym (leb.no_area a h)) (cases_lt a (length schema.areas))
 
   same_last : (t n : ℕ) → db.last t n ≡ eb.last t n
   unfolding cell
@@ -93,7 +74,7 @@ module _ (schema : Lists) (capacity : ℕ) (db eb : Database) (ldb : Legal schem
         (λ hn. ⊎_elim
           (λ hc. ap (λ (m : Number). m.last)
             (sym (get_or-map-range_with_len (number_of schema db t) 1 capacity (n - 1) n (number_of schema db t n) (omega arith) (omega arith))
-            ∙ ap (λ l. get_or l (n - 1) (number_of schema db t n)) (ap extent_in (same (Extent t) ht))
+            ∙ ap (λ l. get_or l (n - 1) (number_of schema db t n)) (ap extent_in (same (Extent t) (lt-ltb _ _ ht)))
             ∙ get_or-map-range_with_len (number_of schema eb t) 1 capacity (n - 1) n (number_of schema db t n) (omega arith) (omega arith)))
           (λ hc. out (inr (inr (omega arith))))
           (cases_lt n (capacity + 1)))
@@ -111,7 +92,7 @@ module _ (schema : Lists) (capacity : ℕ) (db eb : Database) (ldb : Legal schem
   unfolding cell
   same_at t n ht hn hc =
       sym (back (slot_of schema capacity db (key_at db t n)) record_in (λ r. refl) (db.records (key_at db t n)))
-      ∙ ap (option_map record_in) (ap slot_in (same (Slot t n) (ht, hn, hc)))
+      ∙ ap (option_map record_in) (ap slot_in (same (Slot t n) (and_from _ _ (lt-ltb _ _ ht) (and_from _ _ (lt-ltb _ _ hn) (le-leb _ _ hc)))))
       ∙ back (slot_of schema capacity eb (key_at eb t n)) record_in (λ r. refl) (eb.records (key_at eb t n))
 
   -- a live key is its number's latest
@@ -161,14 +142,17 @@ module _ (schema : Lists) (capacity : ℕ) (db eb : Database) (ldb : Legal schem
           let at = standing s o h in
           ap (db.lists s) (sym at)
           ∙ sym (back (ring_of schema db s (owner_at db (place_of o))) members_in (λ list. firsts-map _ list) (db.lists s (owner_at db (place_of o))))
-          ∙ ap (option_map members_in) (ap ring_in (same (Ring s (place_of o)) (is_set s o h)))
+          ∙ ap (option_map members_in) (ap ring_in (same (Ring s (place_of o)) (is_ring s o h)))
           ∙ back (ring_of schema eb s (owner_at eb (place_of o))) members_in (λ list. firsts-map _ list) (eb.lists s (owner_at eb (place_of o)))
           ∙ ap (eb.lists s) (sym (same_owner_at (place_of o)) ∙ at)
         | inr h ↦ none_of (db.lists s o) (ldb.pairs s o ∙ h) ∙ sym (none_of (eb.lists s o) (leb.pairs s o ∙ sym (same_occurrence s o) ∙ h))
       ] where
-    is_set : (s : ℕ) (o : Owner) → has_occurrence schema db s o ≡ true → s < length schema.sets
-    is_set s System h = within schema.sets s (of_test _ _ h)
-    is_set s (Rec k) h = within schema.sets s (of_chain _ _ (of_test _ _ (and_parts _ _ h).0))
+    is_ring : (s : ℕ) (o : Owner) → has_occurrence schema db s o ≡ true → is_cell schema capacity (Ring s (place_of o)) ≡ true
+    is_ring s System h = h
+    is_ring s (Rec k) h =
+        let parts = and_parts _ _ h in
+        let facts = ldb.keys k parts.1 in
+        and_from _ _ parts.0 (and_from _ _ (lt-ltb _ _ facts.1) (le-leb _ _ facts.2))
 
   pub cells_determine : db ≡ eb
   cells_determine = λ i. record { records = λ k. same_records k i; lists = λ s o. same_lists s o i; last = λ t n. same_last t n i; usage = λ a. same_usage a i }

@@ -36,7 +36,7 @@ use Rattle.dbtg_unit.proofs.PlacedMaps.{map-placed, spot_before_map}
 use Rattle.dbtg_unit.proofs.Listing.{any-placed}
 use Rattle.dbtg_unit.proofs.RangeMaps.{map-range_set}
 use Rattle.dbtg_unit.proofs.RemoveLocal.{owner_at-place}
-use Rattle.dbtg_unit.proofs.OwnerLemmas.{latest, standing, owner_is, no_owner}
+use Rattle.dbtg_unit.proofs.OwnersFound.{latest, standing, owner_is, no_owner}
 use Rattle.dbtg_unit.proofs.SameItems.{SameItems, extent-same, ring-same, slot-same, owner_of-same, sort_key-same, owner_at-same, key_at-same}
 
 -- a spot in a ring is the spot in the list, by the members' keys

@@ -41,7 +41,7 @@ use Rattle.dbtg_unit.proofs.InsertCells.{ring-placed}
 use Rattle.dbtg_unit.proofs.RemoveCells.{without_gone}
 use Rattle.dbtg_unit.proofs.RemoveLocal.{owner_at-place, member-without}
 use Rattle.dbtg_unit.proofs.RangeMaps.{map-range_changed}
-use Rattle.dbtg_unit.proofs.OwnerLemmas.{within, latest, standing, owner_is, owner_has, owner_of-by_members, some_list}
+use Rattle.dbtg_unit.proofs.OwnersFound.{within, latest, standing, owner_is, owner_has, owner_of-by_members, some_list}
 use Rattle.dbtg_unit.proofs.PlacedLemmas.{pairwise-filter}
 use Rattle.dbtg_unit.proofs.EditLemmas.{edited_at-append, edits-miss, edits-hit, has_number, differ, range-distinct, has_number-passes, has_number-filter, has_number-range, has_number-unfiltered}
 

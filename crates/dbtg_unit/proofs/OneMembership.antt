@@ -24,7 +24,7 @@ use Rattle.dbtg_unit.proofs.KeyLemmas.{same_key, key_eq-refl}
 use Rattle.dbtg_unit.proofs.CellNameLemmas.{same_place, place_eq-refl}
 use Rattle.dbtg_unit.proofs.RemoveLocal.{owner_at-place}
 use Rattle.dbtg_unit.proofs.RangeMaps.{map-range_set}
-use Rattle.dbtg_unit.proofs.OwnerLemmas.{latest, standing}
+use Rattle.dbtg_unit.proofs.OwnersFound.{latest, standing}
 use Rattle.dbtg_unit.proofs.SameItems.{SameItems, extent-same, ring-same, slot-same, owner_of-same, owner_at-same, key_at-same}
 
 -- from db to new, record k has its next version, and joins or leaves the list of an owner in set s

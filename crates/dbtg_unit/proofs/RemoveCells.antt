@@ -28,7 +28,7 @@ use Rattle.dbtg_unit.proofs.CellNameLemmas.{place_eq-refl, same_place}
 use Rattle.dbtg_unit.proofs.PlacedMaps.{map-filter}
 use Rattle.dbtg_unit.proofs.RemoveLocal.{owner_at-place, without_absent, member-without}
 use Rattle.dbtg_unit.proofs.RangeMaps.{map-range_set}
-use Rattle.dbtg_unit.proofs.OwnerLemmas.{some_list, latest, standing, owner_is, owner_has, find-none}
+use Rattle.dbtg_unit.proofs.OwnersFound.{some_list, latest, standing, owner_is, owner_has, find-none}
 use Rattle.dbtg_unit.proofs.OneMembership.{ChangesMembership, changed_items-same, membership_edits, membership_cells}
 use Rattle.dbtg_unit.proofs.SameItems.{SameItems, extent-same, ring-same, slot-same, owner_of-same, sort_key-same, owner_at-same, key_at-same}
 

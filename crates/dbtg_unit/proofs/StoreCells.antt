@@ -34,7 +34,7 @@ use Rattle.dbtg_unit.proofs.Listing.{any-placed}
 use Rattle.dbtg_unit.proofs.InsertCells.{ring-placed}
 use Rattle.dbtg_unit.proofs.RemoveLocal.{owner_at-place}
 use Rattle.dbtg_unit.proofs.RangeMaps.{map-range_same, map-range_changed}
-use Rattle.dbtg_unit.proofs.OwnerLemmas.{set_within, latest, standing, owner_is, find-none, owner_of-by_members}
+use Rattle.dbtg_unit.proofs.OwnersFound.{set_within, latest, standing, owner_is, find-none, owner_of-by_members}
 use Rattle.dbtg_unit.proofs.StoreLegal.{joins, member-connected, member-new, not_member}
 use Rattle.dbtg_unit.proofs.PlacedLemmas.{pairwise-filter}
 use Rattle.dbtg_unit.proofs.EditLemmas.{edited_at-append, edits-miss, edits-hit, has_number, differ, range-distinct, has_number-passes, has_number-filter, has_number-range}

@@ -20,3 +20,9 @@ pub mod Belongs
 pub mod LegalWith
 pub mod Edits
 pub mod EditsOf
+pub mod Placing
+pub mod Answering
+pub mod Erased
+pub mod Telling
+pub mod Forward
+pub mod Replaying

@@ -1,0 +1,196 @@
+-- Live keys, owners, and whose list has a record.
+use Rattle.std.proofs.Common.{◌≡◌, refl, sym, ◌∙◌, ap, subst, ℕ, zero, suc, ◌+◌, ◌<◌, ◌≤◌, Bool, true, false, cond, not, ◌&&◌, ◌||◌, List, [], ◌∷◌, ◌++◌, length, Option, Some, None, arith, eqb, inl, inr, ⊎_elim, ◌⊎◌, map}
+use Rattle.std.specs.Prelude.{filter, is_some, is_none, option_map, option_and_then, unwrap_or, slice_get}
+use Rattle.std.specs.List.{list_any, list_all, find, range_with_len, flat_map}
+use Rattle.std.proofs.lemmas.Bool.{and_parts, and_from, or_cases, or_left, or_right, or_parts, cases_Bool, false≢true, eqb-true, eq-eqb, cases_lt, false_from_ne_true, cases_eq}
+use Rattle.std.proofs.lemmas.Option.{none-some, same_Some}
+use Rattle.std.proofs.lemmas.List.Folds.{list_any-append}
+use Rattle.dbtg_schema.specs.Lists.{Lists}
+use Rattle.dbtg_schema.specs.Lookups.{some_and}
+use Rattle.dbtg_schema.specs.declared.shape.SetType.{SetType}
+use Rattle.dbtg_schema.specs.Structure.{is_system, owner_type, owns}
+use Rattle.dbtg_cells.specs.declared.key.DbKey.{DbKey}
+use Rattle.dbtg_cells.specs.declared.key.Owner.{Owner}
+use Rattle.dbtg_cells.specs.declared.key.Owner.TheVariants.{System, Rec}
+use Rattle.dbtg_cells.specs.Keys.{key_eq, owner_eq}
+use Rattle.dbtg_unit.specs.Base.{Database, Record, is_live, key_at, live_keys, owners, owner_of, members_of, is_member}
+use Rattle.dbtg_unit.specs.Doomed.{all_keys}
+use Rattle.dbtg_unit.specs.Legal.{Legal, has_occurrence}
+use Rattle.dbtg_unit.proofs.KeyLemmas.{same_key, key_eq-refl, same_owner, owner_eq-refl}
+
+-- SOME ELEMENT
+
+-- x is an element of the list
+abbrev pub In : {X : Type 0} → X → List X → Type 0
+In x [] = ⊥
+In x (y ∷ ys) = (y ≡ x) ⊎ In x ys
+
+-- some element passes
+pub any_in : {X : Type 0} (p : X → Bool) (x : X) (xs : List X) → In x xs → p x ≡ true → list_any p xs ≡ true
+any_in p x [] i h = absurd i
+any_in {X} p x (y ∷ xs) i h = ⊎_elim (λ e. or_left _ _ (subst (λ (z : X). p z ≡ true) (sym e) h)) (λ j. or_right _ _ (any_in p x xs j h)) i
+
+-- and the one that does
+pub any_element : {X : Type 0} (p : X → Bool) (xs : List X) → list_any p xs ≡ true → (x : X) × In x xs × (p x ≡ true)
+any_element p [] h = absurd (false≢true h)
+any_element p (x ∷ xs) h = ⊎_elim (λ l. (x, inl refl, l)) (λ r. let e = any_element p xs r in (e.0, inr e.1, e.2)) (or_cases _ _ h)
+
+pub all_at : {X : Type 0} (p : X → Bool) (x : X) (xs : List X) → list_all p xs ≡ true → In x xs → p x ≡ true
+all_at p x [] h i = absurd i
+all_at {X} p x (y ∷ xs) h i = ⊎_elim (λ e. subst (λ (z : X). p z ≡ true) e (and_parts _ _ h).0) (λ j. all_at p x xs (and_parts _ _ h).1 j) i
+
+pub in_map : {X Y : Type 0} (f : X → Y) (x : X) (xs : List X) → In x xs → In (f x) (map f xs)
+in_map f x [] i = i
+in_map f x (y ∷ xs) i = ⊎_elim (λ e. inl (ap f e)) (λ j. inr (in_map f x xs j)) i
+
+pub in_filter : {X : Type 0} (p : X → Bool) (x : X) (xs : List X) → In x xs → p x ≡ true → In x (filter p xs)
+in_filter p x [] i h = i
+in_filter {X} p x (y ∷ xs) i h =
+    ⊎_elim
+    (λ e. subst (λ b. In x (cond b (y ∷ filter p xs) (filter p xs))) (sym (subst (λ (z : X). p z ≡ true) (sym e) h)) (inl e))
+    (λ j. elim (p y) as (λ b. In x (cond b (y ∷ filter p xs) (filter p xs))) [ true ↦ inr (in_filter p x xs j h) | false ↦ in_filter p x xs j h ])
+    i
+
+pub in_left : {X : Type 0} (x : X) (xs ys : List X) → In x xs → In x (xs ++ ys)
+in_left x [] ys i = absurd i
+in_left x (y ∷ xs) ys i = ⊎_elim (λ e. inl e) (λ j. inr (in_left x xs ys j)) i
+
+pub in_right : {X : Type 0} (x : X) (xs ys : List X) → In x ys → In x (xs ++ ys)
+in_right x [] ys i = i
+in_right x (y ∷ xs) ys i = inr (in_right x xs ys i)
+
+pub in_flat_map : {X Y : Type 0} (f : X → List Y) (x : X) (y : Y) (xs : List X) → In x xs → In y (f x) → In y (flat_map f xs)
+in_flat_map f x y [] i j = absurd i
+in_flat_map {X} f x y (z ∷ xs) i j =
+    ⊎_elim (λ e. in_left y (f z) (flat_map f xs) (subst (λ (w : X). In y (f w)) (sym e) j)) (λ k. in_right y (f z) (flat_map f xs) (in_flat_map f x y xs k j)) i
+
+-- what an element of a kept, mapped or joined list comes from
+pub of_filter : {X : Type 0} (p : X → Bool) (x : X) (xs : List X) → In x (filter p xs) → In x xs × (p x ≡ true)
+of_filter p x [] i = absurd i
+of_filter {X} p x (y ∷ xs) i =
+    elim (cases_Bool (p y)) [
+      | inl h ↦ ⊎_elim (λ e. (inl e, subst (λ (z : X). p z ≡ true) e h)) (λ j. let r = of_filter p x xs j in (inr r.0, r.1)) (subst (λ b. In x (cond b (y ∷ filter p xs) (filter p xs))) h i)
+      | inr h ↦ let r = of_filter p x xs (subst (λ b. In x (cond b (y ∷ filter p xs) (filter p xs))) h i) in (inr r.0, r.1)
+    ]
+
+pub of_map : {X Y : Type 0} (f : X → Y) (y : Y) (xs : List X) → In y (map f xs) → (x : X) × In x xs × (f x ≡ y)
+of_map f y [] i = absurd i
+of_map f y (x ∷ xs) i = ⊎_elim (λ e. (x, inl refl, e)) (λ j. let r = of_map f y xs j in (r.0, inr r.1, r.2)) i
+
+pub of_append : {X : Type 0} (x : X) (xs ys : List X) → In x (xs ++ ys) → In x xs ⊎ In x ys
+of_append x [] ys i = inr i
+of_append x (y ∷ xs) ys i = ⊎_elim (λ e. inl (inl e)) (λ j. ⊎_elim (λ k. inl (inr k)) (λ k. inr k) (of_append x xs ys j)) i
+
+pub of_flat_map : {X Y : Type 0} (f : X → List Y) (y : Y) (xs : List X) → In y (flat_map f xs) → (x : X) × In x xs × In y (f x)
+of_flat_map f y [] i = absurd i
+of_flat_map f y (x ∷ xs) i = ⊎_elim (λ j. (x, inl refl, j)) (λ j. let r = of_flat_map f y xs j in (r.0, inr r.1, r.2)) (of_append y (f x) (flat_map f xs) i)
+
+pub in_range : (n a i : ℕ) → a ≤ i → i < a + n → In i (range_with_len a n)
+in_range zero a i h g = absurd (omega arith)
+in_range (suc n) a i h g = elim (cases_eq a i) [ inl e ↦ inl e | inr e ↦ inr (in_range n (a + 1) i (omega arith) (omega arith)) ]
+
+pub of_range : (n a i : ℕ) → In i (range_with_len a n) → (a ≤ i) × (i < a + n)
+of_range zero a i h = absurd h
+of_range (suc n) a i h = ⊎_elim (λ e. (omega arith, omega arith)) (λ j. let r = of_range n (a + 1) i j in let low = r.0 in let high = r.1 in (omega arith, omega arith)) h
+
+-- KEYS
+
+pub in_member : (k : DbKey) (ks : List DbKey) → In k ks → is_member k ks ≡ true
+in_member k ks i = any_in (key_eq k) k ks i (key_eq-refl k)
+
+pub member_in : (k : DbKey) (ks : List DbKey) → is_member k ks ≡ true → In k ks
+member_in k ks h = let e = any_element (key_eq k) ks h in subst (λ (x : DbKey). In x ks) (sym (same_key k e.0 e.2)) e.1
+
+pub some_is : {X : Type 0} (o : Option X) → is_some o ≡ true → (x : X) × (o ≡ Some x)
+some_is None h = absurd (false≢true h)
+some_is (Some x) h = (x, refl)
+
+pub none_is : {X : Type 0} (o : Option X) → is_some o ≡ false → o ≡ None
+none_is None h = refl
+none_is (Some x) h = absurd (false≢true (sym h))
+
+pub some_and_is : {X : Type 0} (test : X → Bool) (o : Option X) → some_and test o ≡ true → (x : X) × (o ≡ Some x) × (test x ≡ true)
+some_and_is test None h = absurd (false≢true h)
+some_and_is test (Some x) h = (x, refl, h)
+
+-- the first that passes
+pub find_element : {X : Type 0} (p : X → Bool) (xs : List X) (x : X) → find p xs ≡ Some x → In x xs × (p x ≡ true)
+find_element p [] x h = absurd (none-some x h)
+find_element {X} p (y ∷ xs) x h =
+    elim (cases_Bool (p y)) [
+      | inl e ↦ let same = same_Some y x (subst (λ b. cond b (Some y) (find p xs) ≡ Some x) e h) in (inl same, subst (λ (z : X). p z ≡ true) same e)
+      | inr e ↦ let r = find_element p xs x (subst (λ b. cond b (Some y) (find p xs) ≡ Some x) e h) in (inr r.0, r.1)
+    ]
+
+-- the only one that passes
+pub find_only : {X : Type 0} (p : X → Bool) (xs : List X) (x : X) → In x xs → p x ≡ true → ((y : X) → p y ≡ true → y ≡ x) → find p xs ≡ Some x
+find_only p [] x i h only = absurd i
+find_only p (y ∷ xs) x i h only =
+    elim (cases_Bool (p y)) [
+      | inl e ↦ ap (λ b. cond b (Some y) (find p xs)) e ∙ ap Some (only y e)
+      | inr e ↦ ap (λ b. cond b (Some y) (find p xs)) e
+        ∙ ⊎_elim (λ same. absurd (false≢true (sym e ∙ ap p same ∙ h))) (λ j. find_only p xs x j h only) i
+    ]
+
+pub find_none : {X : Type 0} (p : X → Bool) (xs : List X) → ((x : X) → p x ≡ true → ⊥) → find p xs ≡ None
+find_none p [] h = refl
+find_none p (x ∷ xs) h = ap (λ b. cond b (Some x) (find p xs)) (false_from_ne_true _ (h x)) ∙ find_none p xs h
+
+module _ (schema : Lists) (capacity : ℕ) (db : Database) (legal : Legal schema capacity db) where
+  -- a live key is its number's latest
+  pub latest : (k : DbKey) → is_live db k ≡ true → key_at db k.rtype k.number ≡ k
+  latest k h = λ i. record { rtype = k.rtype; number = k.number; generation = sym (legal.keys k h).4 i }
+
+  pub live_in : (k : DbKey) → is_live db k ≡ true → In k (live_keys capacity db k.rtype)
+  live_in k h =
+      let facts = legal.keys k h in
+      in_filter (is_live db) k _ (subst (λ (x : DbKey). In x (map (key_at db k.rtype) (range_with_len 1 capacity))) (latest k h) (in_map (key_at db k.rtype) k.number _ (number_in k.number facts.1 facts.2))) h where
+    number_in : (n : ℕ) → 0 < n → n ≤ capacity → In n (range_with_len 1 capacity)
+    number_in n low high = in_range capacity 1 n (omega arith) (omega arith)
+
+  pub live_of : (k : DbKey) (t : ℕ) → In k (live_keys capacity db t) → (is_live db k ≡ true) × (k.rtype ≡ t)
+  live_of k t i =
+      let kept = of_filter (is_live db) k _ i in
+      let made = of_map (key_at db t) k _ kept.0 in
+      (kept.1, ap (λ (x : DbKey). x.rtype) (sym made.2))
+
+  pub live_in_all : (k : DbKey) → is_live db k ≡ true → In k (all_keys schema capacity db)
+  live_in_all k h = in_flat_map (live_keys capacity db) k.rtype k _ (type_in k.rtype (legal.keys k h).0) (live_in k h) where
+    type_in : (t : ℕ) → t < length schema.types → In t (range_with_len 0 (length schema.types))
+    type_in t below = in_range (length schema.types) 0 t (omega arith) (omega arith)
+
+  pub all_are_live : (k : DbKey) → In k (all_keys schema capacity db) → is_live db k ≡ true
+  all_are_live k i = let r = of_flat_map (live_keys capacity db) k _ i in (live_of k r.0 r.2).0
+
+  -- who has an occurrence of a set is among its owners
+  pub owner_in : (s : ℕ) (o : Owner) → has_occurrence schema db s o ≡ true → In o (owners schema capacity db s)
+  owner_in s System h = subst (λ b. In System (cond b (System ∷ []) (unwrap_or (option_map (λ t. map Rec (live_keys capacity db t)) (owner_type schema s)) []))) (sym h) (inl refl)
+  owner_in s (Rec k) h =
+      let parts = and_parts _ _ h in
+      let set = some_and_is (λ owner. eqb owner k.rtype) (owner_type schema s) parts.0 in
+      let same = eqb-true set.0 k.rtype set.2 in
+      let is_not_system = system_or_owned (slice_get schema.sets s) set.0 set.1 in
+      subst (λ b. In (Rec k) (cond b (System ∷ []) (unwrap_or (option_map (λ t. map Rec (live_keys capacity db t)) (owner_type schema s)) []))) (sym is_not_system)
+        (subst (λ (o : Option ℕ). In (Rec k) (unwrap_or (option_map (λ t. map Rec (live_keys capacity db t)) o) [])) (sym (set.1 ∙ ap Some same)) (in_map Rec k _ (live_in k parts.1))) where
+    system_or_owned : (set : Option SetType) (t : ℕ) → option_and_then (λ (x : SetType). x.owner) set ≡ Some t → some_and (λ (x : SetType). is_none x.owner) set ≡ false
+    system_or_owned None t h = refl
+    system_or_owned (Some x) t h = ap is_none h
+
+  -- whose list has a record
+  pub listed : (s : ℕ) (o : Owner) (k : DbKey) → is_member k (members_of db s o) ≡ true → has_occurrence schema db s o ≡ true
+  listed s o k h = sym (legal.pairs s o) ∙ has_list (db.lists s o) h where
+    has_list : (l : Option (List DbKey)) → is_member k (unwrap_or l []) ≡ true → is_some l ≡ true
+    has_list None h = absurd (false≢true h)
+    has_list (Some list) h = refl
+
+  pub owner_is : (s : ℕ) (o : Owner) (k : DbKey) → is_member k (members_of db s o) ≡ true → owner_of schema capacity db s k ≡ Some o
+  owner_is s o k h = find_only (λ p. is_member k (members_of db s p)) (owners schema capacity db s) o (owner_in s o (listed s o k h)) h (λ p g. legal.in_one s p o k g h)
+
+  pub no_owner : (s : ℕ) (k : DbKey) → ((o : Owner) → is_member k (members_of db s o) ≡ true → ⊥) → owner_of schema capacity db s k ≡ None
+  no_owner s k h = find_none (λ p. is_member k (members_of db s p)) (owners schema capacity db s) h
+
+  pub member_of_owner : (s : ℕ) (o : Owner) (k : DbKey) → owner_of schema capacity db s k ≡ Some o → is_member k (members_of db s o) ≡ true
+  member_of_owner s o k h = (find_element (λ p. is_member k (members_of db s p)) (owners schema capacity db s) o h).1
+
+  pub member_nowhere : (s : ℕ) (k : DbKey) → owner_of schema capacity db s k ≡ None → (o : Owner) → is_member k (members_of db s o) ≡ false
+  member_nowhere s k h o = false_from_ne_true _ (λ g. absurd (none-some o (sym h ∙ owner_is s o k g)))
