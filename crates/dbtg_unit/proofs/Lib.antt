@@ -17,6 +17,7 @@ pub mod LegalMoves
 pub mod CalcLemmas
 pub mod ItemLemmas
 pub mod LegalStore
+pub mod LegalModify
 pub mod OpenLegal
 pub mod StoreLegal
 pub mod RemoveLocal
