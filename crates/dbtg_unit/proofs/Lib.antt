@@ -18,6 +18,7 @@ pub mod CalcLemmas
 pub mod ItemLemmas
 pub mod LegalStore
 pub mod LegalModify
+pub mod LegalDelete
 pub mod OpenLegal
 pub mod StoreLegal
 pub mod RemoveLocal
