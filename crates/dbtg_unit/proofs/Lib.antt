@@ -19,6 +19,7 @@ pub mod ItemLemmas
 pub mod LegalStore
 pub mod LegalModify
 pub mod LegalDelete
+pub mod FoundLemmas
 pub mod OpenLegal
 pub mod StoreLegal
 pub mod RemoveLocal
