@@ -15,6 +15,9 @@ pub mod LegalMoves
 pub mod CalcLemmas
 pub mod ItemLemmas
 pub mod LegalStore
+pub mod LegalModify
+pub mod LegalDelete
+pub mod FoundLemmas
 pub mod OpenLegal
 pub mod StoreLegal
 pub mod RemoveLocal

@@ -24,7 +24,7 @@ any-map p f [] = refl
 any-map p f (x ∷ xs) = ap (λ b. p (f x) || b) (any-map p f xs)
 
 -- what a number of a list passes, some number passes
-any_number : (p : ℕ → Bool) (n : ℕ) (xs : List ℕ) → has_number n xs ≡ true → p n ≡ true → list_any p xs ≡ true
+pub any_number : (p : ℕ → Bool) (n : ℕ) (xs : List ℕ) → has_number n xs ≡ true → p n ≡ true → list_any p xs ≡ true
 any_number p n [] h g = absurd (false≢true h)
 any_number p n (x ∷ xs) h g =
     ⊎_elim (λ e. or_left _ _ (subst (λ y. p y ≡ true) (sym (eqb-true x n e)) g)) (λ r. or_right _ _ (any_number p n xs r g)) (or_cases _ _ h)
