@@ -18,3 +18,4 @@ pub mod Needs
 pub mod Local
 pub mod Belongs
 pub mod LegalWith
+pub mod Kept

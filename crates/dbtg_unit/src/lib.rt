@@ -2,11 +2,13 @@
 #![tactic(auto)]
 
 mod held;
+mod kept;
 mod laws;
 mod statement;
 mod unit;
 
 pub use held::{Held, Need};
+pub use kept::Kept;
 pub use laws::doomed_is_least;
 pub use statement::{Change, Erase, Form, Statement, Suppress, Which};
 pub use unit::{Answer, Cause, Currency, Entry, Place, Status, Unit};
