@@ -19,3 +19,4 @@ pub mod Local
 pub mod Belongs
 pub mod LegalWith
 pub mod Kept
+pub mod Codes

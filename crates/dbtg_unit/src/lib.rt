@@ -1,6 +1,8 @@
 //! What a sequential network database is: statements, units, and the effect of each statement.
 #![tactic(auto)]
 
+mod codes;
+mod copy;
 mod held;
 mod kept;
 mod laws;
