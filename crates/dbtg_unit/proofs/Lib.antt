@@ -9,3 +9,5 @@ pub mod Determined
 pub mod Rows
 pub mod Sets
 pub mod Orders
+pub mod Numbered
+pub mod BitLemmas

@@ -20,3 +20,4 @@ pub mod Belongs
 pub mod LegalWith
 pub mod Kept
 pub mod Codes
+pub mod Seen

@@ -3,9 +3,13 @@
 
 mod codes;
 mod copy;
+mod currents;
+mod entries;
 mod held;
 mod kept;
 mod laws;
+
+mod see;
 mod statement;
 mod unit;
 
