@@ -11,3 +11,4 @@ pub mod Sets
 pub mod Orders
 pub mod Numbered
 pub mod BitLemmas
+pub mod FitLemmas

@@ -5,6 +5,7 @@ mod codes;
 mod copy;
 mod currents;
 mod entries;
+mod fits;
 mod held;
 mod kept;
 mod laws;
