@@ -12,3 +12,4 @@ pub mod Orders
 pub mod Numbered
 pub mod BitLemmas
 pub mod FitLemmas
+pub mod NumberLemmas

@@ -21,3 +21,4 @@ pub mod LegalWith
 pub mod Kept
 pub mod Codes
 pub mod Seen
+pub mod Areas

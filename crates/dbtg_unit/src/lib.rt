@@ -1,8 +1,10 @@
 //! What a sequential network database is: statements, units, and the effect of each statement.
 #![tactic(auto)]
 
+mod areas;
 mod codes;
 mod copy;
+mod counts;
 mod currents;
 mod entries;
 mod fits;
@@ -10,6 +12,7 @@ mod held;
 mod kept;
 mod laws;
 
+mod places;
 mod see;
 mod statement;
 mod unit;

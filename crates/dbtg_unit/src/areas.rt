@@ -1,0 +1,82 @@
+//! The areas of a statement: whether one of them has something, and the first that a unit has not in hand. Nothing
+//! here takes memory, since the areas are asked one by one.
+ghost use Rattle.std.specs.Prelude.{◌≡◌, ◌==◌, List, [], ◌∷◌, map, option_map, unwrap_or, is_some, ◌&&◌, filter};
+ghost use Rattle.std.specs.List.{list_any};
+ghost use Rattle.dbtg_schema.specs.Lookups.{some_and};
+ghost use Rattle.dbtg_schema.specs.Structure.{area_of, automatic_sets, home, is_automatic, member_clause, rekeyed_sets, set_member_types};
+ghost use Rattle.dbtg_schema.specs.WellFormed.{IsSchema};
+ghost use Rattle.dbtg_unit.specs.Areas.{asks};
+ghost use Rattle.dbtg_unit.specs.Checks.{area_of_current, areas_of, find_areas, is_update};
+
+use crate::counts::{set_count, type_count};
+use crate::entries::entry_at;
+use crate::statement::{Change, Form, Statement};
+use crate::unit::Unit;
+use dbtg_cells::{DbKey, Mode};
+use dbtg_schema::{AreaNo, ItemNo, RecordNo, Schema, SetNo};
+
+/// What is asked of an area.
+#[derive(Clone, Copy, Debug)]
+pub enum Question {
+    /// The unit has it not open.
+    NotOpen,
+    /// The unit has it not open in a mode for updates.
+    NotUpdate,
+    /// It is this one.
+    Is(AreaNo),
+}
+
+fn is_for_update(mode: Mode) -> bool
+    ensures { result ≡ is_update mode }
+{
+    matches!(mode, Mode::Update | Mode::ProtectedUpdate | Mode::ExclusiveUpdate)
+}
+
+fn ask(unit: &Unit, question: &Question, area: AreaNo) -> bool
+    ensures { result ≡ asks unit.now.modes question.now area }
+{
+    match question {
+        Question::NotOpen => entry_at(unit.modes.as_slice(), area.index() as usize).is_none(),
+        Question::NotUpdate => {
+            match entry_at(unit.modes.as_slice(), area.index() as usize) {
+                Some(mode) => !is_for_update(mode),
+                None => true,
+            }
+        }
+        Question::Is(other) => area.index() == other.index(),
+    }
+}
+
+fn ask_of_key(schema: &Schema, unit: &Unit, question: &Question, key: Option<DbKey>) -> bool
+    ensures { result ≡ list_any (asks unit.now.modes question.now) (area_of_current schema.now key) }
+{
+    match key {
+        Some(key) => ask(unit, question, schema.area_of(key.rtype)),
+        None => false,
+    }
+}
+
+// Does STORE connect a record of this type in the set?
+fn is_automatic_in(schema: &Schema, set: SetNo, rtype: RecordNo) -> bool
+    ensures { result ≡ some_and (λ m. is_automatic m.class) (member_clause schema.now set rtype) }
+{
+    match schema.member_clause(set, rtype) {
+        Some(member) => member.class.is_automatic(),
+        None => false,
+    }
+}
+
+// Of the homes of the sets in which STORE connects a record of this type.
+#[tactic(auto, using(crate::proofs::NumberLemmas::numbers_next, crate::proofs::NumberLemmas::numbers_end))]
+fn ask_of_automatic(schema: &Schema, unit: &Unit, question: &Question, rtype: RecordNo) -> bool
+    requires { IsSchema schema.now }
+    ensures { result ≡ list_any (asks unit.now.modes question.now) (map (home schema.now) (automatic_sets schema.now rtype)) }
+{
+    for s in 0..set_count(schema) {
+        let set = SetNo::new(s);
+        if is_automatic_in(schema, set, rtype) && ask(unit, question, schema.home(set)) {
+            return true;
+        }
+    }
+    false
+}
