@@ -8,6 +8,7 @@ ghost use Rattle.dbtg_schema.specs.WellFormed.{IsSchema};
 ghost use Rattle.dbtg_unit.specs.Areas.{asks};
 ghost use Rattle.dbtg_unit.specs.Checks.{area_of_current, areas_of, find_areas, is_update};
 
+use crate::changes::is_rekeyed_in;
 use crate::counts::{set_count, type_count};
 use crate::entries::entry_at;
 use crate::statement::{Change, Form, Statement};
@@ -79,4 +80,89 @@ fn ask_of_automatic(schema: &Schema, unit: &Unit, question: &Question, rtype: Re
         }
     }
     false
+}
+
+// Of the homes of the sets in which a MODIFY with these changes moves a record of this type.
+#[tactic(auto, using(crate::proofs::NumberLemmas::numbers_next, crate::proofs::NumberLemmas::numbers_end))]
+fn ask_of_rekeyed(
+    schema: &Schema,
+    unit: &Unit,
+    question: &Question,
+    rtype: RecordNo,
+    changes: &[Change],
+) -> bool
+    requires { IsSchema schema.now }
+    ensures { result ≡ list_any (asks unit.now.modes question.now) (map (home schema.now) (rekeyed_sets schema.now rtype (map (λ c. c.item) changes.now))) }
+{
+    for s in 0..set_count(schema) {
+        let set = SetNo::new(s);
+        if is_rekeyed_in(schema, set, rtype, changes) && ask(unit, question, schema.home(set)) {
+            return true;
+        }
+    }
+    false
+}
+
+// Of the areas of the set's member types.
+#[tactic(auto, using(crate::proofs::NumberLemmas::numbers_next, crate::proofs::NumberLemmas::numbers_end))]
+fn ask_of_members(schema: &Schema, unit: &Unit, question: &Question, set: SetNo) -> bool
+    requires { IsSchema schema.now }
+    ensures { result ≡ list_any (asks unit.now.modes question.now) (map (area_of schema.now) (set_member_types schema.now set)) }
+{
+    for t in 0..type_count(schema) {
+        let rtype = RecordNo::new(t);
+        if schema.member_clause(set, rtype).is_some()
+            && ask(unit, question, schema.area_of(rtype))
+        {
+            return true;
+        }
+    }
+    false
+}
+
+// Of the area of this record type, or of those of all the set's member types where none is named.
+fn ask_of_named(
+    schema: &Schema,
+    unit: &Unit,
+    question: &Question,
+    set: SetNo,
+    rtype: Option<RecordNo>,
+) -> bool
+    requires { IsSchema schema.now }
+    ensures { result ≡ list_any (asks unit.now.modes question.now) (map (area_of schema.now) (unwrap_or (option_map (λ t. t ∷ []) rtype) (set_member_types schema.now set))) }
+{
+    match rtype {
+        Some(rtype) => ask(unit, question, schema.area_of(rtype)),
+        None => ask_of_members(schema, unit, question, set),
+    }
+}
+
+fn ask_of_find(schema: &Schema, unit: &Unit, question: &Question, form: &Form) -> bool
+    requires { IsSchema schema.now }
+    ensures { result ≡ list_any (asks unit.now.modes question.now) (find_areas schema.now unit.now form.now) }
+{
+    match form {
+        Form::Key(key) => ask(unit, question, schema.area_of(key.rtype)),
+        Form::CurrentOfUnit => ask_of_key(schema, unit, question, unit.currency.run_unit),
+        Form::CurrentOfSet(set) => {
+            ask_of_key(schema, unit, question, unit.key_in(schema, *set))
+        }
+        Form::CurrentOfArea(area) => {
+            let current = entry_at(unit.currency.areas.as_slice(), area.index() as usize);
+            ask_of_key(schema, unit, question, current)
+        }
+        Form::InSet { rtype, set, .. } => {
+            ask(unit, question, schema.home(*set))
+                || ask_of_named(schema, unit, question, *set, *rtype)
+        }
+        Form::InArea { area, .. } => ask(unit, question, *area),
+        Form::OwnerOf(set) => ask(unit, question, schema.home(*set)),
+        Form::CurrentOfType(rtype) | Form::NextDuplicate(rtype) | Form::Calc { rtype, .. } => {
+            ask(unit, question, schema.area_of(*rtype))
+        }
+        Form::Sorted { set, .. } => {
+            ask(unit, question, schema.home(*set))
+                || ask_of_members(schema, unit, question, *set)
+        }
+    }
 }

@@ -5,6 +5,7 @@ ghost use Rattle.dbtg_schema.specs.Lookups.{some_and};
 ghost use Rattle.dbtg_schema.specs.Structure.{area_of, calc_of, member_clause, picture_of, pictures};
 ghost use Rattle.dbtg_unit.specs.Fits.{change_fits, member_key_fits, pictures_at, if_named, distinct_items, fits, form_fits, is_area, is_set, is_text_byte, is_type, key_fits, suppress_fits, value_fits, values_fit, which_fits};
 
+use crate::changes::names_item;
 use crate::statement::{Change, Form, Statement, Suppress, Which};
 use dbtg_cells::{DbKey, Value};
 use dbtg_schema::{AreaNo, Calc, Item, ItemNo, Member, Picture, RecordNo, Schema, SetNo};
@@ -102,17 +103,6 @@ fn is_within(which: Which) -> bool
         Which::Nth(n) => n != 0 && -999_999 <= n && n <= 999_999,
         _ => true,
     }
-}
-
-fn names_item(changes: &[Change], item: ItemNo) -> bool
-    ensures { result ≡ list_any (λ d. d.item == item) changes.now }
-{
-    for change in changes {
-        if change.item.index() == item.index() {
-            return true;
-        }
-    }
-    false
 }
 
 fn are_distinct(changes: &[Change]) -> bool

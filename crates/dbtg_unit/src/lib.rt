@@ -2,6 +2,7 @@
 #![tactic(auto)]
 
 mod areas;
+mod changes;
 mod codes;
 mod copy;
 mod counts;
