@@ -22,3 +22,4 @@ pub mod Kept
 pub mod Codes
 pub mod Seen
 pub mod Areas
+pub mod Reach

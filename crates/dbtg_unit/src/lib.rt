@@ -14,6 +14,7 @@ mod kept;
 mod laws;
 
 mod places;
+mod reach;
 mod see;
 mod statement;
 mod unit;
