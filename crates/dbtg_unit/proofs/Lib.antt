@@ -13,3 +13,4 @@ pub mod Numbered
 pub mod BitLemmas
 pub mod FitLemmas
 pub mod NumberLemmas
+pub mod AreaLemmas
