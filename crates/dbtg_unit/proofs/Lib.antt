@@ -47,3 +47,8 @@ pub mod ForwardLemmas
 pub mod ReplayLemmas
 pub mod LocalCells
 pub mod OwnersFound
+pub mod Numbered
+pub mod BitLemmas
+pub mod FitLemmas
+pub mod NumberLemmas
+pub mod AreaLemmas

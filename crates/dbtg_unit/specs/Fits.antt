@@ -1,7 +1,8 @@
 -- Statements that a schema has.
-use Rattle.std.specs.Prelude.{ℕ, zero, suc, pos, negsuc, ◌^◌, Bool, true, false, not, ◌&&◌, ◌==◌, nat_lt, nat_le, List, [], ◌∷◌, Option, Some, None, is_some, length, unwrap_or, slice_get}
+use Rattle.std.specs.Prelude.{ℕ, zero, suc, pos, negsuc, ◌^◌, Bool, true, false, not, ◌&&◌, ◌==◌, nat_lt, nat_le, List, [], ◌∷◌, Option, Some, None, is_some, length, map, unwrap_or, slice_get}
 use Rattle.std.specs.List.{list_any, list_all}
 use Rattle.dbtg_schema.specs.Lists.{Lists}
+use Rattle.dbtg_schema.specs.declared.shape.Member.{Member}
 use Rattle.dbtg_schema.specs.declared.shape.Picture.{Picture}
 use Rattle.dbtg_schema.specs.declared.shape.Picture.TheVariants.{Number, Text as TextPicture}
 use Rattle.dbtg_cells.specs.declared.key.Value.{Value}
@@ -59,10 +60,17 @@ which_fits (Nth (pos (suc n))) = nat_lt n 999999
 which_fits (Nth (negsuc n)) = nat_lt n 999999
 which_fits _ = true
 
+-- the value is of the picture of this member's key item
+abbrev pub member_key_fits : Lists → Value → Member → Bool
+member_key_fits schema v m = some_and (λ i. some_and (λ p. value_fits p v) (picture_of schema m.rtype i)) m.key
+
 -- the value is of the picture of the set's keys
 abbrev pub key_fits : Lists → ℕ → Value → Bool
-key_fits schema s v =
-    some_and (λ set. list_all (λ m. some_and (λ i. some_and (λ p. value_fits p v) (picture_of schema m.rtype i)) m.key) set.members) (slice_get schema.sets s)
+key_fits schema s v = some_and (λ set. list_all (member_key_fits schema v) set.members) (slice_get schema.sets s)
+
+-- the pictures of items of a record type
+abbrev pub pictures_at : Lists → ℕ → List ℕ → List Picture
+pictures_at schema r items = map (λ i. unwrap_or (picture_of schema r i) (Number 0)) items
 
 -- the FIND names what the schema has
 abbrev pub form_fits : Lists → Form → Bool
@@ -74,11 +82,7 @@ form_fits schema (CurrentOfArea a) = is_area schema a
 form_fits schema (InSet which r s) = is_set schema s && which_fits which && if_named (λ t. is_some (member_clause schema s t)) r
 form_fits schema (InArea which r a) = is_area schema a && which_fits which && if_named (λ t. is_type schema t && area_of schema t == a) r
 form_fits schema (OwnerOf s) = is_set schema s && not (is_system schema s)
-form_fits schema (Calc r values) =
-    some_and (λ calc. values_fit (pictures_at schema r calc.items) values) (calc_of schema r) where
-  pictures_at : Lists → ℕ → List ℕ → List Picture
-  pictures_at schema r [] = []
-  pictures_at schema r (i ∷ is) = unwrap_or (picture_of schema r i) (Number 0) ∷ pictures_at schema r is
+form_fits schema (Calc r values) = some_and (λ calc. values_fit (pictures_at schema r calc.items) values) (calc_of schema r)
 form_fits schema (NextDuplicate r) = is_some (calc_of schema r)
 form_fits schema (Sorted v s) = key_fits schema s v
 
@@ -86,6 +90,10 @@ form_fits schema (Sorted v s) = key_fits schema s v
 abbrev pub distinct_items : List Change → Bool
 distinct_items [] = true
 distinct_items (c ∷ changes) = not (list_any (λ d. d.item == c.item) changes) && distinct_items changes
+
+-- an item of the record type, and a value of its picture
+abbrev pub change_fits : Lists → ℕ → Change → Bool
+change_fits schema t c = some_and (λ p. value_fits p c.value) (picture_of schema t c.item)
 
 -- of the schema's sets alone
 abbrev pub suppress_fits : Lists → Suppress → Bool
@@ -101,7 +109,7 @@ fits schema (Store t items suppress) = is_type schema t && values_fit (pictures 
 fits schema (Insert s) = is_set schema s
 fits schema (Remove s) = is_set schema s
 fits schema (Modify t changes) =
-    is_type schema t && distinct_items changes && list_all (λ c. some_and (λ p. value_fits p c.value) (picture_of schema t c.item)) changes
+    is_type schema t && distinct_items changes && list_all (change_fits schema t) changes
 fits schema (Delete option) = true
 fits schema Keep = true
 fits schema (Free all) = true

@@ -26,3 +26,8 @@ pub mod Erased
 pub mod Telling
 pub mod Forward
 pub mod Replaying
+pub mod Kept
+pub mod Codes
+pub mod Seen
+pub mod Areas
+pub mod Reach

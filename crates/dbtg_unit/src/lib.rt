@@ -1,14 +1,27 @@
 //! What a sequential network database is: statements, units, and the effect of each statement.
 #![tactic(auto)]
 
+mod areas;
+mod changes;
+mod codes;
+mod copy;
+mod counts;
+mod currents;
 mod edit;
+mod entries;
+mod fits;
 mod held;
+mod kept;
 mod laws;
+mod places;
+mod reach;
+mod see;
 mod statement;
 mod unit;
 
 pub use edit::{CellEdit, Edit};
 pub use held::{Held, Need};
+pub use kept::Kept;
 pub use laws::{cells_determine, delete_stays_in_its_areas, doomed_is_least, doomed_is_least_set, each_statement_goes_forward, each_statement_is_answered, placing_keeps_order, reachable_types_are_least, replay_goes_forward, replay_takes_one_more, statements_determine_replay, versions_are_bounded};
 pub use statement::{Change, Erase, Form, Statement, Suppress, Which};
 pub use unit::{Answer, Cause, Currency, Entry, Place, Status, Unit};

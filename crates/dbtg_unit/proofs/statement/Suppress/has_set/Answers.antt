@@ -1,0 +1,10 @@
+use Rattle.std.proofs.Common.{◌≡◌, refl, sym, ◌∙◌, ap, ℕ, ◌%◌, ◌^◌, ◌/◌, ◌≤◌, ◌<◌, false, nat_lt, arith, eqb}
+use Rattle.std.proofs.lemmas.Bool.Decides.{nat_tests}
+use Rattle.dbtg_unit.proofs.BitLemmas.{no_bit}
+use Rattle.dbtg_unit.proofs.statement.Suppress.has_set.Goals as goal
+
+pub returns-else-set-lt16 : goal.returns-else-set-lt16
+returns-else-set-lt16 c =
+    let none = no_bit c.args.self.now.sets c.args.set (omega arith) (omega arith) in
+    let above : nat_lt c.args.set 16 ≡ false = grind (arith, nat_tests) in
+    above ∙ sym (ap (λ n. eqb (n % 2) 1) none)

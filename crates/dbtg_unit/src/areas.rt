@@ -1,0 +1,255 @@
+//! The areas of a statement: whether one of them has something, and the first that a unit has not in hand. Nothing
+//! here takes memory, since the areas are asked one by one.
+ghost use Rattle.std.specs.Prelude.{◌≡◌, ◌==◌, List, [], ◌∷◌, map, option_map, unwrap_or, is_some, ◌&&◌, filter, length};
+ghost use Rattle.std.specs.List.{list_any, range_with_len};
+ghost use Rattle.dbtg_schema.specs.Lookups.{flatten, some_and};
+ghost use Rattle.dbtg_schema.specs.Structure.{area_of, areas_with_homes, automatic_sets, erase_areas, home, is_automatic, member_clause, rekeyed_sets, set_member_types, set_numbers};
+ghost use Rattle.dbtg_schema.specs.WellFormed.{IsSchema};
+ghost use Rattle.dbtg_unit.specs.Areas.{asks};
+ghost use Rattle.dbtg_unit.specs.Reach.{is_marked};
+ghost use Rattle.dbtg_unit.specs.Checks.{area_of_current, areas_of, find_areas, is_update};
+
+use crate::changes::is_rekeyed_in;
+use crate::counts::{set_count, type_count};
+use crate::entries::entry_at;
+use crate::reach::reachable;
+use crate::statement::{Change, Form, Statement};
+use crate::unit::Unit;
+use dbtg_cells::{DbKey, Mode};
+use dbtg_schema::{AreaNo, ItemNo, RecordNo, Schema, SetNo};
+
+/// What is asked of an area.
+#[derive(Clone, Copy, Debug)]
+pub enum Question {
+    /// The unit has it not open.
+    NotOpen,
+    /// The unit has it not open in a mode for updates.
+    NotUpdate,
+    /// It is this one.
+    Is(AreaNo),
+}
+
+fn is_for_update(mode: Mode) -> bool
+    ensures { result ≡ is_update mode }
+{
+    matches!(mode, Mode::Update | Mode::ProtectedUpdate | Mode::ExclusiveUpdate)
+}
+
+fn ask(unit: &Unit, question: &Question, area: AreaNo) -> bool
+    ensures { result ≡ asks unit.now.modes question.now area }
+{
+    match question {
+        Question::NotOpen => entry_at(unit.modes.as_slice(), area.index() as usize).is_none(),
+        Question::NotUpdate => {
+            match entry_at(unit.modes.as_slice(), area.index() as usize) {
+                Some(mode) => !is_for_update(mode),
+                None => true,
+            }
+        }
+        Question::Is(other) => area.index() == other.index(),
+    }
+}
+
+fn ask_of_key(schema: &Schema, unit: &Unit, question: &Question, key: Option<DbKey>) -> bool
+    ensures { result ≡ list_any (asks unit.now.modes question.now) (area_of_current schema.now key) }
+{
+    match key {
+        Some(key) => ask(unit, question, schema.area_of(key.rtype)),
+        None => false,
+    }
+}
+
+// Does STORE connect a record of this type in the set?
+fn is_automatic_in(schema: &Schema, set: SetNo, rtype: RecordNo) -> bool
+    ensures { result ≡ some_and (λ m. is_automatic m.class) (member_clause schema.now set rtype) }
+{
+    match schema.member_clause(set, rtype) {
+        Some(member) => member.class.is_automatic(),
+        None => false,
+    }
+}
+
+// Of the homes of the sets in which STORE connects a record of this type.
+#[tactic(auto, using(crate::proofs::NumberLemmas::numbers_next, crate::proofs::NumberLemmas::numbers_end))]
+fn ask_of_automatic(schema: &Schema, unit: &Unit, question: &Question, rtype: RecordNo) -> bool
+    requires { IsSchema schema.now }
+    ensures { result ≡ list_any (asks unit.now.modes question.now) (map (home schema.now) (automatic_sets schema.now rtype)) }
+{
+    for s in 0..set_count(schema) {
+        let set = SetNo::new(s);
+        if is_automatic_in(schema, set, rtype) && ask(unit, question, schema.home(set)) {
+            return true;
+        }
+    }
+    false
+}
+
+// Of the homes of the sets in which a MODIFY with these changes moves a record of this type.
+#[tactic(auto, using(crate::proofs::NumberLemmas::numbers_next, crate::proofs::NumberLemmas::numbers_end))]
+fn ask_of_rekeyed(
+    schema: &Schema,
+    unit: &Unit,
+    question: &Question,
+    rtype: RecordNo,
+    changes: &[Change],
+) -> bool
+    requires { IsSchema schema.now }
+    ensures { result ≡ list_any (asks unit.now.modes question.now) (map (home schema.now) (rekeyed_sets schema.now rtype (map (λ c. c.item) changes.now))) }
+{
+    for s in 0..set_count(schema) {
+        let set = SetNo::new(s);
+        if is_rekeyed_in(schema, set, rtype, changes) && ask(unit, question, schema.home(set)) {
+            return true;
+        }
+    }
+    false
+}
+
+// Of the areas of the set's member types.
+#[tactic(auto, using(crate::proofs::NumberLemmas::numbers_next, crate::proofs::NumberLemmas::numbers_end))]
+fn ask_of_members(schema: &Schema, unit: &Unit, question: &Question, set: SetNo) -> bool
+    requires { IsSchema schema.now }
+    ensures { result ≡ list_any (asks unit.now.modes question.now) (map (area_of schema.now) (set_member_types schema.now set)) }
+{
+    for t in 0..type_count(schema) {
+        let rtype = RecordNo::new(t);
+        if schema.member_clause(set, rtype).is_some()
+            && ask(unit, question, schema.area_of(rtype))
+        {
+            return true;
+        }
+    }
+    false
+}
+
+// Of the area of this record type, or of those of all the set's member types where none is named.
+fn ask_of_named(
+    schema: &Schema,
+    unit: &Unit,
+    question: &Question,
+    set: SetNo,
+    rtype: Option<RecordNo>,
+) -> bool
+    requires { IsSchema schema.now }
+    ensures { result ≡ list_any (asks unit.now.modes question.now) (map (area_of schema.now) (unwrap_or (option_map (λ t. t ∷ []) rtype) (set_member_types schema.now set))) }
+{
+    match rtype {
+        Some(rtype) => ask(unit, question, schema.area_of(rtype)),
+        None => ask_of_members(schema, unit, question, set),
+    }
+}
+
+fn ask_of_find(schema: &Schema, unit: &Unit, question: &Question, form: &Form) -> bool
+    requires { IsSchema schema.now }
+    ensures { result ≡ list_any (asks unit.now.modes question.now) (find_areas schema.now unit.now form.now) }
+{
+    match form {
+        Form::Key(key) => ask(unit, question, schema.area_of(key.rtype)),
+        Form::CurrentOfUnit => ask_of_key(schema, unit, question, unit.currency.run_unit),
+        Form::CurrentOfSet(set) => {
+            ask_of_key(schema, unit, question, unit.key_in(schema, *set))
+        }
+        Form::CurrentOfArea(area) => {
+            let current = entry_at(unit.currency.areas.as_slice(), area.index() as usize);
+            ask_of_key(schema, unit, question, current)
+        }
+        Form::InSet { rtype, set, .. } => {
+            ask(unit, question, schema.home(*set))
+                || ask_of_named(schema, unit, question, *set, *rtype)
+        }
+        Form::InArea { area, .. } => ask(unit, question, *area),
+        Form::OwnerOf(set) => ask(unit, question, schema.home(*set)),
+        Form::CurrentOfType(rtype) | Form::NextDuplicate(rtype) | Form::Calc { rtype, .. } => {
+            ask(unit, question, schema.area_of(*rtype))
+        }
+        Form::Sorted { set, .. } => {
+            ask(unit, question, schema.home(*set))
+                || ask_of_members(schema, unit, question, *set)
+        }
+    }
+}
+
+// Of the homes of the sets in which this record type is a member type.
+#[tactic(auto, using(crate::proofs::NumberLemmas::numbers_next, crate::proofs::NumberLemmas::numbers_end))]
+fn ask_of_homes(schema: &Schema, unit: &Unit, question: &Question, rtype: RecordNo) -> bool
+    requires { IsSchema schema.now }
+    ensures { result ≡ list_any (asks unit.now.modes question.now) (map (home schema.now) (filter (λ s. is_some (member_clause schema.now s rtype)) (set_numbers schema.now))) }
+{
+    for s in 0..set_count(schema) {
+        let set = SetNo::new(s);
+        if schema.member_clause(set, rtype).is_some() && ask(unit, question, schema.home(set)) {
+            return true;
+        }
+    }
+    false
+}
+
+// Of the area of a record type and those homes.
+fn ask_of_type(schema: &Schema, unit: &Unit, question: &Question, rtype: RecordNo) -> bool
+    requires { IsSchema schema.now }
+    ensures { result ≡ list_any (asks unit.now.modes question.now) (areas_with_homes schema.now rtype) }
+{
+    ask(unit, question, schema.area_of(rtype)) || ask_of_homes(schema, unit, question, rtype)
+}
+
+// Of the areas and homes of the marked record types.
+#[tactic(auto, using(crate::proofs::NumberLemmas::numbers_next, crate::proofs::NumberLemmas::numbers_end, crate::proofs::AreaLemmas::any_behind, crate::proofs::AreaLemmas::any_within))]
+fn ask_of_marked(schema: &Schema, unit: &Unit, question: &Question, marks: &[bool; 16]) -> bool
+    requires { IsSchema schema.now }
+    ensures { result ≡ list_any (asks unit.now.modes question.now) (flatten (map (areas_with_homes schema.now) (filter (is_marked marks.now) (range_with_len 0 (length schema.now.types))))) }
+{
+    for t in 0..type_count(schema) {
+        if marks[t as usize] && ask_of_type(schema, unit, question, RecordNo::new(t)) {
+            return true;
+        }
+    }
+    false
+}
+
+// Of the areas of a DELETE of a record of this type.
+fn ask_of_erased(schema: &Schema, unit: &Unit, question: &Question, rtype: RecordNo) -> bool
+    requires { IsSchema schema.now }
+    ensures { result ≡ list_any (asks unit.now.modes question.now) (erase_areas schema.now rtype) }
+{
+    let marks = reachable(schema, rtype);
+    ask_of_marked(schema, unit, question, &marks)
+}
+
+/// Does one of the areas of a statement have this?
+pub(crate) fn ask_of_areas(
+    schema: &Schema,
+    unit: &Unit,
+    question: &Question,
+    statement: &Statement,
+) -> bool
+    requires { IsSchema schema.now }
+    ensures { result ≡ list_any (asks unit.now.modes question.now) (areas_of schema.now unit.now statement.now) }
+{
+    match statement {
+        Statement::OpenArea { area, .. } => ask(unit, question, *area),
+        Statement::CloseArea(area) => ask(unit, question, *area),
+        Statement::Find(form, _) => ask_of_find(schema, unit, question, form),
+        Statement::Store { rtype, .. } => {
+            ask(unit, question, schema.area_of(*rtype))
+                || ask_of_automatic(schema, unit, question, *rtype)
+        }
+        Statement::Insert(set) | Statement::Remove(set) => {
+            ask(unit, question, schema.home(*set))
+                || ask_of_key(schema, unit, question, unit.currency.run_unit)
+        }
+        Statement::Modify { rtype, changes } => {
+            ask(unit, question, schema.area_of(*rtype))
+                || ask_of_rekeyed(schema, unit, question, *rtype, changes.as_slice())
+        }
+        Statement::Delete(_) => {
+            match unit.currency.run_unit {
+                Some(key) => ask_of_erased(schema, unit, question, key.rtype),
+                None => false,
+            }
+        }
+        Statement::Get(_) | Statement::Keep => {
+            ask_of_key(schema, unit, question, unit.currency.run_unit)
+        }
+        Statement::Free { .. } => false,
+    }
+}
