@@ -1,0 +1,59 @@
+//! An owner or none for each set of a schema, in place. Nothing here takes memory.
+ghost use Rattle.std.specs.Prelude.{◌≡◌, ◌≤◌, ◌<◌, length, slice_set, replicate, None};
+
+use dbtg_cells::Owner;
+use std::marker::Model;
+
+/// The most sets that a schema has.
+const SETS: usize = 16;
+
+/// For each set of a schema, at most 16, an owner or none; contracts see the list.
+#[derive(Drop)]
+pub struct Owners {
+    entries: [Option<Owner>; SETS],
+    len: usize,
+}
+
+impl Model for Owners {
+    ghost use Rattle.std.specs.Prelude.{List, Option, take, ◌≤◌};
+    ghost use Rattle.dbtg_cells.specs.declared.key.Owner.{Owner};
+
+    ghost Value = { List (Option Owner) };
+
+    ghost view = { λ o. take o.len o.entries };
+
+    ghost invariant = { λ o. o.len ≤ 16 };
+}
+
+fn set_entry(entries: &mut [Option<Owner>; SETS], set: usize, owner: Option<Owner>)
+    requires { set < 16 }
+    ensures { entries.new ≡ slice_set entries.old set owner }
+{
+    entries[set] = owner;
+}
+
+impl Owners {
+    /// No owner in any of so many sets.
+    pub fn none(sets: usize) -> Self
+        requires { sets ≤ 16 }
+        ensures { result ≡ replicate sets None }
+    {
+        Self {
+            entries: [None; SETS],
+            len: sets,
+        }
+    }
+
+    pub fn as_slice(&self) -> &[Option<Owner>]
+        ensures { result.now ≡ self.now }
+    {
+        &self.entries[..self.len]
+    }
+
+    pub fn set(&mut self, set: usize, owner: Option<Owner>)
+        requires { set < length self.old }
+        ensures { self.new ≡ slice_set self.old set owner }
+    {
+        set_entry(&mut self.entries, set, owner);
+    }
+}
