@@ -1,5 +1,5 @@
 -- The names of cells.
-use Rattle.std.specs.Prelude.{ℕ, Bool, true, false, ◌&&◌, ◌==◌, Option, Some, None}
+use Rattle.std.specs.Prelude.{ℕ, Bool, true, false, ◌&&◌, ◌||◌, ◌==◌, nat_lt, Option, Some, None}
 use Rattle.dbtg_cells.specs.declared.name.CellName.{CellName}
 use Rattle.dbtg_cells.specs.declared.name.CellName.TheVariants.{Usage, Extent, Ring, Slot}
 
@@ -15,3 +15,23 @@ name_eq (Extent t) (Extent u) = t == u
 name_eq (Ring s o) (Ring t p) = s == t && place_eq o p
 name_eq (Slot t n) (Slot u m) = t == u && n == m
 name_eq _ _ = false
+
+-- SYSTEM comes first, then by record type and number
+abbrev pub place_lt : Option (ℕ × ℕ) → Option (ℕ × ℕ) → Bool
+place_lt None (Some q) = true
+place_lt (Some p) (Some q) = nat_lt p.0 q.0 || (p.0 == q.0 && nat_lt p.1 q.1)
+place_lt _ None = false
+
+-- usage, extents, rings by set and owner, slots by record type and number
+abbrev pub name_lt : CellName → CellName → Bool
+name_lt (Usage a) (Usage b) = nat_lt a b
+name_lt (Usage a) _ = true
+name_lt (Extent t) (Usage b) = false
+name_lt (Extent t) (Extent u) = nat_lt t u
+name_lt (Extent t) _ = true
+name_lt (Ring s o) (Usage b) = false
+name_lt (Ring s o) (Extent u) = false
+name_lt (Ring s o) (Ring t p) = nat_lt s t || (s == t && place_lt o p)
+name_lt (Ring s o) (Slot u m) = true
+name_lt (Slot t n) (Slot u m) = nat_lt t u || (t == u && nat_lt n m)
+name_lt (Slot t n) _ = false
