@@ -1,7 +1,12 @@
 pub mod Keys
+pub mod Orders
 pub mod Placed
+pub mod Modes
 pub mod Users
 pub mod Shown
+pub mod Members
+pub mod Numbers
+pub mod Numbering
 pub mod Cells
 pub mod Names
 pub mod CellOrder

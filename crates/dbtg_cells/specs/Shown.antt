@@ -11,12 +11,11 @@ pub record UsageView : Type 0 where
   pub users : List (ℕ × Mode)
   pub room : ℕ
 
--- the numbers of a record type, from 1; room for further live ones
+-- the numbers of a record type, from 1
 pub record ExtentView : Type 0 where
   pub numbers : List Number
-  pub room : ℕ
 
--- an occurrence, or none; the keys for which there is a place
+-- an occurrence, or none; the keys that are no members and for which there is a place
 pub record RingView : Type 0 where
   pub occurrence : Option Occurrence
   pub reserved : List DbKey

@@ -1,3 +1,4 @@
+//! The four kinds of cell.
 use crate::extent::Extent;
 use crate::ring::Ring;
 use crate::slot::Slot;
@@ -10,4 +11,11 @@ pub enum Cell {
     Extent(Extent),
     Ring(Ring),
     Slot(Slot),
+}
+
+impl Default for Cell {
+    /// A vacant slot, which takes no memory.
+    fn default() -> Self {
+        Cell::Slot(Slot::vacant())
+    }
 }

@@ -1,6 +1,10 @@
-ghost use Rattle.std.specs.Prelude.{◌≡◌};
-ghost use Rattle.dbtg_cells.specs.Users.{left_by};
+//! Who has an area open.
+ghost use Rattle.std.specs.Prelude.{◌≡◌, ℕ, ◌<◌, ◌++◌, [], ◌∷◌, List, Option, Some, None, OnOk, IsTrue, ◌↔◌, nat_lt};
+ghost use Rattle.std.specs.List.{list_any};
+ghost use Rattle.dbtg_cells.specs.Users.{left_by, mode_in};
+ghost use Rattle.dbtg_cells.specs.Modes.{is_update, is_exclusive, is_protected, conflict as modes_conflict};
 
+use std::alloc::{AllocError, Global};
 use std::marker::Model;
 
 /// How a run-unit has an area open.
@@ -12,6 +16,46 @@ pub enum Mode {
     ProtectedUpdate,
     ExclusiveRetrieval,
     ExclusiveUpdate,
+}
+
+impl Mode {
+    /// Whether records may be changed.
+    pub fn is_update(self) -> bool
+        ensures { result ≡ is_update self }
+    {
+        match self {
+            Mode::Update | Mode::ProtectedUpdate | Mode::ExclusiveUpdate => true,
+            _ => false,
+        }
+    }
+
+    fn is_exclusive(self) -> bool
+        ensures { result ≡ is_exclusive self }
+    {
+        match self {
+            Mode::ExclusiveRetrieval | Mode::ExclusiveUpdate => true,
+            _ => false,
+        }
+    }
+
+    fn is_protected(self) -> bool
+        ensures { result ≡ is_protected self }
+    {
+        match self {
+            Mode::ProtectedRetrieval | Mode::ProtectedUpdate => true,
+            _ => false,
+        }
+    }
+
+    /// Whether two run-units can't have an area open in these modes at once.
+    pub fn conflicts_with(self, other: Mode) -> bool
+        ensures { result ≡ modes_conflict self other }
+    {
+        self.is_exclusive()
+            || other.is_exclusive()
+            || (self.is_protected() && other.is_update())
+            || (other.is_protected() && self.is_update())
+    }
 }
 
 /// Who has an area open, in the order of opening.
@@ -37,7 +81,65 @@ fn leave_users(users: &mut Vec<(u8, Mode)>, unit: u8)
 }
 
 impl Usage {
-    /// Takes a unit out.
+    /// An area that nobody has open. Takes no memory.
+    pub fn new(alloc: Global) -> Self
+        ensures { result.users ≡ [] }
+    {
+        Self {
+            users: Vec::new(alloc),
+        }
+    }
+
+    /// The run-units and their modes, in the order of opening.
+    pub fn users(&self) -> &[(u8, Mode)]
+        ensures { result.now ≡ self.now.users }
+    {
+        self.users.as_slice()
+    }
+
+    /// Whether some run-unit's mode conflicts with this one.
+    pub fn conflicts_with(&self, mode: Mode) -> bool
+        ensures { result ≡ list_any (λ e. modes_conflict e.1 mode) self.now.users }
+    {
+        self.users.iter().any(|e| e.1.conflicts_with(mode))
+    }
+
+    /// The mode in which a run-unit has the area open.
+    pub fn mode_of(&self, unit: u8) -> Option<Mode>
+        ensures { result ≡ mode_in self.now.users unit }
+    {
+        for e in self.users.iter() {
+            if e.0 == unit {
+                return Some(e.1);
+            }
+        }
+        None
+    }
+
+    /// Whether one more run-unit can enter without memory.
+    pub fn has_room(&self) -> bool
+        ensures { result ≡ nat_lt 0 self.now.room }
+    {
+        self.users.len() < self.users.capacity()
+    }
+
+    /// Makes room for one more run-unit.
+    pub fn reserve_user(&mut self) -> Result<(), AllocError>
+        ensures ok { OnOk result (0 < self.new.room) }
+        ensures users { self.new.users ≡ self.old.users }
+    {
+        self.users.reserve(1)
+    }
+
+    /// A run-unit opens the area: it goes last.
+    pub fn enter(&mut self, unit: u8, mode: Mode)
+        requires { 0 < self.old.room }
+        ensures { self.new.users ≡ self.old.users ++ (unit, mode) ∷ [] }
+    {
+        self.users.push_reserved((unit, mode));
+    }
+
+    /// A run-unit closes the area: it is taken out, and the others keep their order.
     pub fn leave(&mut self, unit: u8)
         ensures { self.new.users ≡ left_by unit self.old.users }
     {

@@ -9,7 +9,8 @@ use Rattle.dbtg_cells.specs.declared.key.Value.{Value}
 use Rattle.dbtg_cells.specs.declared.key.Value.TheVariants.{Num}
 use Rattle.dbtg_schema.specs.declared.numbers.ItemNo.{ItemNo}
 use Rattle.dbtg_cells.specs.declared.usage.Mode.{Mode}
-use Rattle.dbtg_cells.specs.Keys.{key_eq, owner_eq}
+pub use Rattle.dbtg_cells.specs.Keys.{is_member}
+use Rattle.dbtg_cells.specs.Keys.{owner_eq}
 use Rattle.dbtg_schema.specs.Structure.{calc_of, is_system, member_clause, owner_type}
 
 -- a stored record
@@ -51,9 +52,6 @@ owners schema capacity db s =
 -- the members of an occurrence, in order
 abbrev pub members_of : Database → ℕ → Owner → List DbKey
 members_of db s o = unwrap_or (db.lists s o) []
-
-abbrev pub is_member : DbKey → List DbKey → Bool
-is_member k = list_any (key_eq k)
 
 -- whose list of set s has k
 abbrev pub owner_of : Lists → ℕ → Database → ℕ → DbKey → Option Owner

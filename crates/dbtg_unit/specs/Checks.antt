@@ -4,8 +4,7 @@ use Rattle.std.specs.List.{list_any}
 use Rattle.dbtg_schema.specs.Lists.{Lists}
 use Rattle.dbtg_schema.specs.declared.shape.Class.{Class}
 use Rattle.dbtg_cells.specs.declared.key.DbKey.{DbKey}
-use Rattle.dbtg_cells.specs.declared.usage.Mode.{Mode}
-use Rattle.dbtg_cells.specs.declared.usage.Mode.TheVariants.{Retrieval, Update, ProtectedRetrieval, ProtectedUpdate, ExclusiveRetrieval, ExclusiveUpdate}
+pub use Rattle.dbtg_cells.specs.Modes.{is_update}
 use Rattle.dbtg_unit.specs.declared.statement.Form.{Form}
 use Rattle.dbtg_unit.specs.declared.statement.Form.TheVariants.{Key, CurrentOfUnit, CurrentOfType, CurrentOfSet, CurrentOfArea, InSet, InArea, OwnerOf, Calc, NextDuplicate, Sorted}
 use Rattle.dbtg_unit.specs.declared.statement.Statement.{Statement}
@@ -17,14 +16,6 @@ use Rattle.dbtg_schema.specs.Lookups.{at, some_and, first_cause}
 use Rattle.dbtg_unit.specs.Units.{place_in, key_of_place, kept_version}
 use Rattle.dbtg_unit.specs.Found.{needs_position}
 use Rattle.dbtg_schema.specs.Structure.{area_of, automatic_sets, erase_areas, home, is_automatic, is_mandatory, member_clause, rekeyed_sets, set_member_types}
-
-abbrev pub is_update : Mode → Bool
-is_update Retrieval = false
-is_update Update = true
-is_update ProtectedRetrieval = false
-is_update ProtectedUpdate = true
-is_update ExclusiveRetrieval = false
-is_update ExclusiveUpdate = true
 
 -- the type of the current of run-unit
 abbrev pub current_type : Unit → Option ℕ

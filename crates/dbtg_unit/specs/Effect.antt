@@ -4,15 +4,15 @@ use Rattle.std.specs.List.{list_any, range_with_len, flat_map}
 use Rattle.dbtg_schema.specs.Lists.{Lists}
 use Rattle.dbtg_schema.specs.declared.shape.Order.{Order}
 use Rattle.dbtg_schema.specs.declared.shape.Order.TheVariants.{First, Last, Next, Prior, Sorted}
-use Rattle.dbtg_schema.specs.declared.shape.Duplicates.{Duplicates}
-use Rattle.dbtg_schema.specs.declared.shape.Duplicates.TheVariants.{NotAllowed, Last as LastAmongEqual, First as FirstAmongEqual}
+use Rattle.dbtg_schema.specs.declared.shape.Duplicates.TheVariants.{NotAllowed}
 use Rattle.dbtg_cells.specs.declared.key.DbKey.{DbKey}
 use Rattle.dbtg_cells.specs.declared.key.Owner.{Owner}
 use Rattle.dbtg_cells.specs.declared.key.Owner.TheVariants.{System, Rec}
 use Rattle.dbtg_cells.specs.declared.key.Value.{Value}
-use Rattle.dbtg_cells.specs.declared.usage.Mode.{Mode}
-use Rattle.dbtg_cells.specs.declared.usage.Mode.TheVariants.{ProtectedRetrieval, ProtectedUpdate, ExclusiveRetrieval, ExclusiveUpdate}
-use Rattle.dbtg_cells.specs.Keys.{key_eq, owner_eq, value_lt, value_eq}
+pub use Rattle.dbtg_cells.specs.Keys.{option_value_eq}
+pub use Rattle.dbtg_cells.specs.Modes.{is_exclusive, is_protected, conflict}
+pub use Rattle.dbtg_cells.specs.Orders.{key_below, comes_before}
+use Rattle.dbtg_cells.specs.Keys.{key_eq, owner_eq}
 use Rattle.dbtg_cells.specs.Placed.{Spot, Front, Back, After, Before, Among, placed}
 use Rattle.dbtg_unit.specs.declared.statement.Change.{Change}
 use Rattle.dbtg_unit.specs.declared.statement.Erase.{Erase}
@@ -31,7 +31,7 @@ use Rattle.dbtg_unit.specs.Base.{Database, Record, is_live, items_of, key_at, me
 use Rattle.dbtg_unit.specs.Units.{place_in, seen, kept_version, forgotten, noted}
 use Rattle.dbtg_unit.specs.Found.{found, is_lost, with_calc}
 use Rattle.dbtg_unit.specs.Doomed.{doomed}
-use Rattle.dbtg_unit.specs.Checks.{refused_at_once, is_update}
+use Rattle.dbtg_unit.specs.Checks.{refused_at_once}
 use Rattle.dbtg_schema.specs.Structure.{automatic_sets, calc_of, order_of, owns, rekeyed_sets, set_numbers}
 
 -- what a statement leaves: a database, a unit, an answer
@@ -53,33 +53,7 @@ abbrev pub unless_refused : Database → Unit → Option Cause → Outcome → O
 unless_refused db unit (Some cause) outcome = refused db unit cause
 unless_refused db unit None outcome = outcome
 
--- OPEN
-
-abbrev pub is_exclusive : Mode → Bool
-is_exclusive ExclusiveRetrieval = true
-is_exclusive ExclusiveUpdate = true
-is_exclusive _ = false
-
-abbrev pub is_protected : Mode → Bool
-is_protected ProtectedRetrieval = true
-is_protected ProtectedUpdate = true
-is_protected _ = false
-
-abbrev pub conflict : Mode → Mode → Bool
-conflict a b = is_exclusive a || is_exclusive b || (is_protected a && is_update b) || (is_protected b && is_update a)
-
 -- PLACES IN SETS
-
--- one key strictly before another, in the direction of the set
-abbrev pub key_below : Bool → Option Value → Option Value → Bool
-key_below true a b = some_and (λ v. some_and (value_lt v) b) a
-key_below false a b = some_and (λ v. some_and (value_lt v) a) b
-
--- a member with key x comes before a new one with key m: duplicates LAST go behind their equals
-abbrev pub comes_before : Bool → Duplicates → Option Value → Option Value → Bool
-comes_before ascending LastAmongEqual x m = not (key_below ascending m x)
-comes_before ascending FirstAmongEqual x m = key_below ascending x m
-comes_before ascending NotAllowed x m = key_below ascending x m
 
 abbrev pub after_position : Option DbKey → Spot DbKey
 after_position None = Front
@@ -108,9 +82,6 @@ uses_position _ = false
 abbrev pub refuses_equal : Order → Bool
 refuses_equal (Sorted ascending NotAllowed) = true
 refuses_equal _ = false
-
-abbrev pub option_value_eq : Option Value → Option Value → Bool
-option_value_eq a b = some_and (λ v. some_and (value_eq v) b) a
 
 -- m, with this sort key, into the current occurrence of set s: owner deleted, position lost, duplicates
 abbrev pub place_checks : Lists → Database → Unit → ℕ → Option Value → List (Bool × Cause)

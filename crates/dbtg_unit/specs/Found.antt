@@ -4,6 +4,7 @@ use Rattle.std.specs.List.{find, flat_map}
 use Rattle.dbtg_schema.specs.Lists.{Lists}
 use Rattle.dbtg_cells.specs.declared.key.DbKey.{DbKey}
 use Rattle.dbtg_cells.specs.declared.key.Value.{Value}
+pub use Rattle.dbtg_cells.specs.Keys.{has_type}
 use Rattle.dbtg_cells.specs.Keys.{key_eq, key_lt, value_eq, values_eq}
 use Rattle.dbtg_unit.specs.declared.statement.Which.{Which}
 use Rattle.dbtg_unit.specs.declared.statement.Which.TheVariants.{First, Last, Next, Prior, Nth}
@@ -16,11 +17,6 @@ use Rattle.dbtg_schema.specs.Lookups.{at, first, final, behind, in_front, nth, s
 use Rattle.dbtg_unit.specs.Base.{Database, is_live, items_of, live_keys, members_of, is_member, calc_items, sort_key}
 use Rattle.dbtg_unit.specs.Units.{place_in, key_of_place}
 use Rattle.dbtg_schema.specs.Structure.{types_in}
-
--- of type r, or of any where none is named
-abbrev pub has_type : Option ℕ → DbKey → Bool
-has_type None k = true
-has_type (Some r) k = k.rtype == r
 
 -- a position that names a key which is no longer in the list
 abbrev pub is_lost : Option DbKey → List DbKey → Bool

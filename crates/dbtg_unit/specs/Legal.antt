@@ -10,6 +10,7 @@ use Rattle.dbtg_cells.specs.declared.key.Owner.{Owner}
 use Rattle.dbtg_cells.specs.declared.key.Owner.TheVariants.{System, Rec}
 use Rattle.dbtg_cells.specs.declared.key.Value.{Value}
 use Rattle.dbtg_cells.specs.declared.usage.Mode.{Mode}
+pub use Rattle.dbtg_cells.specs.Users.{mode_in}
 use Rattle.dbtg_cells.specs.Keys.{key_eq, values_eq}
 use Rattle.dbtg_unit.specs.declared.unit.Unit.{Unit}
 use Rattle.dbtg_schema.specs.Lookups.{at, some_and}
@@ -68,9 +69,5 @@ pub record Legal (schema : Lists) (capacity : ℕ) (db : Database) : Type 0 wher
   pub usage : (a : ℕ) → pairwise agree (db.usage a) ≡ true
 
 -- the modes of a unit are its entries in the usage lists
-abbrev pub mode_in : List (ℕ × Mode) → ℕ → Option Mode
-mode_in [] number = None
-mode_in (e ∷ es) number = cond (e.0 == number) (Some e.1) (mode_in es number)
-
 abbrev pub UsageAgrees : Database → Unit → Type 0
 UsageAgrees db unit = (a : ℕ) → mode_in (db.usage a) unit.number ≡ at unit.modes a

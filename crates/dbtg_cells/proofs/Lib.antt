@@ -1,0 +1,4 @@
+pub mod ValueLemmas
+mod PlainLemmas
+mod Occurrences
+mod ExtentLemmas

@@ -1,0 +1,26 @@
+-- Which usage modes conflict.
+use Rattle.std.specs.Prelude.{Bool, true, false, ◌&&◌, ◌||◌}
+use Rattle.dbtg_cells.specs.declared.usage.Mode.{Mode}
+use Rattle.dbtg_cells.specs.declared.usage.Mode.TheVariants.{Retrieval, Update, ProtectedRetrieval, ProtectedUpdate, ExclusiveRetrieval, ExclusiveUpdate}
+
+abbrev pub is_update : Mode → Bool
+is_update Retrieval = false
+is_update Update = true
+is_update ProtectedRetrieval = false
+is_update ProtectedUpdate = true
+is_update ExclusiveRetrieval = false
+is_update ExclusiveUpdate = true
+
+abbrev pub is_exclusive : Mode → Bool
+is_exclusive ExclusiveRetrieval = true
+is_exclusive ExclusiveUpdate = true
+is_exclusive _ = false
+
+abbrev pub is_protected : Mode → Bool
+is_protected ProtectedRetrieval = true
+is_protected ProtectedUpdate = true
+is_protected _ = false
+
+-- either is exclusive, or one is protected and the other is an update mode
+abbrev pub conflict : Mode → Mode → Bool
+conflict a b = is_exclusive a || is_exclusive b || (is_protected a && is_update b) || (is_protected b && is_update a)
