@@ -21,7 +21,7 @@ use Rattle.dbtg_cells.specs.Names.{name_eq, place_eq}
 use Rattle.dbtg_cells.specs.Placed.{placed}
 use Rattle.dbtg_unit.specs.declared.statement.Change.{Change}
 use Rattle.dbtg_unit.specs.declared.edit.Edit.{Edit}
-use Rattle.dbtg_unit.specs.declared.edit.Edit.TheVariants.{ChangeNumber, PlaceMember, TakeOut, ChangeItems, RaiseVersion}
+use Rattle.dbtg_unit.specs.declared.edit.Edit.TheVariants.{ChangeNumber, ReplaceMember, ChangeItems, RaiseVersion}
 use Rattle.dbtg_unit.specs.declared.edit.CellEdit.{CellEdit}
 use Rattle.dbtg_unit.specs.declared.unit.Place.{Place}
 use Rattle.dbtg_unit.specs.declared.unit.Unit.{Unit}
@@ -284,7 +284,7 @@ module _ (schema : Lists) (capacity : ℕ) (db : Database) (unit : Unit) (change
     key-stays x (inl e) = subst (λ y. sort_key schema new s y ≡ sort_key schema db s y) (same_key k x e) (ap (key_item schema s k.rtype) items-here ∙ stays)
 
   abbrev pub placing : ℕ → Edit
-  placing s = PlaceMember (order_of schema s) (option_and_then (λ place. place.at) (place_in schema unit s)) k (key_item schema s k.rtype new_items)
+  placing s = ReplaceMember (order_of schema s) (option_and_then (λ place. place.at) (place_in schema unit s)) k (key_item schema s k.rtype new_items)
 
   -- the list that has k shows as the ring without k, and k placed anew
   ring-replaced : (s : ℕ) (o : Owner) (list : List DbKey)
@@ -311,7 +311,7 @@ module _ (schema : Lists) (capacity : ℕ) (db : Database) (unit : Unit) (change
     known : (found : Option Owner) → owner_of schema capacity db s k ≡ found → edited_at c (replacing_edits schema capacity db unit k new_items s) value ≡ value
     known None h = rw h refl
     known (Some o) h =
-        rw h (ap (λ b. cond b (edited (placing s) (cond b (edited (TakeOut k) value) value)) (cond b (edited (TakeOut k) value) value)) (miss o h))
+        rw h (ap (λ b. cond b (edited (placing s) value) value) (miss o h))
 
   rings-miss : (c : CellName) (value : CellValue) → ((s : ℕ) (p : Option (ℕ × ℕ)) → name_eq c (Ring s p) ≡ false) → ring-edits c value ≡ value
   unfolding ring-edits
@@ -343,8 +343,8 @@ module _ (schema : Lists) (capacity : ℕ) (db : Database) (unit : Unit) (change
           let there : has_number s (replaced_sets schema capacity db changes k) ≡ true = has_number-filter (λ s'. is_some (owner_of schema capacity db s' k)) s rekeyed (ap is_some stands) es.0 in
           let once = pairwise-filter _ _ rekeyed (pairwise-filter _ _ (set_numbers schema) (range-distinct 0 (length schema.sets))) in
           let named : (eqb s s && place_eq q (place_of o)) ≡ true = and_from _ _ (eq-eqb s s refl) (ap (place_eq q) (owner_at-place db q) ∙ place_eq-refl q) in
-          let hit : edited_at (Ring s q) (replacing_edits schema capacity db unit k new_items s) value ≡ edited (placing s) (edited (TakeOut k) value) =
-              rw stands (ap (λ b. cond b (edited (placing s) (cond b (edited (TakeOut k) value) value)) (cond b (edited (TakeOut k) value) value)) named) in
+          let hit : edited_at (Ring s q) (replacing_edits schema capacity db unit k new_items s) value ≡ edited (placing s) value =
+              rw stands (ap (λ b. cond b (edited (placing s) value) value) named) in
           ap (λ b. RingValue (option_map (ring_of schema new s o) (cond b (option_map (λ list. joined schema changed_db unit s k (without k list)) (db.lists s o)) (db.lists s o)))) e
           ∙ shown s o (db.lists s o)
           ∙ sym hit
@@ -362,7 +362,7 @@ module _ (schema : Lists) (capacity : ℕ) (db : Database) (unit : Unit) (change
               let rekeyed_there : has_number s rekeyed ≡ true = subst (λ x. has_number x rekeyed ≡ true) (sym set_is) (has_number-unfiltered (λ x. is_some (owner_of schema capacity db x k)) s' rekeyed h) in
               false≢true (sym e ∙ and_from _ _ rekeyed_there (λ i. (subst (λ x. is_member k (members_of db x o) ≡ true) (sym set_is) (subst (λ u. is_member k (members_of db s' u) ≡ true) (sym owner) has)) i))))))
       ] where
-    shown : (s : ℕ) (o : Owner) (l : Option (List DbKey)) → RingValue (option_map (ring_of schema new s o) (option_map (λ list. joined schema changed_db unit s k (without k list)) l)) ≡ edited (placing s) (edited (TakeOut k) (RingValue (option_map (ring_of schema db s o) l)))
+    shown : (s : ℕ) (o : Owner) (l : Option (List DbKey)) → RingValue (option_map (ring_of schema new s o) (option_map (λ list. joined schema changed_db unit s k (without k list)) l)) ≡ edited (placing s) (RingValue (option_map (ring_of schema db s o) l))
     shown s o None = refl
     shown s o (Some list) = λ i. RingValue (Some (ring-replaced s o list i))
     stays : (s : ℕ) (o : Owner) → (has_number s rekeyed && is_member k (members_of db s o)) ≡ false → option_map (ring_of schema new s o) (db.lists s o) ≡ option_map (ring_of schema db s o) (db.lists s o)

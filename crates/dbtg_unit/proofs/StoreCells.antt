@@ -252,11 +252,11 @@ module _ (schema : Lists) (capacity : ℕ) (db : Database) (unit : Unit) (k : Db
 
   edits-in_turn : (c : CellName) (value : CellValue)
       → edited_at c (store_edits schema unit k items) value
-      ≡ edited_at c (slot_edit k (Fill (record { generation = k.generation; version = 1; items = items; owners = first_owners schema unit k.rtype })) ∷ [])
+      ≡ edited_at c (slot_edit k (Fill k.generation items (first_owners schema unit k.rtype)) ∷ [])
         (opened_cells c (joined_cells c (cond (name_eq c (Extent k.rtype)) (edited (EnterNumber k.number (calc_items schema k.rtype items)) value) value)))
   unfolding joined_cells opened_cells joining opening_edits
   edits-in_turn c value =
-      let filled = slot_edit k (Fill (record { generation = k.generation; version = 1; items = items; owners = first_owners schema unit k.rtype })) ∷ [] in
+      let filled = slot_edit k (Fill k.generation items (first_owners schema unit k.rtype)) ∷ [] in
       let own = flat_map opening_edits (filter (λ s. owns schema s k.rtype) (set_numbers schema)) in
       let first = cond (name_eq c (Extent k.rtype)) (edited (EnterNumber k.number (calc_items schema k.rtype items)) value) value in
       edited_at-append c (flat_map joining (automatic_sets schema k.rtype)) (own ++ filled) first
@@ -368,7 +368,7 @@ module _ (schema : Lists) (capacity : ℕ) (db : Database) (unit : Unit) (k : Db
   entry = EnterNumber k.number (calc_items schema k.rtype items)
 
   filled : Edit
-  filled = Fill (record { generation = k.generation; version = 1; items = items; owners = first_owners schema unit k.rtype })
+  filled = Fill k.generation items (first_owners schema unit k.rtype)
 
   extent-made : (t : ℕ) → cell schema capacity new (Extent t) ≡ cond (eqb t k.rtype) (edited entry (cell schema capacity db (Extent t))) (cell schema capacity db (Extent t))
   unfolding cell entry

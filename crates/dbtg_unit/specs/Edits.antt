@@ -17,7 +17,7 @@ use Rattle.dbtg_cells.specs.Placed.{Spot, Front, Back, After, Before, Among, pla
 use Rattle.dbtg_cells.specs.Shown.{CellValue, UsageValue, ExtentValue, RingValue, SlotValue}
 use Rattle.dbtg_unit.specs.Effect.{comes_before}
 use Rattle.dbtg_unit.specs.declared.edit.Edit.{Edit}
-use Rattle.dbtg_unit.specs.declared.edit.Edit.TheVariants.{EnterUser, LeaveUser, EnterNumber, LeaveNumber, ChangeNumber, OpenRing, CloseRing, PlaceMember, TakeOut, Fill, Vacate, ChangeItems, ChangeOwner, RaiseVersion}
+use Rattle.dbtg_unit.specs.declared.edit.Edit.TheVariants.{EnterUser, LeaveUser, EnterNumber, LeaveNumber, ChangeNumber, OpenRing, CloseRing, PlaceMember, ReplaceMember, TakeOut, Fill, Vacate, ChangeItems, ChangeOwner, RaiseVersion}
 use Rattle.dbtg_unit.specs.declared.edit.CellEdit.{CellEdit}
 
 -- a number live in its next generation; a number live no more; a number with other CALC values
@@ -78,8 +78,10 @@ edited (OpenRing owner) (RingValue ring) = RingValue (Some (record { owner = own
 edited CloseRing (RingValue ring) = RingValue None
 edited (PlaceMember order position key sort_key) (RingValue ring) =
     RingValue (option_map (with_members (placed (member_spot order position sort_key) (key, sort_key))) ring)
+edited (ReplaceMember order position key sort_key) (RingValue ring) =
+    RingValue (option_map (with_members (placed (member_spot order position sort_key) (key, sort_key))) (option_map (with_members (members_without key)) ring))
 edited (TakeOut key) (RingValue ring) = RingValue (option_map (with_members (members_without key)) ring)
-edited (Fill stored) (SlotValue slot) = SlotValue (Some stored)
+edited (Fill generation items owners) (SlotValue slot) = SlotValue (Some (record { generation = generation; version = 1; items = items; owners = owners }))
 edited Vacate (SlotValue slot) = SlotValue None
 edited (ChangeItems items) (SlotValue slot) = SlotValue (option_map (with_stored_items items) slot)
 edited (ChangeOwner s owner) (SlotValue slot) = SlotValue (option_map (with_owner s owner) slot)

@@ -10,7 +10,7 @@ use Rattle.dbtg_cells.specs.declared.key.Value.{Value}
 use Rattle.dbtg_cells.specs.declared.name.CellName.{CellName}
 use Rattle.dbtg_cells.specs.declared.name.CellName.TheVariants.{Usage, Extent, Ring, Slot}
 use Rattle.dbtg_unit.specs.declared.edit.Edit.{Edit}
-use Rattle.dbtg_unit.specs.declared.edit.Edit.TheVariants.{EnterUser, LeaveUser, EnterNumber, ChangeNumber, OpenRing, PlaceMember, TakeOut, Fill, ChangeItems, ChangeOwner, RaiseVersion}
+use Rattle.dbtg_unit.specs.declared.edit.Edit.TheVariants.{EnterUser, LeaveUser, EnterNumber, ChangeNumber, OpenRing, PlaceMember, ReplaceMember, TakeOut, Fill, ChangeItems, ChangeOwner, RaiseVersion}
 use Rattle.dbtg_unit.specs.declared.edit.CellEdit.{CellEdit}
 use Rattle.dbtg_unit.specs.declared.statement.Change.{Change}
 use Rattle.dbtg_unit.specs.declared.unit.Place.{Place}
@@ -47,7 +47,7 @@ store_edits schema unit k items =
     record { name = Extent k.rtype; edit = EnterNumber k.number (calc_items schema k.rtype items) }
     ∷ (flat_map (λ s. joining_edits schema unit s k (key_item schema s k.rtype items)) (automatic_sets schema k.rtype)
     ++ (flat_map (λ s. record { name = Ring s (Some (k.rtype, k.number)); edit = OpenRing (Rec k) } ∷ []) (filter (λ s. owns schema s k.rtype) (set_numbers schema))
-    ++ slot_edit k (Fill (record { generation = k.generation; version = 1; items = items; owners = first_owners schema unit k.rtype })) ∷ []))
+    ++ slot_edit k (Fill k.generation items (first_owners schema unit k.rtype)) ∷ []))
 
 abbrev pub insert_edits : Lists → Database → Unit → ℕ → DbKey → List CellEdit
 insert_edits schema db unit s k =
@@ -64,7 +64,7 @@ remove_edits schema capacity db s k =
 abbrev pub replacing_edits : Lists → ℕ → Database → Unit → DbKey → List Value → ℕ → List CellEdit
 replacing_edits schema capacity db unit k items s =
     ring_edits s (owner_of schema capacity db s k)
-      (TakeOut k ∷ PlaceMember (order_of schema s) (option_and_then (λ place. place.at) (place_in schema unit s)) k (key_item schema s k.rtype items) ∷ [])
+      (ReplaceMember (order_of schema s) (option_and_then (λ place. place.at) (place_in schema unit s)) k (key_item schema s k.rtype items) ∷ [])
 
 abbrev pub modify_edits : Lists → ℕ → Database → Unit → List Change → DbKey → List CellEdit
 modify_edits schema capacity db unit changes k =

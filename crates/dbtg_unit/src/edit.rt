@@ -1,7 +1,11 @@
-//! The changes of single cells by which a statement does its work.
+//! The changes of single cells by which a statement does its work, and the change of its unit.
 
-use dbtg_cells::{CellName, DbKey, Mode, Owner, Stored, Value};
-use dbtg_schema::{Order, Row, SetNo};
+use crate::kept::Kept;
+use crate::owners::Owners;
+use crate::statement::Suppress;
+use crate::unit::Place;
+use dbtg_cells::{CellName, DbKey, Mode, Owner, Value};
+use dbtg_schema::{AreaNo, Order, Row, SetNo};
 
 /// A change of one cell.
 #[derive(Drop)]
@@ -22,10 +26,12 @@ pub enum Edit {
     CloseRing,
     /// A new member of a ring, placed by the order of its set, from a position.
     PlaceMember { order: Order, position: Option<DbKey>, key: DbKey, sort_key: Option<Value> },
+    /// A member of a ring, placed anew with this sort key.
+    ReplaceMember { order: Order, position: Option<DbKey>, key: DbKey, sort_key: Option<Value> },
     /// A member leaves a ring.
     TakeOut { key: DbKey },
-    /// A slot has a record.
-    Fill { stored: Stored },
+    /// A slot has a record, in its first version.
+    Fill { generation: u8, items: Row<Value>, owners: Row<Option<Owner>> },
     /// A slot is vacant.
     Vacate,
     /// The items of the record in a slot are now these.
@@ -41,4 +47,26 @@ pub enum Edit {
 pub struct CellEdit {
     pub name: CellName,
     pub edit: Edit,
+}
+
+/// The change of the unit, and of its guesses, that a statement makes.
+#[derive(Drop)]
+pub enum UnitEdit {
+    Same,
+    /// A record with these owners was found or stored, and is current; its owners are the guesses.
+    See { key: DbKey, owners: Owners, suppress: Suppress },
+    /// The current of a set moves; its owner is the guess there.
+    Move { set: SetNo, place: Place },
+    /// The current of run-unit left its list in a set; there is no guess there.
+    Leave { set: SetNo },
+    /// An area is open in a mode, or is not open.
+    SetMode { area: AreaNo, mode: Option<Mode> },
+    /// The records that are kept are now these.
+    Keep { kept: Kept },
+    /// A record is kept no more.
+    Forget { key: DbKey },
+    /// No record is kept any more.
+    ForgetAll,
+    /// The current of run-unit was deleted: there is none, and it is not kept.
+    LoseCurrent { key: DbKey },
 }

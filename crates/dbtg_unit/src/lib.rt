@@ -20,7 +20,7 @@ mod see;
 mod statement;
 mod unit;
 
-pub use edit::{CellEdit, Edit};
+pub use edit::{CellEdit, Edit, UnitEdit};
 pub use held::{Held, Need};
 pub use owners::Owners;
 pub use kept::Kept;
