@@ -25,3 +25,4 @@ pub mod CellsOfADatabase
 pub mod Histories
 pub mod GuessesAfter
 pub mod NamesOfCells
+pub mod ManyMembers

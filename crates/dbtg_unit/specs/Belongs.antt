@@ -1,4 +1,5 @@
 -- What it is to be a unit of a schema, and to be what a unit of a schema holds.
+-- k is a key, s a set, o an owner, t a record type, a an area, n a number, c a cell.
 use Rattle.std.specs.Prelude.{◌≡◌, ℕ, Bool, true, false, not, ◌&&◌, ◌==◌, nat_lt, nat_le, Some, None, length}
 use Rattle.std.specs.List.{list_all}
 use Rattle.dbtg_schema.specs.Lists.{Lists}

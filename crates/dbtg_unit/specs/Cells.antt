@@ -1,4 +1,5 @@
 -- What each cell shows of a database.
+-- k is a key, t a record type, n a number, s a set, o an owner or its name in a ring, r a record, db a database.
 use Rattle.std.specs.Prelude.{◌≡◌, ℕ, List, Option, Some, None, map, option_map}
 use Rattle.std.specs.List.{range_with_len}
 use Rattle.dbtg_schema.specs.Lists.{Lists}

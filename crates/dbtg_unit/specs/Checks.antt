@@ -1,4 +1,5 @@
 -- The checks of a statement that need the unit alone.
+-- s is a set, t and r record types, a an area, k a key, c a class or a change.
 use Rattle.std.specs.Prelude.{ℕ, Bool, true, false, not, ◌&&◌, ◌==◌, nat_lt, List, [], ◌∷◌, Option, Some, None, is_none, is_some, map, option_map, option_and_then, unwrap_or}
 use Rattle.std.specs.List.{list_any}
 use Rattle.dbtg_schema.specs.Lists.{Lists}

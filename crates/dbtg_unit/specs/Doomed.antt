@@ -1,4 +1,5 @@
 -- Which records a DELETE takes.
+-- k is a key, m a member, o an owner, s a set, db a database.
 use Rattle.std.specs.Prelude.{ℕ, Bool, true, false, not, ◌&&◌, ◌||◌, ◌==◌, List, length}
 use Rattle.std.specs.List.{list_any, range_with_len, flat_map}
 use Rattle.dbtg_schema.specs.Lists.{Lists}

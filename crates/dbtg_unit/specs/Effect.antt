@@ -1,4 +1,5 @@
 -- The effect of each statement on a database and a unit.
+-- k is a key, m a new member, o an owner, s a set, t a record type, n a number, a and b areas, db a database.
 use Rattle.std.specs.Prelude.{ℕ, ◌+◌, Bool, true, false, not, ◌&&◌, ◌||◌, ◌==◌, nat_lt, List, [], ◌∷◌, ◌++◌, Option, Some, None, Result, Ok, Err, is_none, is_some, map, filter, length, slice_set, option_map, option_and_then, unwrap_or, if◌then◌else◌}
 use Rattle.std.specs.List.{list_any, range_with_len, flat_map}
 use Rattle.dbtg_schema.specs.Lists.{Lists}

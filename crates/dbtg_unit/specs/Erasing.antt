@@ -1,4 +1,5 @@
 -- The cells of a DELETE, in the order of taking.
+-- k and d are keys, s a set, o an owner, t a record type, c a cell, db a database.
 use Rattle.std.specs.Prelude.{ℕ, zero, suc, ◌&&◌, ◌==◌, nat_lt, List, [], ◌∷◌, ◌++◌, Option, Some, None, is_some, map, filter, length, slice_get, if◌then◌else◌}
 use Rattle.std.specs.List.{list_any, range_with_len, flat_map}
 use Rattle.dbtg_schema.specs.Lists.{Lists}

@@ -1,4 +1,5 @@
 -- Statements that a schema has.
+-- s is a set, t and r record types, a an area, i an item, v a value, p a picture, n a length or a count.
 use Rattle.std.specs.Prelude.{ℕ, zero, suc, pos, negsuc, ◌^◌, Bool, true, false, not, ◌&&◌, ◌==◌, nat_lt, nat_le, List, [], ◌∷◌, Option, Some, None, is_some, length, map, unwrap_or, slice_get}
 use Rattle.std.specs.List.{list_any, list_all}
 use Rattle.dbtg_schema.specs.Lists.{Lists}

@@ -1,4 +1,5 @@
 -- What each form of FIND finds.
+-- k is a key, p a position, s a set, r a record type, a an area, db a database.
 use Rattle.std.specs.Prelude.{ℕ, Bool, true, false, not, ◌&&◌, ◌==◌, List, [], ◌∷◌, Option, Some, None, Result, Ok, Err, is_none, filter, if◌then◌else◌, option_and_then}
 use Rattle.std.specs.List.{find, flat_map}
 use Rattle.dbtg_schema.specs.Lists.{Lists}

@@ -1,4 +1,5 @@
 -- The guesses after a statement.
+-- k is a key, s a set, t a record type, db a database.
 use Rattle.std.specs.Prelude.{ℕ, Bool, true, false, cond, List, Option, Some, None, slice_set}
 use Rattle.dbtg_schema.specs.Lists.{Lists}
 use Rattle.dbtg_cells.specs.declared.key.DbKey.{DbKey}

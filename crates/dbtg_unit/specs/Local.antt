@@ -1,4 +1,5 @@
 -- What a statement does with the cells that it holds.
+-- c is the name of a cell, e a cell with its name, db a database.
 use Rattle.std.specs.Prelude.{◌≡◌, ℕ, Bool, true, false, cond, List, [], ◌∷◌, ⊤}
 use Rattle.dbtg_schema.specs.Lists.{Lists}
 use Rattle.dbtg_cells.specs.declared.name.CellName.{CellName}

@@ -1,4 +1,5 @@
 -- What a statement has to hold.
+-- k is a key, s a set, o an owner, t and r record types, n a number, a an area, c a cell or a change, db a database.
 use Rattle.std.specs.Prelude.{ℕ, Bool, true, false, not, ◌&&◌, ◌==◌, List, [], ◌∷◌, ◌++◌, Option, Some, None, Result, Ok, Err, is_some, map, filter, length, if◌then◌else◌, unwrap_or, option_map, option_and_then}
 use Rattle.std.specs.List.{list_any, range_with_len, find, flat_map}
 use Rattle.dbtg_schema.specs.Lists.{Lists}

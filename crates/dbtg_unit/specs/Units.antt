@@ -1,4 +1,5 @@
 -- Run-units: what is current, what is kept.
+-- k is a key, s a set, o an owner, v a version, db a database.
 use Rattle.std.specs.Prelude.{ℕ, ◌/◌, ◌%◌, ◌^◌, Bool, true, false, not, ◌==◌, List, [], ◌∷◌, ◌++◌, Option, Some, None, map, filter, length, replicate, slice_set, if◌then◌else◌, option_map}
 use Rattle.std.specs.List.{find, enumerate_from}
 use Rattle.std.specs.Option.{option_or}

@@ -9,6 +9,7 @@ use Rattle.dbtg_cells.specs.declared.key.Value.TheVariants.{Num}
 use Rattle.dbtg_cells.specs.declared.name.CellName.{CellName}
 use Rattle.dbtg_cells.specs.declared.name.CellName.TheVariants.{Usage, Extent, Ring, Slot}
 use Rattle.dbtg_cells.specs.declared.usage.Mode.TheVariants.{Update}
+use Rattle.dbtg_unit.specs.declared.held.Need.{Need}
 use Rattle.dbtg_unit.specs.declared.held.Need.TheVariants.{Area, Take, Stale, Ready}
 use Rattle.dbtg_unit.specs.declared.statement.Erase.TheVariants.{Plain, Only, Selective, All}
 use Rattle.dbtg_unit.specs.declared.statement.Form.TheVariants.{Key, CurrentOfUnit, CurrentOfType, CurrentOfSet, CurrentOfArea, InSet, InArea, OwnerOf, Calc, NextDuplicate, Sorted}
@@ -222,49 +223,53 @@ delete_in_turn = refl
 
 -- WHAT IS NEEDED NEXT
 
+-- where these areas and cells are held, with these guesses, and the item is current of run-unit
+abbrev pub needed : List ℕ → List (CellName × Cell) → List (Option Owner) → Statement → Need
+needed areas cells guesses = need shop 10 at_item.database (unit_one at_item) (record { areas = areas; cells = cells; guesses = guesses })
+
 -- first the areas
-first_area : need shop 10 at_item.database (unit_one at_item) (record { areas = []; cells = []; guesses = first_order }) (Remove lines) ≡ Area main
+first_area : needed [] [] first_order (Remove lines) ≡ Area main
 unfolding effect need
 first_area = refl
 
-second_area : need shop 10 at_item.database (unit_one at_item) (record { areas = main ∷ []; cells = []; guesses = first_order }) (Remove lines) ≡ Area side
+second_area : needed (main ∷ []) [] first_order (Remove lines) ≡ Area side
 unfolding effect need
 second_area = refl
 
 -- then the cells
-first_cell : need shop 10 at_item.database (unit_one at_item) (record { areas = main ∷ side ∷ []; cells = []; guesses = first_order }) (Remove lines)
+first_cell : needed (main ∷ side ∷ []) [] first_order (Remove lines)
     ≡ Take (ring lines orders 1)
 unfolding effect need
 first_cell = refl
 
-second_cell : (c : Cell) → need shop 10 at_item.database (unit_one at_item) (record { areas = main ∷ side ∷ []; cells = (ring lines orders 1, c) ∷ []; guesses = first_order }) (Remove lines)
+second_cell : (c : Cell) → needed (main ∷ side ∷ []) ((ring lines orders 1, c) ∷ []) first_order (Remove lines)
     ≡ Take (Slot items 1)
 unfolding effect need
 second_cell c = refl
 
-all_is_there : (c d : Cell) → need shop 10 at_item.database (unit_one at_item) (record { areas = main ∷ side ∷ []; cells = (ring lines orders 1, c) ∷ (Slot items 1, d) ∷ []; guesses = first_order }) (Remove lines)
+all_is_there : (c d : Cell) → needed (main ∷ side ∷ []) ((ring lines orders 1, c) ∷ (Slot items 1, d) ∷ []) first_order (Remove lines)
     ≡ Ready
 unfolding effect need
 all_is_there c d = refl
 
 -- the slot names another owner than the guess: of the needed set alone
-wrong_guess : (c d : Cell) → need shop 10 at_item.database (unit_one at_item) (record { areas = main ∷ side ∷ []; cells = (ring lines orders 2, c) ∷ (Slot items 1, d) ∷ []; guesses = second_order }) (Remove lines)
+wrong_guess : (c d : Cell) → needed (main ∷ side ∷ []) ((ring lines orders 2, c) ∷ (Slot items 1, d) ∷ []) second_order (Remove lines)
     ≡ Stale (None ∷ Some (Rec (ordr_key 1)) ∷ None ∷ [])
 unfolding effect need
 wrong_guess c d = refl
 
-missing_guess : (d : Cell) → need shop 10 at_item.database (unit_one at_item) (record { areas = main ∷ side ∷ []; cells = (Slot items 1, d) ∷ []; guesses = no_guess }) (modify items 1 (Num 6))
+missing_guess : (d : Cell) → needed (main ∷ side ∷ []) ((Slot items 1, d) ∷ []) no_guess (modify items 1 (Num 6))
     ≡ Stale (None ∷ Some (Rec (ordr_key 1)) ∷ None ∷ [])
 unfolding effect need
 missing_guess d = refl
 
 -- a guess is not asked where no sort key is named
-unneeded_guess : (c d : Cell) → need shop 10 at_item.database (unit_one at_item) (record { areas = side ∷ []; cells = (Extent items, c) ∷ (Slot items 1, d) ∷ []; guesses = no_guess }) (modify items 0 (text "B   "))
+unneeded_guess : (c d : Cell) → needed (side ∷ []) ((Extent items, c) ∷ (Slot items 1, d) ∷ []) no_guess (modify items 0 (text "B   "))
     ≡ Ready
 unfolding effect need
 unneeded_guess c d = refl
 
 -- what a check without cells refuses needs nothing
-refused_at_once : need shop 10 at_item.database (unit_one at_item) (record { areas = []; cells = []; guesses = no_guess }) (Insert has) ≡ Ready
+refused_at_once : needed [] [] no_guess (Insert has) ≡ Ready
 unfolding effect need
 refused_at_once = refl

@@ -10,7 +10,7 @@ use Rattle.dbtg_unit.specs.declared.unit.Entry.{Entry}
 use Rattle.dbtg_unit.specs.declared.unit.Status.TheVariants.{Done, Refused}
 use Rattle.dbtg_unit.specs.Effect.{effect}
 use Rattle.dbtg_unit.specs.Image.{image_of}
-use Rattle.dbtg_unit.specs.Replay.{AnswersHold, TicketsInOrder, answer_to, entries_of, opening_state, replay}
+use Rattle.dbtg_unit.specs.Replay.{AnswersHold, IsHistoryOf, TicketsInOrder, answer_to, entries_of, opening_state, replay}
 use Rattle.dbtg_unit.proofs.Schemas.{card, main, customers}
 use Rattle.dbtg_unit.proofs.Rows.Words.{customer_key, find, store, text}
 
@@ -41,6 +41,9 @@ answers_hold = (refl, (refl, (refl, (refl, tt))))
 
 in_order : TicketsInOrder history
 in_order = refl
+
+is_history : IsHistoryOf card 2 2 history
+is_history = record { tickets = in_order; fitting = refl; answers_hold = answers_hold }
 
 of_the_first : entries_of 1 history ≡ opened 0 1 ∷ stored ∷ []
 of_the_first = refl
