@@ -18,7 +18,8 @@ use Rattle.dbtg_unit.specs.declared.statement.Suppress.{Suppress}
 use Rattle.dbtg_unit.specs.declared.unit.Place.{Place}
 use Rattle.dbtg_unit.specs.declared.unit.Unit.{Unit}
 use Rattle.dbtg_unit.specs.Base.{Database, is_live, is_member, members_of, owner_of}
-use Rattle.dbtg_unit.specs.Belongs.{if_any, is_key_of, is_owner_in, is_place_in, is_number, owner_within, IsUnitOf, IsWithin}
+use Rattle.dbtg_unit.specs.Fits.{if_named}
+use Rattle.dbtg_unit.specs.Belongs.{is_key_of, is_owner_in, is_place_in, is_number, owner_within, IsUnitOf, IsWithin}
 use Rattle.dbtg_unit.specs.Units.{forgotten, noted, owners_of, seen, seen_place, suppresses}
 use Rattle.dbtg_unit.specs.Effect.{moved, renoted, version_of}
 use Rattle.dbtg_unit.specs.Legal.{Legal, pairwise}
@@ -159,8 +160,8 @@ pub record IsGoodKey (schema : Lists) (capacity : ℕ) (k : DbKey) : Type 0 wher
   pub number : is_number capacity k.number ≡ true
 
 pub record IsGoodPlace (schema : Lists) (capacity : ℕ) (s : ℕ) (place : Option Place) : Type 0 where
-  pub of_set : if_any (is_place_in schema s) place ≡ true
-  pub within : if_any (λ p. owner_within capacity p.owner && if_any (λ k. is_number capacity k.number) p.at) place ≡ true
+  pub of_set : if_named (is_place_in schema s) place ≡ true
+  pub within : if_named (λ p. owner_within capacity p.owner && if_named (λ k. is_number capacity k.number) p.at) place ≡ true
 
 pub record IsGoodOwner (schema : Lists) (capacity : ℕ) (s : ℕ) (o : Owner) : Type 0 where
   pub of_set : is_owner_in schema s o ≡ true
@@ -239,20 +240,20 @@ module _ (schema : Lists) (capacity : ℕ) (unit : Unit) (good : IsGood schema c
           every_set = length-map (enumerate_from 0 was.sets) place_after ∙ length-enumerate_from 0 was.sets ∙ s.every_set;
           every_mode = s.every_mode;
           run_unit = key.key;
-          of_types = λ t. cond_both suppress.types was.types (slice_set was.types k.rtype (Some k)) (λ l. if_any (λ j. eqb j.rtype t) (at l t) ≡ true) (λ e. s.of_types t)
-            (λ e. at-set (λ u o. if_any (λ j. eqb j.rtype u) o ≡ true) was.types k.rtype (Some k) (eq-eqb k.rtype k.rtype refl) s.of_types t);
-          of_areas = λ a. cond_both suppress.areas was.areas (slice_set was.areas (area_of schema k.rtype) (Some k)) (λ l. if_any (is_key_of schema) (at l a) ≡ true) (λ e. s.of_areas a)
-            (λ e. at-set (λ u o. if_any (is_key_of schema) o ≡ true) was.areas (area_of schema k.rtype) (Some k) key.key s.of_areas a);
+          of_types = λ t. cond_both suppress.types was.types (slice_set was.types k.rtype (Some k)) (λ l. if_named (λ j. eqb j.rtype t) (at l t) ≡ true) (λ e. s.of_types t)
+            (λ e. at-set (λ u o. if_named (λ j. eqb j.rtype u) o ≡ true) was.types k.rtype (Some k) (eq-eqb k.rtype k.rtype refl) s.of_types t);
+          of_areas = λ a. cond_both suppress.areas was.areas (slice_set was.areas (area_of schema k.rtype) (Some k)) (λ l. if_named (is_key_of schema) (at l a) ≡ true) (λ e. s.of_areas a)
+            (λ e. at-set (λ u o. if_named (is_key_of schema) o ≡ true) was.areas (area_of schema k.rtype) (Some k) key.key s.of_areas a);
           of_sets = λ r. (places key r).of_set;
           kept_keys = s.kept_keys;
           kept_order = s.kept_order;
         };
         within = record {
           run_unit = key.number;
-          types = λ t. cond_both suppress.types was.types (slice_set was.types k.rtype (Some k)) (λ l. if_any (λ j. is_number capacity j.number) (at l t) ≡ true) (λ e. w.types t)
-            (λ e. at-set (λ u o. if_any (λ j. is_number capacity j.number) o ≡ true) was.types k.rtype (Some k) key.number w.types t);
-          areas = λ a. cond_both suppress.areas was.areas (slice_set was.areas (area_of schema k.rtype) (Some k)) (λ l. if_any (λ j. is_number capacity j.number) (at l a) ≡ true) (λ e. w.areas a)
-            (λ e. at-set (λ u o. if_any (λ j. is_number capacity j.number) o ≡ true) was.areas (area_of schema k.rtype) (Some k) key.number w.areas a);
+          types = λ t. cond_both suppress.types was.types (slice_set was.types k.rtype (Some k)) (λ l. if_named (λ j. is_number capacity j.number) (at l t) ≡ true) (λ e. w.types t)
+            (λ e. at-set (λ u o. if_named (λ j. is_number capacity j.number) o ≡ true) was.types k.rtype (Some k) key.number w.types t);
+          areas = λ a. cond_both suppress.areas was.areas (slice_set was.areas (area_of schema k.rtype) (Some k)) (λ l. if_named (λ j. is_number capacity j.number) (at l a) ≡ true) (λ e. w.areas a)
+            (λ e. at-set (λ u o. if_named (λ j. is_number capacity j.number) o ≡ true) was.areas (area_of schema k.rtype) (Some k) key.number w.areas a);
           sets = λ r. (places key r).within;
           kept = w.kept;
         };
