@@ -18,8 +18,11 @@ pub mod LegalStore
 pub mod LegalModify
 pub mod LegalDelete
 pub mod FoundLemmas
-pub mod OpenLegal
+pub mod UnitLemmas
 pub mod StoreLegal
+pub mod LegalOpen
+pub mod LegalEffect
+pub mod LegalUnits
 pub mod RemoveLocal
 pub mod Determined
 pub mod Rows
