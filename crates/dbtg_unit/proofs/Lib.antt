@@ -18,6 +18,7 @@ pub mod LegalStore
 pub mod LegalModify
 pub mod LegalDelete
 pub mod FoundLemmas
+pub mod UnitLemmas
 pub mod OpenLegal
 pub mod StoreLegal
 pub mod RemoveLocal
