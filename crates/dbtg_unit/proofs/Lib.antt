@@ -19,8 +19,8 @@ pub mod LegalModify
 pub mod LegalDelete
 pub mod FoundLemmas
 pub mod UnitLemmas
-pub mod OpenLegal
 pub mod StoreLegal
+pub mod LegalOpen
 pub mod RemoveLocal
 pub mod Determined
 pub mod Rows
