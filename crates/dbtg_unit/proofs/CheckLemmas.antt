@@ -42,6 +42,11 @@ passes check checks h =
       | inr e ↦ (e, ap (λ b. cond b (Some check.1) (first_cause checks)) (sym e) ∙ h)
     ]
 
+-- the same of one check, where the others are known by their answer
+pub passes_check : {C : Type 0} (b : Bool) (cause : C) (rest : Option C) → cond b (Some cause) rest ≡ None → (b ≡ false) × (rest ≡ None)
+passes_check true cause rest h = absurd (some_none h)
+passes_check false cause rest h = (refl, h)
+
 pub passes-append : {C : Type 0} (xs ys : List (Bool × C)) → first_cause (xs ++ ys) ≡ None → (first_cause xs ≡ None) × (first_cause ys ≡ None)
 passes-append [] ys h = (refl, h)
 passes-append (x ∷ xs) ys h =

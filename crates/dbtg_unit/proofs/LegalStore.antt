@@ -41,10 +41,10 @@ pub record IsFresh (schema : Lists) (capacity : ℕ) (db : Database) (t n : ℕ)
   pub fit : values_fit (pictures schema t) its ≡ true
 
 module _ (schema : Lists) (capacity : ℕ) (db : Database) (t n : ℕ) (its : List Value) (legal : Legal schema capacity db) (new : IsFresh schema capacity db t n its) where
-  abbrev k : DbKey
+  abbrev pub k : DbKey
   k = new_key db t n
 
-  abbrev after : Database
+  abbrev pub after : Database
   after = with_new schema db k its
 
   not_yet : is_live db k ≡ false
@@ -53,7 +53,7 @@ module _ (schema : Lists) (capacity : ℕ) (db : Database) (t n : ℕ) (its : Li
   live_after : (x : DbKey) → key_eq k x ≡ false → is_live after x ≡ is_live db x
   live_after x other = ap (λ b. is_some (cond b (Some (record { items = its; version = 1 })) (db.records x))) other
 
-  live_new : (x : DbKey) → key_eq k x ≡ true → is_live after x ≡ true
+  pub live_new : (x : DbKey) → key_eq k x ≡ true → is_live after x ≡ true
   live_new x same = ap (λ b. is_some (cond b (Some (record { items = its; version = 1 })) (db.records x))) same
 
   items_after : (x : DbKey) → key_eq k x ≡ false → items_of after x ≡ items_of db x

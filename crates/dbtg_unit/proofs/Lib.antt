@@ -21,6 +21,7 @@ pub mod FoundLemmas
 pub mod UnitLemmas
 pub mod StoreLegal
 pub mod LegalOpen
+pub mod LegalEffect
 pub mod RemoveLocal
 pub mod Determined
 pub mod Rows

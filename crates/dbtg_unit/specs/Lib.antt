@@ -31,3 +31,4 @@ pub mod Codes
 pub mod Seen
 pub mod Areas
 pub mod Reach
+pub mod StaysLegal
