@@ -22,6 +22,7 @@ pub mod UnitLemmas
 pub mod StoreLegal
 pub mod LegalOpen
 pub mod LegalEffect
+pub mod LegalUnits
 pub mod RemoveLocal
 pub mod Determined
 pub mod Rows
