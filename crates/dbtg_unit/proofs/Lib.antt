@@ -55,3 +55,5 @@ pub mod BitLemmas
 pub mod FitLemmas
 pub mod NumberLemmas
 pub mod AreaLemmas
+pub mod LocalInsert
+pub mod LocalModify
