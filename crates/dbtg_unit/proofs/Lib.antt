@@ -57,3 +57,5 @@ pub mod NumberLemmas
 pub mod AreaLemmas
 pub mod LocalInsert
 pub mod LocalModify
+pub mod LocalStore
+pub mod LocalDelete
