@@ -59,3 +59,4 @@ pub mod LocalInsert
 pub mod LocalModify
 pub mod LocalStore
 pub mod LocalDelete
+pub mod InTurn
