@@ -60,3 +60,4 @@ pub mod LocalModify
 pub mod LocalStore
 pub mod LocalDelete
 pub mod InTurn
+pub mod LocalStatements
