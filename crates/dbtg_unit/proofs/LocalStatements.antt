@@ -2,11 +2,11 @@
 use Rattle.std.proofs.Common.{◌≡◌, refl, sym, ◌∙◌, ap, subst, ℕ, ◌+◌, ◌<◌, ◌≤◌, Bool, true, false, cond, not, ◌&&◌, ◌||◌, List, [], ◌∷◌, ◌++◌, length, Option, Some, None, eqb, inl, inr, ⊎_elim, ◌⊎◌, arith, map}
 use Rattle.std.specs.Prelude.{◌==◌, is_some, is_none, filter, option_map, option_and_then, unwrap_or, slice_set, slice_get, if◌then◌else◌}
 use Rattle.std.specs.List.{list_any, flat_map, range_with_len}
-use Rattle.std.proofs.lemmas.Bool.{and_parts, and_from, or_left, or_right, or_cases, false≢true, false_from_ne_true, eqb-true, eq-eqb, cond-true, cond-false, cases_Bool, not-false, not_from_false}
+use Rattle.std.proofs.lemmas.Bool.{and_parts, and_from, or_left, or_right, or_cases, or_parts, false≢true, false_from_ne_true, eqb-true, eq-eqb, cond-true, cond-false, cases_Bool, not-false, not_from_false}
 use Rattle.std.proofs.lemmas.Option.{none-some, slice_get_within}
 use Rattle.dbtg_schema.specs.Lists.{Lists}
 use Rattle.dbtg_schema.specs.Lookups.{at, some_and, first_cause}
-use Rattle.dbtg_schema.specs.Structure.{automatic_sets, owns, owner_type, rekeyed_sets, set_numbers}
+use Rattle.dbtg_schema.specs.Structure.{automatic_sets, is_automatic, member_clause, owns, owner_type, rekeyed_sets, set_numbers}
 use Rattle.dbtg_schema.specs.declared.shape.SetType.{SetType}
 use Rattle.dbtg_cells.specs.declared.key.DbKey.{DbKey}
 use Rattle.dbtg_cells.specs.declared.key.Owner.{Owner}
@@ -14,22 +14,25 @@ use Rattle.dbtg_cells.specs.declared.key.Owner.TheVariants.{System, Rec}
 use Rattle.dbtg_cells.specs.declared.name.CellName.{CellName}
 use Rattle.dbtg_cells.specs.declared.name.CellName.TheVariants.{Usage, Extent, Ring, Slot}
 use Rattle.dbtg_cells.specs.declared.usage.Mode.{Mode}
+use Rattle.dbtg_cells.specs.declared.key.Value.{Value}
 use Rattle.dbtg_cells.specs.Keys.{key_eq, owner_eq}
+use Rattle.dbtg_cells.specs.Shown.{UsageValue}
 use Rattle.dbtg_cells.specs.Names.{name_eq}
 use Rattle.dbtg_unit.specs.declared.statement.Change.{Change}
 use Rattle.dbtg_unit.specs.declared.statement.Erase.{Erase}
 use Rattle.dbtg_unit.specs.declared.statement.Statement.{Statement}
 use Rattle.dbtg_unit.specs.declared.statement.Statement.TheVariants.{OpenArea, CloseArea, Find, Get, Store, Insert, Remove, Modify, Delete, Keep, Free}
+use Rattle.dbtg_unit.specs.declared.statement.Suppress.{Suppress}
 use Rattle.dbtg_unit.specs.declared.unit.Place.{Place}
 use Rattle.dbtg_unit.specs.declared.unit.Unit.{Unit}
 use Rattle.dbtg_unit.specs.declared.unit.Cause.{Cause}
 use Rattle.dbtg_unit.specs.declared.unit.Cause.TheVariants.{UsageConflict, Deleted, NotMember, NoRoom, DuplicatesNotAllowed, OwnerHasMembers}
-use Rattle.dbtg_unit.specs.Base.{Database, is_live, owner_of, owners, members_of, is_member}
+use Rattle.dbtg_unit.specs.Base.{Database, is_live, owner_of, owners, members_of, is_member, key_item}
 use Rattle.dbtg_unit.specs.Units.{place_in}
 use Rattle.dbtg_unit.specs.Found.{found}
-use Rattle.dbtg_unit.specs.Doomed.{doomed}
+use Rattle.dbtg_unit.specs.Doomed.{all_keys, doomed}
 use Rattle.dbtg_unit.specs.Checks.{refused_at_once}
-use Rattle.dbtg_unit.specs.Effect.{Outcome, effect, effect_on_cells, done, store_checks, stored, new_key, free_number, conflict, own_checks, remove_checks, modify_checks, delete_checks, is_plain, has_members, names_calc, calc_taken}
+use Rattle.dbtg_unit.specs.Effect.{Outcome, effect, effect_on_cells, done, store_checks, stored, new_key, free_number, conflict, own_checks, remove_checks, modify_checks, delete_checks, is_plain, has_members, names_calc, calc_taken, place_checks}
 use Rattle.dbtg_unit.specs.CellNames.{slot_name, place_of}
 use Rattle.dbtg_unit.specs.Cells.{cell}
 use Rattle.dbtg_unit.specs.Erasing.{names_once, doomed_in_turn, own_rings, cells_of_doomed, outer_cells, delete_cells, delete_cells_of}
@@ -38,7 +41,7 @@ use Rattle.dbtg_unit.specs.Legal.{Legal}
 use Rattle.dbtg_unit.proofs.KeyLemmas.{same_owner}
 use Rattle.dbtg_unit.proofs.CheckLemmas.{passes, passes-append}
 use Rattle.dbtg_unit.proofs.Outcomes.{of_unless, of_current, of_finding}
-use Rattle.dbtg_unit.proofs.LiveKeys.{In, any_in, any_element, in_map, in_filter, in_left, in_right, in_flat_map, in_range, in_member, member_in, some_is, some_and_is, owner_in, listed, owner_is, member_of_owner}
+use Rattle.dbtg_unit.proofs.LiveKeys.{In, all_are_live, of_filter, any_in, any_element, in_map, in_filter, in_left, in_right, in_flat_map, in_range, in_member, member_in, some_is, some_and_is, owner_in, listed, owner_is, member_of_owner}
 use Rattle.dbtg_unit.proofs.ErasedLemmas.{set_of_member, doomed_is_least_set}
 use Rattle.dbtg_unit.proofs.ReadingCells.{name_eq-refl}
 use Rattle.dbtg_unit.proofs.InTurn.{doomed_is_met}
@@ -160,3 +163,117 @@ module _ (schema : Lists) (capacity : ℕ) (db : Database) (unit : Unit) (guesse
           (λ is. not_it c (slot_name k) _ h (in_right _ (extents ++ rings) (slot_names unit.currency.run_unit) (slot_in_names k e)) is)) where
     number_of_test : (s : ℕ) (sets : List ℕ) → among s sets ≡ true → In s sets
     number_of_test s sets h = let e = any_element (λ s'. eqb s' s) sets h in subst (λ n. In n sets) (eqb-true e.0 s e.2) e.1
+
+  abbrev opened : ℕ → Mode → Outcome
+  opened a mode = done (record db { usage = λ b. if b == a then db.usage b ++ (unit.number, mode) ∷ [] else db.usage b }) (record unit { modes = slice_set unit.modes a (Some mode) }) None None
+
+  of_opened : (a : ℕ) (mode : Mode) → Stays (OpenArea a mode) (opened a mode)
+  unfolding cell
+  of_opened a mode legal' (Usage b) h = ap UsageValue (cond-false (eqb b a) (db.usage b ++ (unit.number, mode) ∷ []) (db.usage b) (or_parts _ _ h).0)
+  of_opened a mode legal' (Extent t) h = refl
+  of_opened a mode legal' (Ring s None) h = refl
+  of_opened a mode legal' (Ring s (Some p)) h = refl
+  of_opened a mode legal' (Slot t n) h = refl
+
+  of_open : (a : ℕ) (mode : Mode) → Stays (OpenArea a mode) (effect_on_cells schema capacity db unit (OpenArea a mode))
+  of_open a mode =
+      of_unless db unit (Stays (OpenArea a mode)) (λ cause legal' c h. refl) (first_cause ((list_any (λ e. conflict e.1 mode) (db.usage a), UsageConflict) ∷ [])) (opened a mode) (λ free. of_opened a mode)
+
+  of_close : (a : ℕ) → Stays (CloseArea a) (effect_on_cells schema capacity db unit (CloseArea a))
+  unfolding cell
+  of_close a legal' (Usage b) h = ap UsageValue (cond-false (eqb b a) (filter (λ e. not (e.0 == unit.number)) (db.usage b)) (db.usage b) (or_parts _ _ h).0)
+  of_close a legal' (Extent t) h = refl
+  of_close a legal' (Ring s None) h = refl
+  of_close a legal' (Ring s (Some p)) h = refl
+  of_close a legal' (Slot t n) h = refl
+
+  -- the rings of a STORE in one set
+  abbrev joined_rings : ℕ → ℕ → List CellName
+  joined_rings t s = if among s (automatic_sets schema t) then ring_names s (current_owner schema unit s) else []
+
+  abbrev owned_rings : ℕ → ℕ → ℕ → List CellName
+  owned_rings t n s = if owns schema s t then Ring s (Some (t, n)) ∷ [] else []
+
+  abbrev rings_of : DbKey → ℕ → List CellName
+  rings_of k s = joined_rings k.rtype s ++ owned_rings k.rtype k.number s
+
+  automatic_set : (s t : ℕ) → among s (automatic_sets schema t) ≡ true → In s (set_numbers schema)
+  automatic_set s t h =
+      let e = any_element (λ s'. eqb s' s) (automatic_sets schema t) h in
+      (of_filter (λ s. some_and (λ m. is_automatic m.class) (member_clause schema s t)) s (set_numbers schema) (subst (λ n. In n (automatic_sets schema t)) (eqb-true e.0 s e.2) e.1)).0
+
+  there : (o : Option ℕ) → is_none o ≡ false → o ≡ Some (unwrap_or o 0)
+  there None h = absurd (false≢true (sym h))
+  there (Some n) h = refl
+
+  -- the outer cells of a DELETE, in their two parts
+  abbrev extents_of : List DbKey → List CellName
+  extents_of met = map Extent (filter (λ t. list_any (λ d. d.rtype == t) met) (range_with_len 0 (length schema.types)))
+
+  abbrev rings_with : List DbKey → List CellName
+  rings_with met = flat_map (λ s. map (λ o. Ring s (place_of o)) (filter (λ o. list_any (λ d. is_member d (members_of db s o)) met) (owners schema capacity db s))) (set_numbers schema)
+
+  type_in : (option : Erase) (d k : DbKey) → is_live db k ≡ true → is_member d (doomed schema capacity db option k) ≡ true → In d.rtype (range_with_len 0 (length schema.types))
+  type_in option d k live g =
+      let below = (legal.keys d (all_are_live schema capacity db legal d (member_in d (all_keys schema capacity db) ((doomed_is_least_set schema capacity db option k).within d g)))).0 in
+      in_range (length schema.types) 0 d.rtype (omega arith) (omega arith)
+
+  of_store : (t : ℕ) (items : List Value) (suppress : Suppress) → Stays (Store t items suppress) (effect_on_cells schema capacity db unit (Store t items suppress))
+  of_store t items suppress =
+      of_unless db unit (Stays (Store t items suppress)) (λ cause legal' c h. refl) (first_cause (store_checks schema capacity db unit t items))
+        (stored schema capacity db unit (new_key db t (unwrap_or (free_number capacity db t) 0)) items suppress)
+        (λ checks legal' c h.
+          let n = unwrap_or (free_number capacity db t) 0 in
+          let k = new_key db t n in
+          let rest = flat_map (λ s. place_checks schema db unit s (key_item schema s t items)) (automatic_sets schema t) in
+          let first = passes (is_none (free_number capacity db t), NoRoom) ((calc_taken schema capacity db t items (λ k. false), DuplicatesNotAllowed) ∷ rest) checks in
+          let second = passes (calc_taken schema capacity db t items (λ k. false), DuplicatesNotAllowed) rest first.1 in
+          let free : free_number capacity db t ≡ Some n = there (free_number capacity db t) first.0 in
+          let names : List CellName = Extent t ∷ (store_rings schema unit k ++ slot_name k ∷ []) in
+          let others : list_any (name_eq c) names ≡ false
+                = sym (λ i. list_any (name_eq c) (Extent t ∷ store_cells schema unit capacity db t (free i) (second.0 i))) ∙ h in
+          stored_local schema capacity db unit t n items legal legal' c
+            (λ is. not_it c (Extent t) names others (inl refl) is)
+            (λ is. not_it c (Slot t n) names others (inr (in_right _ (store_rings schema unit k) (slot_name k ∷ []) (inl refl))) is)
+            (λ s place joins stands is. not_it c (Ring s (place_of place.owner)) names others
+              (inr (in_left _ (store_rings schema unit k) (slot_name k ∷ []) (in_flat_map (rings_of k) s _ (set_numbers schema) (automatic_set s t joins)
+                (in_left _ (joined_rings t s) (owned_rings t n s) (subst (λ b. In (Ring s (place_of place.owner)) (cond b (ring_names s (current_owner schema unit s)) [])) (sym joins)
+                  (ring_in_names s place.owner (current_owner schema unit s) (ap (option_map (λ (p : Place). p.owner)) stands))))))) is)
+            (λ s own is. not_it c (Ring s (Some (t, n))) names others
+              (inr (in_left _ (store_rings schema unit k) (slot_name k ∷ []) (in_flat_map (rings_of k) s _ (set_numbers schema) (set_of_owner schema s t own)
+                (in_right _ (joined_rings t s) (owned_rings t n s) (subst (λ b. In (Ring s (Some (t, n))) (cond b (Ring s (Some (t, n)) ∷ []) [])) (sym own) (inl refl)))))) is))
+
+  of_delete : (option : Erase) → Stays (Delete option) (effect_on_cells schema capacity db unit (Delete option))
+  of_delete option =
+      of_current db unit (Stays (Delete option)) (λ cause legal' c h. refl) unit.currency.run_unit _ _ (λ k e checks legal' c h.
+        let split = passes-append (own_checks db unit k) ((is_plain option && has_members schema db k, OwnerHasMembers) ∷ []) checks in
+        let met = doomed_in_turn schema capacity db option k in
+        let live = own_live k _ checks in
+        let names = slot_name k ∷ own_rings schema k ++ flat_map (cells_of_doomed schema db) met ++ outer_cells schema capacity db met in
+        let named : delete_cells_of schema capacity db unit option unit.currency.run_unit ≡ names_once [] names
+              = ap (delete_cells_of schema capacity db unit option) e
+              ∙ cond-false (is_some (first_cause (own_checks db unit k))) (slot_name k ∷ []) _ (ap is_some split.0)
+              ∙ cond-false (is_plain option && has_members schema db k) _ _ (passes (is_plain option && has_members schema db k, OwnerHasMembers) [] split.1).0 in
+        let others : list_any (name_eq c) (names_once [] names) ≡ false = ap (list_any (name_eq c)) (sym named) ∙ h in
+        let turn : (d : DbKey) → is_member d (doomed schema capacity db option k) ≡ true → In d met = λ d g. member_in d met (doomed_is_met schema capacity db legal option k live d g) in
+        let of_one : (d : DbKey) (x : CellName) → is_member d (doomed schema capacity db option k) ≡ true → In x (cells_of_doomed schema db d) → c ≡ x → ⊥
+              = λ d x g i is. once_has names c x others
+                  (inr (in_left x (own_rings schema k ++ flat_map (cells_of_doomed schema db) met) (outer_cells schema capacity db met)
+                    (in_right x (own_rings schema k) (flat_map (cells_of_doomed schema db) met) (in_flat_map (cells_of_doomed schema db) d x met (turn d g) i)))) is in
+        let of_outer : (x : CellName) → In x (outer_cells schema capacity db met) → c ≡ x → ⊥
+              = λ x i is. once_has names c x others
+                  (inr (in_right x (own_rings schema k ++ flat_map (cells_of_doomed schema db) met) (outer_cells schema capacity db met) i)) is in
+        deleted_local schema capacity db unit option k legal legal' c
+          (λ d g is. of_one d (slot_name d) g (inl refl) is)
+          (λ d s x g m is. of_one d (slot_name x) g
+            (inr (in_right _ (own_rings schema d) _ (in_map slot_name x _ (in_flat_map (λ s. members_of db s (Rec d)) s x (set_numbers schema) (set_of_member schema s x.rtype (legal.members s (Rec d) x m).1) (member_in x (members_of db s (Rec d)) m))))) is)
+          (λ d s g own is. of_one d (Ring s (Some (d.rtype, d.number))) g
+            (inr (in_left _ (own_rings schema d) _ (in_map (λ s. Ring s (Some (d.rtype, d.number))) s _ (in_filter (λ s. owns schema s d.rtype) s (set_numbers schema) (set_of_owner schema s d.rtype own) own)))) is)
+          (λ d s o g m is. of_outer (Ring s (place_of o)) (in_right _ (extents_of met) (rings_with met)
+            (in_flat_map (λ s. map (λ o. Ring s (place_of o)) (filter (λ o. list_any (λ d. is_member d (members_of db s o)) met) (owners schema capacity db s))) s _ (set_numbers schema)
+              (set_of_member schema s d.rtype (legal.members s o d m).1)
+              (in_map (λ o. Ring s (place_of o)) o _ (in_filter (λ o. list_any (λ d. is_member d (members_of db s o)) met) o (owners schema capacity db s) (owner_in schema capacity db legal s o (listed schema capacity db legal s o d m))
+                (any_in (λ d. is_member d (members_of db s o)) d met (turn d g) m))))) is)
+          (λ d g is. of_outer (Extent d.rtype) (in_left _ (extents_of met) (rings_with met)
+            (in_map Extent d.rtype _ (in_filter (λ t. list_any (λ d. eqb d.rtype t) met) d.rtype (range_with_len 0 (length schema.types)) (type_in option d k live g)
+              (any_in (λ x. eqb x.rtype d.rtype) d met (turn d g) (eq-eqb d.rtype d.rtype refl))))) is))
