@@ -61,3 +61,4 @@ pub mod LocalStore
 pub mod LocalDelete
 pub mod InTurn
 pub mod LocalStatements
+pub mod LocalReady

@@ -122,7 +122,7 @@ module _ (schema : Lists) (capacity : ℕ) (db : Database) (unit : Unit) (guesse
   own_live : (k : DbKey) (rest : Option Cause) → cond (not (is_live db k)) (Some Deleted) rest ≡ None → is_live db k ≡ true
   own_live k rest h = not-false _ (first_passes (not (is_live db k)) Deleted rest h)
 
-  of_remove : (s : ℕ) → is_stale schema capacity db unit guesses (Remove s) ≡ false → Stays (Remove s) (effect_on_cells schema capacity db unit (Remove s))
+  pub of_remove : (s : ℕ) → is_stale schema capacity db unit guesses (Remove s) ≡ false → Stays (Remove s) (effect_on_cells schema capacity db unit (Remove s))
   of_remove s fresh =
       of_current db unit (Stays (Remove s)) (λ cause legal' c h. refl) unit.currency.run_unit _ _ (λ k e checks legal' c h.
         let split = passes-append (own_checks db unit k) ((is_none (owner_of schema capacity db s k), NotMember) ∷ []) checks in
@@ -136,7 +136,7 @@ module _ (schema : Lists) (capacity : ℕ) (db : Database) (unit : Unit) (guesse
     not_none None h = absurd (false≢true (sym h))
     not_none (Some x) h = refl
 
-  of_insert : (s : ℕ) → Stays (Insert s) (effect_on_cells schema capacity db unit (Insert s))
+  pub of_insert : (s : ℕ) → Stays (Insert s) (effect_on_cells schema capacity db unit (Insert s))
   of_insert s =
       of_current db unit (Stays (Insert s)) (λ cause legal' c h. refl) unit.currency.run_unit _ _ (λ k e checks legal' c h.
         inserted_local schema capacity db unit s k c
@@ -144,7 +144,7 @@ module _ (schema : Lists) (capacity : ℕ) (db : Database) (unit : Unit) (guesse
             (in_left _ (ring_names s (current_owner schema unit s)) (slot_names unit.currency.run_unit) (ring_in_names s place.owner (current_owner schema unit s) (ap (option_map (λ (p : Place). p.owner)) stands))) is)
           (λ is. not_it c (slot_name k) _ h (in_right _ (ring_names s (current_owner schema unit s)) (slot_names unit.currency.run_unit) (slot_in_names k e)) is))
 
-  of_modify : (t : ℕ) (changes : List Change) → is_stale schema capacity db unit guesses (Modify t changes) ≡ false → ((k : DbKey) → unit.currency.run_unit ≡ Some k → k.rtype ≡ t)
+  pub of_modify : (t : ℕ) (changes : List Change) → is_stale schema capacity db unit guesses (Modify t changes) ≡ false → ((k : DbKey) → unit.currency.run_unit ≡ Some k → k.rtype ≡ t)
       → Stays (Modify t changes) (effect_on_cells schema capacity db unit (Modify t changes))
   of_modify t changes fresh typed =
       of_current db unit (Stays (Modify t changes)) (λ cause legal' c h. refl) unit.currency.run_unit _ _ (λ k e checks legal' c h.
@@ -175,11 +175,11 @@ module _ (schema : Lists) (capacity : ℕ) (db : Database) (unit : Unit) (guesse
   of_opened a mode legal' (Ring s (Some p)) h = refl
   of_opened a mode legal' (Slot t n) h = refl
 
-  of_open : (a : ℕ) (mode : Mode) → Stays (OpenArea a mode) (effect_on_cells schema capacity db unit (OpenArea a mode))
+  pub of_open : (a : ℕ) (mode : Mode) → Stays (OpenArea a mode) (effect_on_cells schema capacity db unit (OpenArea a mode))
   of_open a mode =
       of_unless db unit (Stays (OpenArea a mode)) (λ cause legal' c h. refl) (first_cause ((list_any (λ e. conflict e.1 mode) (db.usage a), UsageConflict) ∷ [])) (opened a mode) (λ free. of_opened a mode)
 
-  of_close : (a : ℕ) → Stays (CloseArea a) (effect_on_cells schema capacity db unit (CloseArea a))
+  pub of_close : (a : ℕ) → Stays (CloseArea a) (effect_on_cells schema capacity db unit (CloseArea a))
   unfolding cell
   of_close a legal' (Usage b) h = ap UsageValue (cond-false (eqb b a) (filter (λ e. not (e.0 == unit.number)) (db.usage b)) (db.usage b) (or_parts _ _ h).0)
   of_close a legal' (Extent t) h = refl
@@ -218,7 +218,7 @@ module _ (schema : Lists) (capacity : ℕ) (db : Database) (unit : Unit) (guesse
       let below = (legal.keys d (all_are_live schema capacity db legal d (member_in d (all_keys schema capacity db) ((doomed_is_least_set schema capacity db option k).within d g)))).0 in
       in_range (length schema.types) 0 d.rtype (omega arith) (omega arith)
 
-  of_store : (t : ℕ) (items : List Value) (suppress : Suppress) → Stays (Store t items suppress) (effect_on_cells schema capacity db unit (Store t items suppress))
+  pub of_store : (t : ℕ) (items : List Value) (suppress : Suppress) → Stays (Store t items suppress) (effect_on_cells schema capacity db unit (Store t items suppress))
   of_store t items suppress =
       of_unless db unit (Stays (Store t items suppress)) (λ cause legal' c h. refl) (first_cause (store_checks schema capacity db unit t items))
         (stored schema capacity db unit (new_key db t (unwrap_or (free_number capacity db t) 0)) items suppress)
@@ -243,7 +243,7 @@ module _ (schema : Lists) (capacity : ℕ) (db : Database) (unit : Unit) (guesse
               (inr (in_left _ (store_rings schema unit k) (slot_name k ∷ []) (in_flat_map (rings_of k) s _ (set_numbers schema) (set_of_owner schema s t own)
                 (in_right _ (joined_rings t s) (owned_rings t n s) (subst (λ b. In (Ring s (Some (t, n))) (cond b (Ring s (Some (t, n)) ∷ []) [])) (sym own) (inl refl)))))) is))
 
-  of_delete : (option : Erase) → Stays (Delete option) (effect_on_cells schema capacity db unit (Delete option))
+  pub of_delete : (option : Erase) → Stays (Delete option) (effect_on_cells schema capacity db unit (Delete option))
   of_delete option =
       of_current db unit (Stays (Delete option)) (λ cause legal' c h. refl) unit.currency.run_unit _ _ (λ k e checks legal' c h.
         let split = passes-append (own_checks db unit k) ((is_plain option && has_members schema db k, OwnerHasMembers) ∷ []) checks in
