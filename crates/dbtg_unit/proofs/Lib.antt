@@ -55,3 +55,10 @@ pub mod BitLemmas
 pub mod FitLemmas
 pub mod NumberLemmas
 pub mod AreaLemmas
+pub mod LocalInsert
+pub mod LocalModify
+pub mod LocalStore
+pub mod LocalDelete
+pub mod InTurn
+pub mod LocalStatements
+pub mod LocalReady

@@ -37,7 +37,7 @@ use Rattle.dbtg_unit.proofs.LiveKeys.{latest, none_is}
 
 -- NAMES
 
-same_place : (p q : Option (ℕ × ℕ)) → place_eq p q ≡ true → p ≡ q
+pub same_place : (p q : Option (ℕ × ℕ)) → place_eq p q ≡ true → p ≡ q
 same_place None None h = refl
 same_place (Some p) (Some q) h = let hs = and_parts _ _ h in λ i. Some (eqb-true p.0 q.0 hs.0 i, eqb-true p.1 q.1 hs.1 i)
 same_place None (Some q) h = absurd (false≢true h)
@@ -61,7 +61,7 @@ same_name (Slot a o) (Usage t) h = absurd (false≢true h)
 same_name (Slot a o) (Extent t) h = absurd (false≢true h)
 same_name (Slot a o) (Ring t n) h = absurd (false≢true h)
 
-place_eq-refl : (p : Option (ℕ × ℕ)) → place_eq p p ≡ true
+pub place_eq-refl : (p : Option (ℕ × ℕ)) → place_eq p p ≡ true
 place_eq-refl None = refl
 place_eq-refl (Some p) = and_from _ _ (eq-eqb p.0 p.0 refl) (eq-eqb p.1 p.1 refl)
 

@@ -14,15 +14,11 @@ use Rattle.dbtg_cells.specs.Keys.{key_eq}
 use Rattle.dbtg_unit.specs.declared.unit.Unit.{Unit}
 use Rattle.dbtg_unit.specs.Base.{Database, Record, is_live, items_of, members_of, is_member, owners, owner_of, key_item, sort_key, key_at, calc_items, live_keys}
 use Rattle.dbtg_unit.specs.Effect.{removed, without, next_version}
+use Rattle.dbtg_unit.specs.CellNames.{place_of}
 use Rattle.dbtg_unit.specs.Cells.{cell, owner_at}
 use Rattle.dbtg_unit.specs.Legal.{Legal}
 use Rattle.dbtg_unit.proofs.KeyLemmas.{same_key}
 use Rattle.dbtg_schema.specs.Structure.{is_system, owner_type, set_numbers}
-
--- the place of an owner: its type and number, none for SYSTEM
-abbrev pub place_of : Owner → Option (ℕ × ℕ)
-place_of System = None
-place_of (Rec k) = Some (k.rtype, k.number)
 
 -- who stands at a place is known by it
 pub owner_at-place : (db : Database) (q : Option (ℕ × ℕ)) → place_of (owner_at db q) ≡ q

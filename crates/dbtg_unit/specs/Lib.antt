@@ -32,3 +32,4 @@ pub mod Seen
 pub mod Areas
 pub mod Reach
 pub mod StaysLegal
+pub mod Locality
