@@ -33,3 +33,4 @@ pub mod Areas
 pub mod Reach
 pub mod StaysLegal
 pub mod Locality
+pub mod Prepared
