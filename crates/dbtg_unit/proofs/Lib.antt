@@ -62,3 +62,5 @@ pub mod LocalDelete
 pub mod InTurn
 pub mod LocalStatements
 pub mod LocalReady
+pub mod SortedPlaces
+pub mod EntryLemmas

@@ -1,7 +1,10 @@
 -- Placing and mapping.
-use Rattle.std.proofs.Common.{◌≡◌, refl, sym, ◌∙◌, ap, Bool, true, false, cond, not, List, [], ◌∷◌, ◌++◌, map}
+use Rattle.std.proofs.Common.{◌≡◌, refl, sym, ◌∙◌, ap, Bool, true, false, cond, not, ◌||◌, inl, inr, List, [], ◌∷◌, ◌++◌, map}
 use Rattle.std.specs.Prelude.{filter}
+use Rattle.std.specs.List.{list_all}
+use Rattle.std.proofs.lemmas.Bool.{and_parts, cases_Bool, false≢true}
 use Rattle.dbtg_cells.specs.Placed.{Spot, Front, Back, After, Before, Among, placed, after, before}
+use Rattle.dbtg_unit.specs.Legal.{pairwise}
 
 pub map-append : {X Y : Type 0} (f : X → Y) (xs ys : List X) → map f (xs ++ ys) ≡ map f xs ++ map f ys
 map-append f [] ys = refl
@@ -50,3 +53,32 @@ map-placed f (Among c) m xs =
     map-append f (filter (λ x. c (f x)) xs) (m ∷ filter (λ x. not (c (f x))) xs)
     ∙ ap (λ zs. zs ++ f m ∷ map f (filter (λ x. not (c (f x))) xs)) (map-filter f c xs)
     ∙ ap (λ zs. filter c (map f xs) ++ f m ∷ zs) (map-filter f (λ y. not (c y)) xs)
+
+-- where those that come before stand before all others, a new one goes before the first that does not
+pub before-parted : {X : Type 0} (c : X → Bool) (m : X) (xs : List X) → pairwise (λ x y. c x || not (c y)) xs ≡ true → before (λ x. not (c x)) m xs ≡ filter c xs ++ m ∷ filter (λ x. not (c x)) xs
+before-parted c m [] h = refl
+before-parted c m (x ∷ xs) h =
+    let hs = and_parts _ _ h in
+    elim (cases_Bool (c x)) [
+      | inl e ↦
+        ap (λ b. cond (not b) (m ∷ (x ∷ xs)) (x ∷ before (λ y. not (c y)) m xs)) e
+        ∙ ap (λ zs. x ∷ zs) (before-parted c m xs hs.1)
+        ∙ ap (λ b. cond b (x ∷ filter c xs) (filter c xs) ++ m ∷ cond (not b) (x ∷ filter (λ y. not (c y)) xs) (filter (λ y. not (c y)) xs)) (sym e)
+      | inr e ↦
+        let none : list_all (λ y. not (c y)) xs ≡ true = sym (ap (λ b. list_all (λ y. b || not (c y)) xs) e) ∙ hs.0 in
+        ap (λ b. cond (not b) (m ∷ (x ∷ xs)) (x ∷ before (λ y. not (c y)) m xs)) e
+        ∙ (λ i. m ∷ (x ∷ sym (all-pass (λ y. not (c y)) xs none) i))
+        ∙ (λ i. sym (none-pass c xs none) i ++ m ∷ (x ∷ filter (λ y. not (c y)) xs))
+        ∙ ap (λ b. cond b (x ∷ filter c xs) (filter c xs) ++ m ∷ cond (not b) (x ∷ filter (λ y. not (c y)) xs) (filter (λ y. not (c y)) xs)) (sym e)
+    ] where
+  all-pass : {X : Type 0} (p : X → Bool) (xs : List X) → list_all p xs ≡ true → filter p xs ≡ xs
+  all-pass p [] h = refl
+  all-pass p (x ∷ xs) h = let hs = and_parts _ _ h in ap (λ b. cond b (x ∷ filter p xs) (filter p xs)) hs.0 ∙ ap (λ zs. x ∷ zs) (all-pass p xs hs.1)
+  none-pass : {X : Type 0} (c : X → Bool) (xs : List X) → list_all (λ y. not (c y)) xs ≡ true → filter c xs ≡ []
+  none-pass c [] h = refl
+  none-pass c (x ∷ xs) h =
+      let hs = and_parts _ _ h in
+      elim (cases_Bool (c x)) [
+        | inl e ↦ absurd (false≢true (sym (ap not e) ∙ hs.0))
+        | inr e ↦ ap (λ b. cond b (x ∷ filter c xs) (filter c xs)) e ∙ none-pass c xs hs.1
+      ]

@@ -34,3 +34,4 @@ pub mod Reach
 pub mod StaysLegal
 pub mod Locality
 pub mod Prepared
+pub mod CanEdit

@@ -1,6 +1,7 @@
 //! What a sequential network database is: statements, units, and the effect of each statement.
 #![tactic(auto)]
 
+mod apply;
 mod areas;
 mod changes;
 mod codes;

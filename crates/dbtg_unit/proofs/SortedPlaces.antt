@@ -1,0 +1,18 @@
+-- Placing in a sorted ring before the first member that does not come before.
+use Rattle.std.proofs.Common.{◌≡◌, refl, ap, true, Bool, not, List, Option, Some, None}
+use Rattle.dbtg_schema.specs.declared.shape.Duplicates.{Duplicates}
+use Rattle.dbtg_cells.specs.declared.key.DbKey.{DbKey}
+use Rattle.dbtg_cells.specs.declared.key.Value.{Value}
+use Rattle.dbtg_cells.specs.declared.ring.Occurrence.{Occurrence}
+use Rattle.dbtg_cells.specs.Members.{members_in, with_members}
+use Rattle.dbtg_cells.specs.Orders.{comes_before}
+use Rattle.dbtg_cells.specs.Placed.{placed, Before, Among}
+use Rattle.dbtg_unit.specs.CanEdit.{parts_by}
+use Rattle.dbtg_unit.proofs.PlacedMaps.{before-parted}
+
+pub sorted-placed : (ascending : Bool) (duplicates : Duplicates) (key : Option Value) (m : DbKey × Option Value) (occurrence : Option Occurrence)
+    → parts_by ascending duplicates key (members_in occurrence) ≡ true
+    → with_members (placed (Before (λ e. not (comes_before ascending duplicates e.1 key))) m) occurrence ≡ with_members (placed (Among (λ e. comes_before ascending duplicates e.1 key)) m) occurrence
+sorted-placed ascending duplicates key m None h = refl
+sorted-placed ascending duplicates key m (Some o) h =
+    λ i. Some (record { owner = o.owner; members = before-parted (λ (e : DbKey × Option Value). comes_before ascending duplicates e.1 key) m o.members h i })
