@@ -6,6 +6,7 @@ use Rattle.dbtg_schema.specs.Closure.{least_closed}
 use Rattle.dbtg_schema.specs.Lookups.{some_and, flatten}
 use Rattle.dbtg_schema.specs.declared.shape.Member.{Member}
 use Rattle.dbtg_schema.specs.declared.shape.Calc.{Calc}
+use Rattle.dbtg_schema.specs.declared.shape.Item.{Item}
 use Rattle.dbtg_schema.specs.declared.shape.Picture.{Picture}
 use Rattle.dbtg_schema.specs.declared.shape.Order.{Order}
 use Rattle.dbtg_schema.specs.declared.shape.Order.TheVariants.{Last}
@@ -91,8 +92,12 @@ set_member_types schema s = filter (λ t. is_some (member_clause schema s t)) (r
 abbrev pub order_of : Lists → ℕ → Order
 order_of schema s = unwrap_or (option_map (λ set. set.order) (slice_get schema.sets s)) Last
 
+-- the items of record type t
+abbrev pub item_list : Lists → ℕ → List Item
+item_list schema t = unwrap_or (option_map (λ r. r.items) (slice_get schema.types t)) []
+
 abbrev pub pictures : Lists → ℕ → List Picture
-pictures schema t = map (λ i. i.picture) (unwrap_or (option_map (λ r. r.items) (slice_get schema.types t)) [])
+pictures schema t = map (λ i. i.picture) (item_list schema t)
 
 abbrev pub picture_of : Lists → ℕ → ℕ → Option Picture
 picture_of schema t i = slice_get (pictures schema t) i

@@ -4,7 +4,9 @@
 mod row;
 mod numbers;
 mod shape;
+mod schema;
 
 pub use numbers::{AreaNo, ItemNo, RecordNo, SetNo};
 pub use row::Row;
-pub use shape::{Area, Item, Member, Order, Picture, RecordType, Schema, SetType, Calc, Duplicates, Class};
+pub use schema::Schema;
+pub use shape::{Area, Item, Member, Order, Picture, RecordType, SetType, Calc, Duplicates, Class};

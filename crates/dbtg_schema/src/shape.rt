@@ -1,4 +1,5 @@
-use std::marker::Model;
+//! The parts of a schema.
+
 use crate::numbers::{AreaNo, ItemNo, RecordNo, SetNo};
 use crate::row::Row;
 
@@ -72,20 +73,4 @@ pub struct SetType {
     pub order: Order,
     pub owner: Option<RecordNo>,
     pub members: Row<Member>,
-}
-
-#[derive(Drop)]
-pub struct Schema {
-    name: Row<u8>,
-    areas: Row<Area>,
-    types: Row<RecordType>,
-    sets: Row<SetType>,
-}
-
-impl Model for Schema {
-    ghost use Rattle.dbtg_schema.specs.Lists.{Lists};
-
-    ghost Value = { Lists };
-
-    ghost view = { λ a. record { name = a.name; areas = a.areas; types = a.types; sets = a.sets } };
 }

@@ -1,0 +1,204 @@
+//! A schema, and what it says of its record types, sets and areas by their numbers. Look-ups take no memory.
+
+ghost use Rattle.std.specs.Prelude.{◌≡◌, ◌==◌, option_map, slice_get};
+ghost use Rattle.std.specs.List.{find};
+ghost use Rattle.dbtg_schema.specs.Structure.{owner_type, is_system, owns, member_clause, is_automatic, is_mandatory, area_of, calc_of, home, order_of, item_list, picture_of};
+
+use crate::numbers::{AreaNo, ItemNo, RecordNo, SetNo};
+use crate::row::Row;
+use crate::shape::{Area, Calc, Class, Item, Member, Order, Picture, RecordType, SetType};
+use std::marker::Model;
+
+/// The schema of a database: areas, record types and sets, each numbered from 0 in the order of the text.
+#[derive(Drop)]
+pub struct Schema {
+    name: Row<u8>,
+    areas: Row<Area>,
+    types: Row<RecordType>,
+    sets: Row<SetType>,
+}
+
+impl Model for Schema {
+    ghost use Rattle.dbtg_schema.specs.Lists.{Lists};
+
+    ghost Value = { Lists };
+
+    ghost view = { λ a. record { name = a.name; areas = a.areas; types = a.types; sets = a.sets } };
+}
+
+impl Class {
+    /// Does STORE connect a member of this class?
+    pub fn is_automatic(self) -> bool
+        ensures { result ≡ is_automatic self }
+    {
+        matches!(self, Class::MandatoryAutomatic | Class::OptionalAutomatic)
+    }
+
+    /// Is REMOVE refused for a member of this class?
+    pub fn is_mandatory(self) -> bool
+        ensures { result ≡ is_mandatory self }
+    {
+        matches!(self, Class::MandatoryAutomatic | Class::MandatoryManual)
+    }
+}
+
+fn clause_for(members: &[Member], rtype: RecordNo) -> Option<Member>
+    ensures { result ≡ find (λ member. member.rtype == rtype) members.now }
+{
+    for member in members {
+        if member.rtype.index() == rtype.index() {
+            return Some(*member);
+        }
+    }
+    None
+}
+
+impl Schema {
+    pub fn name(&self) -> &[u8]
+        ensures { result.now ≡ self.now.name }
+    {
+        self.name.as_slice()
+    }
+
+    pub fn areas(&self) -> &[Area]
+        ensures { result.now ≡ self.now.areas }
+    {
+        self.areas.as_slice()
+    }
+
+    pub fn types(&self) -> &[RecordType]
+        ensures { result.now ≡ self.now.types }
+    {
+        self.types.as_slice()
+    }
+
+    pub fn sets(&self) -> &[SetType]
+        ensures { result.now ≡ self.now.sets }
+    {
+        self.sets.as_slice()
+    }
+
+    /// The record type of this number, if there is one.
+    pub fn record_type(&self, rtype: RecordNo) -> Option<&RecordType>
+        ensures { option_map (λ r. r.now) result ≡ slice_get self.now.types rtype }
+    {
+        self.types.get(rtype.index() as usize)
+    }
+
+    /// The set of this number, if there is one.
+    pub fn set_type(&self, set: SetNo) -> Option<&SetType>
+        ensures { option_map (λ s. s.now) result ≡ slice_get self.now.sets set }
+    {
+        self.sets.get(set.index() as usize)
+    }
+
+    /// The area of a record type.
+    pub fn area_of(&self, rtype: RecordNo) -> AreaNo
+        ensures { result ≡ area_of self.now rtype }
+    {
+        match self.record_type(rtype) {
+            Some(record) => record.area,
+            None => AreaNo::new(0),
+        }
+    }
+
+    /// The CALC clause of a record type, by which its records are found by value.
+    pub fn calc_of(&self, rtype: RecordNo) -> Option<&Calc>
+        ensures { option_map (λ c. c.now) result ≡ calc_of self.now rtype }
+    {
+        match self.record_type(rtype) {
+            Some(record) => record.calc.as_ref(),
+            None => None,
+        }
+    }
+
+    /// The items of a record type, in order.
+    pub fn items(&self, rtype: RecordNo) -> &[Item]
+        ensures { result.now ≡ item_list self.now rtype }
+    {
+        match self.record_type(rtype) {
+            Some(record) => record.items.as_slice(),
+            None => &[],
+        }
+    }
+
+    /// The picture of an item of a record type.
+    pub fn picture_of(&self, rtype: RecordNo, item: ItemNo) -> Option<Picture>
+        ensures { result ≡ picture_of self.now rtype item }
+    {
+        match self.items(rtype).get(item.index() as usize) {
+            Some(item) => Some(item.picture),
+            None => None,
+        }
+    }
+
+    /// Where a new member goes in the lists of a set.
+    pub fn order_of(&self, set: SetNo) -> Order
+        ensures { result ≡ order_of self.now set }
+    {
+        match self.set_type(set) {
+            Some(set) => set.order,
+            None => Order::Last,
+        }
+    }
+
+    /// The owner type of a set; none for a SYSTEM set.
+    pub fn owner_type(&self, set: SetNo) -> Option<RecordNo>
+        ensures { result ≡ owner_type self.now set }
+    {
+        match self.set_type(set) {
+            Some(set) => set.owner,
+            None => None,
+        }
+    }
+
+    /// Is this a SYSTEM set?
+    pub fn is_system(&self, set: SetNo) -> bool
+        ensures { result ≡ is_system self.now set }
+    {
+        match self.set_type(set) {
+            Some(set) => set.owner.is_none(),
+            None => false,
+        }
+    }
+
+    /// Is this record type the owner type of the set?
+    pub fn owns(&self, set: SetNo, rtype: RecordNo) -> bool
+        ensures { result ≡ owns self.now set rtype }
+    {
+        match self.owner_type(set) {
+            Some(owner) => owner.index() == rtype.index(),
+            None => false,
+        }
+    }
+
+    /// The member clause of a record type in a set; none where it is no member type.
+    pub fn member_clause(&self, set: SetNo, rtype: RecordNo) -> Option<Member>
+        ensures { result ≡ member_clause self.now set rtype }
+    {
+        match self.set_type(set) {
+            Some(set) => clause_for(set.members.as_slice(), rtype),
+            None => None,
+        }
+    }
+
+    /// The home area of a set: that of its owner type, and of a SYSTEM set's first member type.
+    pub fn home(&self, set: SetNo) -> AreaNo
+        ensures { result ≡ home self.now set }
+    {
+        match self.set_type(set) {
+            Some(set) => {
+                match set.owner {
+                    Some(owner) => self.area_of(owner),
+                    None => {
+                        match set.members.as_slice().first() {
+                            Some(member) => self.area_of(member.rtype),
+                            None => self.area_of(RecordNo::new(0)),
+                        }
+                    }
+                }
+            }
+            None => self.area_of(RecordNo::new(0)),
+        }
+    }
+}
