@@ -2,3 +2,4 @@ pub mod Lists
 pub mod Lookups
 pub mod Closure
 pub mod Structure
+pub mod WellFormed
