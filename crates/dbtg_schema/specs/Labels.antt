@@ -1,5 +1,5 @@
 -- What labelled words say, by their roles.
-use Rattle.std.specs.Prelude.{ℕ, Bool, true, false, ◌&&◌, not, List, [], ◌∷◌, map, filter, if◌then◌else◌, ◌==◌, count_by}
+use Rattle.std.specs.Prelude.{ℕ, Bool, true, false, ◌&&◌, not, List, [], ◌∷◌, map, filter, if◌then◌else◌, ◌==◌, length}
 use Rattle.std.specs.List.{list_any}
 use Rattle.dbtg_schema.specs.declared.role.Role.{Role}
 use Rattle.dbtg_schema.specs.declared.role.Role.TheVariants as role
@@ -54,7 +54,7 @@ named r ws = map (λ w. w.word.text) (filter (is r) ws)
 
 -- how many words have this role
 abbrev pub count_of : Role → List Labelled → ℕ
-count_of r ws = count_by (is r) ws
+count_of r ws = length (filter (is r) ws)
 
 -- from the last word with this role on
 abbrev pub since : Role → List Labelled → List Labelled

@@ -12,4 +12,5 @@ pub mod Causes
 pub mod SchemaFaults
 pub mod Automaton
 pub mod Views
+pub mod SchemaLists
 pub mod Reading

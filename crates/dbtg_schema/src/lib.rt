@@ -2,6 +2,7 @@
 #![tactic(auto)]
 
 mod automaton;
+mod build;
 mod checks;
 mod entries;
 mod fault;
