@@ -8,7 +8,8 @@ use Rattle.dbtg_schema.specs.declared.fault.Cause.TheVariants.{OverLimit}
 use Rattle.dbtg_schema.specs.declared.role.Role.{Role}
 use Rattle.dbtg_schema.specs.declared.role.Role.TheVariants as role
 use Rattle.dbtg_schema.specs.SchemaGrammar.{Labelled}
-use Rattle.dbtg_schema.specs.Labels.{is, count_of, since, entries}
+use Rattle.dbtg_schema.specs.Labels.{is, count_of, since, until, entries}
+use Rattle.dbtg_schema.specs.Reading.{WithinLimits}
 use Rattle.dbtg_schema.specs.SchemaFaults.{at_word, ended, said, when, fault, is_surplus}
 use Rattle.dbtg_schema.proofs.Roles.{role_is}
 use Rattle.dbtg_schema.proofs.Walks.{EachClean, keeps, each_entry}
@@ -82,3 +83,19 @@ calc_limit ls c = for_each role.RecordEntry role.CalcItem 3 (λ ws h. fewer 4 (c
 
 pub members_limit : (ls : List Labelled) → EachClean [] ls → AllByRecursion (λ e. count_of role.MemberEntry e ≤ 4) (entries role.SetEntry ls)
 members_limit ls c = for_each role.SetEntry role.MemberEntry 3 (λ ws h. fewer 4 (count_of role.MemberEntry (since role.SetEntry ws)) h) [] ls c
+
+clean_until : (r : Role) (ws ls : List Labelled) → EachClean ws ls → EachClean ws (until r ls)
+clean_until r ws [] c = tt
+clean_until r ws (l ∷ ls) c = elim (is r l) as (λ b. EachClean ws (cond b [] (l ∷ until r ls))) [ true ↦ tt | false ↦ (c.0, clean_until r (ws ++ l ∷ []) ls c.1) ]
+
+pub within_limits : (ls : List Labelled) → EachClean [] ls → WithinLimits ls
+within_limits ls c =
+    let front = clean_until role.SetEntry [] ls c in
+    record {
+      areas = areas_limit ls c;
+      types = types_limit (until role.SetEntry ls) front;
+      sets = sets_limit ls c;
+      items = items_limit (until role.SetEntry ls) front;
+      calc = calc_limit (until role.SetEntry ls) front;
+      members = members_limit ls c;
+    }

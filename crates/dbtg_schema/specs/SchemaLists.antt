@@ -1,7 +1,7 @@
 -- The lists of a schema, from the words with their roles. A name is looked up among those before it: in an accepted text it is there.
 use Rattle.std.specs.Prelude.{ℕ, Bool, true, false, not, List, [], ◌∷◌, length, map, Option, Some, None, option_map, unwrap_or, slice_get, if◌then◌else◌}
-use Rattle.std.specs.List.{list_any, position_from}
-use Rattle.std.specs.Str.{bytes_eq}
+use Rattle.std.specs.List.{list_any}
+use Rattle.dbtg_schema.specs.Structure.{place_of}
 use Rattle.dbtg_schema.specs.declared.role.Role.{Role}
 use Rattle.dbtg_schema.specs.declared.role.Role.TheVariants as role
 use Rattle.dbtg_schema.specs.declared.shape.Area.{Area}
@@ -29,7 +29,7 @@ has r ws = list_any (is r) ws
 
 -- the number of a name among names
 abbrev pub number_of : List ℕ → List (List ℕ) → ℕ
-number_of name names = unwrap_or (position_from (bytes_eq name) 0 names) 0
+number_of name names = unwrap_or (place_of name names) 0
 
 abbrev pub area_from : List Labelled → Area
 area_from e = record { name = first_named role.AreaName e }

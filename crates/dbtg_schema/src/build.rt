@@ -8,6 +8,7 @@ ghost use Rattle.dbtg_schema.specs.SchemaLists.{number_of, areas_from, item_from
 ghost use Rattle.dbtg_schema.specs.Views.{views};
 
 use crate::entries::front_entry;
+use crate::find::{find_area, find_item, find_type};
 use crate::numbers::{AreaNo, ItemNo, RecordNo};
 use crate::pictures::spelled_picture;
 use crate::queries::{Labelled, any, first_named, has_role};
@@ -17,46 +18,10 @@ use crate::shape::{Area, Calc, Class, Duplicates, Item, Member, Order, Picture, 
 use std::alloc::{AllocError, Global};
 
 /// The text of the first word with this role, in memory of its own.
-fn text_of(alloc: Global, words: &[Labelled], role: Role) -> Result<Row<u8>, AllocError>
+pub fn text_of(alloc: Global, words: &[Labelled], role: Role) -> Result<Row<u8>, AllocError>
     ensures { IfOk result (λ r. r ≡ first_named role (views words.now)) }
 {
     Ok(Row::of(Vec::from_slice(alloc, first_named(words, role))?))
-}
-
-fn area_number(areas: &[Area], name: &[u8]) -> AreaNo
-    requires { length areas.now ≤ 256 }
-    ensures { result ≡ number_of name.now (map (λ a. a.name) areas.now) }
-{
-    for (i, area) in areas.iter().enumerate() {
-        if name == area.name.as_slice() {
-            return AreaNo::new(i as u8);
-        }
-    }
-    AreaNo::new(0)
-}
-
-fn type_number(types: &[RecordType], name: &[u8]) -> RecordNo
-    requires { length types.now ≤ 256 }
-    ensures { result ≡ number_of name.now (map (λ r. r.name) types.now) }
-{
-    for (i, rtype) in types.iter().enumerate() {
-        if name == rtype.name.as_slice() {
-            return RecordNo::new(i as u8);
-        }
-    }
-    RecordNo::new(0)
-}
-
-fn item_number(items: &[Item], name: &[u8]) -> ItemNo
-    requires { length items.now ≤ 256 }
-    ensures { result ≡ number_of name.now (map (λ i. i.name) items.now) }
-{
-    for (i, item) in items.iter().enumerate() {
-        if name == item.name.as_slice() {
-            return ItemNo::new(i as u8);
-        }
-    }
-    ItemNo::new(0)
 }
 
 /// The areas of a schema.
@@ -98,20 +63,20 @@ fn items(alloc: Global, entry: &[Labelled]) -> Result<Vec<Item>, AllocError>
 
 /// The numbers of the CALC items among the items of their record type.
 fn calc_items(alloc: Global, items: &[Item], entry: &[Labelled]) -> Result<Vec<ItemNo>, AllocError>
-    requires { length items.now ≤ 256 }
+    requires { length items.now ≤ 16 }
     ensures { IfOk result (λ v. v.items ≡ calc_items_from items.now (views entry.now)) }
 {
     let mut out = Vec::new(alloc);
     for word in entry {
         if has_role(word, Role::CalcItem) {
-            out.push(item_number(items, word.word.text))?;
+            out.push(find_item(items, word.word.text).unwrap_or(ItemNo::new(0)))?;
         }
     }
     Ok(out)
 }
 
 fn calc(alloc: Global, items: &[Item], entry: &[Labelled]) -> Result<Option<Calc>, AllocError>
-    requires { length items.now ≤ 256 }
+    requires { length items.now ≤ 16 }
     ensures { IfOk result (λ c. c ≡ calc_from items.now (views entry.now)) }
 {
     if !any(entry, Role::CalcItem) {
@@ -127,12 +92,12 @@ fn calc(alloc: Global, items: &[Item], entry: &[Labelled]) -> Result<Option<Calc
 
 /// The record type whose words these are.
 fn record_type(alloc: Global, areas: &[Area], entry: &[Labelled]) -> Result<RecordType, AllocError>
-    requires areas_fit { length areas.now ≤ 256 }
-    requires items_fit { count_of role.ItemEntry (views entry.now) ≤ 256 }
+    requires areas_fit { length areas.now ≤ 16 }
+    requires items_fit { count_of role.ItemEntry (views entry.now) ≤ 16 }
     ensures { IfOk result (λ r. r ≡ record_type_from areas.now (views entry.now)) }
 {
     let name = text_of(alloc, entry, Role::RecordName)?;
-    let area = area_number(areas, first_named(entry, Role::WithinArea));
+    let area = find_area(areas, first_named(entry, Role::WithinArea)).unwrap_or(AreaNo::new(0));
     let items = items(alloc, entry)?;
     let calc = calc(alloc, items.as_slice(), entry)?;
     Ok(RecordType {
@@ -190,8 +155,8 @@ fn class(entry: &[Labelled]) -> Class
 
 /// The record types of a schema, whose words in front of the sets these are.
 pub fn types(alloc: Global, areas: &[Area], words: &[Labelled]) -> Result<Vec<RecordType>, AllocError>
-    requires areas_fit { length areas.now ≤ 256 }
-    requires items_fit { AllByRecursion (λ e. count_of role.ItemEntry e ≤ 256) (entries role.RecordEntry (views words.now)) }
+    requires areas_fit { length areas.now ≤ 16 }
+    requires items_fit { AllByRecursion (λ e. count_of role.ItemEntry e ≤ 16) (entries role.RecordEntry (views words.now)) }
     ensures { IfOk result (λ v. v.items ≡ map (record_type_from areas.now) (entries role.RecordEntry (views words.now))) }
 {
     let mut out = Vec::new(alloc);
@@ -206,9 +171,9 @@ pub fn types(alloc: Global, areas: &[Area], words: &[Labelled]) -> Result<Vec<Re
 
 /// The items of the record type of this number.
 fn items_at(types: &[RecordType], rtype: RecordNo) -> &[Item]
-    requires { All (λ r. length r.items ≤ 256) types.now }
+    requires { All (λ r. length r.items ≤ 16) types.now }
     ensures items { result.now ≡ items_at types.now rtype }
-    ensures few { length result.now ≤ 256 }
+    ensures few { length result.now ≤ 16 }
 {
     match types.get(rtype.index() as usize) {
         Some(rtype) => rtype.items.as_slice(),
@@ -217,12 +182,12 @@ fn items_at(types: &[RecordType], rtype: RecordNo) -> &[Item]
 }
 
 fn key(types: &[RecordType], rtype: RecordNo, entry: &[Labelled]) -> Option<ItemNo>
-    requires { All (λ r. length r.items ≤ 256) types.now }
+    requires { All (λ r. length r.items ≤ 16) types.now }
     ensures { result ≡ key_from types.now rtype (views entry.now) }
 {
     if any(entry, Role::KeyItem) {
         let name = first_named(entry, Role::KeyItem);
-        Some(item_number(items_at(types, rtype), name))
+        Some(find_item(items_at(types, rtype), name).unwrap_or(ItemNo::new(0)))
     } else {
         None
     }
@@ -230,11 +195,11 @@ fn key(types: &[RecordType], rtype: RecordNo, entry: &[Labelled]) -> Option<Item
 
 /// The member clause whose words these are.
 fn member(types: &[RecordType], entry: &[Labelled]) -> Member
-    requires types_fit { length types.now ≤ 256 }
-    requires items_fit { All (λ r. length r.items ≤ 256) types.now }
+    requires types_fit { length types.now ≤ 16 }
+    requires items_fit { All (λ r. length r.items ≤ 16) types.now }
     ensures { result ≡ member_from types.now (views entry.now) }
 {
-    let rtype = type_number(types, first_named(entry, Role::MemberName));
+    let rtype = find_type(types, first_named(entry, Role::MemberName)).unwrap_or(RecordNo::new(0));
     Member {
         rtype,
         class: class(entry),
@@ -243,8 +208,8 @@ fn member(types: &[RecordType], entry: &[Labelled]) -> Member
 }
 
 fn members(alloc: Global, types: &[RecordType], entry: &[Labelled]) -> Result<Vec<Member>, AllocError>
-    requires types_fit { length types.now ≤ 256 }
-    requires items_fit { All (λ r. length r.items ≤ 256) types.now }
+    requires types_fit { length types.now ≤ 16 }
+    requires items_fit { All (λ r. length r.items ≤ 16) types.now }
     ensures { IfOk result (λ v. v.items ≡ map (member_from types.now) (entries role.MemberEntry (views entry.now))) }
 {
     let mut out = Vec::new(alloc);
@@ -257,11 +222,11 @@ fn members(alloc: Global, types: &[RecordType], entry: &[Labelled]) -> Result<Ve
 }
 
 fn owner(types: &[RecordType], entry: &[Labelled]) -> Option<RecordNo>
-    requires { length types.now ≤ 256 }
+    requires { length types.now ≤ 16 }
     ensures { result ≡ owner_from types.now (views entry.now) }
 {
     if any(entry, Role::OwnerName) {
-        Some(type_number(types, first_named(entry, Role::OwnerName)))
+        Some(find_type(types, first_named(entry, Role::OwnerName)).unwrap_or(RecordNo::new(0)))
     } else {
         None
     }
@@ -269,8 +234,8 @@ fn owner(types: &[RecordType], entry: &[Labelled]) -> Option<RecordNo>
 
 /// The set whose words these are.
 fn set(alloc: Global, types: &[RecordType], entry: &[Labelled]) -> Result<SetType, AllocError>
-    requires types_fit { length types.now ≤ 256 }
-    requires items_fit { All (λ r. length r.items ≤ 256) types.now }
+    requires types_fit { length types.now ≤ 16 }
+    requires items_fit { All (λ r. length r.items ≤ 16) types.now }
     ensures { IfOk result (λ s. s ≡ set_from types.now (views entry.now)) }
 {
     let name = text_of(alloc, entry, Role::SetName)?;
@@ -287,8 +252,8 @@ fn set(alloc: Global, types: &[RecordType], entry: &[Labelled]) -> Result<SetTyp
 
 /// The sets of a schema.
 pub fn sets(alloc: Global, types: &[RecordType], words: &[Labelled]) -> Result<Vec<SetType>, AllocError>
-    requires types_fit { length types.now ≤ 256 }
-    requires items_fit { All (λ r. length r.items ≤ 256) types.now }
+    requires types_fit { length types.now ≤ 16 }
+    requires items_fit { All (λ r. length r.items ≤ 16) types.now }
     ensures { IfOk result (λ v. v.items ≡ sets_from types.now (views words.now)) }
 {
     let mut out = Vec::new(alloc);

@@ -26,6 +26,13 @@ fn until(words: &[Labelled], role: Role) -> usize
     words.len()
 }
 
+/// The words in front of the first one with this role.
+pub fn front<'a, 'b>(words: &'a [Labelled<'b>], role: Role) -> &'a [Labelled<'b>]
+    ensures { views result.now ≡ until role (views words.now) }
+{
+    &words[..until(words, role)]
+}
+
 /// The words up to the next one with this role, the first apart.
 pub fn front_entry<'a, 'b>(words: &'a [Labelled<'b>], role: Role) -> &'a [Labelled<'b>]
     ensures { views result.now ≡ front_entry role (views words.now) }

@@ -6,6 +6,7 @@ mod build;
 mod checks;
 mod entries;
 mod fault;
+mod find;
 mod names;
 mod numbers;
 mod pictures;

@@ -8,7 +8,7 @@ ghost use Rattle.std.specs.Prelude.{◌≡◌, ◌∷◌, ◌++◌, ℕ, List, [
 ghost use Rattle.dbtg_schema.specs.Words.{Word as SeenWord, view, words};
 ghost use Rattle.dbtg_schema.specs.Automaton.{rest_of};
 ghost use Rattle.dbtg_schema.specs.Views.{views};
-ghost use Rattle.dbtg_schema.specs.Reading.{verdict, Refuses};
+ghost use Rattle.dbtg_schema.specs.Reading.{verdict, Refuses, WithinLimits};
 
 use crate::automaton::{State, follow};
 use crate::checks::{at_end, at_other, at_word};
@@ -68,6 +68,7 @@ pub fn read(alloc: Global, text: &[u8]) -> Result<Vec<Labelled<'_>>, SchemaFault
     ensures words { IfOk result (λ v. views v.items ≡ labels fits schema (text_words text.now)) }
     ensures refused { IfErr result (λ e. Refuses e (refusal text.now)) }
     ensures derived { IfOk result (λ v. Derives fits schema (views v.items)) }
+    ensures limits { IfOk result (λ v. WithinLimits (views v.items)) }
 {
     if text.len() > 65536 {
         return Err(SchemaFault::of(Fault { line: 1, cause: Cause::TextTooLong }));

@@ -1,12 +1,26 @@
 //! A schema, and what it says of its record types, sets and areas by their numbers. Look-ups take no memory.
 
-ghost use Rattle.std.specs.Prelude.{◌≡◌, ◌==◌, option_map, slice_get};
+ghost use Rattle.std.specs.Prelude.{◌≡◌, ◌==◌, None, IfOk, IfErr, OnOk, option_map, slice_get};
+ghost use Rattle.dbtg_schema.specs.Words.{text_words};
+ghost use Rattle.dbtg_schema.specs.Forms.{labels, Derives};
+ghost use Rattle.dbtg_schema.specs.SchemaGrammar.{fits, schema};
+ghost use Rattle.dbtg_schema.specs.SchemaFaults.{refusal};
+ghost use Rattle.dbtg_schema.specs.SchemaLists.{schema_of};
+ghost use Rattle.dbtg_schema.specs.Reading.{Refuses, WithinLimits};
+ghost use Rattle.dbtg_schema.specs.Views.{views};
 ghost use Rattle.std.specs.List.{find};
 ghost use Rattle.dbtg_schema.specs.Structure.{owner_type, is_system, owns, member_clause, is_automatic, is_mandatory, area_of, calc_of, home, order_of, item_list, picture_of};
 
+use crate::build::{areas, sets, text_of, types};
+use crate::entries::front;
+use crate::fault::SchemaFault;
 use crate::numbers::{AreaNo, ItemNo, RecordNo, SetNo};
+use crate::queries::Labelled;
+use crate::reader::read as read_words;
+use crate::role::Role;
 use crate::row::Row;
 use crate::shape::{Area, Calc, Class, Item, Member, Order, Picture, RecordType, SetType};
+use std::alloc::{AllocError, Global};
 use std::marker::Model;
 
 /// The schema of a database: areas, record types and sets, each numbered from 0 in the order of the text.
@@ -24,6 +38,23 @@ impl Model for Schema {
     ghost Value = { Lists };
 
     ghost view = { λ a. record { name = a.name; areas = a.areas; types = a.types; sets = a.sets } };
+}
+
+/// The schema whose words these are.
+fn from_words(alloc: Global, words: &[Labelled]) -> Result<Schema, AllocError>
+    requires { WithinLimits (views words.now) }
+    ensures { IfOk result (λ s. s ≡ schema_of (views words.now)) }
+{
+    let name = text_of(alloc, words, Role::SchemaName)?;
+    let areas = areas(alloc, words)?;
+    let types = types(alloc, &areas, front(words, Role::SetEntry))?;
+    let sets = sets(alloc, &types, words)?;
+    Ok(Schema {
+        name,
+        areas: Row::of(areas),
+        types: Row::of(types),
+        sets: Row::of(sets),
+    })
 }
 
 impl Class {
@@ -54,6 +85,18 @@ fn clause_for(members: &[Member], rtype: RecordNo) -> Option<Member>
 }
 
 impl Schema {
+    /// Reads the text of a schema, from left to right. The text may hold any bytes. What is refused is refused for
+    /// its first fault; `Memory` is the answer where a growth was refused before a fault was met.
+    pub fn read(alloc: Global, text: &[u8]) -> Result<Schema, SchemaFault>
+        ensures accepted { OnOk result (refusal text.now ≡ None) }
+        ensures lists { IfOk result (λ s. s ≡ schema_of (labels fits schema (text_words text.now))) }
+        ensures refused { IfErr result (λ e. Refuses e (refusal text.now)) }
+        ensures derived { OnOk result (Derives fits schema (labels fits schema (text_words text.now))) }
+    {
+        let words = read_words(alloc, text)?;
+        Ok(from_words(alloc, &words)?)
+    }
+
     pub fn name(&self) -> &[u8]
         ensures { result.now ≡ self.now.name }
     {

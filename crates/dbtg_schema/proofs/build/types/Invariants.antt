@@ -9,5 +9,5 @@ use Rattle.dbtg_schema.proofs.build.types.Given as goal
 abbrev pub invariant-loop-i : goal.invariant-loop-i
 invariant-loop-i l = record {
   so_far : l.out.items ++ map (record_type_from l.areas) (entries role.RecordEntry (views (drop l.i l.words))) ≡ map (record_type_from l.areas) (entries role.RecordEntry (views l.words));
-  fit : AllByRecursion (λ e. count_of role.ItemEntry e ≤ 256) (entries role.RecordEntry (views (drop l.i l.words)));
+  fit : AllByRecursion (λ e. count_of role.ItemEntry e ≤ 16) (entries role.RecordEntry (views (drop l.i l.words)));
 }

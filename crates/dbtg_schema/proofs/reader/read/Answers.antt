@@ -12,7 +12,9 @@ use Rattle.std.proofs.lemmas.List.{append-nil}
 use Rattle.dbtg_schema.specs.Forms.{labels, Derives}
 use Rattle.dbtg_schema.specs.Words.{Word}
 use Rattle.dbtg_schema.specs.SchemaGrammar.{fits}
-use Rattle.dbtg_schema.specs.Reading.{verdict, Refuses}
+use Rattle.dbtg_schema.specs.Reading.{verdict, Refuses, WithinLimits}
+use Rattle.dbtg_schema.proofs.Walks.{clean}
+use Rattle.dbtg_schema.proofs.Limits.{within_limits}
 use Rattle.dbtg_schema.proofs.Accepted.{derived}
 use Rattle.dbtg_schema.proofs.Seen.{seen, seen_word, seen_end, short_text, at_the_end}
 use Rattle.dbtg_schema.proofs.reader.read.Goals as goal
@@ -44,9 +46,13 @@ returns-clause-accepted c =
     let e = seen_end c.loop-word.scanner.line c.loop-word.scanner.rest.now c.in_default.ensures.found in
     short_text c.args.text.now (omega arith) ∙ sym c.loop-word.invariant.reached ∙ ap (λ x. verdict end ws f x) e ∙ at_the_end end ws f ∙ sym (rw (c.last_line-end.ensures, c.deref.ensures.value) at c.in-None.ensures)
 
-pub returns-clause-derived : goal.returns-clause-derived
-returns-clause-derived c =
-    let f = rest_of c.loop-word.state in
+all_words : (c : goal.In-None) → views c.loop-word.words.items ≡ labels fits schema (text_words c.args.text.now)
+all_words c =
     let e = seen_end c.loop-word.scanner.line c.loop-word.scanner.rest.now c.in_default.ensures.found in
-    let all = sym (append-nil (views c.loop-word.words.items)) ∙ ap (λ (x : List Word). views c.loop-word.words.items ++ labels fits f x) (sym e) ∙ c.loop-word.invariant.labelled in
-    subst (Derives fits schema) (sym all) (derived (text_words c.args.text.now) (last_line c.args.text.now) [] schema (sym (short_text c.args.text.now (omega arith)) ∙ returns-clause-accepted c))
+    sym (append-nil (views c.loop-word.words.items)) ∙ ap (λ (x : List Word). views c.loop-word.words.items ++ labels fits (rest_of c.loop-word.state) x) (sym e) ∙ c.loop-word.invariant.labelled
+
+pub returns-clause-derived : goal.returns-clause-derived
+returns-clause-derived c = subst (Derives fits schema) (sym (all_words c)) (derived (text_words c.args.text.now) (last_line c.args.text.now) [] schema (sym (short_text c.args.text.now (omega arith)) ∙ returns-clause-accepted c))
+
+pub returns-clause-limits : goal.returns-clause-limits
+returns-clause-limits c = subst WithinLimits (sym (all_words c)) (within_limits (labels fits schema (text_words c.args.text.now)) (clean (text_words c.args.text.now) (last_line c.args.text.now) [] schema (sym (short_text c.args.text.now (omega arith)) ∙ returns-clause-accepted c)))

@@ -1,15 +1,14 @@
-use Rattle.std.proofs.Common.{◌≡◌, sym, ap, ◌∙◌}
-use Rattle.std.specs.Prelude.{unwrap_or}
+use Rattle.std.proofs.Common.{◌≡◌, Some, sym, ap, ◌∙◌}
 use Rattle.std.specs.Str.{bytes_eq}
 use Rattle.dbtg_schema.specs.declared.shape.Area.{Area}
 use Rattle.dbtg_schema.proofs.Places.{here, further}
-use Rattle.dbtg_schema.proofs.build.area_number.Goals as goal
+use Rattle.dbtg_schema.proofs.find.find_area.Goals as goal
 
 pub returns-then-eq : goal.returns-then-eq
 returns-then-eq c =
     let test = ap (bytes_eq c.args.name.now) (sym c.as_slice.ensures) ∙ sym c.eq.ensures ∙ c.if-eq.true in
     let h = here (bytes_eq c.args.name.now) (λ (x : Area). x.name) c.loop-i.i c.args.areas.now c.index-areas-i.result c.loop-i-test.true c.index-areas-i.is test in
-    c.new.ensures ∙ ap (λ o. unwrap_or o 0) (sym h ∙ c.loop-i.invariant)
+    ap (λ n. Some n) c.new.ensures ∙ sym h ∙ c.loop-i.invariant
 
 pub loop-i-preserved : goal.loop-i-preserved
 loop-i-preserved c =
