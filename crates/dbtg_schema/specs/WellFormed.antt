@@ -71,3 +71,10 @@ pub record IsSchema (schema : Lists) : Type 0 where
   pub names : distinct bytes_eq (map (λ a. a.name) schema.areas ++ map (λ r. r.name) schema.types ++ map (λ s. s.name) schema.sets) ≡ true
   pub types : All (IsRecordType schema) schema.types
   pub sets : All (IsSetType schema) schema.sets
+
+-- there are no more areas, record types, sets and items than the limits
+pub record IsBounded (schema : Lists) : Type 0 where
+  pub areas : length schema.areas ≤ 8
+  pub types : length schema.types ≤ 16
+  pub sets : length schema.sets ≤ 16
+  pub items : All (λ r. length r.items ≤ 16) schema.types

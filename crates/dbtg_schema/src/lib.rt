@@ -4,6 +4,7 @@
 mod automaton;
 mod build;
 mod checks;
+mod copies;
 mod entries;
 mod fault;
 mod find;
