@@ -18,6 +18,8 @@ mod row;
 mod scanner;
 mod schema;
 mod shape;
+#[cfg(test)]
+mod tests;
 
 pub use fault::{Cause, SchemaFault};
 pub use numbers::{AreaNo, ItemNo, RecordNo, SetNo};
