@@ -8,7 +8,6 @@ use Rattle.dbtg_schema.specs.SchemaGrammar.{Labelled}
 use Rattle.dbtg_schema.specs.Labels.{count_of, until, entries}
 use Rattle.dbtg_schema.specs.SchemaLists.{item_from, area_from, areas_from, record_type_from, types_from, set_from, schema_of}
 use Rattle.dbtg_schema.specs.Reading.{WithinLimits}
-use Rattle.dbtg_schema.specs.WellFormed.{IsBounded}
 use Rattle.dbtg_schema.proofs.Places.{length-mapped}
 
 pub items_fit : (areas : List Area) (es : List (List Labelled)) → AllByRecursion (λ e. count_of role.ItemEntry e ≤ 16) es → All (λ r. length r.items ≤ 16) (map (record_type_from areas) es)
@@ -16,11 +15,3 @@ items_fit areas [] h = All-nil (λ r. length r.items ≤ 16)
 items_fit areas (e ∷ es) h =
     All-cons (λ r. length r.items ≤ 16) (record_type_from areas e) (map (record_type_from areas) es)
       (subst (λ (n : ℕ). n ≤ 16) (sym (length-mapped item_from role.ItemEntry e)) h.0) (items_fit areas es h.1)
-
-pub bounded : (ws : List Labelled) → WithinLimits ws → IsBounded (schema_of ws)
-bounded ws h = record {
-  areas = subst (λ (n : ℕ). n ≤ 8) (sym (length-mapped area_from role.AreaEntry ws)) h.areas;
-  types = subst (λ (n : ℕ). n ≤ 16) (sym (length-mapped (record_type_from (areas_from ws)) role.RecordEntry (until role.SetEntry ws))) h.types;
-  sets = subst (λ (n : ℕ). n ≤ 16) (sym (length-mapped (set_from (types_from (areas_from ws) ws)) role.SetEntry ws)) h.sets;
-  items = items_fit (areas_from ws) (entries role.RecordEntry (until role.SetEntry ws)) h.items;
-}

@@ -19,7 +19,7 @@ abbrev pub EachClean : List Labelled → List Labelled → Type 0
 EachClean ws [] = Unit {0}
 EachClean ws (l ∷ ls) = (at_word ws l ≡ []) × EachClean (ws ++ l ∷ []) ls
 
-none_here : (xs ys : List Fault) → first (xs ++ ys) ≡ None → xs ≡ []
+pub none_here : (xs ys : List Fault) → first (xs ++ ys) ≡ None → xs ≡ []
 none_here [] ys h = refl
 none_here (x ∷ xs) ys h = absurd cc
 
@@ -60,7 +60,7 @@ since_last r (b ∷ before) w p h none = not_last _ _ _ (is r b) (list_any (is r
     not_last x y z true c h e = rw h e
     not_last x y z false c h e = e
 
-any_snoc : (r : Role) (p : List Labelled) (l : Labelled) → list_any (is r) p ≡ false → is r l ≡ false → list_any (is r) (p ++ l ∷ []) ≡ false
+pub any_snoc : (r : Role) (p : List Labelled) (l : Labelled) → list_any (is r) p ≡ false → is r l ≡ false → list_any (is r) (p ++ l ∷ []) ≡ false
 any_snoc r [] l h n = rw n refl
 any_snoc r (x ∷ p) l h n = both_false (is r x) (list_any (is r) p) _ h (λ k. any_snoc r p l k n)
   where

@@ -9,6 +9,7 @@ ghost use Rattle.dbtg_schema.specs.SchemaFaults.{refusal};
 ghost use Rattle.dbtg_schema.specs.SchemaLists.{schema_of};
 ghost use Rattle.dbtg_schema.specs.Reading.{Refuses, WithinLimits};
 ghost use Rattle.dbtg_schema.specs.Views.{views};
+ghost use Rattle.dbtg_schema.specs.WellFormed.{IsSchema};
 ghost use Rattle.std.specs.List.{find};
 ghost use Rattle.dbtg_schema.specs.Structure.{place_of, owner_type, is_system, owns, member_clause, is_automatic, is_mandatory, area_of, calc_of, home, order_of, item_list, picture_of};
 
@@ -40,16 +41,17 @@ impl Model for Schema {
 
     ghost Value = { Lists };
 
-    ghost use Rattle.dbtg_schema.specs.WellFormed.{IsBounded};
+    ghost use Rattle.dbtg_schema.specs.WellFormed.{IsSchema};
 
     ghost view = { λ a. record { name = a.name; areas = a.areas; types = a.types; sets = a.sets } };
 
-    ghost invariant = { λ a. IsBounded (record { name = a.name; areas = a.areas; types = a.types; sets = a.sets }) };
+    ghost invariant = { λ a. IsSchema (record { name = a.name; areas = a.areas; types = a.types; sets = a.sets }) };
 }
 
 /// The schema whose words these are.
 fn from_words(alloc: Global, words: &[Labelled]) -> Result<Schema, AllocError>
-    requires { WithinLimits (views words.now) }
+    requires limits { WithinLimits (views words.now) }
+    requires sound { IsSchema (schema_of (views words.now)) }
     ensures { IfOk result (λ s. s ≡ schema_of (views words.now)) }
 {
     let name = text_of(alloc, words, Role::SchemaName)?;
@@ -126,6 +128,13 @@ impl Schema {
         ensures { result.now ≡ self.now.sets }
     {
         self.sets.as_slice()
+    }
+
+    /// What every schema keeps to: its limits, and that its numbers are in range.
+    pub fn is_well_formed(&self)
+        ensures { IsSchema self.now }
+    {
+        let _ = &self.name;
     }
 
     /// The number of the area of this name.

@@ -11,7 +11,10 @@ use Rattle.dbtg_schema.specs.Views.{views}
 use Rattle.std.proofs.lemmas.List.{append-nil}
 use Rattle.dbtg_schema.specs.Forms.{labels, Derives}
 use Rattle.dbtg_schema.specs.Words.{Word}
-use Rattle.dbtg_schema.specs.SchemaGrammar.{fits}
+use Rattle.dbtg_schema.specs.SchemaGrammar.{fits, Labelled}
+use Rattle.dbtg_schema.specs.SchemaLists.{schema_of}
+use Rattle.dbtg_schema.specs.WellFormed.{IsSchema}
+use Rattle.dbtg_schema.proofs.Keeps.{accepted_is_schema}
 use Rattle.dbtg_schema.specs.Reading.{verdict, Refuses, WithinLimits}
 use Rattle.dbtg_schema.proofs.Walks.{clean}
 use Rattle.dbtg_schema.proofs.Limits.{within_limits}
@@ -51,8 +54,14 @@ all_words c =
     let e = seen_end c.loop-word.scanner.line c.loop-word.scanner.rest.now c.in_default.ensures.found in
     sym (append-nil (views c.loop-word.words.items)) ∙ ap (λ (x : List Word). views c.loop-word.words.items ++ labels fits (rest_of c.loop-word.state) x) (sym e) ∙ c.loop-word.invariant.labelled
 
+no_fault : (c : goal.In-None) → verdict (last_line c.args.text.now) [] schema (text_words c.args.text.now) ≡ None
+no_fault c = sym (short_text c.args.text.now (omega arith)) ∙ returns-clause-accepted c
+
 pub returns-clause-derived : goal.returns-clause-derived
-returns-clause-derived c = subst (Derives fits schema) (sym (all_words c)) (derived (text_words c.args.text.now) (last_line c.args.text.now) [] schema (sym (short_text c.args.text.now (omega arith)) ∙ returns-clause-accepted c))
+returns-clause-derived c = subst (Derives fits schema) (sym (all_words c)) (derived (text_words c.args.text.now) (last_line c.args.text.now) [] schema (no_fault c))
 
 pub returns-clause-limits : goal.returns-clause-limits
-returns-clause-limits c = subst WithinLimits (sym (all_words c)) (within_limits (labels fits schema (text_words c.args.text.now)) (clean (text_words c.args.text.now) (last_line c.args.text.now) [] schema (sym (short_text c.args.text.now (omega arith)) ∙ returns-clause-accepted c)))
+returns-clause-limits c = subst WithinLimits (sym (all_words c)) (within_limits (labels fits schema (text_words c.args.text.now)) (clean (text_words c.args.text.now) (last_line c.args.text.now) [] schema (no_fault c)))
+
+pub returns-clause-sound : goal.returns-clause-sound
+returns-clause-sound c = subst (λ (ws : List Labelled). IsSchema (schema_of ws)) (sym (all_words c)) (accepted_is_schema (text_words c.args.text.now) (last_line c.args.text.now) (no_fault c))
