@@ -13,4 +13,5 @@ pub mod SchemaFaults
 pub mod Automaton
 pub mod Views
 pub mod SchemaLists
+pub mod Erasing
 pub mod Reading

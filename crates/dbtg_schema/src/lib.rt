@@ -6,6 +6,7 @@ mod build;
 mod checks;
 mod copies;
 mod entries;
+mod erasing;
 mod fault;
 mod find;
 mod names;

@@ -113,19 +113,22 @@ impl Schema {
     }
 
     pub fn areas(&self) -> &[Area]
-        ensures { result.now ≡ self.now.areas }
+        ensures areas { result.now ≡ self.now.areas }
+        ensures few { length result.now ≤ 8 }
     {
         self.areas.as_slice()
     }
 
     pub fn types(&self) -> &[RecordType]
-        ensures { result.now ≡ self.now.types }
+        ensures types { result.now ≡ self.now.types }
+        ensures few { length result.now ≤ 16 }
     {
         self.types.as_slice()
     }
 
     pub fn sets(&self) -> &[SetType]
-        ensures { result.now ≡ self.now.sets }
+        ensures sets { result.now ≡ self.now.sets }
+        ensures few { length result.now ≤ 16 }
     {
         self.sets.as_slice()
     }
