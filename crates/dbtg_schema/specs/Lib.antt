@@ -3,3 +3,15 @@ pub mod Lookups
 pub mod Closure
 pub mod Structure
 pub mod WellFormed
+pub mod Words
+pub mod Forms
+pub mod Spelling
+pub mod SchemaGrammar
+pub mod Labels
+pub mod Causes
+pub mod SchemaFaults
+pub mod Automaton
+pub mod Views
+pub mod SchemaLists
+pub mod Erasing
+pub mod Reading

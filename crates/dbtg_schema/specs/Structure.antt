@@ -1,6 +1,7 @@
 -- What a schema says of its record types, sets and areas, by their numbers.
 use Rattle.std.specs.Prelude.{ℕ, Bool, true, false, cond, not, ◌&&◌, ◌||◌, ◌==◌, List, [], ◌∷◌, ◌++◌, Option, Some, None, is_some, is_none, unwrap_or, option_map, option_and_then, map, filter, length, slice_get}
-use Rattle.std.specs.List.{list_any, find, range_with_len}
+use Rattle.std.specs.List.{list_any, find, range_with_len, position_from}
+use Rattle.std.specs.Str.{bytes_eq}
 use Rattle.dbtg_schema.specs.Lists.{Lists}
 use Rattle.dbtg_schema.specs.Closure.{least_closed}
 use Rattle.dbtg_schema.specs.Lookups.{some_and, flatten}
@@ -24,6 +25,10 @@ is_system schema s = some_and (λ set. is_none set.owner) (slice_get schema.sets
 -- set s has the owner type t
 abbrev pub owns : Lists → ℕ → ℕ → Bool
 owns schema s t = some_and (λ owner. owner == t) (owner_type schema s)
+
+-- the number of the first of these names that is this one
+abbrev pub place_of : List ℕ → List (List ℕ) → Option ℕ
+place_of name names = position_from (bytes_eq name) 0 names
 
 abbrev pub set_numbers : Lists → List ℕ
 set_numbers schema = range_with_len 0 (length schema.sets)

@@ -31,14 +31,12 @@ pub record IsCalc (items : ℕ) (calc : Calc) : Type 0 where
   pub some_item : 0 < length calc.items
   pub items_limit : length calc.items ≤ 4
   pub in_range : All (λ i. i < items) calc.items
-  pub once : distinct same_number calc.items ≡ true
 
 pub record IsRecordType (schema : Lists) (r : RecordType) : Type 0 where
   pub area : r.area < length schema.areas
   pub some_item : 0 < length r.items
   pub items_limit : length r.items ≤ 16
   pub pictures : All (λ i. IsPicture i.picture) r.items
-  pub item_names : distinct bytes_eq (map (λ i. i.name) r.items) ≡ true
   pub calc : IfSome r.calc (λ c. IsCalc (length r.items) c)
 
 abbrev pub is_sorted : Order → Bool
@@ -54,12 +52,7 @@ pub record IsSetType (schema : Lists) (set : SetType) : Type 0 where
   pub some_member : 0 < length set.members
   pub members_limit : length set.members ≤ 4
   pub member_types : All (λ m. m.rtype < length schema.types) set.members
-  pub members_once : distinct same_number (map (λ m. m.rtype) set.members) ≡ true
-  pub owner_is_no_member : IfSome set.owner (λ o. list_any (λ m. m.rtype == o) set.members ≡ false)
-  -- members have keys exactly in a sorted set, and all keys have one picture
-  pub keys : All (λ m. is_some m.key ≡ is_sorted set.order) set.members
   pub key_items : All (λ m. IfSome m.key (λ i. i < length (item_list schema m.rtype))) set.members
-  pub key_pictures : All (λ m. All (λ n. key_picture_of schema m ≡ key_picture_of schema n) set.members) set.members
 
 pub record IsSchema (schema : Lists) : Type 0 where
   pub some_area : 0 < length schema.areas
@@ -67,7 +60,5 @@ pub record IsSchema (schema : Lists) : Type 0 where
   pub some_type : 0 < length schema.types
   pub types_limit : length schema.types ≤ 16
   pub sets_limit : length schema.sets ≤ 16
-  -- areas, record types and sets have names of their own
-  pub names : distinct bytes_eq (map (λ a. a.name) schema.areas ++ map (λ r. r.name) schema.types ++ map (λ s. s.name) schema.sets) ≡ true
   pub types : All (IsRecordType schema) schema.types
   pub sets : All (IsSetType schema) schema.sets

@@ -1,12 +1,29 @@
-//! The schema of a network database, as finite lists.
+//! The schema of a network database: read from its text, and looked up by names and numbers.
 #![tactic(auto)]
 
-mod row;
+mod automaton;
+mod build;
+mod checks;
+mod copies;
+mod entries;
+mod erasing;
+mod fault;
+mod find;
+mod names;
 mod numbers;
-mod shape;
+mod pictures;
+mod queries;
+mod reader;
+mod role;
+mod row;
+mod scanner;
 mod schema;
+mod shape;
+#[cfg(test)]
+mod tests;
 
+pub use fault::{Cause, SchemaFault};
 pub use numbers::{AreaNo, ItemNo, RecordNo, SetNo};
 pub use row::Row;
 pub use schema::Schema;
-pub use shape::{Area, Item, Member, Order, Picture, RecordType, SetType, Calc, Duplicates, Class};
+pub use shape::{Area, Calc, Class, Duplicates, Item, Member, Order, Picture, RecordType, SetType};

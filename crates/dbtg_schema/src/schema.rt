@@ -1,12 +1,30 @@
 //! A schema, and what it says of its record types, sets and areas by their numbers. Look-ups take no memory.
 
-ghost use Rattle.std.specs.Prelude.{◌≡◌, ◌==◌, option_map, slice_get};
+ghost use Rattle.std.specs.Prelude.{◌≡◌, ◌==◌, ◌≤◌, length, None, IfOk, map, IfErr, OnOk, option_map, slice_get};
+ghost use Rattle.dbtg_schema.specs.Lookups.{some_and};
+ghost use Rattle.dbtg_schema.specs.Words.{text_words};
+ghost use Rattle.dbtg_schema.specs.Forms.{labels, Derives};
+ghost use Rattle.dbtg_schema.specs.SchemaGrammar.{fits, schema};
+ghost use Rattle.dbtg_schema.specs.SchemaFaults.{refusal};
+ghost use Rattle.dbtg_schema.specs.SchemaLists.{schema_of};
+ghost use Rattle.dbtg_schema.specs.Reading.{Refuses, WithinLimits};
+ghost use Rattle.dbtg_schema.specs.Views.{views};
+ghost use Rattle.dbtg_schema.specs.WellFormed.{IsSchema};
 ghost use Rattle.std.specs.List.{find};
-ghost use Rattle.dbtg_schema.specs.Structure.{owner_type, is_system, owns, member_clause, is_automatic, is_mandatory, area_of, calc_of, home, order_of, item_list, picture_of};
+ghost use Rattle.dbtg_schema.specs.Structure.{place_of, owner_type, is_system, owns, member_clause, is_automatic, is_mandatory, area_of, calc_of, home, order_of, item_list, picture_of};
 
+use crate::build::{areas, sets, text_of, types};
+use crate::entries::front;
+use crate::fault::SchemaFault;
+use crate::copies::copy_all;
+use crate::find::{find_area, find_item, find_set, find_type};
 use crate::numbers::{AreaNo, ItemNo, RecordNo, SetNo};
+use crate::queries::Labelled;
+use crate::reader::read as read_words;
+use crate::role::Role;
 use crate::row::Row;
 use crate::shape::{Area, Calc, Class, Item, Member, Order, Picture, RecordType, SetType};
+use std::alloc::{AllocError, Global};
 use std::marker::Model;
 
 /// The schema of a database: areas, record types and sets, each numbered from 0 in the order of the text.
@@ -23,7 +41,29 @@ impl Model for Schema {
 
     ghost Value = { Lists };
 
+    ghost use Rattle.dbtg_schema.specs.WellFormed.{IsSchema};
+
     ghost view = { λ a. record { name = a.name; areas = a.areas; types = a.types; sets = a.sets } };
+
+    ghost invariant = { λ a. IsSchema (record { name = a.name; areas = a.areas; types = a.types; sets = a.sets }) };
+}
+
+/// The schema whose words these are.
+fn from_words(alloc: Global, words: &[Labelled]) -> Result<Schema, AllocError>
+    requires limits { WithinLimits (views words.now) }
+    requires sound { IsSchema (schema_of (views words.now)) }
+    ensures { IfOk result (λ s. s ≡ schema_of (views words.now)) }
+{
+    let name = text_of(alloc, words, Role::SchemaName)?;
+    let areas = areas(alloc, words)?;
+    let types = types(alloc, &areas, front(words, Role::SetEntry))?;
+    let sets = sets(alloc, &types, words)?;
+    Ok(Schema {
+        name,
+        areas: Row::of(areas),
+        types: Row::of(types),
+        sets: Row::of(sets),
+    })
 }
 
 impl Class {
@@ -54,6 +94,18 @@ fn clause_for(members: &[Member], rtype: RecordNo) -> Option<Member>
 }
 
 impl Schema {
+    /// Reads the text of a schema, from left to right. The text may hold any bytes. What is refused is refused for
+    /// its first fault; `Memory` is the answer where a growth was refused before a fault was met.
+    pub fn read(alloc: Global, text: &[u8]) -> Result<Schema, SchemaFault>
+        ensures accepted { OnOk result (refusal text.now ≡ None) }
+        ensures lists { IfOk result (λ s. s ≡ schema_of (labels fits schema (text_words text.now))) }
+        ensures refused { IfErr result (λ e. Refuses e (refusal text.now)) }
+        ensures derived { OnOk result (Derives fits schema (labels fits schema (text_words text.now))) }
+    {
+        let words = read_words(alloc, text)?;
+        Ok(from_words(alloc, &words)?)
+    }
+
     pub fn name(&self) -> &[u8]
         ensures { result.now ≡ self.now.name }
     {
@@ -61,21 +113,125 @@ impl Schema {
     }
 
     pub fn areas(&self) -> &[Area]
-        ensures { result.now ≡ self.now.areas }
+        ensures areas { result.now ≡ self.now.areas }
+        ensures few { length result.now ≤ 8 }
     {
         self.areas.as_slice()
     }
 
     pub fn types(&self) -> &[RecordType]
-        ensures { result.now ≡ self.now.types }
+        ensures types { result.now ≡ self.now.types }
+        ensures few { length result.now ≤ 16 }
     {
         self.types.as_slice()
     }
 
     pub fn sets(&self) -> &[SetType]
-        ensures { result.now ≡ self.now.sets }
+        ensures sets { result.now ≡ self.now.sets }
+        ensures few { length result.now ≤ 16 }
     {
         self.sets.as_slice()
+    }
+
+    /// What every schema keeps to: its limits, and that its numbers are in range.
+    pub fn is_well_formed(&self)
+        ensures { IsSchema self.now }
+    {
+        let _ = &self.name;
+    }
+
+    /// The number of the area of this name.
+    pub fn area(&self, name: &[u8]) -> Option<AreaNo>
+        ensures { result ≡ place_of name.now (map (λ a. a.name) self.now.areas) }
+    {
+        find_area(self.areas.as_slice(), name)
+    }
+
+    /// The number of the record type of this name.
+    pub fn rtype(&self, name: &[u8]) -> Option<RecordNo>
+        ensures { result ≡ place_of name.now (map (λ r. r.name) self.now.types) }
+    {
+        find_type(self.types.as_slice(), name)
+    }
+
+    /// The number of the set of this name.
+    pub fn set(&self, name: &[u8]) -> Option<SetNo>
+        ensures { result ≡ place_of name.now (map (λ s. s.name) self.now.sets) }
+    {
+        find_set(self.sets.as_slice(), name)
+    }
+
+    /// The number of the item of this name in a record type.
+    pub fn item(&self, rtype: RecordNo, name: &[u8]) -> Option<ItemNo>
+        ensures { result ≡ place_of name.now (map (λ i. i.name) (item_list self.now rtype)) }
+    {
+        find_item(self.items(rtype), name)
+    }
+
+    /// The name of an area.
+    pub fn area_name(&self, area: AreaNo) -> Option<&[u8]>
+        ensures { option_map (λ n. n.now) result ≡ option_map (λ a. a.name) (slice_get self.now.areas area) }
+    {
+        match self.areas.get(area.index() as usize) {
+            Some(area) => Some(area.name.as_slice()),
+            None => None,
+        }
+    }
+
+    /// The name of a record type.
+    pub fn rtype_name(&self, rtype: RecordNo) -> Option<&[u8]>
+        ensures { option_map (λ n. n.now) result ≡ option_map (λ r. r.name) (slice_get self.now.types rtype) }
+    {
+        match self.record_type(rtype) {
+            Some(rtype) => Some(rtype.name.as_slice()),
+            None => None,
+        }
+    }
+
+    /// The name of a set.
+    pub fn set_name(&self, set: SetNo) -> Option<&[u8]>
+        ensures { option_map (λ n. n.now) result ≡ option_map (λ s. s.name) (slice_get self.now.sets set) }
+    {
+        match self.set_type(set) {
+            Some(set) => Some(set.name.as_slice()),
+            None => None,
+        }
+    }
+
+    /// The name of an item of a record type.
+    pub fn item_name(&self, rtype: RecordNo, item: ItemNo) -> Option<&[u8]>
+        ensures { option_map (λ n. n.now) result ≡ option_map (λ i. i.name) (slice_get (item_list self.now rtype) item) }
+    {
+        match self.items(rtype).get(item.index() as usize) {
+            Some(item) => Some(item.name.as_slice()),
+            None => None,
+        }
+    }
+
+    /// Does STORE connect a record of this type in the set?
+    pub fn connects(&self, set: SetNo, rtype: RecordNo) -> bool
+        ensures { result ≡ some_and (λ m. is_automatic m.class) (member_clause self.now set rtype) }
+    {
+        match self.member_clause(set, rtype) {
+            Some(member) => member.class.is_automatic(),
+            None => false,
+        }
+    }
+
+    /// The same schema, in memory of its own.
+    pub fn copy(&self, alloc: Global) -> Result<Schema, AllocError>
+        ensures { IfOk result (λ s. s ≡ self.now) }
+    {
+        let name = self.name.copy(alloc)?;
+        let areas = Row::of(copy_all(alloc, self.areas.as_slice())?);
+        let types = Row::of(copy_all(alloc, self.types.as_slice())?);
+        let sets = Row::of(copy_all(alloc, self.sets.as_slice())?);
+        Ok(Schema {
+            name,
+            areas,
+            types,
+            sets,
+        })
     }
 
     /// The record type of this number, if there is one.
@@ -114,9 +270,10 @@ impl Schema {
 
     /// The items of a record type, in order.
     pub fn items(&self, rtype: RecordNo) -> &[Item]
-        ensures { result.now ≡ item_list self.now rtype }
+        ensures items { result.now ≡ item_list self.now rtype }
+        ensures few { length result.now ≤ 16 }
     {
-        match self.record_type(rtype) {
+        match self.types.get(rtype.index() as usize) {
             Some(record) => record.items.as_slice(),
             None => &[],
         }

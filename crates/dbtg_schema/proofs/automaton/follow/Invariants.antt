@@ -1,0 +1,9 @@
+use Rattle.std.proofs.Common.{◌≡◌, map, drop}
+use Rattle.dbtg_schema.specs.Forms.{start_with, starts}
+use Rattle.dbtg_schema.specs.Words.{view}
+use Rattle.dbtg_schema.specs.SchemaGrammar.{fits}
+use Rattle.dbtg_schema.specs.Automaton.{rest_of, view_start}
+use Rattle.dbtg_schema.proofs.automaton.follow.Given as goal
+
+abbrev pub invariant-loop-start : goal.invariant-loop-start
+invariant-loop-start l = start_with fits (view l.word) (map view_start (drop l.start-index l.start-items)) ≡ start_with fits (view l.word) (starts (rest_of l.fn.state))

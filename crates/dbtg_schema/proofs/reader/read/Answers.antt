@@ -1,0 +1,67 @@
+use Rattle.std.proofs.Common.{◌≡◌, List, [], ◌∷◌, ◌++◌, sym, ap, subst, ◌∙◌, arith}
+use Rattle.std.proofs.lemmas.Result.{err_from_is_err_and}
+use Rattle.std.specs.Prelude.{Some, None}
+use Rattle.dbtg_schema.specs.Lookups.{first}
+use Rattle.dbtg_schema.specs.Words.{last_line, text_words}
+use Rattle.dbtg_schema.specs.SchemaGrammar.{schema}
+use Rattle.dbtg_schema.specs.SchemaFaults.{at_end, refusal}
+use Rattle.dbtg_schema.specs.Words.{view}
+use Rattle.dbtg_schema.specs.Automaton.{rest_of}
+use Rattle.dbtg_schema.specs.Views.{views}
+use Rattle.std.proofs.lemmas.List.{append-nil}
+use Rattle.dbtg_schema.specs.Forms.{labels, Derives}
+use Rattle.dbtg_schema.specs.Words.{Word}
+use Rattle.dbtg_schema.specs.SchemaGrammar.{fits, Labelled}
+use Rattle.dbtg_schema.specs.SchemaLists.{schema_of}
+use Rattle.dbtg_schema.specs.WellFormed.{IsSchema}
+use Rattle.dbtg_schema.proofs.Keeps.{accepted_is_schema}
+use Rattle.dbtg_schema.specs.Reading.{verdict, Refuses, WithinLimits}
+use Rattle.dbtg_schema.proofs.Walks.{clean}
+use Rattle.dbtg_schema.proofs.Limits.{within_limits}
+use Rattle.dbtg_schema.proofs.Accepted.{derived}
+use Rattle.dbtg_schema.proofs.Seen.{seen, seen_word, seen_end, short_text, at_the_end}
+use Rattle.dbtg_schema.proofs.reader.read.Goals as goal
+
+pub returns-in_err-state-clause-refused : goal.returns-in_err-state-clause-refused
+returns-in_err-state-clause-refused c =
+    let p = err_from_is_err_and c.from_residual.result c.from_residual.ensures.1 in
+    let end = last_line c.args.text.now in
+    let ws = views c.loop-word.words.items in
+    let f = rest_of c.loop-word.state in
+    let left = seen c.scan.new.self.line c.scan.new.self.rest.now in
+    let e = seen_word c.loop-word.scanner.line c.scan.new.self.line c.loop-word.scanner.rest.now c.scan.new.self.rest.now (view c.in-Some.word) c.in-Some.ensures.found (sym c.is_noise.ensures ∙ c.if-not-is_noise.true) in
+    let whole = short_text c.args.text.now (omega arith) ∙ sym c.loop-word.invariant.reached ∙ ap (λ x. verdict end ws f x) e in
+    rw (p.1, p.2, whole) (c.in_err-state.ensures.reached end left)
+
+pub returns-in-Some-at_end-clause-refused : goal.returns-in-Some-at_end-clause-refused
+returns-in-Some-at_end-clause-refused c =
+    let end = last_line c.args.text.now in
+    let ws = views c.loop-word.words.items in
+    let f = rest_of c.loop-word.state in
+    let e = seen_end c.loop-word.scanner.line c.loop-word.scanner.rest.now c.in_default.ensures.found in
+    rw c.of-in-Some-at_end.ensures (short_text c.args.text.now (omega arith) ∙ sym c.loop-word.invariant.reached ∙ ap (λ x. verdict end ws f x) e ∙ at_the_end end ws f ∙ sym (rw (c.last_line-end.ensures, c.deref.ensures.value) at c.in-Some-at_end.ensures))
+
+pub returns-clause-accepted : goal.returns-clause-accepted
+returns-clause-accepted c =
+    let end = last_line c.args.text.now in
+    let ws = views c.loop-word.words.items in
+    let f = rest_of c.loop-word.state in
+    let e = seen_end c.loop-word.scanner.line c.loop-word.scanner.rest.now c.in_default.ensures.found in
+    short_text c.args.text.now (omega arith) ∙ sym c.loop-word.invariant.reached ∙ ap (λ x. verdict end ws f x) e ∙ at_the_end end ws f ∙ sym (rw (c.last_line-end.ensures, c.deref.ensures.value) at c.in-None.ensures)
+
+all_words : (c : goal.In-None) → views c.loop-word.words.items ≡ labels fits schema (text_words c.args.text.now)
+all_words c =
+    let e = seen_end c.loop-word.scanner.line c.loop-word.scanner.rest.now c.in_default.ensures.found in
+    sym (append-nil (views c.loop-word.words.items)) ∙ ap (λ (x : List Word). views c.loop-word.words.items ++ labels fits (rest_of c.loop-word.state) x) (sym e) ∙ c.loop-word.invariant.labelled
+
+no_fault : (c : goal.In-None) → verdict (last_line c.args.text.now) [] schema (text_words c.args.text.now) ≡ None
+no_fault c = sym (short_text c.args.text.now (omega arith)) ∙ returns-clause-accepted c
+
+pub returns-clause-derived : goal.returns-clause-derived
+returns-clause-derived c = subst (Derives fits schema) (sym (all_words c)) (derived (text_words c.args.text.now) (last_line c.args.text.now) [] schema (no_fault c))
+
+pub returns-clause-limits : goal.returns-clause-limits
+returns-clause-limits c = subst WithinLimits (sym (all_words c)) (within_limits (labels fits schema (text_words c.args.text.now)) (clean (text_words c.args.text.now) (last_line c.args.text.now) [] schema (no_fault c)))
+
+pub returns-clause-sound : goal.returns-clause-sound
+returns-clause-sound c = subst (λ (ws : List Labelled). IsSchema (schema_of ws)) (sym (all_words c)) (accepted_is_schema (text_words c.args.text.now) (last_line c.args.text.now) (no_fault c))

@@ -1,0 +1,73 @@
+-- The grammar of a schema text, with a role for each word.
+use Rattle.std.specs.Prelude.{ℕ, Bool, List, codes}
+use Rattle.std.specs.Str.{bytes_eq}
+use Rattle.dbtg_schema.specs.declared.role.Role.{Role}
+use Rattle.dbtg_schema.specs.declared.role.Role.TheVariants as role
+use Rattle.dbtg_schema.specs.Words.{Word}
+use Rattle.dbtg_schema.specs.Spelling.{is_name, is_picture}
+use Rattle.dbtg_schema.specs.Forms as forms
+use Rattle.dbtg_schema.specs.Forms.{one, either, many, some, maybe, ◌▹◌}
+
+-- what stands in one place: this very word, a name, or a picture
+pub data Kind : Type 0 where
+  key : List ℕ → Kind
+  name : Kind
+  picture : Kind
+
+abbrev pub fits : Kind → Word → Bool
+fits (key k) w = bytes_eq w.text k
+fits name w = is_name w.text
+fits picture w = is_picture w.text
+
+abbrev pub Form : Type 0
+Form = forms.Form Kind Role
+
+abbrev pub Start : Type 0
+Start = forms.Start Kind Role
+
+abbrev pub Labelled : Type 0
+Labelled = forms.Labelled Word Role
+
+-- a word that says no more than that it stands there
+abbrev pub say : List ℕ → Form
+say w = one (key w) role.Plain
+
+abbrev pub period : Form
+period = say (codes ".")
+
+abbrev pub area : Form
+area = one (key (codes "AREA")) role.AreaEntry ▹ say (codes "NAME") ▹ one name role.AreaName ▹ period
+
+abbrev pub location : Form
+location = say (codes "LOCATION") ▹ say (codes "MODE") ▹ either
+    (say (codes "CALC") ▹ say (codes "USING") ▹ some (one name role.CalcItem) ▹ say (codes "DUPLICATES") ▹ maybe (one (key (codes "NOT")) role.Unique) ▹ say (codes "ALLOWED"))
+    (say (codes "VIA") ▹ one name role.ViaSet ▹ say (codes "SET"))
+
+abbrev pub item : Form
+item = one (key (codes "02")) role.ItemEntry ▹ one name role.ItemName ▹ either (say (codes "PICTURE")) (say (codes "PIC")) ▹ one picture role.Picture ▹ period
+
+abbrev pub rec : Form
+rec = one (key (codes "RECORD")) role.RecordEntry ▹ say (codes "NAME") ▹ one name role.RecordName ▹ maybe location ▹ say (codes "WITHIN") ▹ one name role.WithinArea ▹ period ▹ many item
+
+abbrev pub order : Form
+order = either (one (key (codes "FIRST")) role.OrderFirst)
+    (either (one (key (codes "LAST")) role.OrderLast)
+    (either (one (key (codes "NEXT")) role.OrderNext)
+    (either (one (key (codes "PRIOR")) role.OrderPrior)
+    (one (key (codes "SORTED")) role.Sorted ▹ either (one (key (codes "ASCENDING")) role.Ascending) (one (key (codes "DESCENDING")) role.Descending) ▹ say (codes "DUPLICATES")
+    ▹ either (one (key (codes "FIRST")) role.DuplicatesFirst) (either (one (key (codes "LAST")) role.DuplicatesLast) (one (key (codes "NOT")) role.DuplicatesNot ▹ say (codes "ALLOWED")))))))
+
+abbrev pub member : Form
+member = one (key (codes "MEMBER")) role.MemberEntry ▹ one name role.MemberName
+    ▹ either (one (key (codes "MANDATORY")) role.Mandatory) (one (key (codes "OPTIONAL")) role.Optional)
+    ▹ either (one (key (codes "AUTOMATIC")) role.Automatic) (one (key (codes "MANUAL")) role.Manual)
+    ▹ maybe (say (codes "KEY") ▹ one name role.KeyItem)
+    ▹ maybe (say (codes "SET") ▹ say (codes "OCCURRENCE") ▹ say (codes "SELECTION") ▹ say (codes "THRU") ▹ say (codes "CURRENT") ▹ say (codes "OF") ▹ say (codes "SET"))
+    ▹ one (key (codes ".")) role.MemberEnd
+
+abbrev pub set : Form
+set = one (key (codes "SET")) role.SetEntry ▹ say (codes "NAME") ▹ one name role.SetName ▹ say (codes "ORDER") ▹ order
+    ▹ say (codes "OWNER") ▹ either (one name role.OwnerName) (one (key (codes "SYSTEM")) role.OwnerSystem) ▹ period ▹ some member
+
+abbrev pub schema : Form
+schema = say (codes "SCHEMA") ▹ say (codes "NAME") ▹ one name role.SchemaName ▹ period ▹ some area ▹ some rec ▹ many set

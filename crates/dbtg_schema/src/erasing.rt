@@ -1,0 +1,94 @@
+//! The areas that a DELETE may reach. Takes no memory.
+
+ghost use Rattle.std.specs.Prelude.{◌≡◌, ◌==◌, ◌<◌, ◌≤◌, ◌||◌, ℕ, length};
+ghost use Rattle.std.specs.List.{list_any};
+ghost use Rattle.dbtg_schema.specs.Structure.{erase_areas, reachable_types};
+ghost use Rattle.dbtg_schema.specs.Erasing.{leads_to, is_home_of, touches, marked, is_next, is_touched};
+
+use crate::numbers::{AreaNo, RecordNo, SetNo};
+use crate::schema::Schema;
+
+/// A set of areas.
+#[derive(Clone, Copy, Debug, PartialEq, Eq)]
+pub struct AreaSet {
+    members: [bool; 8],
+}
+
+impl AreaSet {
+    /// Is this area in the set?
+    pub fn contains(&self, area: AreaNo) -> bool
+        ensures { result ≡ marked self.now.members area }
+    {
+        is_marked(&self.members, area.index())
+    }
+}
+
+fn is_marked(marks: &[bool], number: u8) -> bool
+    ensures { result ≡ marked marks.now number }
+{
+    match marks.get(number as usize) {
+        Some(mark) => *mark,
+        None => false,
+    }
+}
+
+/// Does a set lead from this owner type to this member type? There are so many sets.
+#[tactic(auto, unfolding(crate::specs::Erasing::leads_to))]
+fn leads(schema: &Schema, sets: u8, owner: RecordNo, member: RecordNo) -> bool
+    requires { sets ≡ length schema.now.sets }
+    ensures { result ≡ leads_to schema.now owner member }
+{
+    (0..sets).any(|s| schema.owns(SetNo::new(s), owner) & schema.member_clause(SetNo::new(s), member).is_some())
+}
+
+/// Is this the home of a set in which the type is a member?
+#[tactic(auto, unfolding(crate::specs::Erasing::is_home_of))]
+fn is_home(schema: &Schema, sets: u8, rtype: RecordNo, area: AreaNo) -> bool
+    requires { sets ≡ length schema.now.sets }
+    ensures { result ≡ is_home_of schema.now rtype area }
+{
+    (0..sets).any(|s| schema.member_clause(SetNo::new(s), rtype).is_some() & (schema.home(SetNo::new(s)).index() == area.index()))
+}
+
+fn is_area_or_home(schema: &Schema, sets: u8, rtype: RecordNo, area: AreaNo) -> bool
+    requires { sets ≡ length schema.now.sets }
+    ensures { result ≡ touches schema.now rtype area }
+{
+    let is_area = schema.area_of(rtype).index() == area.index();
+    is_area | is_home(schema, sets, rtype, area)
+}
+
+/// Does a marked type lead to this one?
+#[tactic(auto, unfolding(crate::specs::Erasing::is_next))]
+fn is_led_to(schema: &Schema, sets: u8, types: u8, marks: &[bool], member: RecordNo) -> bool
+    requires sets { sets ≡ length schema.now.sets }
+    requires types { types ≡ length schema.now.types }
+    ensures { result ≡ is_next schema.now marks.now member }
+{
+    (0..types).any(|x| is_marked(marks, x) & leads(schema, sets, RecordNo::new(x), member))
+}
+
+/// Is this the area, or such a home, of a marked type?
+#[tactic(auto, unfolding(crate::specs::Erasing::is_touched))]
+fn is_reached(schema: &Schema, sets: u8, types: u8, marks: &[bool], area: AreaNo) -> bool
+    requires sets { sets ≡ length schema.now.sets }
+    requires types { types ≡ length schema.now.types }
+    ensures { result ≡ is_touched schema.now marks.now area }
+{
+    (0..types).any(|t| is_marked(marks, t) & is_area_or_home(schema, sets, RecordNo::new(t), area))
+}
+
+/// The first type, and the types to which a marked type leads.
+fn one_step(schema: &Schema, sets: u8, types: u8, marks: &[bool], start: RecordNo) -> [bool; 16]
+    requires sets { sets ≡ length schema.now.sets }
+    requires types { types ≡ length schema.now.types }
+    requires few { types ≤ 16 }
+    ensures { (y : ℕ) → y < types → marked result y ≡ (y == start || is_next schema.now marks.now y) }
+{
+    let mut next = [false; 16];
+    for y in 0..types {
+        let is_start = y == start.index();
+        next[y as usize] = is_start | is_led_to(schema, sets, types, marks, RecordNo::new(y));
+    }
+    next
+}

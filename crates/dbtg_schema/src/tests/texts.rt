@@ -1,0 +1,88 @@
+//! Whole texts: worked schemas, every beginning of one, and bytes at random.
+
+use super::answer;
+use std::test::*;
+
+const SHOP: &str = "SCHEMA NAME IS SHOP.\nAREA NAME IS MAIN.\nAREA NAME IS SIDE.\nRECORD NAME IS CUSTOMER; LOCATION MODE IS CALC USING CNO DUPLICATES ARE NOT ALLOWED; WITHIN MAIN.\n  02 CNO PICTURE IS 9(4).\n  02 CNAME PICTURE IS X(8).\nRECORD NAME IS ORDR; WITHIN MAIN.\n  02 ONO PICTURE IS 9(4).\nRECORD NAME IS ITEM; LOCATION MODE IS CALC USING PART DUPLICATES ARE ALLOWED; WITHIN SIDE.\n  02 PART PICTURE IS X(4).\n  02 QTY PICTURE IS 9(3).\nSET NAME IS HAS; ORDER IS LAST; OWNER IS CUSTOMER.\n  MEMBER IS ORDR MANDATORY AUTOMATIC.\nSET NAME IS LINES; ORDER IS SORTED ASCENDING DUPLICATES ARE LAST; OWNER IS ORDR.\n  MEMBER IS ITEM OPTIONAL AUTOMATIC; KEY IS QTY.\nSET NAME IS WATCH; ORDER IS NEXT; OWNER IS SYSTEM.\n  MEMBER IS ITEM OPTIONAL MANUAL.\n";
+
+#[test]
+fn worked_schemas(rt: HostRuntime) {
+    for (case, text, cause, line) in [
+        ("row 1: refused", "SCHEMA NAME IS CARD.\nAREA NAME IS MAIN.\nRECORD NAME IS CUSTOMER; LOCATION MODE IS CALC USING CNO DUPLICATES ARE NOT ALLOWED; WITHIN MAYN.\n  02 CNO PICTURE IS 9(4).\n  02 CNAME PICTURE IS X(8).\n", 7, 3),
+        ("row 2: refused", "SCHEMA NAME IS SHOP.\nAREA NAME IS MAIN.\nAREA NAME IS SIDE.\nRECORD NAME IS CUSTOMER; LOCATION MODE IS CALC USING CNO DUPLICATES ARE NOT ALLOWED; WITHIN MAIN.\n  02 CNO PICTURE IS 9(4).\n  02 CNAME PICTURE IS X(8).\nRECORD NAME IS ORDR; WITHIN MAIN.\n  02 ONO PICTURE IS 9(4).\nRECORD NAME IS ITEM; LOCATION MODE IS CALC USING PART DUPLICATES ARE ALLOWED; WITHIN SIDE.\n  02 PART PICTURE IS X(4).\n  02 QTY PICTURE IS 9(3).\nSET NAME IS HAS; ORDER IS LAST; OWNER IS ORDR.\n  MEMBER IS ORDR MANDATORY AUTOMATIC.\nSET NAME IS LINES; ORDER IS SORTED ASCENDING DUPLICATES ARE LAST; OWNER IS ORDR.\n  MEMBER IS ITEM OPTIONAL AUTOMATIC; KEY IS QTY.\nSET NAME IS WATCH; ORDER IS NEXT; OWNER IS SYSTEM.\n  MEMBER IS ITEM OPTIONAL MANUAL.\n", 12, 13),
+        ("row 3: refused", "", 3, 1),
+        ("row 4: refused", "SCHEMA NAME IS CARD.\nAREA NAME IS MAIN.\nRECORD NAME IS CUSTOMER; LOCATION MODE IS CALC USING CNO DUPLICATES ARE NOT ALLOWED; WITHIN MAIN.\n", 17, 3),
+        ("row 5: refused", "SCHEMA NAME IS CARD.\nAREA NAME IS MAIN.\nRECORD NAME IS CUSTOMER; LOCATION MODE IS CALC USING CNO CNO DUPLICATES ARE NOT ALLOWED; WITHIN MAIN.\n  02 CNO PICTURE IS 9(4).\n  02 CNAME PICTURE IS X(8).\n", 18, 3),
+        ("row 6: refused", "SCHEMA NAME IS CARD.\nAREA NAME IS MAIN.\nRECORD NAME IS CUSTOMER; LOCATION MODE IS CALC USING CNO DUPLICATES ARE NOT ALLOWED; WITHIN MAIN.\n  02 CNO PICTURE IS 9(4).\n  02 CNAME PICTURE IS X(65).\n", 11, 5),
+        ("row 7: refused", "SCHEMA NAME IS SET.", 4, 1),
+        ("row 8: refused", "SCHEMA NAME IS A.", 3, 1),
+        ("row 9: refused", "SCHEMA NAME IS SHOP.\nAREA NAME IS MAIN.\nAREA NAME IS SIDE.\nRECORD NAME IS CUSTOMER; LOCATION MODE IS CALC USING CNO DUPLICATES ARE NOT ALLOWED; WITHIN MAIN.\n  02 CNO PICTURE IS 9(4).\n  02 CNAME PICTURE IS X(8).\nRECORD NAME IS ORDR; WITHIN MAIN.\n  02 ONO PICTURE IS 9(4).\nRECORD NAME IS ITEM; LOCATION MODE IS CALC USING PART DUPLICATES ARE ALLOWED; WITHIN SIDE.\n  02 PART PICTURE IS X(4).\n  02 QTY PICTURE IS 9(3).\nSET NAME IS HAS; ORDER IS LAST; OWNER IS CUSTOMER.\n  MEMBER IS ORDR MANDATORY AUTOMATIC.\nSET NAME IS LINES; ORDER IS SORTED ASCENDING DUPLICATES ARE LAST; OWNER IS ORDR.\n  MEMBER IS ITEM OPTIONAL AUTOMATIC.\nSET NAME IS WATCH; ORDER IS NEXT; OWNER IS SYSTEM.\n  MEMBER IS ITEM OPTIONAL MANUAL.\n", 15, 15),
+        ("row 10: refused", "SCHEMA NAME IS SHOP.\nAREA NAME IS MAIN.\nAREA NAME IS SIDE.\nRECORD NAME IS CUSTOMER; LOCATION MODE IS CALC USING CNO DUPLICATES ARE NOT ALLOWED; WITHIN MAIN.\n  02 CNO PICTURE IS 9(4).\n  02 CNAME PICTURE IS X(8).\nRECORD NAME IS ORDR; WITHIN MAIN.\n  02 ONO PICTURE IS 9(4).\nRECORD NAME IS ITEM; LOCATION MODE IS CALC USING PART DUPLICATES ARE ALLOWED; WITHIN SIDE.\n  02 PART PICTURE IS X(4).\n  02 QTY PICTURE IS 9(3).\nSET NAME IS HAS; ORDER IS LAST; OWNER IS CUSTOMER.\n  MEMBER IS ORDR MANDATORY AUTOMATIC.\nSET NAME IS LINES; ORDER IS SORTED ASCENDING DUPLICATES ARE LAST; OWNER IS ORDR.\n  MEMBER IS ITEM OPTIONAL AUTOMATIC; KEY IS QTY.\nSET NAME IS WATCH; ORDER IS NEXT; OWNER IS SYSTEM.\n  MEMBER IS ITEM OPTIONAL MANUAL; KEY IS PART.\n", 15, 17),
+        ("row 11: read", "SCHEMA NAME IS CARD.\nAREA NAME IS MAIN.\nRECORD NAME IS CUSTOMER; LOCATION MODE IS CALC USING CNO DUPLICATES ARE NOT ALLOWED; WITHIN MAIN.\n  02 CNO PICTURE IS 9(4).\n  02 CNAME PICTURE IS X(8).\n", 0, 0),
+        ("row 12: read", "SCHEMA NAME IS SHOP.\nAREA NAME IS MAIN.\nAREA NAME IS SIDE.\nRECORD NAME IS CUSTOMER; LOCATION MODE IS CALC USING CNO DUPLICATES ARE NOT ALLOWED; WITHIN MAIN.\n  02 CNO PICTURE IS 9(4).\n  02 CNAME PICTURE IS X(8).\nRECORD NAME IS ORDR; WITHIN MAIN.\n  02 ONO PICTURE IS 9(4).\nRECORD NAME IS ITEM; LOCATION MODE IS CALC USING PART DUPLICATES ARE ALLOWED; WITHIN SIDE.\n  02 PART PICTURE IS X(4).\n  02 QTY PICTURE IS 9(3).\nSET NAME IS HAS; ORDER IS LAST; OWNER IS CUSTOMER.\n  MEMBER IS ORDR MANDATORY AUTOMATIC.\nSET NAME IS LINES; ORDER IS SORTED ASCENDING DUPLICATES ARE LAST; OWNER IS ORDR.\n  MEMBER IS ITEM OPTIONAL AUTOMATIC; KEY IS QTY.\nSET NAME IS WATCH; ORDER IS NEXT; OWNER IS SYSTEM.\n  MEMBER IS ITEM OPTIONAL MANUAL.\n", 0, 0),
+        ("shop", "SCHEMA NAME IS SHOP.\nAREA NAME IS MAIN.\nAREA NAME IS SIDE.\nRECORD NAME IS CUSTOMER; LOCATION MODE IS CALC USING CNO DUPLICATES ARE NOT ALLOWED; WITHIN MAIN.\n  02 CNO PICTURE IS 9(4).\n  02 CNAME PICTURE IS X(8).\nRECORD NAME IS ORDR; WITHIN MAIN.\n  02 ONO PICTURE IS 9(4).\nRECORD NAME IS ITEM; LOCATION MODE IS CALC USING PART DUPLICATES ARE ALLOWED; WITHIN SIDE.\n  02 PART PICTURE IS X(4).\n  02 QTY PICTURE IS 9(3).\nSET NAME IS HAS; ORDER IS LAST; OWNER IS CUSTOMER.\n  MEMBER IS ORDR MANDATORY AUTOMATIC.\nSET NAME IS LINES; ORDER IS SORTED ASCENDING DUPLICATES ARE LAST; OWNER IS ORDR.\n  MEMBER IS ITEM OPTIONAL AUTOMATIC; KEY IS QTY.\nSET NAME IS WATCH; ORDER IS NEXT; OWNER IS SYSTEM.\n  MEMBER IS ITEM OPTIONAL MANUAL.\n", 0, 0),
+    ] {
+        assert_eq!(rt; answer(&rt, text.as_bytes()), (cause, line), "{case}");
+    }
+}
+
+#[test]
+fn a_text_of_the_greatest_size(rt: HostRuntime) {
+    let mut text = Vec::new(rt.alloc());
+    for _ in 0..65536 {
+        text.push(b' ').expect(&rt, "memory");
+    }
+    assert_eq!(rt; answer(&rt, text.as_slice()), (3, 1));
+    text.push(1).expect(&rt, "memory");
+    assert_eq!(rt; answer(&rt, text.as_slice()), (2, 1));
+}
+
+/// What stands behind a whole sentence that may be the last is read, all else is refused.
+#[test]
+fn every_beginning_of_a_schema(rt: HostRuntime) {
+    let text = SHOP.as_bytes();
+    let mut read = 0;
+    for n in 0..text.len() {
+        let (cause, line) = answer(&rt, &text[..n]);
+        if cause == 0 {
+            read += 1;
+        } else {
+            assert!(rt; cause <= 18 && 1 <= line && line <= 18, "{n} bytes: cause {cause}, line {line}");
+        }
+    }
+    assert_eq!(rt; read, 19);
+}
+
+#[test]
+fn bytes_at_random(rt: HostRuntime) {
+    let mut state: u64 = 88172645463325252;
+    for _ in 0..2000 {
+        let mut text = Vec::new(rt.alloc());
+        for _ in 0..64 {
+            state ^= state << 13;
+            state ^= state >> 7;
+            state ^= state << 17;
+            text.push((state >> 56) as u8).expect(&rt, "memory");
+        }
+        let (cause, line) = answer(&rt, text.as_slice());
+        assert!(rt; cause == 1 || cause == 3, "cause {cause}");
+        assert!(rt; 1 <= line && line <= 64, "line {line}");
+    }
+}
+
+/// A schema in which one byte is another.
+#[test]
+fn one_byte_at_random(rt: HostRuntime) {
+    let mut state: u64 = 88172645463325252;
+    let mut text = Vec::from_slice(rt.alloc(), SHOP.as_bytes()).expect(&rt, "memory");
+    for i in 0..text.len() {
+        state ^= state << 13;
+        state ^= state >> 7;
+        state ^= state << 17;
+        let byte = text[i];
+        text[i] = (state >> 56) as u8;
+        let (cause, line) = answer(&rt, text.as_slice());
+        assert!(rt; cause <= 18 && line <= 19, "byte {i}: cause {cause}, line {line}");
+        text[i] = byte;
+    }
+}
