@@ -64,3 +64,4 @@ pub mod LocalStatements
 pub mod LocalReady
 pub mod SortedPlaces
 pub mod EntryLemmas
+pub mod SkipLemmas

@@ -60,7 +60,7 @@ fn ask_of_key(schema: &Schema, unit: &Unit, question: &Question, key: Option<DbK
 }
 
 // Does STORE connect a record of this type in the set?
-fn is_automatic_in(schema: &Schema, set: SetNo, rtype: RecordNo) -> bool
+pub(crate) fn is_automatic_in(schema: &Schema, set: SetNo, rtype: RecordNo) -> bool
     ensures { result ≡ some_and (λ m. is_automatic m.class) (member_clause schema.now set rtype) }
 {
     match schema.member_clause(set, rtype) {

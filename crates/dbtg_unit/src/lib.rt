@@ -4,6 +4,7 @@
 mod apply;
 mod areas;
 mod changes;
+mod checks;
 mod codes;
 mod copy;
 mod counts;

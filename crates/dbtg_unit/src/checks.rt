@@ -1,0 +1,247 @@
+//! The checks of a statement that need the schema and the unit alone, and no cell. Nothing here takes memory.
+ghost use Rattle.std.specs.Prelude.{◌≡◌, ◌&&◌, not, is_none, option_map};
+ghost use Rattle.std.specs.List.{list_any};
+ghost use Rattle.dbtg_schema.specs.Lookups.{some_and};
+ghost use Rattle.dbtg_schema.specs.Structure.{automatic_sets};
+ghost use Rattle.dbtg_schema.specs.WellFormed.{IsSchema};
+ghost use Rattle.dbtg_unit.specs.Checks.{accepts_type, changes_records, class_in, current_type, find_lacks_current, frees_what_is_not_kept, is_beyond, is_inserting_mandatory_automatic, is_open_statement, is_opening_again, is_removing_mandatory, lacks_current, needs_current, refused_at_once};
+ghost use Rattle.dbtg_unit.specs.Found.{needs_position};
+ghost use Rattle.dbtg_unit.specs.Units.{place_in};
+
+use crate::areas::{Question, ask_of_areas, is_automatic_in};
+use crate::counts::set_count;
+use crate::entries::entry_at;
+use crate::statement::{Form, Statement, Which};
+use crate::unit::{Cause, Unit};
+use dbtg_schema::{Class, RecordNo, Schema, SetNo};
+
+fn wants_current(statement: &Statement) -> bool
+    ensures { result ≡ needs_current statement.now }
+{
+    match statement {
+        Statement::Find(Form::CurrentOfUnit, _) => true,
+        Statement::Get(_)
+        | Statement::Insert(_)
+        | Statement::Remove(_)
+        | Statement::Modify { .. }
+        | Statement::Delete(_)
+        | Statement::Keep => true,
+        Statement::Free { all } => !*all,
+        _ => false,
+    }
+}
+
+fn is_type_for(schema: &Schema, statement: &Statement, rtype: RecordNo) -> bool
+    ensures { result ≡ accepts_type schema.now statement.now rtype }
+{
+    match statement {
+        Statement::Get(Some(named)) => rtype.index() == named.index(),
+        Statement::Modify { rtype: named, .. } => rtype.index() == named.index(),
+        Statement::Insert(set) => schema.member_clause(*set, rtype).is_some(),
+        Statement::Remove(set) => schema.member_clause(*set, rtype).is_some(),
+        _ => true,
+    }
+}
+
+fn is_of_other_type(schema: &Schema, unit: &Unit, statement: &Statement) -> bool
+    ensures { result ≡ some_and (λ t. not (accepts_type schema.now statement.now t)) (current_type unit.now) }
+{
+    match unit.currency.run_unit {
+        Some(key) => !is_type_for(schema, statement, key.rtype),
+        None => false,
+    }
+}
+
+fn class_of_current(schema: &Schema, unit: &Unit, set: SetNo) -> Option<Class>
+    ensures { result ≡ class_in schema.now unit.now set }
+{
+    match unit.currency.run_unit {
+        Some(key) => {
+            match schema.member_clause(set, key.rtype) {
+                Some(member) => Some(member.class),
+                None => None,
+            }
+        }
+        None => None,
+    }
+}
+
+fn inserts_mandatory_automatic(schema: &Schema, unit: &Unit, statement: &Statement) -> bool
+    ensures { result ≡ is_inserting_mandatory_automatic schema.now unit.now statement.now }
+{
+    match statement {
+        Statement::Insert(set) => {
+            match class_of_current(schema, unit, *set) {
+                Some(class) => class.is_mandatory() & class.is_automatic(),
+                None => false,
+            }
+        }
+        _ => false,
+    }
+}
+
+fn removes_mandatory(schema: &Schema, unit: &Unit, statement: &Statement) -> bool
+    ensures { result ≡ is_removing_mandatory schema.now unit.now statement.now }
+{
+    match statement {
+        Statement::Remove(set) => {
+            match class_of_current(schema, unit, *set) {
+                Some(class) => class.is_mandatory(),
+                None => false,
+            }
+        }
+        _ => false,
+    }
+}
+
+fn opens_again(unit: &Unit, statement: &Statement) -> bool
+    ensures { result ≡ is_opening_again unit.now statement.now }
+{
+    match statement {
+        Statement::OpenArea { area, .. } => {
+            entry_at(unit.modes.as_slice(), area.index() as usize).is_some()
+        }
+        _ => false,
+    }
+}
+
+fn goes_on(which: Which) -> bool
+    ensures { result ≡ needs_position which }
+{
+    matches!(which, Which::Next | Which::Prior)
+}
+
+fn find_wants_null(schema: &Schema, unit: &Unit, form: &Form) -> bool
+    ensures { result ≡ find_lacks_current schema.now unit.now form.now }
+{
+    match form {
+        Form::CurrentOfType(rtype) | Form::NextDuplicate(rtype) => {
+            entry_at(unit.currency.types.as_slice(), rtype.index() as usize).is_none()
+        }
+        Form::CurrentOfSet(set) => unit.key_in(schema, *set).is_none(),
+        Form::CurrentOfArea(area) => {
+            entry_at(unit.currency.areas.as_slice(), area.index() as usize).is_none()
+        }
+        Form::InArea { which, area, .. } => {
+            goes_on(*which)
+                & entry_at(unit.currency.areas.as_slice(), area.index() as usize).is_none()
+        }
+        Form::InSet { set, .. } | Form::OwnerOf(set) | Form::Sorted { set, .. } => {
+            has_null(schema, unit, *set)
+        }
+        Form::Key(_) | Form::CurrentOfUnit | Form::Calc { .. } => false,
+    }
+}
+
+fn has_null(schema: &Schema, unit: &Unit, set: SetNo) -> bool
+    ensures { result ≡ is_none (place_in schema.now unit.now set) }
+{
+    unit.place_in(schema, set).is_none()
+}
+
+// Is the current of a set null in which STORE would connect a record of this type?
+#[tactic(auto, using(crate::proofs::NumberLemmas::numbers_next, crate::proofs::NumberLemmas::numbers_end))]
+fn store_wants_null(schema: &Schema, unit: &Unit, rtype: RecordNo) -> bool
+    requires { IsSchema schema.now }
+    ensures { result ≡ list_any (λ s. is_none (place_in schema.now unit.now s)) (automatic_sets schema.now rtype) }
+{
+    for s in 0..set_count(schema) {
+        let set = SetNo::new(s);
+        if is_automatic_in(schema, set, rtype) & has_null(schema, unit, set) {
+            return true;
+        }
+    }
+    false
+}
+
+fn wants_null(schema: &Schema, unit: &Unit, statement: &Statement) -> bool
+    requires { IsSchema schema.now }
+    ensures { result ≡ lacks_current schema.now unit.now statement.now }
+{
+    match statement {
+        Statement::Find(form, _) => find_wants_null(schema, unit, form),
+        Statement::Store { rtype, .. } => store_wants_null(schema, unit, *rtype),
+        Statement::Insert(set) => has_null(schema, unit, *set),
+        _ => false,
+    }
+}
+
+fn is_open(statement: &Statement) -> bool
+    ensures { result ≡ is_open_statement statement.now }
+{
+    matches!(statement, Statement::OpenArea { .. })
+}
+
+fn is_update_of_records(statement: &Statement) -> bool
+    ensures { result ≡ changes_records statement.now }
+{
+    matches!(statement, Statement::Store { .. } | Statement::Insert(_) | Statement::Remove(_) | Statement::Modify { .. } | Statement::Delete(_))
+}
+
+fn finds_beyond(capacity: u16, statement: &Statement) -> bool
+    ensures { result ≡ is_beyond capacity statement.now }
+{
+    match statement {
+        Statement::Find(Form::Key(key), _) => (capacity as u32) < key.number,
+        _ => false,
+    }
+}
+
+fn frees_unkept(unit: &Unit, statement: &Statement) -> bool
+    ensures { result ≡ frees_what_is_not_kept unit.now statement.now }
+{
+    match statement {
+        Statement::Free { all: false } => {
+            match unit.currency.run_unit {
+                Some(key) => unit.kept_version(key).is_none(),
+                None => true,
+            }
+        }
+        _ => false,
+    }
+}
+
+/// The cause for which a statement is refused with no cell taken: the first that applies, and none where cells decide.
+pub fn refused_at_once(
+    schema: &Schema,
+    capacity: u16,
+    unit: &Unit,
+    statement: &Statement,
+) -> Option<Cause>
+    requires { IsSchema schema.now }
+    ensures { result ≡ refused_at_once schema.now capacity unit.now statement.now }
+{
+    if wants_current(statement) & unit.currency.run_unit.is_none() {
+        return Some(Cause::NoCurrentOfRunUnit);
+    }
+    if is_of_other_type(schema, unit, statement) {
+        return Some(Cause::OtherRecordType);
+    }
+    if inserts_mandatory_automatic(schema, unit, statement) {
+        return Some(Cause::MandatoryAutomatic);
+    }
+    if removes_mandatory(schema, unit, statement) {
+        return Some(Cause::Mandatory);
+    }
+    if opens_again(unit, statement) {
+        return Some(Cause::AreaAlreadyOpen);
+    }
+    if wants_null(schema, unit, statement) {
+        return Some(Cause::NoSuchCurrent);
+    }
+    if !is_open(statement) & ask_of_areas(schema, unit, &Question::NotOpen, statement) {
+        return Some(Cause::AreaNotOpen);
+    }
+    if is_update_of_records(statement)
+        & ask_of_areas(schema, unit, &Question::NotUpdate, statement)
+    {
+        return Some(Cause::UpdateModeNeeded);
+    }
+    if finds_beyond(capacity, statement) {
+        return Some(Cause::NoneSatisfies);
+    }
+    if frees_unkept(unit, statement) {
+        return Some(Cause::NotKept);
+    }
+    None
+}
