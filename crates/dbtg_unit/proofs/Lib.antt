@@ -65,3 +65,4 @@ pub mod LocalReady
 pub mod SortedPlaces
 pub mod EntryLemmas
 pub mod SkipLemmas
+pub mod HeldLemmas

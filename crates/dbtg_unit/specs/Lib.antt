@@ -35,3 +35,4 @@ pub mod StaysLegal
 pub mod Locality
 pub mod Prepared
 pub mod CanEdit
+pub mod Lends

@@ -1,72 +1,121 @@
-ghost use Rattle.std.specs.Prelude.{◌≡◌, option_copied};
-ghost use Rattle.dbtg_cells.specs.Names.{name_eq, place_eq};
+//! What a statement has in hand: areas and cells in the order of taking, and the unit's guesses of owners. Short lists
+//! live in place, so that most statements take no memory for them.
+ghost use Rattle.std.specs.Prelude.{◌≡◌, ◌==◌, [], ◌∷◌, ◌++◌, length, option_copied, slice_get, slice_set, IfErr, OnErr, OnOk};
+ghost use Rattle.std.specs.Borrow.{sem};
+ghost use Rattle.std.specs.List.{list_any, position_from};
+ghost use Rattle.std.specs.Option.{option_copied_mut, option_to_list};
+ghost use Rattle.dbtg_cells.specs.Names.{name_eq};
+ghost use Rattle.dbtg_schema.specs.Lookups.{at};
 ghost use Rattle.dbtg_unit.specs.Hands.{cell_of};
+ghost use Rattle.dbtg_unit.specs.Lends.{LendsCell};
 
-use dbtg_cells::{Cell, CellName, Owner};
-use dbtg_schema::{AreaNo, RecordNo, Row};
+
+use dbtg_cells::{Cell, CellName, Owner, same_name};
+use dbtg_schema::{AreaNo, Row, SetNo};
+use smallvec::SmallVec;
+use std::alloc::{AllocError, AllocFailed, Global};
 use std::marker::Model;
 
+/// What a statement needs next.
 #[derive(Drop)]
 pub enum Need {
+    /// This area, of those that it wants.
     Area(AreaNo),
+    /// This cell.
     Take(CellName),
+    /// Other guesses: the true owner in each set where its guess is wrong.
     Stale(Row<Option<Owner>>),
+    /// Nothing more.
     Ready,
 }
 
+/// The areas and cells that a statement holds, and the guesses of its unit, one for each set.
 #[derive(Drop)]
 pub struct Held {
-    areas: Vec<AreaNo>,
-    cells: Vec<(CellName, Cell)>,
-    guesses: Vec<Option<Owner>>,
+    areas: SmallVec<u8, 8>,
+    names: SmallVec<CellName, 8>,
+    cells: SmallVec<Cell, 8>,
+    guesses: Row<Option<Owner>>,
 }
 
 impl Model for Held {
+    ghost use Rattle.std.specs.Prelude.{◌≡◌, length};
+    ghost use Rattle.std.specs.List.{zip};
     ghost use Rattle.dbtg_unit.specs.Hands.{Hands};
 
     ghost Value = { Hands };
 
-    ghost view = { λ a. record { areas = a.areas.items; cells = a.cells.items; guesses = a.guesses.items } };
+    ghost view = { λ h. record { areas = h.areas.items; cells = zip h.names.items h.cells.items; guesses = h.guesses } };
+
+    ghost invariant = { λ h. length h.cells.items ≡ length h.names.items };
 }
 
-fn same_name(a: &CellName, b: &CellName) -> bool
-    ensures { result ≡ name_eq a.now b.now }
+fn is_among(areas: &[u8], area: u8) -> bool
+    ensures { result ≡ list_any (λ a. a == area) areas.now }
 {
-    match (a, b) {
-        (CellName::Usage(a), CellName::Usage(b)) => a.index() == b.index(),
-        (CellName::Extent(t), CellName::Extent(u)) => t.index() == u.index(),
-        (CellName::Ring(s, o), CellName::Ring(t, p)) => s.index() == t.index() && same_place(o, p),
-        (CellName::Slot(t, n), CellName::Slot(u, m)) => t.index() == u.index() && n == m,
-        _ => false,
+    for a in areas {
+        if *a == area {
+            return true;
+        }
     }
+    false
 }
 
-fn same_place(a: &Option<(RecordNo, u32)>, b: &Option<(RecordNo, u32)>) -> bool
-    ensures { result ≡ place_eq a.now b.now }
+fn find_name(names: &[CellName], name: &CellName) -> Option<usize>
+    ensures { result ≡ position_from (name_eq name.now) 0 names.now }
 {
-    match (a, b) {
-        (None, None) => true,
-        (Some((t, n)), Some((u, m))) => t.index() == u.index() && n == m,
-        _ => false,
-    }
-}
-
-/// The cell of a name among these.
-fn find_cell<'a>(cells: &'a [(CellName, Cell)], name: &CellName) -> Option<&'a Cell>
-    ensures { option_copied result ≡ cell_of name.now cells.now }
-{
-    for (held, cell) in cells {
-        if same_name(name, held) {
-            return Some(cell);
+    for (i, held) in names.iter().enumerate() {
+        if same_name(*name, *held) {
+            return Some(i);
         }
     }
     None
 }
 
+fn cell_at(cells: &[Cell], at: usize) -> Option<&Cell>
+    ensures { option_copied result ≡ slice_get cells.now at }
+{
+    cells.get(at)
+}
+
 impl Held {
+    /// Empty hands with these guesses.
+    pub fn new(alloc: Global, guesses: Row<Option<Owner>>) -> Self
+        ensures { result ≡ record { areas = []; cells = []; guesses = guesses } }
+    {
+        Self {
+            areas: SmallVec::new(alloc),
+            names: SmallVec::new(alloc),
+            cells: SmallVec::new(alloc),
+            guesses,
+        }
+    }
+
+    /// Is this area in hand?
+    pub fn has(&self, area: AreaNo) -> bool
+        ensures { result ≡ list_any (λ a. a == area) self.now.areas }
+    {
+        is_among(self.areas.as_slice(), area.index())
+    }
+
+    /// The cell of this name, if it is in hand.
     pub fn cell(&self, name: &CellName) -> Option<&Cell>
         ensures { option_copied result ≡ cell_of name.now self.now.cells }
     {
-        find_cell(self.cells.as_slice(), name)
+        match find_name(self.names.as_slice(), name) {
+            Some(at) => cell_at(self.cells.as_slice(), at),
+            None => None,
+        }
+    }
+
+    /// The cell of this name, if it is in hand, to be written.
+    pub fn cell_mut(&mut self, name: &CellName) -> Option<&mut Cell>
+        ensures* writes_back { sem 𝓛 (LendsCell name.now self.entry result) }
+        ensures value { option_copied_mut result ≡ cell_of name.now self.old.cells }
+    {
+        match find_name(self.names.as_slice(), name) {
+            Some(at) => self.cells.get_mut(at),
+            None => None,
+        }
     }
 }
