@@ -66,3 +66,4 @@ pub mod SortedPlaces
 pub mod EntryLemmas
 pub mod SkipLemmas
 pub mod HeldLemmas
+pub mod LoanLemmas
