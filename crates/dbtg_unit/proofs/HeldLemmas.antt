@@ -3,6 +3,7 @@ use Rattle.std.proofs.Common.{◌≡◌, refl, sym, ◌∙◌, ap, ℕ, zero, su
 use Rattle.std.specs.Prelude.{slice_get, slice_set}
 use Rattle.std.specs.List.{position_from, zip}
 use Rattle.std.proofs.lemmas.Bool.{cases_Bool}
+use Rattle.std.proofs.lemmas.List.{length-append}
 use Rattle.dbtg_cells.specs.declared.name.CellName.{CellName}
 use Rattle.dbtg_cells.specs.declared.cell.Cell.{Cell}
 use Rattle.dbtg_cells.specs.Names.{name_eq}
@@ -87,3 +88,19 @@ nowhere_from c (n ∷ ns) (x ∷ xs) base h =
 
 pub no_cell : (c : CellName) (names : List CellName) (cells : List Cell) → position_from (name_eq c) 0 names ≡ None → cell_of c (zip names cells) ≡ None
 no_cell c names cells h = nowhere_from c names cells 0 h
+
+zip_push : (ns : List CellName) (cs : List Cell) (n : CellName) (x : Cell) → length cs ≡ length ns → zip (ns ++ n ∷ []) (cs ++ x ∷ []) ≡ zip ns cs ++ (n, x) ∷ []
+zip_push [] [] n x h = refl
+zip_push [] (y ∷ ys) n x h = absurd (omega arith)
+zip_push (m ∷ ms) [] n x h = absurd (omega arith)
+zip_push (m ∷ ms) (y ∷ ys) n x h = ap (λ es. (m, y) ∷ es) (zip_push ms ys n x (omega arith))
+
+-- a name and a cell more
+pub pushed : (ns ms : List CellName) (cs ds : List Cell) (n : CellName) (x : Cell) → length cs ≡ length ns → ms ≡ ns ++ n ∷ [] → ds ≡ cs ++ x ∷ [] → zip ms ds ≡ zip ns cs ++ (n, x) ∷ []
+pushed ns ms cs ds n x h names cells = (λ i. zip (names i) (cells i)) ∙ zip_push ns cs n x h
+
+-- the same from behind
+pub popped : (ns ms : List CellName) (cs ds : List Cell) (n : CellName) (x : Cell) → length ds ≡ length ms → ms ≡ ns ++ n ∷ [] → ds ≡ cs ++ x ∷ [] → zip ms ds ≡ zip ns cs ++ (n, x) ∷ []
+popped ns ms cs ds n x h names cells =
+    let long : length cs ≡ length ns = omega (arith, h, ap length names, ap length cells, length-append ns (n ∷ []), length-append cs (x ∷ [])) in
+    pushed ns ms cs ds n x long names cells

@@ -10,6 +10,7 @@ ghost use Rattle.dbtg_unit.specs.Hands.{cell_of};
 ghost use Rattle.dbtg_unit.specs.Lends.{LendsCell};
 
 
+use crate::entries::{entry_at, set_entry};
 use dbtg_cells::{Cell, CellName, Owner, same_name};
 use dbtg_schema::{AreaNo, Row, SetNo};
 use smallvec::SmallVec;
@@ -117,5 +118,72 @@ impl Held {
             Some(at) => self.cells.get_mut(at),
             None => None,
         }
+    }
+}
+
+impl Held {
+    /// Takes an area in hand, behind the others. Where no room is found nothing changes.
+    pub fn push_area(&mut self, area: AreaNo) -> Result<(), AllocError>
+        ensures ok { OnOk result (self.new ≡ record self.old { areas = self.old.areas ++ area ∷ [] }) }
+        ensures err { OnErr result (self.new ≡ self.old) }
+    {
+        self.areas.push(area.index())?;
+        Ok(())
+    }
+
+    /// Gives the area back that was taken last.
+    pub fn pop_area(&mut self) -> Option<AreaNo>
+        ensures areas { self.old.areas ≡ self.new.areas ++ option_to_list result }
+        ensures rest { self.new ≡ record self.old { areas = self.new.areas } }
+    {
+        match self.areas.pop() {
+            Some(area) => Some(AreaNo::new(area)),
+            None => None,
+        }
+    }
+
+    /// Takes a cell in hand, behind the others. Where no room is found nothing changes, and the error has the cell.
+    pub fn push_cell(&mut self, name: CellName, cell: Cell) -> Result<(), AllocFailed<Cell>>
+        ensures ok { OnOk result (self.new ≡ record self.old { cells = self.old.cells ++ (name, cell) ∷ [] }) }
+        ensures err { OnErr result (self.new ≡ self.old) }
+        ensures value_returned { IfErr result (λ failed. failed.value ≡ cell) }
+    {
+        if self.names.reserve(1).is_err() {
+            return Err(AllocFailed { value: cell });
+        }
+        self.cells.push(cell)?;
+        self.names.push_reserved(name);
+        Ok(())
+    }
+
+    /// Gives the cell back that was taken last, under its name.
+    pub fn pop_cell(&mut self) -> Option<(CellName, Cell)>
+        ensures cells { self.old.cells ≡ self.new.cells ++ option_to_list result }
+        ensures rest { self.new ≡ record self.old { cells = self.new.cells } }
+    {
+        let name = self.names.pop()?;
+        let cell = self.cells.pop()?;
+        Some((name, cell))
+    }
+
+    /// The owner in a set of the unit's current of run-unit, as the unit last saw it.
+    pub fn guess(&self, set: SetNo) -> Option<Owner>
+        ensures { result ≡ at self.now.guesses set }
+    {
+        entry_at(self.guesses.as_slice(), set.index() as usize)
+    }
+
+    /// All guesses, by set.
+    pub fn guesses(&self) -> &[Option<Owner>]
+        ensures { result.now ≡ self.now.guesses }
+    {
+        self.guesses.as_slice()
+    }
+
+    /// Guesses another owner in a set.
+    pub fn set_guess(&mut self, set: SetNo, owner: Option<Owner>)
+        ensures { self.new ≡ record self.old { guesses = slice_set self.old.guesses set owner } }
+    {
+        set_entry(&mut self.guesses, set.index() as usize, owner);
     }
 }

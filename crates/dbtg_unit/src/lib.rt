@@ -17,6 +17,8 @@ mod kept;
 mod owners;
 mod laws;
 mod legality;
+
+mod order;
 mod places;
 mod reach;
 mod see;
