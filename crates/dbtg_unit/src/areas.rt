@@ -15,7 +15,7 @@ use crate::entries::entry_at;
 use crate::reach::reachable;
 use crate::statement::{Change, Form, Statement};
 use crate::unit::Unit;
-use dbtg_cells::{DbKey, Mode};
+use dbtg_cells::DbKey;
 use dbtg_schema::{AreaNo, ItemNo, RecordNo, Schema, SetNo};
 
 /// What is asked of an area.
@@ -29,12 +29,6 @@ pub enum Question {
     Is(AreaNo),
 }
 
-fn is_for_update(mode: Mode) -> bool
-    ensures { result ≡ is_update mode }
-{
-    matches!(mode, Mode::Update | Mode::ProtectedUpdate | Mode::ExclusiveUpdate)
-}
-
 fn ask(unit: &Unit, question: &Question, area: AreaNo) -> bool
     ensures { result ≡ asks unit.now.modes question.now area }
 {
@@ -42,7 +36,7 @@ fn ask(unit: &Unit, question: &Question, area: AreaNo) -> bool
         Question::NotOpen => entry_at(unit.modes.as_slice(), area.index() as usize).is_none(),
         Question::NotUpdate => {
             match entry_at(unit.modes.as_slice(), area.index() as usize) {
-                Some(mode) => !is_for_update(mode),
+                Some(mode) => !mode.is_update(),
                 None => true,
             }
         }
@@ -59,8 +53,8 @@ fn ask_of_key(schema: &Schema, unit: &Unit, question: &Question, key: Option<DbK
     }
 }
 
-// Does STORE connect a record of this type in the set?
-pub(crate) fn is_automatic_in(schema: &Schema, set: SetNo, rtype: RecordNo) -> bool
+/// Does STORE connect a record of this type in the set?
+pub fn is_automatic_in(schema: &Schema, set: SetNo, rtype: RecordNo) -> bool
     ensures { result ≡ some_and (λ m. is_automatic m.class) (member_clause schema.now set rtype) }
 {
     match schema.member_clause(set, rtype) {

@@ -3,19 +3,9 @@ ghost use Rattle.std.specs.Prelude.{◌≡◌, IfOk, List};
 
 use crate::statement::{Change, Form, Statement};
 use crate::unit::{Answer, Currency, Entry, Unit};
-use dbtg_cells::Value;
+use dbtg_cells::copy_items;
 use dbtg_schema::Row;
 use std::alloc::{AllocError, Global};
-
-fn copy_values(alloc: Global, values: &[Value]) -> Result<Row<Value>, AllocError>
-    ensures { IfOk result (λ row. row ≡ values.now) }
-{
-    let mut copies = Vec::new(alloc);
-    for value in values {
-        copies.push(value.copy(alloc)?)?;
-    }
-    Ok(Row::of(copies))
-}
 
 fn copy_changes(alloc: Global, changes: &[Change]) -> Result<Row<Change>, AllocError>
     ensures { IfOk result (λ row. row ≡ changes.now) }
@@ -65,7 +55,7 @@ impl Form {
             }
             Form::OwnerOf(set) => Ok(Form::OwnerOf(*set)),
             Form::Calc { rtype, values } => {
-                let values = copy_values(alloc, values.as_slice())?;
+                let values = copy_items(values, alloc)?;
                 Ok(Form::Calc {
                     rtype: *rtype,
                     values,
@@ -99,7 +89,7 @@ impl Statement {
                 items,
                 suppress,
             } => {
-                let items = copy_values(alloc, items.as_slice())?;
+                let items = copy_items(items, alloc)?;
                 Ok(Statement::Store {
                     rtype: *rtype,
                     items,
@@ -159,7 +149,7 @@ impl Answer {
         ensures { IfOk result (λ answer. answer ≡ self.now) }
     {
         let items = match &self.items {
-            Some(items) => Some(copy_values(alloc, items.as_slice())?),
+            Some(items) => Some(copy_items(items, alloc)?),
             None => None,
         };
         Ok(Self {
