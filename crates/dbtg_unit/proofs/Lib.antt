@@ -67,3 +67,4 @@ pub mod EntryLemmas
 pub mod SkipLemmas
 pub mod HeldLemmas
 pub mod LoanLemmas
+pub mod EffectEdits

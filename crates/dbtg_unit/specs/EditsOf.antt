@@ -1,5 +1,5 @@
--- The edits by which each statement, when nothing refuses it, changes the cells.
-use Rattle.std.specs.Prelude.{ℕ, Bool, true, false, cond, not, ◌&&◌, ◌==◌, List, [], ◌∷◌, ◌++◌, Option, Some, None, is_some, map, filter, option_map, option_and_then, unwrap_or, if◌then◌else◌}
+-- The edits by which a statement changes the cells, where nothing refuses it.
+use Rattle.std.specs.Prelude.{◌≡◌, ℕ, Bool, true, false, cond, not, ◌&&◌, ◌==◌, List, [], ◌∷◌, ◌++◌, Option, Some, None, is_some, map, filter, option_map, option_and_then, unwrap_or, if◌then◌else◌}
 use Rattle.std.specs.List.{list_any, flat_map}
 use Rattle.dbtg_schema.specs.Lists.{Lists}
 use Rattle.dbtg_schema.specs.Structure.{automatic_sets, order_of, owns, rekeyed_sets, set_numbers}
@@ -18,7 +18,13 @@ use Rattle.dbtg_unit.specs.declared.unit.Unit.{Unit}
 use Rattle.dbtg_unit.specs.Base.{Database, items_of, calc_items, key_item, owner_of}
 use Rattle.dbtg_unit.specs.CellNames.{slot_name, place_of}
 use Rattle.dbtg_unit.specs.Units.{place_in}
-use Rattle.dbtg_unit.specs.Effect.{changed_items, names_calc, replaced_sets}
+use Rattle.dbtg_unit.specs.declared.statement.Statement.{Statement}
+use Rattle.dbtg_unit.specs.declared.statement.Statement.TheVariants.{OpenArea, CloseArea, Store, Insert, Remove, Modify, Delete}
+use Rattle.dbtg_unit.specs.declared.unit.Status.TheVariants.{Done}
+use Rattle.dbtg_unit.specs.Cells.{cell}
+use Rattle.dbtg_unit.specs.Edits.{edited_at}
+use Rattle.dbtg_unit.specs.Effect.{changed_items, effect, free_number, names_calc, new_key, replaced_sets}
+use Rattle.dbtg_unit.specs.Legal.{Legal}
 
 -- an edit of the ring of an owner, where there is one
 abbrev pub ring_edits : ℕ → Option Owner → List Edit → List CellEdit
@@ -72,3 +78,29 @@ modify_edits schema capacity db unit changes k =
     (if names_calc schema k.rtype changes then record { name = Extent k.rtype; edit = ChangeNumber k.number (calc_items schema k.rtype items) } ∷ [] else [])
     ++ (flat_map (replacing_edits schema capacity db unit k items) (replaced_sets schema capacity db changes k)
     ++ slot_edit k (ChangeItems items) ∷ (slot_edit k RaiseVersion ∷ []))
+
+-- the edits of a statement about the current of run-unit
+abbrev pub edits_of_current : Option DbKey → (DbKey → List CellEdit) → List CellEdit
+edits_of_current None edits = []
+edits_of_current (Some k) edits = edits k
+
+-- the edits of a statement; those of a DELETE are not said here
+abbrev pub edits_of : Lists → ℕ → Database → Unit → Statement → List CellEdit
+edits_of schema capacity db unit (OpenArea a mode) = record { name = Usage a; edit = EnterUser unit.number mode } ∷ []
+edits_of schema capacity db unit (CloseArea a) = record { name = Usage a; edit = LeaveUser unit.number } ∷ []
+edits_of schema capacity db unit (Store t items suppress) = store_edits schema unit (new_key db t (unwrap_or (free_number capacity db t) 0)) items
+edits_of schema capacity db unit (Insert s) = edits_of_current unit.currency.run_unit (insert_edits schema db unit s)
+edits_of schema capacity db unit (Remove s) = edits_of_current unit.currency.run_unit (remove_edits schema capacity db s)
+edits_of schema capacity db unit (Modify t changes) = edits_of_current unit.currency.run_unit (modify_edits schema capacity db unit changes)
+edits_of schema capacity db unit _ = []
+
+abbrev pub is_delete : Statement → Bool
+is_delete (Delete option) = true
+is_delete _ = false
+
+-- a statement other than DELETE that is done, and that leaves the database legal, changes the cells by its edits
+abbrev pub EffectIsItsEdits : Type 0
+EffectIsItsEdits =
+    (schema : Lists) (capacity : ℕ) (db : Database) (unit : Unit) (statement : Statement) → is_delete statement ≡ false
+    → Legal schema capacity db → Legal schema capacity (effect schema capacity db unit statement).database → (effect schema capacity db unit statement).answer.status ≡ Done
+    → (c : CellName) → cell schema capacity (effect schema capacity db unit statement).database c ≡ edited_at c (edits_of schema capacity db unit statement) (cell schema capacity db c)
