@@ -1,7 +1,7 @@
 //! The areas that a DELETE may reach. Takes no memory.
 
-ghost use Rattle.std.specs.Prelude.{◌≡◌, ◌==◌, ◌<◌, ◌≤◌, ◌||◌, ℕ, length};
-ghost use Rattle.std.specs.List.{list_any};
+ghost use Rattle.std.specs.Prelude.{◌≡◌, ◌==◌, ◌<◌, ◌≤◌, ◌||◌, ℕ, length, filter};
+ghost use Rattle.std.specs.List.{list_any, range_with_len};
 ghost use Rattle.dbtg_schema.specs.Structure.{erase_areas, reachable_types};
 ghost use Rattle.dbtg_schema.specs.Erasing.{leads_to, is_home_of, touches, marked, is_next, is_touched};
 
@@ -91,4 +91,35 @@ fn one_step(schema: &Schema, sets: u8, types: u8, marks: &[bool], start: RecordN
         next[y as usize] = is_start | is_led_to(schema, sets, types, marks, RecordNo::new(y));
     }
     next
+}
+
+/// Marks the types that can be reached from this one by going from owner type to member type.
+fn reachable(schema: &Schema, sets: u8, types: u8, start: RecordNo) -> [bool; 16]
+    requires sets { sets ≡ length schema.now.sets }
+    requires types { types ≡ length schema.now.types }
+    requires few { types ≤ 16 }
+    ensures { filter (marked result) (range_with_len 0 (length schema.now.types)) ≡ reachable_types schema.now start }
+{
+    let mut marks = [false; 16];
+    for round in 0..types {
+        marks = one_step(schema, sets, types, &marks, start);
+    }
+    marks
+}
+
+impl Schema {
+    /// The areas that a DELETE of a record of this type may reach: over the types that can be reached from it by
+    /// going from owner type to member type, the type's area and the homes of the sets in which it is a member.
+    pub fn erase_areas(&self, rtype: RecordNo) -> AreaSet
+        ensures { (a : ℕ) → a < 8 → marked result.members a ≡ list_any (λ b. b == a) (erase_areas self.now rtype) }
+    {
+        let sets = self.sets().len() as u8;
+        let types = self.types().len() as u8;
+        let marks = reachable(self, sets, types, rtype);
+        let mut members = [false; 8];
+        for a in 0..8u8 {
+            members[a as usize] = is_reached(self, sets, types, &marks, AreaNo::new(a));
+        }
+        AreaSet { members }
+    }
 }

@@ -22,6 +22,7 @@ mod shape;
 #[cfg(test)]
 mod tests;
 
+pub use erasing::AreaSet;
 pub use fault::{Cause, SchemaFault};
 pub use numbers::{AreaNo, ItemNo, RecordNo, SetNo};
 pub use row::Row;
