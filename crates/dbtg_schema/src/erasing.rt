@@ -7,17 +7,28 @@ ghost use Rattle.dbtg_schema.specs.Erasing.{leads_to, is_home_of, touches, marke
 
 use crate::numbers::{AreaNo, RecordNo, SetNo};
 use crate::schema::Schema;
+use std::marker::Model;
 
-/// A set of areas.
+/// A set of areas. Contracts see a mark for each of the eight areas that a schema can have.
 #[derive(Clone, Copy, Debug, PartialEq, Eq)]
 pub struct AreaSet {
     members: [bool; 8],
 }
 
+impl Model for AreaSet {
+    ghost use Rattle.std.specs.Prelude.{Bool, List};
+
+    ghost Value = { List Bool };
+
+    ghost view = { λ s. s.members };
+
+    ghost inverse = { λ marks. record { members = marks } };
+}
+
 impl AreaSet {
     /// Is this area in the set?
     pub fn contains(&self, area: AreaNo) -> bool
-        ensures { result ≡ marked self.now.members area }
+        ensures { result ≡ marked self.now area }
     {
         is_marked(&self.members, area.index())
     }
@@ -111,7 +122,7 @@ impl Schema {
     /// The areas that a DELETE of a record of this type may reach: over the types that can be reached from it by
     /// going from owner type to member type, the type's area and the homes of the sets in which it is a member.
     pub fn erase_areas(&self, rtype: RecordNo) -> AreaSet
-        ensures { (a : ℕ) → a < 8 → marked result.members a ≡ list_any (λ b. b == a) (erase_areas self.now rtype) }
+        ensures { (a : ℕ) → a < 8 → marked result a ≡ list_any (λ b. b == a) (erase_areas self.now rtype) }
     {
         let sets = self.sets().len() as u8;
         let types = self.types().len() as u8;

@@ -9,6 +9,7 @@ mod entries;
 mod erasing;
 mod fault;
 mod find;
+pub mod laws;
 mod names;
 mod numbers;
 mod pictures;
