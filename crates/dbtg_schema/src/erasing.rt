@@ -1,23 +1,34 @@
 //! The areas that a DELETE may reach. Takes no memory.
 
-ghost use Rattle.std.specs.Prelude.{◌≡◌, ◌==◌, ◌<◌, ◌≤◌, ◌||◌, ℕ, length};
-ghost use Rattle.std.specs.List.{list_any};
+ghost use Rattle.std.specs.Prelude.{◌≡◌, ◌==◌, ◌<◌, ◌≤◌, ◌||◌, ℕ, length, filter};
+ghost use Rattle.std.specs.List.{list_any, range_with_len};
 ghost use Rattle.dbtg_schema.specs.Structure.{erase_areas, reachable_types};
 ghost use Rattle.dbtg_schema.specs.Erasing.{leads_to, is_home_of, touches, marked, is_next, is_touched};
 
 use crate::numbers::{AreaNo, RecordNo, SetNo};
 use crate::schema::Schema;
+use std::marker::Model;
 
-/// A set of areas.
+/// A set of areas. Contracts see a mark for each of the eight areas that a schema can have.
 #[derive(Clone, Copy, Debug, PartialEq, Eq)]
 pub struct AreaSet {
     members: [bool; 8],
 }
 
+impl Model for AreaSet {
+    ghost use Rattle.std.specs.Prelude.{Bool, List};
+
+    ghost Value = { List Bool };
+
+    ghost view = { λ s. s.members };
+
+    ghost inverse = { λ marks. record { members = marks } };
+}
+
 impl AreaSet {
     /// Is this area in the set?
     pub fn contains(&self, area: AreaNo) -> bool
-        ensures { result ≡ marked self.now.members area }
+        ensures { result ≡ marked self.now area }
     {
         is_marked(&self.members, area.index())
     }
@@ -91,4 +102,35 @@ fn one_step(schema: &Schema, sets: u8, types: u8, marks: &[bool], start: RecordN
         next[y as usize] = is_start | is_led_to(schema, sets, types, marks, RecordNo::new(y));
     }
     next
+}
+
+/// Marks the types that can be reached from this one by going from owner type to member type.
+fn reachable(schema: &Schema, sets: u8, types: u8, start: RecordNo) -> [bool; 16]
+    requires sets { sets ≡ length schema.now.sets }
+    requires types { types ≡ length schema.now.types }
+    requires few { types ≤ 16 }
+    ensures { filter (marked result) (range_with_len 0 (length schema.now.types)) ≡ reachable_types schema.now start }
+{
+    let mut marks = [false; 16];
+    for round in 0..types {
+        marks = one_step(schema, sets, types, &marks, start);
+    }
+    marks
+}
+
+impl Schema {
+    /// The areas that a DELETE of a record of this type may reach: over the types that can be reached from it by
+    /// going from owner type to member type, the type's area and the homes of the sets in which it is a member.
+    pub fn erase_areas(&self, rtype: RecordNo) -> AreaSet
+        ensures { (a : ℕ) → a < 8 → marked result a ≡ list_any (λ b. b == a) (erase_areas self.now rtype) }
+    {
+        let sets = self.sets().len() as u8;
+        let types = self.types().len() as u8;
+        let marks = reachable(self, sets, types, rtype);
+        let mut members = [false; 8];
+        for a in 0..8u8 {
+            members[a as usize] = is_reached(self, sets, types, &marks, AreaNo::new(a));
+        }
+        AreaSet { members }
+    }
 }

@@ -9,6 +9,7 @@ mod entries;
 mod erasing;
 mod fault;
 mod find;
+pub mod laws;
 mod names;
 mod numbers;
 mod pictures;
@@ -22,6 +23,7 @@ mod shape;
 #[cfg(test)]
 mod tests;
 
+pub use erasing::AreaSet;
 pub use fault::{Cause, SchemaFault};
 pub use numbers::{AreaNo, ItemNo, RecordNo, SetNo};
 pub use row::Row;

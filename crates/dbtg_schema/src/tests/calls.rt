@@ -49,6 +49,10 @@ fn what_a_schema_says(rt: HostRuntime) {
     assert!(rt; shop.connects(lines, item) && !shop.connects(watch, item));
     assert_eq!(rt; shop.home(has), AreaNo::new(0));
     assert_eq!(rt; shop.home(watch), AreaNo::new(1));
+    let from_item = shop.erase_areas(item);
+    assert!(rt; from_item.contains(AreaNo::new(0)) && from_item.contains(AreaNo::new(1)));
+    let reached = shop.erase_areas(customer);
+    assert!(rt; reached.contains(AreaNo::new(0)) && reached.contains(AreaNo::new(1)) && !reached.contains(AreaNo::new(2)));
     assert!(rt; shop.record_type(RecordNo::new(3)).is_none());
     assert!(rt; shop.set_type(SetNo::new(3)).is_none());
 }

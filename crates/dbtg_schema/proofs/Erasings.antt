@@ -1,0 +1,92 @@
+-- The marked types are those that are reached, and touch the areas of a DELETE.
+use Rattle.std.proofs.Common.{◌≡◌, ℕ, zero, suc, ◌+◌, ◌<◌, ◌≤◌, Bool, true, false, cond, ◌&&◌, ◌||◌, ◌==◌, List, [], ◌∷◌, ◌++◌, length, map, refl, sym, ap, subst, ◌∙◌, arith}
+use Rattle.std.specs.Prelude.{filter, is_some, not}
+use Rattle.std.specs.List.{list_any, list_all, range_with_len}
+use Rattle.std.proofs.lemmas.List.FromFn.{length-range_with_len}
+use Rattle.dbtg_schema.specs.Lists.{Lists}
+use Rattle.dbtg_schema.specs.Lookups.{flatten}
+use Rattle.dbtg_schema.specs.Closure.{grown, reached_in, least_closed}
+use Rattle.dbtg_schema.specs.Structure.{owns, member_clause, set_numbers, home, area_of, areas_with_homes, erase_areas, reachable_types}
+use Rattle.dbtg_schema.specs.Erasing.{leads_to, is_home_of, touches, marked, is_next, is_touched}
+
+any_filter : (q p : ℕ → Bool) (xs : List ℕ) → list_any q (filter p xs) ≡ list_any (λ x. p x && q x) xs
+any_filter q p [] = refl
+any_filter q p (x ∷ xs) = step (p x) (any_filter q p xs)
+  where
+    step : (b : Bool) → list_any q (filter p xs) ≡ list_any (λ x. p x && q x) xs → list_any q (cond b (x ∷ filter p xs) (filter p xs)) ≡ ((b && q x) || list_any (λ x. p x && q x) xs)
+    step true h = ap (λ z. q x || z) h
+    step false h = h
+
+any_map : (p : ℕ → Bool) (f : ℕ → ℕ) (xs : List ℕ) → list_any p (map f xs) ≡ list_any (λ x. p (f x)) xs
+any_map p f [] = refl
+any_map p f (x ∷ xs) = ap (λ z. p (f x) || z) (any_map p f xs)
+
+any_append : (p : ℕ → Bool) (xs ys : List ℕ) → list_any p (xs ++ ys) ≡ (list_any p xs || list_any p ys)
+any_append p [] ys = refl
+any_append p (x ∷ xs) ys = step (p x) (any_append p xs ys)
+  where
+    step : (b : Bool) → list_any p (xs ++ ys) ≡ (list_any p xs || list_any p ys) → (b || list_any p (xs ++ ys)) ≡ ((b || list_any p xs) || list_any p ys)
+    step true h = refl
+    step false h = h
+
+any_flatten : (p : ℕ → Bool) (f : ℕ → List ℕ) (xs : List ℕ) → list_any p (flatten (map f xs)) ≡ list_any (λ x. list_any p (f x)) xs
+any_flatten p f [] = refl
+any_flatten p f (x ∷ xs) = any_append p (f x) (flatten (map f xs)) ∙ ap (λ z. list_any p (f x) || z) (any_flatten p f xs)
+
+any_same : (p q : ℕ → Bool) (xs : List ℕ) → ((x : ℕ) → p x ≡ q x) → list_any p xs ≡ list_any q xs
+any_same p q [] h = refl
+any_same p q (x ∷ xs) h = ap (λ z. z || list_any p xs) (h x) ∙ ap (λ z. q x || z) (any_same p q xs h)
+
+filter_range : (p q : ℕ → Bool) (i n : ℕ) → ((k : ℕ) → k < i + n → p k ≡ q k) → filter p (range_with_len i n) ≡ filter q (range_with_len i n)
+filter_range p q i zero h = refl
+filter_range p q i (suc n) h =
+    ap (λ b. cond b (i ∷ filter p (range_with_len (i + 1) n)) (filter p (range_with_len (i + 1) n))) (h i (omega arith))
+    ∙ ap (λ (ys : List ℕ). cond (q i) (i ∷ ys) ys) (filter_range p q (i + 1) n (λ k l. h k (omega arith)))
+
+filter_none : (p : ℕ → Bool) (xs : List ℕ) → ((k : ℕ) → p k ≡ false) → filter p xs ≡ []
+filter_none p [] h = refl
+filter_none p (x ∷ xs) h = ap (λ b. cond b (x ∷ filter p xs) (filter p xs)) (h x) ∙ filter_none p xs h
+
+abbrev types_of : Lists → List ℕ
+types_of schema = range_with_len 0 (length schema.types)
+
+abbrev leads : Lists → ℕ → ℕ → Bool
+leads schema o m = list_any (λ s. owns schema s o && is_some (member_clause schema s m)) (set_numbers schema)
+
+-- one round more
+pub next_round : (schema : Lists) (t k : ℕ) (old new : List Bool) → filter (marked old) (types_of schema) ≡ reached_in (leads schema) (λ u. u == t) (types_of schema) k
+    → ((y : ℕ) → y < length schema.types → marked new y ≡ (y == t || is_next schema old y)) → filter (marked new) (types_of schema) ≡ reached_in (leads schema) (λ u. u == t) (types_of schema) (suc k)
+unfolding is_next leads_to
+next_round schema t k old new same made =
+    let same_next = λ (y : ℕ) (l : y < 0 + length schema.types).
+      made y (omega arith) ∙ ap (λ b. y == t || b) (sym (any_filter (λ x. leads schema x y) (marked old) (types_of schema)) ∙ ap (list_any (λ x. leads schema x y)) same) in
+    filter_range (marked new) (λ y. y == t || list_any (λ x. leads schema x y) (reached_in (leads schema) (λ u. u == t) (types_of schema) k)) 0 (length schema.types) same_next
+
+-- no type is marked at first
+pub none_marked : (schema : Lists) (t : ℕ) (marks : List Bool) → ((y : ℕ) → marked marks y ≡ false) → filter (marked marks) (types_of schema) ≡ []
+none_marked schema t marks h = filter_none (marked marks) (types_of schema) h
+
+touches_is : (schema : Lists) (t a : ℕ) → list_any (λ b. b == a) (areas_with_homes schema t) ≡ touches schema t a
+unfolding is_home_of
+touches_is schema t a =
+    ap (λ z. area_of schema t == a || z) (any_map (λ b. b == a) (home schema) (filter (λ s. is_some (member_clause schema s t)) (set_numbers schema))
+      ∙ any_filter (λ s. home schema s == a) (λ s. is_some (member_clause schema s t)) (set_numbers schema))
+
+-- what the marked types touch are the areas of a DELETE
+pub touched : (schema : Lists) (t a : ℕ) (marks : List Bool) → filter (marked marks) (types_of schema) ≡ reachable_types schema t → is_touched schema marks a ≡ list_any (λ b. b == a) (erase_areas schema t)
+unfolding is_touched
+touched schema t a marks same =
+    sym (any_flatten (λ b. b == a) (areas_with_homes schema) (reachable_types schema t)
+      ∙ ap (list_any (λ x. list_any (λ b. b == a) (areas_with_homes schema x))) (sym same)
+      ∙ any_filter (λ x. list_any (λ b. b == a) (areas_with_homes schema x)) (marked marks) (types_of schema)
+      ∙ any_same (λ x. marked marks x && list_any (λ b. b == a) (areas_with_homes schema x)) (λ x. marked marks x && touches schema x a) (types_of schema) (λ x. ap (λ z. marked marks x && z) (touches_is schema x a)))
+
+pub off : (marks : List Bool) (n : ℕ) → list_all not marks ≡ true → marked marks n ≡ false
+off [] n h = refl
+off (true ∷ marks) n h = absurd cc
+off (false ∷ marks) zero h = refl
+off (false ∷ marks) (suc n) h = off marks n h
+
+pub all_rounds : (schema : Lists) (t k : ℕ) (marks : List Bool) → filter (marked marks) (types_of schema) ≡ reached_in (leads schema) (λ u. u == t) (types_of schema) k → k ≡ length schema.types → filter (marked marks) (types_of schema) ≡ reachable_types schema t
+all_rounds schema t k marks same e =
+    subst (λ (n : ℕ). filter (marked marks) (types_of schema) ≡ reached_in (leads schema) (λ u. u == t) (types_of schema) n) (e ∙ sym (length-range_with_len 0 (length schema.types))) same

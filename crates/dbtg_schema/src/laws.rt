@@ -1,0 +1,11 @@
+//! Laws of the definitions. The functions do nothing: their contracts are the laws.
+
+ghost use Rattle.std.specs.Prelude.{◌≡◌, ◌∷◌, List, None};
+ghost use Rattle.dbtg_schema.specs.Forms.{starts, start_with, Derives};
+ghost use Rattle.dbtg_schema.specs.SchemaGrammar.{Form, Labelled, fits};
+
+/// Where no start of a form fits a word, nothing that the form derives begins with that word: what a reader refuses
+/// there, it refuses because the grammar has nothing.
+pub fn an_unwanted_word_begins_nothing()
+    ensures { (f : Form) (l : Labelled) (ws : List Labelled) → start_with fits l.word (starts f) ≡ None → Derives fits f (l ∷ ws) → ⊥ }
+{}
