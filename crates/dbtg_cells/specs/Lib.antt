@@ -9,3 +9,5 @@ pub mod Numbers
 pub mod Numbering
 pub mod Cells
 pub mod Names
+pub mod Chain
+pub mod Links
