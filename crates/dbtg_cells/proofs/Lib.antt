@@ -7,3 +7,4 @@ mod ChainLemmas
 mod RingLemmas
 mod Places
 mod RingReads
+pub mod PlacedLaws

@@ -11,3 +11,4 @@ pub mod Cells
 pub mod Names
 pub mod Chain
 pub mod Links
+pub mod CellNumbers
