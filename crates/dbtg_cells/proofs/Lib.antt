@@ -2,3 +2,9 @@ pub mod ValueLemmas
 mod PlainLemmas
 mod Occurrences
 mod ExtentLemmas
+pub mod KeyLemmas
+mod ChainLemmas
+mod RingLemmas
+mod Places
+mod RingReads
+pub mod PlacedLaws

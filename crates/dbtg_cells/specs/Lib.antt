@@ -10,3 +10,6 @@ pub mod Numbering
 pub mod Cells
 pub mod Names
 pub mod CellOrder
+pub mod Chain
+pub mod Links
+pub mod CellNumbers

@@ -1,16 +1,68 @@
-use Rattle.std.proofs.Common.{◌≡◌, sym, ◌∙◌, ap, arith, suc, subst, length, map, filter, not, add-one, IsTrue, ◌≤◌, ◌<◌, ◌+◌, rules, unwrap_or, option_map, is_ok, true}
-use Rattle.std.specs.List.{insert, list_any, position_or_len}
-use Rattle.dbtg_schema.specs.Lookups.{first, final, behind, in_front}
-use Rattle.dbtg_cells.specs.Members.{Entry, has_key, without_key, members_in, with_members}
-use Rattle.dbtg_cells.specs.Placed.{after, before}
+use Rattle.std.proofs.Common.{◌≡◌, ◌∷◌, [], ◌++◌, sym, ap, ◌∙◌, subst, refl, arith, ◌<◌, ◌≤◌, ◌+◌, ◌^◌, length, true≢false, true, false, not, Bool, ℕ, Some, None, Contains, IsTrue, is_some, map, filter, reverse, slice_get, cond, List, Option, IfOk}
+use Rattle.std.proofs.lemmas.List.{append-nil, append_assoc, length-map}
+use Rattle.std.specs.Map.{lookup}
+use Rattle.std.specs.List.{list_any, find}
+use Rattle.std.specs.Option.{option_copied, option_map, option_map_or}
+use Rattle.indexmap.specs.IndexMap.{get}
+use Rattle.dbtg_schema.specs.Lookups.{first, final, behind, in_front, some_and}
+use Rattle.dbtg_cells.specs.declared.key.DbKey.{DbKey}
+use Rattle.dbtg_cells.specs.declared.ring.Node.{Node}
+use Rattle.dbtg_cells.specs.Keys.{key_eq, has_type, is_member, value_eq}
 use Rattle.dbtg_cells.specs.Orders.{comes_before}
-use Rattle.dbtg_cells.specs.Keys.{key_eq, has_type, is_member}
-use Rattle.dbtg_cells.proofs.PlainLemmas.{behind-map, in_front-map, any-map, place-within, after-insert, before-insert, insert-last, shorter, shorter-by_one, length-insert, length-maybe_insert}
-use Rattle.dbtg_cells.proofs.Occurrences.{changed, keys-shown, members-shown, member-there}
+use Rattle.dbtg_cells.specs.Members.{Entry, members_in, keys_in, has_key, has_room, with_members, without_key, has_sort_key}
+use Rattle.dbtg_cells.specs.Placed.{after, before}
+use Rattle.dbtg_cells.specs.Chain.{slot, follow, linked_at, unlinked_keys}
+use Rattle.dbtg_cells.proofs.Places.{HasMember}
+use Rattle.dbtg_cells.proofs.PlainLemmas.{any-map, behind-map, in_front-map, map-reverse}
+use Rattle.dbtg_cells.proofs.Occurrences.{changed, keys-shown, members-shown, member-there, shown_as}
+use Rattle.dbtg_cells.proofs.RingLemmas.{reserved_found, reserved_at, len-fits, placing, parting, listed, listed_back, found_some, has_node, here_some, here_at, some_same, next_exists, prior_exists, linked_member, node_found, not_none, out_reserved, reserving, reserving-list, reserving-room, members, some_value, unlinked_reserved, from_ok, none_value, reserved_key}
+use Rattle.dbtg_cells.proofs.RingReads.{ring-list, any-contains, contains-any, back-final, back-nth, reads-behind, reads-in_front, behind-here, in_front-here, without-here, before-here, after-here, found-there, before-found, before-none, same_truth, free_reserved, reserved_free, same_change, once-each, OnceEach}
 use Rattle.dbtg_cells.proofs.ring.Ring.place_before.Goals as goal
+
+pub node_at-at-requires : goal.node_at-at-requires
+node_at-at-requires c =
+    let room = any-contains c.args.key _ (subst (λ v. has_room v c.args.key ≡ true) (sym c.self.view_is) c.requires.room) in
+    found_some _ _ (reserved_found _ _ _ _ _ c.self.invariant.0 c.args.key room)
+
+pub join-requires-clause-node : goal.join-requires-clause-node
+join-requires-clause-node c =
+    let room = any-contains c.args.key _ (subst (λ v. has_room v c.args.key ≡ true) (sym c.self.view_is) c.requires.room) in
+    has_node _ _ _ (reserved_at _ _ _ _ _ c.self.invariant.0 c.args.key room _ c.node_at-at.ensures)
+
+pub join-requires-clause-len : goal.join-requires-clause-len
+join-requires-clause-len c =
+    let room = any-contains c.args.key _ (subst (λ v. has_room v c.args.key ≡ true) (sym c.self.view_is) c.requires.room) in
+    omega (arith, len-fits _ _ _ _ _ c.self.invariant.0 c.args.key room, c.capacity-slots.ensures.slots)
+
+pub node_at-here-requires : goal.node_at-here-requires
+node_at-here-requires c =
+    let there = member-there _ _ _ c.args.other (ap (λ v. v.occurrence) c.self.view_is) c.requires.there in
+    here_some _ _ _ _ _ c.self.invariant.0 c.args.other _ refl there
+
+pub index-requires : goal.index-requires
+index-requires c =
+    let there = member-there _ _ _ c.args.other (ap (λ v. v.occurrence) c.self.view_is) c.requires.there in
+    let h = here_at _ _ _ _ _ c.self.invariant.0 c.args.other _ refl there _ c.node_at-here.ensures in
+    found_some _ _ h.node_is
+
+pub join-requires-clause-prior : goal.join-requires-clause-prior
+join-requires-clause-prior c =
+    let there = member-there _ _ _ c.args.other (ap (λ v. v.occurrence) c.self.view_is) c.requires.there in
+    let h = here_at _ _ _ _ _ c.self.invariant.0 c.args.other _ refl there _ c.node_at-here.ensures in
+    rw (ap (λ n. n.prior) (some_same _ _ (sym c.index.ensures ∙ h.node_is))) (prior_exists _ _ _ _ _ c.self.invariant.0 h.before (h.here ∷ h.after) h.whole)
+
+pub invariant_of-self : goal.invariant_of-self
+invariant_of-self c =
+    let room = any-contains c.args.key _ (subst (λ v. has_room v c.args.key ≡ true) (sym c.self.view_is) c.requires.room) in
+    let there = member-there _ _ _ c.args.other (ap (λ v. v.occurrence) c.self.view_is) c.requires.there in
+    let h = here_at _ _ _ _ _ c.self.invariant.0 c.args.other _ refl there _ c.node_at-here.ensures in
+    ((placing _ _ _ _ _ c.self.invariant.0 (c.args.key, c.args.sort) room _ c.node_at-at.ensures h.before (h.here ∷ h.after) h.whole _ _ (ap (λ n. n.prior) (some_same _ _ (sym c.index.ensures ∙ h.node_is))) (ap Some h.at_is) _ _ _ _ c.join.ensures.slots c.join.ensures.first c.join.ensures.last c.join.ensures.len).ring,
+    λ absent. absurd (true≢false (sym (subst (λ o. is_member c.args.other (keys_in (shown_as o (follow c.self.inside.links.len c.self.inside.links.nodes.slots c.self.inside.links.first))) ≡ true) absent (ap (λ o. is_member c.args.other (keys_in o)) (ap (λ v. v.occurrence) c.self.view_is) ∙ c.requires.there)))))
 
 pub returns : goal.returns
 returns c =
-    let at = c.place_of-at.ensures.at ∙ ap (λ ms. position_or_len (has_key c.args.other) ms) c.as_slice.ensures.value in
-    changed _ c.self.inside.members.items _ _ (before (has_key c.args.other) (c.args.key, c.args.sort)) (ap (λ v. v.occurrence) c.self.view_is)
-      (c.put_in.ensures.members ∙ ap (λ n. insert c.self.inside.members.items n (c.args.key, c.args.sort)) at ∙ before-insert (has_key c.args.other) (c.args.key, c.args.sort) c.self.inside.members.items)
+    let room = any-contains c.args.key _ (subst (λ v. has_room v c.args.key ≡ true) (sym c.self.view_is) c.requires.room) in
+    let there = member-there _ _ _ c.args.other (ap (λ v. v.occurrence) c.self.view_is) c.requires.there in
+    let h = here_at _ _ _ _ _ c.self.invariant.0 c.args.other _ refl there _ c.node_at-here.ensures in
+    let view = ap (λ v. v.occurrence) c.self.view_is in
+    changed _ _ _ _ (before (has_key c.args.other) (c.args.key, c.args.sort)) view ((placing _ _ _ _ _ c.self.invariant.0 (c.args.key, c.args.sort) room _ c.node_at-at.ensures h.before (h.here ∷ h.after) h.whole _ _ (ap (λ n. n.prior) (some_same _ _ (sym c.index.ensures ∙ h.node_is))) (ap Some h.at_is) _ _ _ _ c.join.ensures.slots c.join.ensures.first c.join.ensures.last c.join.ensures.len).list_is ∙ before-here _ _ _ _ _ c.self.invariant.0 h.before h.here h.after h.whole c.args.other h.key (c.args.key, c.args.sort) ∙ ap (before (has_key c.args.other) (c.args.key, c.args.sort)) (sym (listed _ _ _ _ _ c.self.invariant.0)))

@@ -1,0 +1,24 @@
+-- Places in plain lists of members.
+use Rattle.std.proofs.Common.{◌≡◌, ℕ, ◌+◌, Bool, List, [], ◌∷◌, ◌++◌, Option, IsTrue, slice_get}
+use Rattle.std.specs.List.{list_any, position_or_len, insert, remove}
+use Rattle.dbtg_cells.specs.declared.key.DbKey.{DbKey}
+use Rattle.dbtg_cells.specs.Members.{Entry, has_key}
+
+-- the place of the key, or the length
+abbrev pub place_of : DbKey → List Entry → ℕ
+place_of k xs = position_or_len (has_key k) xs
+
+abbrev pub HasMember : List Entry → DbKey → Type 0
+HasMember xs k = IsTrue (list_any (has_key k) xs)
+
+abbrev pub placed_after : DbKey → Entry → List Entry → List Entry
+placed_after k m xs = insert xs (place_of k xs + 1) m
+
+abbrev pub placed_before : DbKey → Entry → List Entry → List Entry
+placed_before k m xs = insert xs (place_of k xs) m
+
+abbrev pub taken_out : DbKey → List Entry → List Entry
+taken_out k xs = remove xs (place_of k xs)
+
+abbrev pub next_key : DbKey → List Entry → Option Entry
+next_key k xs = slice_get xs (place_of k xs + 1)

@@ -1,0 +1,25 @@
+use Rattle.std.proofs.Common.{◌≡◌, sym, ◌∙◌, ap, arith, suc, subst, length, map, filter, not, add-one, IsTrue, ◌≤◌, ◌<◌, ◌+◌, rules, unwrap_or, option_map, is_ok, true}
+use Rattle.std.proofs.lemmas.List.{length_push}
+use Rattle.std.specs.List.{insert, list_any}
+use Rattle.dbtg_schema.specs.Lookups.{first, final, behind, in_front}
+use Rattle.dbtg_cells.specs.Members.{Entry, has_key, without_key, members_in, with_members}
+use Rattle.dbtg_cells.specs.Placed.{after, before}
+use Rattle.dbtg_cells.specs.Orders.{comes_before}
+use Rattle.dbtg_cells.specs.Keys.{key_eq, has_type, is_member}
+use Rattle.dbtg_cells.proofs.PlainLemmas.{behind-map, in_front-map, any-map, place-within, after-insert, before-insert, insert-last, shorter, shorter-by_one, length-insert, length-maybe_insert}
+use Rattle.dbtg_cells.proofs.Occurrences.{changed, keys-shown, members-shown, member-there}
+use Rattle.dbtg_cells.proofs.plain.put_out.Goals as goal
+
+pub returns-clause-first : goal.returns-clause-first
+returns-clause-first c =
+    let less = shorter-by_one (has_key c.args.key) c.args.members.now.items (sym (any-map (λ e. e.0) (key_eq c.args.key) c.args.members.now.items) ∙ c.requires.there) in
+    let kept : length c.without.new.members.items ≡ length (without_key c.args.key c.args.members.now.items) = ap length c.without.ensures.items in
+    let more : length c.push_reserved.new.self.items ≡ length c.args.reserved.now.items + 1 = ap length c.push_reserved.ensures.items ∙ length_push c.args.reserved.now.items c.args.key in
+    omega (arith, less, kept, more, c.requires.first, c.without.ensures.capacity)
+
+pub returns-clause-second : goal.returns-clause-second
+returns-clause-second c =
+    let less = shorter-by_one (has_key c.args.key) c.args.members.now.items (sym (any-map (λ e. e.0) (key_eq c.args.key) c.args.members.now.items) ∙ c.requires.there) in
+    let kept : length c.without.new.members.items ≡ length (without_key c.args.key c.args.members.now.items) = ap length c.without.ensures.items in
+    let more : length c.push_reserved.new.self.items ≡ length c.args.reserved.now.items + 1 = ap length c.push_reserved.ensures.items ∙ length_push c.args.reserved.now.items c.args.key in
+    omega (arith, less, kept, more, c.requires.second, c.push_reserved.ensures.capacity)

@@ -1,0 +1,30 @@
+use Rattle.std.proofs.Common.{◌≡◌, ◌-◌, ◌+◌, ◌<◌, ◌≤◌, ◌++◌, ◌∷◌, [], suc, sym, ap, ◌∙◌, arith, ℕ, true, false, Some, None, refl, map, filter, slice_get, not, cond, List}
+use Rattle.std.specs.List.{list_any, find}
+use Rattle.std.specs.Option.{option_copied, option_map}
+use Rattle.dbtg_schema.specs.Lookups.{first, some_and}
+use Rattle.dbtg_cells.specs.declared.key.DbKey.{DbKey}
+use Rattle.dbtg_cells.specs.Keys.{has_type, value_eq}
+use Rattle.dbtg_cells.specs.Orders.{comes_before}
+use Rattle.dbtg_cells.specs.Members.{Entry, has_sort_key}
+use Rattle.dbtg_cells.specs.Chain.{slot, follow, follow_back}
+use Rattle.dbtg_cells.proofs.RingReads.{read-next, read-prior, read-end, read_back-end, read-none, read_back-none, read-vacant, read_back-vacant, first-later, nth-here, nth-later, found-later, any-later, keys-later, keys-end}
+use Rattle.dbtg_cells.proofs.ring.keys_along_back.Goals as goal
+
+pub returns-in-None : goal.returns-in-None
+returns-in-None c =
+    keys-end _ _ _ c.loop-turn.invariant (read_back-none _ _ _ c.in-None.is)
+
+pub returns-in-None-get : goal.returns-in-None-get
+returns-in-None-get c =
+    keys-end _ _ _ c.loop-turn.invariant (read_back-vacant _ _ _ c.in-Some.i c.in-Some.is (sym c.get.ensures ∙ ap option_copied c.in-None-get.is))
+
+pub loop-turn-preserved : goal.loop-turn-preserved
+loop-turn-preserved c =
+    let slots = c.args.nodes.now.slots in
+    let node = c.in-Some-get.node.now in
+    let less = c.args.limit - (c.loop-turn.turn + 1) in
+    let e : c.args.limit - c.loop-turn.turn ≡ suc less = omega (arith, c.loop-turn-test.true) in
+    let there : slot slots c.in-Some.i ≡ Some node = sym c.get.ensures ∙ ap option_copied c.in-Some-get.is in
+    let cut = read-prior _ less slots c.loop-turn.at c.in-Some.i node e c.in-Some.is there in
+    let it : c.push.new.self.items ≡ c.loop-turn.keys.items ++ node.member.0 ∷ [] = c.in_ok-push-in-Some-get.ensures.items in
+    ap (λ ks. ks ++ map (λ e. e.0) (follow_back less slots node.prior)) it ∙ keys-later c.loop-turn.keys.items node.member (follow_back less slots node.prior) ∙ ap (λ l. c.loop-turn.keys.items ++ map (λ e. e.0) l) (sym cut) ∙ c.loop-turn.invariant

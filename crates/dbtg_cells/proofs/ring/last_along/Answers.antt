@@ -1,0 +1,21 @@
+use Rattle.std.proofs.Common.{◌≡◌, ◌-◌, ◌+◌, ◌<◌, ◌≤◌, ◌++◌, ◌∷◌, [], suc, sym, ap, ◌∙◌, arith, ℕ, true, false, Some, None, refl, map, filter, slice_get, not, cond, List}
+use Rattle.std.specs.List.{list_any, find}
+use Rattle.std.specs.Option.{option_copied, option_map}
+use Rattle.dbtg_schema.specs.Lookups.{first, some_and}
+use Rattle.dbtg_cells.specs.declared.key.DbKey.{DbKey}
+use Rattle.dbtg_cells.specs.Keys.{has_type, value_eq}
+use Rattle.dbtg_cells.specs.Orders.{comes_before}
+use Rattle.dbtg_cells.specs.Members.{Entry, has_sort_key}
+use Rattle.dbtg_cells.specs.Chain.{slot, follow, follow_back}
+use Rattle.dbtg_cells.proofs.RingReads.{read-next, read-prior, read-end, read_back-end, read-none, read_back-none, read-vacant, read_back-vacant, first-later, nth-here, nth-later, found-later, any-later, keys-later, keys-end}
+use Rattle.dbtg_cells.proofs.ring.last_along.Goals as goal
+
+pub loop-turn-preserved : goal.loop-turn-preserved
+loop-turn-preserved c =
+    let slots = c.args.nodes.now.slots in
+    let node = c.in-Some-get.node.now in
+    let less = c.args.limit - (c.loop-turn.turn + 1) in
+    let e : c.args.limit - c.loop-turn.turn ≡ suc less = omega (arith, c.loop-turn-test.true) in
+    let there : slot slots c.in-Some.i ≡ Some node = sym c.get.ensures ∙ ap option_copied c.in-Some-get.is in
+    let cut = read-prior _ less slots c.loop-turn.at c.in-Some.i node e c.in-Some.is there in
+    sym (first-later (has_type c.args.rtype.now) node.member (follow_back less slots node.prior) (sym c.if-is_of_type.ensures)) ∙ ap (λ l. first (filter (has_type c.args.rtype.now) (map (λ e. e.0) l))) (sym cut) ∙ c.loop-turn.invariant
