@@ -9,7 +9,6 @@ pub mod Numbers
 pub mod Numbering
 pub mod Cells
 pub mod Names
-pub mod CellOrder
 pub mod Chain
 pub mod Links
 pub mod CellNumbers
