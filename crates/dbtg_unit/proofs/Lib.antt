@@ -29,6 +29,7 @@ pub mod Rows
 pub mod Sets
 pub mod Orders
 pub mod Openings
+pub mod LegalHistory
 pub mod PlacedMaps
 pub mod CellNameLemmas
 pub mod SameItems
