@@ -1,5 +1,5 @@
 -- What it says that no record has a CALC key.
-use Rattle.std.proofs.Common.{◌≡◌, refl, sym, ◌∙◌, ap, subst, ℕ, Bool, true, false, not, ◌&&◌, ◌||◌, List, [], ◌∷◌, Option, Some, None, ⊎_elim}
+use Rattle.std.proofs.Common.{◌≡◌, sym, ◌∙◌, subst, ℕ, Bool, true, false, not, ◌&&◌, List, [], ◌∷◌, Option, Some, None, ⊎_elim}
 use Rattle.std.specs.List.{list_any}
 use Rattle.std.proofs.lemmas.Bool.{or_cases, or_left, or_right, false≢true, false_from_ne_true, not_from_false}
 use Rattle.dbtg_schema.specs.Lists.{Lists}
@@ -8,7 +8,7 @@ use Rattle.dbtg_schema.specs.Lookups.{some_and}
 use Rattle.dbtg_schema.specs.Structure.{calc_of}
 use Rattle.dbtg_cells.specs.declared.key.DbKey.{DbKey}
 use Rattle.dbtg_cells.specs.declared.key.Value.{Value}
-use Rattle.dbtg_cells.specs.Keys.{key_eq, values_eq}
+use Rattle.dbtg_cells.specs.Keys.{values_eq}
 use Rattle.dbtg_unit.specs.Base.{Database, is_live, items_of, is_member, calc_items, live_keys}
 use Rattle.dbtg_unit.specs.Found.{with_calc}
 use Rattle.dbtg_unit.specs.Effect.{calc_taken}

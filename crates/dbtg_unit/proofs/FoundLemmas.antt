@@ -1,8 +1,8 @@
 -- What a FIND finds in a legal database is live.
-use Rattle.std.proofs.Common.{◌≡◌, refl, sym, ◌∙◌, ap, subst, ℕ, zero, suc, ◌+◌, ◌-◌, ◌<◌, ◌≤◌, Bool, true, false, cond, not, ◌&&◌, ◌||◌, List, [], ◌∷◌, ◌++◌, length, Option, Some, None, inl, inr, ℤ, pos, negsuc, arith, get_or, reverse, map, eqb}
-use Rattle.std.specs.Prelude.{Result, Ok, Err, is_none, unwrap_or, option_and_then, option_map, filter, slice_get, pred}
+use Rattle.std.proofs.Common.{◌≡◌, refl, sym, ◌∙◌, ap, subst, ℕ, zero, suc, ◌-◌, ◌<◌, Bool, true, false, cond, not, ◌&&◌, List, [], ◌∷◌, length, Option, Some, None, inl, inr, ℤ, pos, negsuc, arith, get_or, reverse, map}
+use Rattle.std.specs.Prelude.{Result, Ok, Err, is_none, option_and_then, filter, slice_get, pred}
 use Rattle.std.specs.List.{find, flat_map, list_all, range_with_len}
-use Rattle.std.proofs.lemmas.Bool.{and_parts, and_from, cases_Bool, cond_both, false≢true}
+use Rattle.std.proofs.lemmas.Bool.{and_parts, and_from, cases_Bool, cond_both}
 use Rattle.std.proofs.lemmas.List.{get_or-reverse, length-reverse}
 use Rattle.std.proofs.lemmas.List.Folds.{list_all-append}
 use Rattle.dbtg_schema.specs.Lists.{Lists}
@@ -22,7 +22,7 @@ use Rattle.dbtg_unit.specs.declared.unit.Cause.{Cause}
 use Rattle.dbtg_unit.specs.declared.unit.Cause.TheVariants.{Deleted, End, NoneSatisfies, PositionLost}
 use Rattle.dbtg_unit.specs.Base.{Database, is_live, items_of, calc_items, key_at, live_keys, members_of, sort_key}
 use Rattle.dbtg_unit.specs.Units.{place_in, key_of_place}
-use Rattle.dbtg_unit.specs.Found.{chosen, chosen_by_key, earlier, found, found_unless, has_type, is_lost, keys_in_area, later, needs_position, with_calc, with_current}
+use Rattle.dbtg_unit.specs.Found.{chosen, chosen_by_key, found, found_unless, has_type, is_lost, keys_in_area, needs_position, with_calc, with_current}
 use Rattle.dbtg_unit.specs.Legal.{Legal}
 use Rattle.dbtg_unit.proofs.PlacedLemmas.{all-filter, all-kept}
 use Rattle.dbtg_unit.proofs.RingsLemmas.{all-members}

@@ -1,10 +1,9 @@
 -- DELETE keeps a database legal, in each of its forms.
-use Rattle.std.proofs.Common.{◌≡◌, refl, sym, ◌∙◌, ap, subst, ℕ, ◌<◌, Bool, true, false, cond, not, ◌&&◌, ◌||◌, List, [], ◌∷◌, length, Option, Some, None, inl, inr, eqb, ltb, arith}
+use Rattle.std.proofs.Common.{◌≡◌, refl, sym, ◌∙◌, ap, subst, ℕ, Bool, true, false, cond, not, ◌&&◌, ◌||◌, List, [], ◌∷◌, length, Option, Some, None, inl, inr, ltb, arith}
 use Rattle.std.specs.Prelude.{is_some, option_map, unwrap_or, filter}
-use Rattle.std.specs.List.{list_any, list_all}
-use Rattle.std.proofs.lemmas.Bool.{and_parts, and_from, and_right, or_left, or_right, cases_Bool, cond_both, false≢true, false_from_ne_true, not_from_false, not-true, lt-ltb}
+use Rattle.std.specs.List.{list_any}
+use Rattle.std.proofs.lemmas.Bool.{and_parts, and_from, and_right, or_right, cases_Bool, false≢true, false_from_ne_true, not_from_false, not-true, lt-ltb}
 use Rattle.dbtg_schema.specs.Lists.{Lists}
-use Rattle.dbtg_schema.specs.Closure.{grown}
 use Rattle.dbtg_schema.specs.Lookups.{some_and}
 use Rattle.dbtg_schema.specs.Structure.{is_automatic, is_mandatory, member_clause, owns, set_numbers}
 use Rattle.dbtg_schema.specs.declared.shape.Member.{Member}
@@ -24,7 +23,7 @@ use Rattle.dbtg_unit.specs.Fits.{values_fit}
 use Rattle.dbtg_unit.specs.Legal.{Legal}
 use Rattle.dbtg_schema.specs.Structure.{pictures}
 use Rattle.dbtg_unit.proofs.KeyLemmas.{same_key}
-use Rattle.dbtg_unit.proofs.LegalParts.{Rows, Rings, Stock, Fixed, is_fixed, has_list, members_in, sound_of, uses_of, legal_raised}
+use Rattle.dbtg_unit.proofs.LegalParts.{Rings, Stock, is_fixed, has_list, members_in, sound_of, uses_of, legal_raised}
 use Rattle.dbtg_unit.proofs.RingsLemmas.{keeps_member, member_kept, member_passes, rings_kept}
 use Rattle.dbtg_unit.proofs.OwnerLemmas.{any_number, listed_all}
 use Rattle.dbtg_unit.proofs.CalcLemmas.{any_member}

@@ -1,13 +1,12 @@
 -- Each statement keeps a database legal, and its unit a unit of it.
-use Rattle.std.proofs.Common.{◌≡◌, refl, sym, ◌∙◌, ap, subst, ℕ, zero, suc, ◌+◌, ◌<◌, ◌≤◌, Bool, true, false, cond, not, ◌&&◌, ◌||◌, List, [], ◌∷◌, ◌++◌, length, Option, Some, None, inl, inr, ⊎_elim, eqb, ltb, leb, arith, map, length-set}
-use Rattle.std.specs.Prelude.{is_some, is_none, unwrap_or, option_map, option_and_then, filter, slice_get, slice_set, Result, Ok, Err}
-use Rattle.std.specs.List.{list_any, list_all, range_with_len, flat_map}
-use Rattle.std.proofs.lemmas.Bool.{and_parts, and_from, and_left, or_left, or_right, cases_Bool, false≢true, true≢false, not-false, not-true, ltb-true, eqb-true, eq-eqb, lt-ltb, le-leb, false_from_ne_true}
+use Rattle.std.proofs.Common.{◌≡◌, refl, sym, ◌∙◌, ap, subst, ℕ, ◌<◌, Bool, true, false, cond, not, ◌&&◌, List, [], ◌∷◌, ◌++◌, length, Option, Some, None, eqb, ltb, arith, map, length-set}
+use Rattle.std.specs.Prelude.{is_some, is_none, unwrap_or, option_map, option_and_then, filter, slice_set}
+use Rattle.std.specs.List.{list_any, list_all, range_with_len}
+use Rattle.std.proofs.lemmas.Bool.{and_parts, and_left, or_left, false≢true, true≢false, not-false, not-true, ltb-true, eqb-true, eq-eqb, false_from_ne_true}
 use Rattle.dbtg_schema.specs.Lists.{Lists}
 use Rattle.dbtg_schema.specs.WellFormed.{IsSchema}
 use Rattle.dbtg_schema.specs.Lookups.{at, first, first_cause, some_and}
-use Rattle.dbtg_schema.specs.Structure.{automatic_sets, set_numbers, is_automatic, is_mandatory, member_clause, order_of, pictures, picture_of}
-use Rattle.dbtg_schema.specs.declared.shape.Class.{Class}
+use Rattle.dbtg_schema.specs.Structure.{automatic_sets, set_numbers, is_automatic, is_mandatory, member_clause, pictures, picture_of}
 use Rattle.dbtg_schema.specs.declared.shape.Member.{Member}
 use Rattle.dbtg_cells.specs.declared.key.DbKey.{DbKey}
 use Rattle.dbtg_cells.specs.declared.key.Owner.{Owner}
@@ -17,25 +16,22 @@ use Rattle.dbtg_cells.specs.declared.usage.Mode.{Mode}
 use Rattle.dbtg_cells.specs.Keys.{key_eq}
 use Rattle.dbtg_unit.specs.declared.statement.Change.{Change}
 use Rattle.dbtg_unit.specs.declared.statement.Erase.{Erase}
-use Rattle.dbtg_unit.specs.declared.statement.Form.{Form}
 use Rattle.dbtg_unit.specs.declared.statement.Statement.{Statement}
 use Rattle.dbtg_unit.specs.declared.statement.Statement.TheVariants.{OpenArea, CloseArea, Find, Get, Store, Insert, Remove, Modify, Delete, Keep, Free}
 use Rattle.dbtg_unit.specs.declared.statement.Suppress.{Suppress}
 use Rattle.dbtg_unit.specs.declared.unit.Place.{Place}
 use Rattle.dbtg_unit.specs.declared.unit.Unit.{Unit}
 use Rattle.dbtg_unit.specs.declared.unit.Cause.{Cause}
-use Rattle.dbtg_unit.specs.declared.unit.Cause.TheVariants.{AlreadyMember, AreaAlreadyOpen, ChangedByAnother, Deleted, DuplicatesNotAllowed, Mandatory, MandatoryAutomatic as MandatoryAutomaticSet, NoCurrentOfRunUnit, NoRoom, NoSuchCurrent, NotMember, OtherRecordType, OwnerHasMembers, UsageConflict}
+use Rattle.dbtg_unit.specs.declared.unit.Cause.TheVariants.{AlreadyMember, AreaAlreadyOpen, Deleted, DuplicatesNotAllowed, Mandatory, MandatoryAutomatic as MandatoryAutomaticSet, NoCurrentOfRunUnit, NoRoom, NoSuchCurrent, OtherRecordType, OwnerHasMembers, UsageConflict}
 use Rattle.dbtg_unit.specs.Base.{Database, is_live, is_member, members_of, items_of, key_at, key_item, owner_of, sort_key}
-use Rattle.dbtg_unit.specs.Belongs.{IsUnitOf, IsWithin}
-use Rattle.dbtg_unit.specs.Units.{forgotten, kept_version, noted, place_in, seen}
+use Rattle.dbtg_unit.specs.Units.{forgotten, noted, place_in, seen}
 use Rattle.dbtg_unit.specs.Found.{found}
 use Rattle.dbtg_unit.specs.Doomed.{doomed}
 use Rattle.dbtg_unit.specs.Fits.{fits, is_type, values_fit, value_fits, suppress_fits, distinct_items}
-use Rattle.dbtg_unit.specs.Checks.{accepts_type, class_in, current_type, is_inserting_mandatory_automatic, is_opening_again, is_removing_mandatory, lacks_current, needs_current, refused_at_once}
+use Rattle.dbtg_unit.specs.Checks.{accepts_type, current_type, is_inserting_mandatory_automatic, is_opening_again, is_removing_mandatory, lacks_current, needs_current, refused_at_once}
 use Rattle.dbtg_unit.specs.Effect.{calc_taken, changed_items, conflict, connected_in, delete_checks, deleted, done, effect, effect_on_cells, free_number, insert_checks, inserted, modified, modify_checks, moved, new_key, own_checks, place_checks, remove_checks, removed, renoted, replaced_sets, store_checks, stored, version_of, with_new, has_members, is_plain, names_calc}
-use Rattle.dbtg_unit.specs.Legal.{Legal, UsageAgrees, mode_in}
-use Rattle.dbtg_unit.specs.LegalWith.{IsUnitIn, LegalWith}
-use Rattle.dbtg_unit.proofs.PlacedLemmas.{all-kept}
+use Rattle.dbtg_unit.specs.Legal.{Legal, mode_in}
+use Rattle.dbtg_unit.specs.LegalWith.{IsUnitIn}
 use Rattle.dbtg_unit.proofs.KeyLemmas.{key_eq-refl}
 use Rattle.dbtg_unit.proofs.CheckLemmas.{finding_kept, has_number, number_passes, number_within, on_current_kept, passes, passes_check, passes-append, passes-each, passes-map, unless_kept}
 use Rattle.dbtg_unit.proofs.OwnerLemmas.{any_number}
@@ -47,7 +43,7 @@ use Rattle.dbtg_unit.proofs.LegalModify.{CanChange, key_refused, modify_legal}
 use Rattle.dbtg_unit.proofs.LegalDelete.{delete_legal}
 use Rattle.dbtg_unit.proofs.LegalOpen.{open_legal, open_agrees, open_others, open_users, close_legal, close_agrees, close_others, close_users}
 use Rattle.dbtg_unit.proofs.FoundLemmas.{found_live}
-use Rattle.dbtg_unit.proofs.UnitLemmas.{IsGood, IsKept, good-moved, good-seen, kept-filtered, kept-noted, kept-renoted, kept_of, list_owner, live_key, with_kept, with_modes, with_no_run_unit}
+use Rattle.dbtg_unit.proofs.UnitLemmas.{IsGood, good-moved, good-seen, kept-filtered, kept-noted, kept-renoted, kept_of, list_owner, live_key, with_kept, with_modes, with_no_run_unit}
 
 -- what a step of a unit leaves: a legal database, the unit a unit of it, the entries of the others as they were
 pub record IsStep (schema : Lists) (capacity : ℕ) (before : Database) (number : ℕ) (db : Database) (unit : Unit) : Type 0 where

@@ -1,5 +1,5 @@
 -- The opening state is legal, and so is each state that statements lead to from a legal one.
-use Rattle.std.proofs.Common.{◌≡◌, refl, sym, ◌∙◌, ap, subst, ℕ, zero, suc, ◌+◌, ◌-◌, ◌≤◌, Bool, true, false, cond, ◌&&◌, List, [], ◌∷◌, length, Option, Some, None, map, arith}
+use Rattle.std.proofs.Common.{◌≡◌, refl, sym, ◌∙◌, ap, subst, ℕ, zero, suc, ◌+◌, ◌-◌, true, false, cond, ◌&&◌, List, [], ◌∷◌, length, Option, Some, None, map, arith}
 use Rattle.std.specs.Prelude.{is_some, option_map, slice_get, slice_set, unwrap_or}
 use Rattle.std.specs.List.{list_all, range_with_len}
 use Rattle.std.proofs.lemmas.Bool.{and_parts, and_right, false≢true}
@@ -16,10 +16,10 @@ use Rattle.dbtg_unit.specs.declared.unit.Unit.{Unit}
 use Rattle.dbtg_unit.specs.Base.{is_member, opening}
 use Rattle.dbtg_unit.specs.Units.{opening_unit}
 use Rattle.dbtg_unit.specs.Fits.{fits}
-use Rattle.dbtg_unit.specs.Effect.{Outcome, effect}
+use Rattle.dbtg_unit.specs.Effect.{effect}
 use Rattle.dbtg_unit.specs.Legal.{Legal, has_occurrence, pairwise, differ, in_order}
 use Rattle.dbtg_unit.specs.LegalWith.{IsUnitIn, LegalWith}
-use Rattle.dbtg_unit.specs.Replay.{State, after_entry, after_outcome, opening_state, outcome_of, replay}
+use Rattle.dbtg_unit.specs.Replay.{State, after_entry, after_outcome, outcome_of, replay}
 use Rattle.dbtg_unit.specs.StaysLegal.{IsLegalState, OpeningIsLegal, ReplayKeepsLegal}
 use Rattle.dbtg_unit.proofs.LegalUnits.{effect_keeps_legal}
 use Rattle.dbtg_unit.proofs.Openings.{nothing_at, opening_unit_of_schema, opening_unit_within}

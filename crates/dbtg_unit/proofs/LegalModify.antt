@@ -1,12 +1,12 @@
 -- MODIFY keeps a database legal.
-use Rattle.std.proofs.Common.{◌≡◌, refl, sym, ◌∙◌, ap, subst, ℕ, Bool, true, false, cond, not, ◌&&◌, ◌||◌, List, [], ◌∷◌, Option, Some, None, inl, inr, ⊎_elim, eqb, map}
+use Rattle.std.proofs.Common.{◌≡◌, refl, sym, ◌∙◌, ap, subst, ℕ, Bool, true, false, cond, not, ◌&&◌, List, [], Option, Some, None, inl, inr, map}
 use Rattle.std.specs.Prelude.{is_some, option_map, option_and_then, unwrap_or, filter}
 use Rattle.std.specs.List.{list_any, list_all}
 use Rattle.std.proofs.lemmas.Bool.{and_parts, and_from, or_right, or_left, cases_Bool, false≢true, false_from_ne_true, not_from_false, not-true}
 use Rattle.dbtg_schema.specs.Lists.{Lists}
 use Rattle.dbtg_schema.specs.WellFormed.{IsSchema}
 use Rattle.dbtg_schema.specs.Lookups.{some_and}
-use Rattle.dbtg_schema.specs.Structure.{member_clause, order_of, picture_of, owns, pictures, rekeyed_sets}
+use Rattle.dbtg_schema.specs.Structure.{order_of, picture_of, owns, pictures, rekeyed_sets}
 use Rattle.dbtg_cells.specs.declared.key.DbKey.{DbKey}
 use Rattle.dbtg_cells.specs.declared.key.Owner.{Owner}
 use Rattle.dbtg_cells.specs.declared.key.Owner.TheVariants.{System, Rec}
@@ -24,7 +24,7 @@ use Rattle.dbtg_unit.proofs.KeyLemmas.{same_key, key_eq-refl}
 use Rattle.dbtg_unit.proofs.PlacedLemmas.{all-both}
 use Rattle.dbtg_unit.proofs.PairwiseLemmas.{all-none}
 use Rattle.dbtg_unit.proofs.ValueLemmas.{apart, values-swap}
-use Rattle.dbtg_unit.proofs.LegalParts.{Rows, Rings, Sound, Stock, Fixed, has_list, unique_calc, members_in, key_in, sound_of, uses_of, legal_raised}
+use Rattle.dbtg_unit.proofs.LegalParts.{Rows, Rings, Sound, Stock, has_list, unique_calc, members_in, key_in, sound_of, uses_of, legal_raised}
 use Rattle.dbtg_unit.proofs.RingsLemmas.{all-members, filter-true, keeps_member, member_kept, member-with_placed, rings_kept, rings_placed, sorted-placed, with_placed, key-swap}
 use Rattle.dbtg_unit.proofs.OwnerLemmas.{owner_of_member, there}
 use Rattle.dbtg_unit.proofs.CheckLemmas.{has_number, number_kept}

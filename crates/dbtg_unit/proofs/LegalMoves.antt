@@ -1,8 +1,8 @@
 -- INSERT and REMOVE keep a database legal.
-use Rattle.std.proofs.Common.{◌≡◌, refl, sym, ◌∙◌, ap, subst, ℕ, Bool, true, false, cond, not, ◌&&◌, ◌||◌, List, [], ◌∷◌, Option, Some, None, inl, inr, ⊎_elim, eqb}
+use Rattle.std.proofs.Common.{◌≡◌, refl, sym, ◌∙◌, subst, ℕ, Bool, true, false, cond, not, [], ◌∷◌, Some, None, ⊎_elim, eqb}
 use Rattle.std.specs.Prelude.{is_some, option_map, unwrap_or, filter}
 use Rattle.std.specs.List.{list_any}
-use Rattle.std.proofs.lemmas.Bool.{and_parts, or_cases, or_right, cases_Bool, false≢true, eqb-true, not_from_false, false_from_ne_true}
+use Rattle.std.proofs.lemmas.Bool.{and_parts, or_cases, or_right, false≢true, eqb-true, not_from_false, false_from_ne_true}
 use Rattle.dbtg_schema.specs.Lists.{Lists}
 use Rattle.dbtg_schema.specs.WellFormed.{IsSchema}
 use Rattle.dbtg_schema.specs.Structure.{member_clause, order_of}
@@ -13,8 +13,8 @@ use Rattle.dbtg_unit.specs.declared.unit.Unit.{Unit}
 use Rattle.dbtg_unit.specs.Base.{Database, is_live, items_of, is_member, members_of, owner_of, sort_key}
 use Rattle.dbtg_unit.specs.Effect.{connected_in, inserted, removed, without, is_current_owner, refuses_equal, option_value_eq}
 use Rattle.dbtg_unit.specs.Legal.{Legal}
-use Rattle.dbtg_unit.proofs.KeyLemmas.{same_key, key_eq-refl}
-use Rattle.dbtg_unit.proofs.LegalParts.{Rows, Rings, Fixed, is_fixed, members_in, has_list, sound_of, uses_of, legal_raised}
+use Rattle.dbtg_unit.proofs.KeyLemmas.{same_key}
+use Rattle.dbtg_unit.proofs.LegalParts.{Rows, is_fixed, members_in, sound_of, uses_of, legal_raised}
 use Rattle.dbtg_unit.proofs.RingsLemmas.{filter-true, rings_kept, member-with_placed, member_kept, keeps_member}
 use Rattle.dbtg_unit.proofs.OwnerLemmas.{no_owner}
 use Rattle.dbtg_unit.proofs.CheckLemmas.{has_number}

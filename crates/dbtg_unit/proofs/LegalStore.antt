@@ -1,32 +1,30 @@
 -- STORE keeps a database legal.
-use Rattle.std.proofs.Common.{◌≡◌, refl, sym, ◌∙◌, ap, subst, ℕ, ◌+◌, ◌<◌, ◌≤◌, Bool, true, false, cond, not, ◌&&◌, ◌||◌, List, [], ◌∷◌, length, Option, Some, None, inl, inr, ⊎_elim, ◌⊎◌, eqb, arith}
-use Rattle.std.specs.Prelude.{is_some, is_none, option_map, option_and_then, unwrap_or, filter, slice_get}
-use Rattle.std.specs.List.{list_any, find}
+use Rattle.std.proofs.Common.{◌≡◌, refl, sym, ◌∙◌, ap, subst, ℕ, ◌+◌, ◌<◌, ◌≤◌, true, false, cond, ◌&&◌, ◌||◌, List, [], length, Option, Some, None, inl, inr, ⊎_elim, ◌⊎◌, eqb, arith}
+use Rattle.std.specs.Prelude.{is_some, is_none, option_map, option_and_then, unwrap_or, slice_get}
+use Rattle.std.specs.List.{find}
 use Rattle.std.proofs.lemmas.Bool.{and_parts, and_from, and_right, or_right, or_left, cases_Bool, cond_both, false≢true, eqb-true, eq-eqb, false_from_ne_true}
 use Rattle.std.proofs.lemmas.Option.{slice_get_within}
 use Rattle.dbtg_schema.specs.Lists.{Lists}
 use Rattle.dbtg_schema.specs.WellFormed.{IsSchema}
-use Rattle.dbtg_schema.specs.declared.shape.Class.{Class}
 use Rattle.dbtg_schema.specs.declared.shape.Member.{Member}
 use Rattle.dbtg_schema.specs.declared.shape.SetType.{SetType}
 use Rattle.dbtg_schema.specs.Lookups.{some_and}
-use Rattle.dbtg_schema.specs.Structure.{automatic_sets, is_automatic, is_mandatory, is_system, member_clause, order_of, owns, pictures, set_numbers}
+use Rattle.dbtg_schema.specs.Structure.{automatic_sets, is_automatic, is_mandatory, member_clause, owns, pictures, set_numbers}
 use Rattle.dbtg_cells.specs.declared.key.DbKey.{DbKey}
 use Rattle.dbtg_cells.specs.declared.key.Owner.{Owner}
 use Rattle.dbtg_cells.specs.declared.key.Owner.TheVariants.{System, Rec}
 use Rattle.dbtg_cells.specs.declared.key.Value.{Value}
 use Rattle.dbtg_cells.specs.Keys.{key_eq, owner_eq, values_eq}
-use Rattle.dbtg_unit.specs.declared.unit.Place.{Place}
 use Rattle.dbtg_unit.specs.declared.unit.Unit.{Unit}
 use Rattle.dbtg_unit.specs.Base.{Database, Record, is_live, items_of, key_at, is_member, members_of, key_item, sort_key, calc_items}
 use Rattle.dbtg_unit.specs.Units.{place_in}
 use Rattle.dbtg_unit.specs.Fits.{values_fit}
-use Rattle.dbtg_unit.specs.Effect.{calc_taken, connected_in, new_key, with_new, is_current_owner, refuses_equal, option_value_eq}
+use Rattle.dbtg_unit.specs.Effect.{calc_taken, connected_in, new_key, with_new, is_current_owner, option_value_eq}
 use Rattle.dbtg_unit.specs.Legal.{Legal}
-use Rattle.dbtg_unit.proofs.KeyLemmas.{same_key, key_eq-refl, same_owner, owner_eq-refl}
+use Rattle.dbtg_unit.proofs.KeyLemmas.{same_key, key_eq-refl, same_owner}
 use Rattle.dbtg_unit.proofs.ValueLemmas.{values-swap}
-use Rattle.dbtg_unit.proofs.LegalParts.{Living, Items, Rows, Rings, Stock, Fixed, Sound, unique_calc, is_fixed, members_in, key_in, has_list, sound_of, uses_of, legal_from}
-use Rattle.dbtg_unit.proofs.RingsLemmas.{rings_kept, with_placed, member-with_placed, member_kept, keeps_member, filter-true}
+use Rattle.dbtg_unit.proofs.LegalParts.{Rings, Stock, unique_calc, is_fixed, members_in, key_in, has_list, sound_of, uses_of, legal_from}
+use Rattle.dbtg_unit.proofs.RingsLemmas.{rings_kept, member-with_placed, filter-true}
 use Rattle.dbtg_unit.proofs.CheckLemmas.{has_number, number_passes, number_kept, number_in}
 use Rattle.dbtg_unit.proofs.CalcLemmas.{any_member, member_of_any, not_taken}
 use Rattle.dbtg_unit.proofs.LegalConnect.{CanJoin, connected_rings, joins, spot_in, place_owner}

@@ -1,17 +1,13 @@
 -- The effect of a statement keeps a legal database legal with all its units.
-use Rattle.std.proofs.Common.{◌≡◌, refl, sym, ◌∙◌, ap, subst, ℕ, zero, suc, ◌<◌, Bool, true, false, ◌&&◌, List, [], ◌∷◌, length, Option, Some, None, inl, inr, ltb, leb, arith, length-set}
+use Rattle.std.proofs.Common.{◌≡◌, refl, sym, ◌∙◌, ap, subst, ℕ, zero, suc, ◌<◌, true, ◌&&◌, List, [], ◌∷◌, length, Some, inl, inr, ltb, leb, arith, length-set}
 use Rattle.std.specs.Prelude.{slice_get, slice_set}
 use Rattle.std.specs.List.{list_all}
 use Rattle.std.proofs.lemmas.Bool.{and_from, cases_eq, lt-ltb, le-leb}
 use Rattle.std.proofs.lemmas.Option.{slice_get_within}
 use Rattle.dbtg_schema.specs.Lists.{Lists}
-use Rattle.dbtg_schema.specs.WellFormed.{IsSchema}
-use Rattle.dbtg_unit.specs.declared.statement.Statement.{Statement}
 use Rattle.dbtg_unit.specs.declared.unit.Unit.{Unit}
 use Rattle.dbtg_unit.specs.Base.{Database}
-use Rattle.dbtg_unit.specs.Fits.{fits}
 use Rattle.dbtg_unit.specs.Effect.{Outcome, effect}
-use Rattle.dbtg_unit.specs.Legal.{mode_in}
 use Rattle.dbtg_unit.specs.LegalWith.{IsUnitIn, LegalWith}
 use Rattle.dbtg_unit.specs.StaysLegal.{EffectKeepsLegal, LegalAfter}
 use Rattle.dbtg_unit.proofs.LegalEffect.{IsStep, effect_step}

@@ -1,9 +1,9 @@
 -- Each live key of a legal database is listed, and the list that has a record is found.
-use Rattle.std.proofs.Common.{◌≡◌, refl, sym, ◌∙◌, ap, subst, ℕ, suc, ◌+◌, ◌<◌, ◌≤◌, Bool, true, false, cond, ◌&&◌, ◌||◌, List, [], ◌∷◌, length, Option, Some, None, inl, inr, ⊎_elim, eqb, arith, map}
-use Rattle.std.specs.Prelude.{is_some, is_none, unwrap_or, option_map, option_and_then, slice_get, filter}
+use Rattle.std.proofs.Common.{◌≡◌, refl, sym, ◌∙◌, ap, subst, ℕ, Bool, true, false, cond, ◌||◌, List, [], ◌∷◌, length, Option, Some, None, inl, inr, ⊎_elim, eqb, arith, map}
+use Rattle.std.specs.Prelude.{is_some, is_none, unwrap_or, option_map, option_and_then, slice_get}
 use Rattle.std.specs.List.{list_any, find, range_with_len, flat_map}
 use Rattle.std.proofs.lemmas.List.Folds.{list_any-append}
-use Rattle.std.proofs.lemmas.Bool.{and_parts, or_cases, or_left, or_right, cases_Bool, false≢true, true≢false, eqb-true, false_from_ne_true}
+use Rattle.std.proofs.lemmas.Bool.{and_parts, or_cases, or_left, or_right, cases_Bool, false≢true, eqb-true, false_from_ne_true}
 use Rattle.dbtg_schema.specs.Lists.{Lists}
 use Rattle.dbtg_schema.specs.declared.shape.SetType.{SetType}
 use Rattle.dbtg_cells.specs.declared.key.DbKey.{DbKey}
@@ -14,10 +14,10 @@ use Rattle.dbtg_schema.specs.Lookups.{some_and}
 use Rattle.dbtg_unit.specs.Base.{Database, is_live, key_at, live_keys, owners, owner_of, members_of, is_member}
 use Rattle.dbtg_unit.specs.Doomed.{all_keys}
 use Rattle.dbtg_unit.specs.Legal.{Legal, has_occurrence}
-use Rattle.dbtg_unit.proofs.KeyLemmas.{same_key, key_eq-refl, same_owner, owner_eq-refl}
-use Rattle.dbtg_unit.proofs.RingsLemmas.{keeps_member, member_kept}
+use Rattle.dbtg_unit.proofs.KeyLemmas.{key_eq-refl, same_owner}
+use Rattle.dbtg_unit.proofs.RingsLemmas.{keeps_member}
 use Rattle.dbtg_unit.proofs.CheckLemmas.{has_number, number_in}
-use Rattle.dbtg_schema.specs.Structure.{is_system, owner_type, owns}
+use Rattle.dbtg_schema.specs.Structure.{owner_type, owns}
 
 pub any-map : {X Y : Type 0} (p : Y → Bool) (f : X → Y) (xs : List X) → list_any p (map f xs) ≡ list_any (λ x. p (f x)) xs
 any-map p f [] = refl

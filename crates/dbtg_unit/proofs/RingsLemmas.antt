@@ -1,7 +1,7 @@
 -- How the lists of a legal database change: a part of each kept, or a new member placed.
 use Rattle.std.proofs.Common.{◌≡◌, refl, sym, ◌∙◌, ap, subst, ℕ, Bool, true, false, cond, not, ◌&&◌, ◌||◌, List, [], ◌∷◌, Option, Some, None, inl, inr, ⊎_elim, ◌⊎◌}
 use Rattle.std.specs.Prelude.{is_some, unwrap_or, option_map, filter}
-use Rattle.std.specs.List.{list_any, list_all}
+use Rattle.std.specs.List.{list_all}
 use Rattle.std.proofs.lemmas.Bool.{and_parts, and_from, or_cases, or_left, or_right, cases_Bool, false≢true, not_from_false, not-false, not-true, cond_both, false_from_ne_true}
 use Rattle.dbtg_schema.specs.Lists.{Lists}
 use Rattle.dbtg_schema.specs.Structure.{member_clause, order_of}

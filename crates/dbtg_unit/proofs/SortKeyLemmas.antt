@@ -1,8 +1,8 @@
 -- The sort keys of a set that a schema declares: all of one picture, so that two that differ are in order.
-use Rattle.std.proofs.Common.{◌≡◌, refl, sym, ◌∙◌, ap, subst, ℕ, ◌<◌, Bool, true, false, List, [], ◌∷◌, length, Option, Some, None, eqb, arith, get_or, map}
+use Rattle.std.proofs.Common.{◌≡◌, refl, sym, ◌∙◌, ap, subst, ℕ, ◌<◌, true, false, List, [], ◌∷◌, length, Option, Some, None, eqb, arith}
 use Rattle.std.specs.Prelude.{is_some, option_map, option_and_then, slice_get, slice_index_or, unwrap_or, IfSome}
 use Rattle.std.specs.List.{find, All, position_or_len}
-use Rattle.std.proofs.lemmas.Bool.{false≢true, true≢false, eqb-true}
+use Rattle.std.proofs.lemmas.Bool.{false≢true, eqb-true}
 use Rattle.std.proofs.lemmas.List.Folds.{find_at}
 use Rattle.std.proofs.lemmas.Option.{slice_get_within, get_or_from_slice_get, slice_get-map, slice_get-get_or}
 use Rattle.dbtg_schema.specs.Lists.{Lists}
@@ -13,7 +13,6 @@ use Rattle.dbtg_schema.specs.declared.shape.SetType.{SetType}
 use Rattle.dbtg_schema.specs.declared.shape.Picture.{Picture}
 use Rattle.dbtg_schema.specs.declared.shape.Order.{Order}
 use Rattle.dbtg_schema.specs.declared.shape.Order.TheVariants.{First, Last, Next, Prior, Sorted}
-use Rattle.dbtg_schema.specs.declared.shape.Duplicates.TheVariants.{NotAllowed, Last as LastAmongEqual, First as FirstAmongEqual}
 use Rattle.dbtg_schema.specs.Lookups.{some_and}
 use Rattle.dbtg_schema.specs.Structure.{item_list, member_clause, order_of, picture_of, pictures}
 use Rattle.dbtg_cells.specs.declared.key.Value.{Value}

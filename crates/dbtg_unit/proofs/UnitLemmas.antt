@@ -1,27 +1,27 @@
 -- A unit of the schema stays so after each change that a statement makes to it.
-use Rattle.std.proofs.Common.{◌≡◌, refl, sym, ◌∙◌, ap, subst, ℕ, zero, suc, ◌+◌, ◌<◌, ◌≤◌, Bool, true, false, cond, not, ◌&&◌, ◌||◌, List, [], ◌∷◌, ◌++◌, length, Option, Some, None, ⊎_elim, eqb, leb, ltb, map, arith, replicate}
+use Rattle.std.proofs.Common.{◌≡◌, refl, sym, ◌∙◌, subst, ℕ, zero, suc, ◌+◌, Bool, true, false, cond, ◌&&◌, ◌||◌, List, [], ◌∷◌, length, Option, Some, None, ⊎_elim, eqb, ltb, map, arith}
 use Rattle.std.specs.Prelude.{is_some, filter, slice_set}
 use Rattle.std.specs.List.{list_all, enumerate_from, range_with_len}
-use Rattle.std.proofs.lemmas.Bool.{and_parts, and_from, or_cases, or_left, or_right, cond_both, false≢true, lt-ltb, le-leb, ltb-true, eqb-true, eq-eqb}
+use Rattle.std.proofs.lemmas.Bool.{and_parts, and_from, or_cases, or_left, or_right, cond_both, lt-ltb, le-leb, ltb-true, eqb-true, eq-eqb}
 use Rattle.std.proofs.lemmas.List.{length-set, length-map}
 use Rattle.std.proofs.lemmas.List.FromFn.{length-enumerate_from}
-use Rattle.std.proofs.lemmas.List.Folds.{list_all-append, list_all-map}
+use Rattle.std.proofs.lemmas.List.Folds.{list_all-append}
 use Rattle.dbtg_schema.specs.Lists.{Lists}
 use Rattle.dbtg_schema.specs.Lookups.{at}
-use Rattle.dbtg_schema.specs.Structure.{area_of, is_system, owns, set_numbers}
+use Rattle.dbtg_schema.specs.Structure.{area_of, owns}
 use Rattle.dbtg_cells.specs.declared.key.DbKey.{DbKey}
 use Rattle.dbtg_cells.specs.declared.key.Owner.{Owner}
 use Rattle.dbtg_cells.specs.declared.key.Owner.TheVariants.{System, Rec}
 use Rattle.dbtg_cells.specs.declared.usage.Mode.{Mode}
-use Rattle.dbtg_cells.specs.Keys.{key_eq, key_lt}
+use Rattle.dbtg_cells.specs.Keys.{key_lt}
 use Rattle.dbtg_unit.specs.declared.statement.Suppress.{Suppress}
 use Rattle.dbtg_unit.specs.declared.unit.Place.{Place}
 use Rattle.dbtg_unit.specs.declared.unit.Unit.{Unit}
-use Rattle.dbtg_unit.specs.Base.{Database, is_live, is_member, members_of, owner_of}
+use Rattle.dbtg_unit.specs.Base.{Database, is_live, owner_of}
 use Rattle.dbtg_unit.specs.Fits.{if_named}
 use Rattle.dbtg_unit.specs.Belongs.{is_key_of, is_owner_in, is_place_in, is_number, owner_within, IsUnitOf, IsWithin}
-use Rattle.dbtg_unit.specs.Units.{forgotten, noted, owners_of, seen, seen_place, suppresses}
-use Rattle.dbtg_unit.specs.Effect.{moved, renoted, version_of}
+use Rattle.dbtg_unit.specs.Units.{noted, owners_of, seen, seen_place, suppresses}
+use Rattle.dbtg_unit.specs.Effect.{moved}
 use Rattle.dbtg_unit.specs.Legal.{Legal, pairwise}
 use Rattle.dbtg_unit.proofs.PlacedLemmas.{all-filter, all-kept, all-weaker, pairwise-append, pairwise-filter}
 use Rattle.dbtg_unit.proofs.OwnerLemmas.{member_of_owner, there}
