@@ -1,4 +1,4 @@
-ghost use Rattle.dbtg_unit.specs.StaysLegal.{EffectKeepsLegal, OpeningIsLegal, ReplayKeepsLegal};
+ghost use Rattle.dbtg_unit.specs.StaysLegal.{EffectKeepsLegal, OpeningIsLegal, ReplayKeepsLegal, UnitsNeverConflict};
 
 /// The effect of every statement that fits keeps a legal database legal with all its units: every law of the database,
 /// every unit a unit of the schema, and each unit's modes its entries in the usage lists, for the unit that makes the
@@ -18,5 +18,11 @@ pub fn opening_is_legal()
 /// statements can make is legal.
 pub fn replay_keeps_legal()
     ensures { ReplayKeepsLegal }
+{
+}
+
+/// No two units of a legal database have an area open in modes that conflict, whichever of them opened it first.
+pub fn units_never_conflict()
+    ensures { UnitsNeverConflict }
 {
 }
