@@ -39,7 +39,7 @@ pub not_taken : (schema : Lists) (capacity : ℕ) (db : Database) (t : ℕ) (ite
     → (x : DbKey) → is_live db x ≡ true → x.rtype ≡ t → left_out x ≡ false → values_eq (calc_items schema t (items_of db x)) (calc_items schema t items) ≡ false
 not_taken schema capacity db t items left_out legal free unique x live of_type stays =
     false_from_ne_true _ (λ same. false≢true
-      (sym (none_where_unique (calc_of schema t) (list_any (λ k. not (left_out k)) (with_calc schema capacity db t (calc_items schema t items))) free unique)
-      ∙ any_member (λ k. not (left_out k)) (with_calc schema capacity db t (calc_items schema t items)) x
-        (keeps_member x (λ k. values_eq (calc_items schema t (items_of db k)) (calc_items schema t items)) (live_keys capacity db t) (subst (λ u. is_member x (live_keys capacity db u) ≡ true) of_type (listed schema capacity db legal x live)) same)
-        (not_from_false _ stays)))
+    (sym (none_where_unique (calc_of schema t) (list_any (λ k. not (left_out k)) (with_calc schema capacity db t (calc_items schema t items))) free unique)
+    ∙ any_member (λ k. not (left_out k)) (with_calc schema capacity db t (calc_items schema t items)) x
+    (keeps_member x (λ k. values_eq (calc_items schema t (items_of db k)) (calc_items schema t items)) (live_keys capacity db t) (subst (λ u. is_member x (live_keys capacity db u) ≡ true) of_type (listed schema capacity db legal x live)) same)
+    (not_from_false _ stays)))

@@ -76,9 +76,9 @@ number_passes p s [] h = absurd (false≢true h)
 number_passes p s (x ∷ xs) h =
     elim (cases_Bool (p x)) [
       | inl e ↦ ⊎_elim
-        (λ same. (or_left _ _ same, subst (λ y. p y ≡ true) (eqb-true x s same) e))
-        (λ rest. let r = number_passes p s xs rest in (or_right _ _ r.0, r.1))
-        (or_cases (eqb x s) (has_number s (filter p xs)) (subst (λ b. has_number s (cond b (x ∷ filter p xs) (filter p xs)) ≡ true) e h))
+          (λ same. (or_left _ _ same, subst (λ y. p y ≡ true) (eqb-true x s same) e))
+          (λ rest. let r = number_passes p s xs rest in (or_right _ _ r.0, r.1))
+          (or_cases (eqb x s) (has_number s (filter p xs)) (subst (λ b. has_number s (cond b (x ∷ filter p xs) (filter p xs)) ≡ true) e h))
       | inr e ↦ let r = number_passes p s xs (subst (λ b. has_number s (cond b (x ∷ filter p xs) (filter p xs)) ≡ true) e h) in (or_right _ _ r.0, r.1)
     ]
 

@@ -38,7 +38,7 @@ unnamed_picked changes items (i ∷ numbers) h =
 pub same_calc_items : (schema : Lists) (t : ℕ) (changes : List Change) (items : List Value) → names_calc schema t changes ≡ false → calc_items schema t (changed_items changes items) ≡ calc_items schema t items
 same_calc_items schema t changes items h =
     (elim (calc_of schema t) as (λ calc. some_and (λ c. list_any (λ i. list_any (λ d. eqb d.item i) changes) c.items) calc ≡ false
-        → unwrap_or (option_map (λ (c : Calc). picked c.items (changed_items changes items)) calc) [] ≡ unwrap_or (option_map (λ (c : Calc). picked c.items items) calc) []) [
+    → unwrap_or (option_map (λ (c : Calc). picked c.items (changed_items changes items)) calc) [] ≡ unwrap_or (option_map (λ (c : Calc). picked c.items items) calc) []) [
       | None ↦ λ h. refl
       | Some calc ↦ λ h. unnamed_picked changes items calc.items h
     ]) h
@@ -56,12 +56,14 @@ pub same_key_item : (schema : Lists) (s t : ℕ) (changes : List Change) (items 
 same_key_item schema s t changes items h = go (member_clause schema s t) refl where
   q : ℕ → Bool
   q r = some_and (λ m. some_and (λ i. list_any (λ j. eqb j i) (map (λ c. c.item) changes)) m.key) (member_clause schema r t)
+
   at_key : (m : Member) (key : Option ℕ) → m.key ≡ key → member_clause schema s t ≡ Some m → option_map (λ i. slice_index_or (changed_items changes items) i (Num 0)) key ≡ option_map (λ i. slice_index_or items i (Num 0)) key
   at_key m None e at = refl
   at_key m (Some i) e at =
       ap Some (unnamed changes items i (sym (any-map (λ j. eqb j i) (λ c. c.item) changes) ∙ false_from_ne_true _ (λ named.
-        false≢true (sym h ∙ number_kept q s (set_numbers schema) (set_number schema s t (ap is_some at))
-          (ap (some_and (λ (m : Member). some_and (λ i. list_any (λ j. eqb j i) (map (λ (c : Change). c.item) changes)) m.key)) at ∙ ap (some_and (λ i. list_any (λ j. eqb j i) (map (λ (c : Change). c.item) changes))) e ∙ named)))))
+      false≢true (sym h ∙ number_kept q s (set_numbers schema) (set_number schema s t (ap is_some at))
+      (ap (some_and (λ (m : Member). some_and (λ i. list_any (λ j. eqb j i) (map (λ (c : Change). c.item) changes)) m.key)) at ∙ ap (some_and (λ i. list_any (λ j. eqb j i) (map (λ (c : Change). c.item) changes))) e ∙ named)))))
+
   go : (m : Option Member) → member_clause schema s t ≡ m → key_item schema s t (changed_items changes items) ≡ key_item schema s t items
   go None at = ap (option_and_then (λ (m : Member). option_map (λ i. slice_index_or (changed_items changes items) i (Num 0)) m.key)) at ∙ ap (option_and_then (λ (m : Member). option_map (λ i. slice_index_or items i (Num 0)) m.key)) (sym at)
   go (Some m) at =

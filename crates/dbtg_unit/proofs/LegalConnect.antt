@@ -73,9 +73,9 @@ module _ (schema : Lists) (db : Database) (unit : Unit) (s : ℕ) (key : Option 
         list = λ o c. subst (λ (p : Owner). is_some (db.lists s p) ≡ true) (owner_of_place (place_in schema unit s) o c) (some_from_none (db.lists s current_place.owner) present.0);
         differs = λ o c refuses. subst (λ (p : Owner). list_any (λ x. option_value_eq (sort_key schema db s x) key) (members_of db s p) ≡ false) (owner_of_place (place_in schema unit s) o c) (right_false (refuses_equal (order_of schema s)) _ refuses free.0);
       } where
-    right_false : (a b : Bool) → a ≡ true → (a && b) ≡ false → b ≡ false
-    right_false true b h g = g
-    right_false false b h g = absurd (false≢true h)
+        right_false : (a b : Bool) → a ≡ true → (a && b) ≡ false → b ≡ false
+        right_false true b h g = g
+        right_false false b h g = absurd (false≢true h)
 
 module _ (schema : Lists) (unit : Unit) (sets : List ℕ) (live : Living) (items : Items) (lists : Rows) (m : DbKey) where
   -- the lists that m joins, and where
@@ -97,8 +97,8 @@ module _ (schema : Lists) (unit : Unit) (sets : List ℕ) (live : Living) (items
       (λ s o p j. absent s p (and_parts _ _ j).0)
       (λ s o p j k. current_owner_is (place_in schema unit s) o p (and_parts _ _ j).1 (and_parts _ _ k).1)
       (λ s o j. sorted-placed (order_of schema s) (option_and_then (λ place. place.at) (place_in schema unit s)) (key_in schema items s) m (members_in lists s o)
-        (λ refuses. all-both (λ x. is_member x (members_in lists s o)) (λ x. not (option_value_eq (key_in schema items s x) (key_in schema items s m))) (λ x. apart (key_in schema items s x) (key_in schema items s m)) (members_in lists s o)
-          (λ x in_list ne. let r = rings.members s o x in_list in strict_keys schema good s x.rtype m.rtype (items x) (items m) refuses r.1 (clause s (and_parts _ _ j).0) (typed x r.0) (typed m alive) (not-true _ ne))
-          (all-members (λ x. is_member x (members_in lists s o)) (members_in lists s o) (λ x h. h))
-          (all-none (λ x. option_value_eq (key_in schema items s x) (key_in schema items s m)) (λ x. not (option_value_eq (key_in schema items s x) (key_in schema items s m))) (members_in lists s o) (λ x e. not_from_false _ e) (differs s o j refuses)))
-        (rings.sorted s o))
+      (λ refuses. all-both (λ x. is_member x (members_in lists s o)) (λ x. not (option_value_eq (key_in schema items s x) (key_in schema items s m))) (λ x. apart (key_in schema items s x) (key_in schema items s m)) (members_in lists s o)
+      (λ x in_list ne. let r = rings.members s o x in_list in strict_keys schema good s x.rtype m.rtype (items x) (items m) refuses r.1 (clause s (and_parts _ _ j).0) (typed x r.0) (typed m alive) (not-true _ ne))
+      (all-members (λ x. is_member x (members_in lists s o)) (members_in lists s o) (λ x h. h))
+      (all-none (λ x. option_value_eq (key_in schema items s x) (key_in schema items s m)) (λ x. not (option_value_eq (key_in schema items s x) (key_in schema items s m))) (members_in lists s o) (λ x e. not_from_false _ e) (differs s o j refuses)))
+      (rings.sorted s o))

@@ -154,16 +154,17 @@ module _ (schema : Lists) (capacity : ℕ) (db : Database) (unit : Unit) (number
   fresh t its there fit room =
       let n = some_from (free_number capacity db t) room in
       subst (λ (o : Option ℕ). IsFresh schema capacity db t (unwrap_or o 0) its) (sym n.1) (at_number n.0 n.1) where
-    free : ℕ → Bool
-    free n = not (is_live db (key_at db t n)) && ltb (db.last t n) 255
-    at_number : (n : ℕ) → free_number capacity db t ≡ Some n → IsFresh schema capacity db t n its
-    at_number n is =
-        let p = number_passes free n (range_with_len 1 capacity) (first_has (filter free (range_with_len 1 capacity)) n is) in
-        let w = number_within n 1 capacity p.0 in
-        let low = w.0 in
-        let high = w.1 in
-        let q = and_parts (not (is_live db (key_at db t n))) (ltb (db.last t n) 255) p.1 in
-        record { in_schema = ltb-true t (length schema.types) there; low = omega arith; high = omega arith; unused = not-true _ q.0; unspent = ltb-true (db.last t n) 255 q.1; fit = fit }
+        free : ℕ → Bool
+        free n = not (is_live db (key_at db t n)) && ltb (db.last t n) 255
+
+        at_number : (n : ℕ) → free_number capacity db t ≡ Some n → IsFresh schema capacity db t n its
+        at_number n is =
+            let p = number_passes free n (range_with_len 1 capacity) (first_has (filter free (range_with_len 1 capacity)) n is) in
+            let w = number_within n 1 capacity p.0 in
+            let low = w.0 in
+            let high = w.1 in
+            let q = and_parts (not (is_live db (key_at db t n))) (ltb (db.last t n) 255) p.1 in
+            record { in_schema = ltb-true t (length schema.types) there; low = omega arith; high = omega arith; unused = not-true _ q.0; unspent = ltb-true (db.last t n) 255 q.1; fit = fit }
 
   store_step : (t : ℕ) (its : List Value) (suppress : Suppress) → is_type schema t ≡ true → values_fit (pictures schema t) its ≡ true → lacks_current schema unit (Store t its suppress) ≡ false
       → first_cause (store_checks schema capacity db unit t its) ≡ None
@@ -175,8 +176,8 @@ module _ (schema : Lists) (capacity : ℕ) (db : Database) (unit : Unit) (number
       let k = new_key db t n in
       let is_fresh = fresh t its there fit room.0 in
       let lawful = store_legal schema capacity db t n its legal is_fresh unit schema_is unique.0
-          (λ s h. none_at (λ s. is_none (place_in schema unit s)) s (automatic_sets schema t) h placed)
-          (λ s h. can_join schema db unit s (key_item schema s t its) (passes-each (λ s. place_checks schema db unit s (key_item schema s t its)) (automatic_sets schema t) s h unique.1)) in
+      (λ s h. none_at (λ s. is_none (place_in schema unit s)) s (automatic_sets schema t) h placed)
+      (λ s h. can_join schema db unit s (key_item schema s t its) (passes-each (λ s. place_checks schema db unit s (key_item schema s t its)) (automatic_sets schema t) s h unique.1)) in
       let new = connected_in schema (with_new schema db k its) unit (automatic_sets schema t) k in
       quiet new (seen schema capacity new unit k suppress) lawful refl refl refl (good-seen schema capacity unit good new k suppress lawful (live_new schema capacity db t n its legal is_fresh k (key_eq-refl k)))
 
@@ -232,7 +233,7 @@ module _ (schema : Lists) (capacity : ℕ) (db : Database) (unit : Unit) (number
       let nobody = with_no_run_unit schema capacity (renoted taken_out new unit) after in
       quiet new (deleted schema capacity db unit option k).unit (delete_legal schema capacity db option k legal unit empty.0) refl refl refl
       (with_kept schema capacity (record (renoted taken_out new unit) { currency = record unit.currency { run_unit = None } }) nobody (forgotten k (renoted taken_out new unit).kept)
-        (kept-filtered schema capacity (renoted taken_out new unit).kept (kept_of schema capacity (renoted taken_out new unit) after) (λ e. not (key_eq k e.0))))
+      (kept-filtered schema capacity (renoted taken_out new unit).kept (kept_of schema capacity (renoted taken_out new unit) after) (λ e. not (key_eq k e.0))))
 
   -- THE WHOLE
 
@@ -259,6 +260,7 @@ module _ (schema : Lists) (capacity : ℕ) (db : Database) (unit : Unit) (number
     by_clause : (m : Option Member) → some_and is_mandatory (option_map (λ m. m.class) m) ≡ false → some_and (λ c. is_mandatory c.class && is_automatic c.class) m ≡ false
     by_clause None h = refl
     by_clause (Some m) h = and_left _ _ h
+
     free : (s : ℕ) (k : DbKey) → unit.currency.run_unit ≡ Some k → is_removing_mandatory schema unit (Remove s) ≡ false → is_fixed schema s k.rtype ≡ false
     free s k e h = by_clause (member_clause schema s k.rtype) (ap (λ (o : Option DbKey). some_and is_mandatory (option_and_then (λ t. option_map (λ m. m.class) (member_clause schema s t)) (option_map (λ (j : DbKey). j.rtype) o))) (sym e) ∙ h)
   on_cells (Modify t changes) fit p = on_current_kept Step db unit now unit.currency.run_unit (modify_checks schema capacity db unit changes) (modified schema capacity db unit changes) (λ k e h.

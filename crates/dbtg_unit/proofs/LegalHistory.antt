@@ -74,8 +74,8 @@ opening_is_legal schema capacity units =
     record {
       legal = opening_legal schema capacity;
       each = λ i unit h.
-        let e : 1 + i ≡ suc i = omega arith in
-        subst (λ (v : Unit). IsUnitIn schema capacity (opening schema) (suc i) v) (sym (opening_units schema 1 units i unit h ∙ ap (opening_unit schema) e)) (opening_unit_in schema capacity (suc i));
+          let e : 1 + i ≡ suc i = omega arith in
+          subst (λ (v : Unit). IsUnitIn schema capacity (opening schema) (suc i) v) (sym (opening_units schema 1 units i unit h ∙ ap (opening_unit schema) e)) (opening_unit_in schema capacity (suc i));
       users = λ a. refl;
     }
 
@@ -90,7 +90,7 @@ module _ (schema : Lists) (capacity : ℕ) (schema_is : IsSchema schema) where
     at (Some unit) is =
         let e : i ≡ suc i - 1 = omega arith in
         subst (λ n. LegalWith schema capacity (effect schema capacity state.database unit statement).database (slice_set state.units n (effect schema capacity state.database unit statement).unit)) e
-          (effect_keeps_legal schema capacity state.database state.units i unit statement schema_is legal is fit)
+        (effect_keeps_legal schema capacity state.database state.units i unit statement schema_is legal is fit)
 
   along : (state : State) (history : List Entry) → IsLegalState schema capacity state → list_all (λ entry. fits schema entry.statement) history ≡ true → IsLegalState schema capacity (replay schema capacity state history)
   unfolding replay

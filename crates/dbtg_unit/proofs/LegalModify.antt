@@ -111,21 +111,23 @@ module _ (schema : Lists) (capacity : ℕ) (db : Database) (unit : Unit) (change
           ]
         ];
       } where
-    type_of : (x : DbKey) → key_eq k x ≡ true → x.rtype ≡ k.rtype
-    type_of x same = ap (λ (y : DbKey). y.rtype) (sym (same_key k x same))
-    and_free : (a b : Bool) → (a && b) ≡ false → (a ≡ true → b ≡ false)
-    and_free true b h g = h
-    and_free false b h g = absurd (false≢true g)
-    -- an old record with the new CALC key
-    clash : (j : DbKey) → key_eq k j ≡ false → is_live db j ≡ true → j.rtype ≡ k.rtype → unique_calc schema k.rtype ≡ true → values_eq (calc_items schema j.rtype (items_of db j)) (calc_items schema k.rtype items) ≡ true → k ≡ j
-    clash j other live_j same unique eq =
-        elim (cases_Bool (names_calc schema k.rtype changes)) [
-          | inl named ↦
-            absurd (false≢true (sym (not_taken schema capacity db k.rtype items (key_eq k) legal (and_free _ _ can.calc_free named) unique j live_j same other) ∙ (λ d. values_eq (calc_items schema (sym same d) (items_of db j)) (calc_items schema k.rtype items)) ∙ eq))
-          | inr unnamed ↦
-            legal.calc k j live live_j (sym same) unique
-            (values-swap (calc_items schema j.rtype (items_of db j)) (calc_items schema k.rtype (items_of db k)) ((λ d. values_eq (calc_items schema j.rtype (items_of db j)) (sym (same_calc_items schema k.rtype changes (items_of db k) unnamed) d)) ∙ eq))
-        ]
+        type_of : (x : DbKey) → key_eq k x ≡ true → x.rtype ≡ k.rtype
+        type_of x same = ap (λ (y : DbKey). y.rtype) (sym (same_key k x same))
+
+        and_free : (a b : Bool) → (a && b) ≡ false → (a ≡ true → b ≡ false)
+        and_free true b h g = h
+        and_free false b h g = absurd (false≢true g)
+
+        -- an old record with the new CALC key
+        clash : (j : DbKey) → key_eq k j ≡ false → is_live db j ≡ true → j.rtype ≡ k.rtype → unique_calc schema k.rtype ≡ true → values_eq (calc_items schema j.rtype (items_of db j)) (calc_items schema k.rtype items) ≡ true → k ≡ j
+        clash j other live_j same unique eq =
+            elim (cases_Bool (names_calc schema k.rtype changes)) [
+              | inl named ↦
+                  absurd (false≢true (sym (not_taken schema capacity db k.rtype items (key_eq k) legal (and_free _ _ can.calc_free named) unique j live_j same other) ∙ (λ d. values_eq (calc_items schema (sym same d) (items_of db j)) (calc_items schema k.rtype items)) ∙ eq))
+              | inr unnamed ↦
+                  legal.calc k j live live_j (sym same) unique
+                  (values-swap (calc_items schema j.rtype (items_of db j)) (calc_items schema k.rtype (items_of db k)) ((λ d. values_eq (calc_items schema j.rtype (items_of db j)) (sym (same_calc_items schema k.rtype changes (items_of db k) unnamed) d)) ∙ eq))
+            ]
 
   -- THE LISTS LESS THE RECORD
 
@@ -165,9 +167,9 @@ module _ (schema : Lists) (capacity : ℕ) (db : Database) (unit : Unit) (change
   same_key_in s o x h =
       elim (cases_Bool (key_eq k x)) [
         | inl same ↦
-          let own = subst (λ (y : DbKey). is_member y (members_in lists_less s o) ≡ true) (sym (same_key k x same)) h in
-          let none : has_number s sets ≡ false = false_from_ne_true _ (λ g. false≢true (sym (gone s o g) ∙ own)) in
-          subst (λ (y : DbKey). key_in schema (items_of after) s y ≡ key_in schema (items_of db) s y) (same_key k x same) (ap (key_item schema s k.rtype) items_own ∙ same_key_item schema s k.rtype changes (items_of db k) none)
+            let own = subst (λ (y : DbKey). is_member y (members_in lists_less s o) ≡ true) (sym (same_key k x same)) h in
+            let none : has_number s sets ≡ false = false_from_ne_true _ (λ g. false≢true (sym (gone s o g) ∙ own)) in
+            subst (λ (y : DbKey). key_in schema (items_of after) s y ≡ key_in schema (items_of db) s y) (same_key k x same) (ap (key_item schema s k.rtype) items_own ∙ same_key_item schema s k.rtype changes (items_of db k) none)
         | inr other ↦ ap (key_item schema s x.rtype) (items_other x other)
       ]
 
@@ -178,9 +180,9 @@ module _ (schema : Lists) (capacity : ℕ) (db : Database) (unit : Unit) (change
       (λ s o. same_there s o ∙ sound.rings.pairs s o ∙ same_list s o)
       thin
       (λ s o x h. (live_after x ∙ (sound.rings.members s o x (was_member s o x h)).0, same_key_in s o x h)) where
-    same_list : (s : ℕ) (o : Owner) → has_list schema (is_live db) s o ≡ has_list schema (is_live after) s o
-    same_list s System = refl
-    same_list s (Rec j) = ap (λ b. owns schema s j.rtype && b) (sym (live_after j))
+        same_list : (s : ℕ) (o : Owner) → has_list schema (is_live db) s o ≡ has_list schema (is_live after) s o
+        same_list s System = refl
+        same_list s (Rec j) = ap (λ b. owns schema s j.rtype && b) (sym (live_after j))
 
   -- THE RECORD PLACED AGAIN
 
@@ -197,13 +199,13 @@ module _ (schema : Lists) (capacity : ℕ) (db : Database) (unit : Unit) (change
       let list_is : members_in lists_less s o ≡ without k (unwrap_or (option_map (members_of db s) (owner_of schema capacity db s k)) []) = list_again s o h ∙ ap (λ (p : Option Owner). without k (unwrap_or (option_map (members_of db s) p) [])) (sym owner) in
       let none : list_any (λ x. option_value_eq (sort_key schema after s x) (sort_key schema after s k)) (members_in lists_less s o) ≡ false = ap (list_any (λ x. option_value_eq (sort_key schema after s x) (sort_key schema after s k))) list_is ∙ right_false _ _ refuses (can.key_free s in_sets) in
       all-both (λ x. is_member x (members_in lists_less s o)) (λ x. not (option_value_eq (sort_key schema after s x) (sort_key schema after s k))) (λ x. apart (sort_key schema after s x) (sort_key schema after s k)) (members_in lists_less s o)
-        (λ x in_list ne. let r = rings_less.members s o x in_list in
-          strict_keys schema good s x.rtype k.rtype (items_of after x) (items_of after k) refuses r.1 (legal.members s o k hs.1).1 (stock.typed x r.0) (stock.typed k (live_after k ∙ live)) (not-true _ ne))
-        (all-members (λ x. is_member x (members_in lists_less s o)) (members_in lists_less s o) (λ x h. h))
-        (all-none (λ x. option_value_eq (sort_key schema after s x) (sort_key schema after s k)) (λ x. not (option_value_eq (sort_key schema after s x) (sort_key schema after s k))) (members_in lists_less s o) (λ x e. not_from_false _ e) none) where
-    right_false : (a b : Bool) → a ≡ true → (a && b) ≡ false → b ≡ false
-    right_false true b h g = g
-    right_false false b h g = absurd (false≢true h)
+      (λ x in_list ne. let r = rings_less.members s o x in_list in
+      strict_keys schema good s x.rtype k.rtype (items_of after x) (items_of after k) refuses r.1 (legal.members s o k hs.1).1 (stock.typed x r.0) (stock.typed k (live_after k ∙ live)) (not-true _ ne))
+      (all-members (λ x. is_member x (members_in lists_less s o)) (members_in lists_less s o) (λ x h. h))
+      (all-none (λ x. option_value_eq (sort_key schema after s x) (sort_key schema after s k)) (λ x. not (option_value_eq (sort_key schema after s x) (sort_key schema after s k))) (members_in lists_less s o) (λ x e. not_from_false _ e) none) where
+        right_false : (a b : Bool) → a ≡ true → (a && b) ≡ false → b ≡ false
+        right_false true b h g = g
+        right_false false b h g = absurd (false≢true h)
 
   rings_again : CanChange schema capacity db changes k → IsSchema schema → Stock schema capacity (is_live after) (items_of after) db.last → Rings schema (is_live after) (items_of after) lists_again
   rings_again can good stock =
@@ -234,7 +236,7 @@ module _ (schema : Lists) (capacity : ℕ) (db : Database) (unit : Unit) (change
     at : (s : ℕ) (o : Owner) → lists_again s o ≡ lists_modified s o
     at s o =
         elim (again s o) as (λ b. cond b (option_map (placed (spot_again s) k) (cond b (option_map (without k) (db.lists s o)) (db.lists s o))) (cond b (option_map (without k) (db.lists s o)) (db.lists s o))
-            ≡ cond b (option_map (λ list. joined schema after unit s k (without k list)) (db.lists s o)) (db.lists s o)) [
+        ≡ cond b (option_map (λ list. joined schema after unit s k (without k list)) (db.lists s o)) (db.lists s o)) [
           | true ↦ elim (db.lists s o) as (λ l. option_map (placed (spot_again s) k) (option_map (without k) l) ≡ option_map (λ list. joined schema after unit s k (without k list)) l) [ None ↦ refl | Some list ↦ refl ]
           | false ↦ refl
         ]

@@ -133,5 +133,5 @@ pub legal_raised : (schema : Lists) (capacity : ℕ) (test : DbKey → Bool) (db
 legal_raised schema capacity test db sound uses =
     legal_from schema capacity (raised test db)
     (subst (λ (live : Living). Sound schema capacity live (items_of (raised test db)) db.lists db.last) (sym (live-raised test db))
-      (subst (λ (items : Items). Sound schema capacity (is_live db) items db.lists db.last) (sym (items-raised test db)) sound))
+    (subst (λ (items : Items). Sound schema capacity (is_live db) items db.lists db.last) (sym (items-raised test db)) sound))
     uses

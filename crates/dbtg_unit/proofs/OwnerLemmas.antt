@@ -55,9 +55,9 @@ find_owner p (x ∷ xs) o h g =
     elim (cases_Bool (p x)) [
       | inl e ↦ (x, ap (λ b. cond b (Some x) (find p xs)) e, e)
       | inr e ↦ ⊎_elim
-        (λ same. absurd (false≢true (sym e ∙ subst (λ (y : Owner). p y ≡ true) (same_owner o x same) g)))
-        (λ rest. let r = find_owner p xs o rest g in (r.0, ap (λ b. cond b (Some x) (find p xs)) e ∙ r.1, r.2))
-        (or_cases _ _ h)
+          (λ same. absurd (false≢true (sym e ∙ subst (λ (y : Owner). p y ≡ true) (same_owner o x same) g)))
+          (λ rest. let r = find_owner p xs o rest g in (r.0, ap (λ b. cond b (Some x) (find p xs)) e ∙ r.1, r.2))
+          (or_cases _ _ h)
     ]
 
 pub found_passes : {X : Type 0} (p : X → Bool) (xs : List X) (q : X) → find p xs ≡ Some q → p q ≡ true
@@ -78,9 +78,9 @@ module _ (schema : Lists) (capacity : ℕ) (db : Database) (legal : Legal schema
       let high = r.2 in
       let at : k ≡ key_at db k.rtype k.number = λ i. record { rtype = k.rtype; number = k.number; generation = r.4 i } in
       keeps_member k (is_live db) (map (key_at db k.rtype) (range_with_len 1 capacity))
-        (any-map (key_eq k) (key_at db k.rtype) (range_with_len 1 capacity)
-          ∙ any_number (λ n. key_eq k (key_at db k.rtype n)) k.number (range_with_len 1 capacity) (number_in k.number 1 capacity (omega arith) (omega arith)) (subst (λ (x : DbKey). key_eq k x ≡ true) at (key_eq-refl k)))
-        h
+      (any-map (key_eq k) (key_at db k.rtype) (range_with_len 1 capacity)
+      ∙ any_number (λ n. key_eq k (key_at db k.rtype n)) k.number (range_with_len 1 capacity) (number_in k.number 1 capacity (omega arith) (omega arith)) (subst (λ (x : DbKey). key_eq k x ≡ true) at (key_eq-refl k)))
+      h
 
   pub listed_all : (k : DbKey) → is_live db k ≡ true → is_member k (all_keys schema capacity db) ≡ true
   listed_all k h =

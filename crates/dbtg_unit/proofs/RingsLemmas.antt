@@ -36,10 +36,10 @@ member_kept x t [] h = absurd (false≢true h)
 member_kept x t (y ∷ ys) h =
     elim (cases_Bool (t y)) [
       | inl e ↦
-        ⊎_elim
-        (λ same. (or_left _ _ same, subst (λ (z : DbKey). t z ≡ true) (sym (same_key x y same)) e))
-        (λ rest. let r = member_kept x t ys rest in (or_right _ _ r.0, r.1))
-        (or_cases (key_eq x y) (is_member x (filter t ys)) (subst (λ b. is_member x (cond b (y ∷ filter t ys) (filter t ys)) ≡ true) e h))
+          ⊎_elim
+          (λ same. (or_left _ _ same, subst (λ (z : DbKey). t z ≡ true) (sym (same_key x y same)) e))
+          (λ rest. let r = member_kept x t ys rest in (or_right _ _ r.0, r.1))
+          (or_cases (key_eq x y) (is_member x (filter t ys)) (subst (λ b. is_member x (cond b (y ∷ filter t ys) (filter t ys)) ≡ true) e h))
       | inr e ↦ let r = member_kept x t ys (subst (λ b. is_member x (cond b (y ∷ filter t ys) (filter t ys)) ≡ true) e h) in (or_right _ _ r.0, r.1)
     ]
 
@@ -81,14 +81,15 @@ module _ (schema : Lists) (live live' : Living) (items items' : Items) (lists li
         in_one = λ s o p m ho hp. rings.in_one s o p m (old s o m ho) (old s p m hp);
         once = λ s o. subst (λ list. pairwise differ list ≡ true) (sym (thin s o).1) (pairwise-filter differ (thin s o).0 (members_in lists s o) (rings.once s o));
         sorted = λ s o. pairwise-same (λ x. is_member x (members_in lists' s o)) (ordered schema items s) (ordered schema items' s) (members_in lists' s o)
-          (λ x y hx hy h. read s x y (still s o x hx).1 (still s o y hy).1 ∙ h)
-          (all-members (λ x. is_member x (members_in lists' s o)) (members_in lists' s o) (λ x h. h))
-          (subst (λ list. pairwise (ordered schema items s) list ≡ true) (sym (thin s o).1) (pairwise-filter (ordered schema items s) (thin s o).0 (members_in lists s o) (rings.sorted s o)));
+            (λ x y hx hy h. read s x y (still s o x hx).1 (still s o y hy).1 ∙ h)
+            (all-members (λ x. is_member x (members_in lists' s o)) (members_in lists' s o) (λ x h. h))
+            (subst (λ list. pairwise (ordered schema items s) list ≡ true) (sym (thin s o).1) (pairwise-filter (ordered schema items s) (thin s o).0 (members_in lists s o) (rings.sorted s o)));
       } where
-    old : (s : ℕ) (o : Owner) (m : DbKey) → is_member m (members_in lists' s o) ≡ true → is_member m (members_in lists s o) ≡ true
-    old s o m h = (member_kept m (thin s o).0 (members_in lists s o) (subst (λ list. is_member m list ≡ true) (thin s o).1 h)).0
-    read : (s : ℕ) (x y : DbKey) → key_in schema items' s x ≡ key_in schema items s x → key_in schema items' s y ≡ key_in schema items s y → ordered schema items' s x y ≡ ordered schema items s x y
-    read s x y ex ey = λ i. keys_in_order (order_of schema s) (ex i) (ey i)
+        old : (s : ℕ) (o : Owner) (m : DbKey) → is_member m (members_in lists' s o) ≡ true → is_member m (members_in lists s o) ≡ true
+        old s o m h = (member_kept m (thin s o).0 (members_in lists s o) (subst (λ list. is_member m list ≡ true) (thin s o).1 h)).0
+
+        read : (s : ℕ) (x y : DbKey) → key_in schema items' s x ≡ key_in schema items s x → key_in schema items' s y ≡ key_in schema items s y → ordered schema items' s x y ≡ ordered schema items s x y
+        read s x y ex ey = λ i. keys_in_order (order_of schema s) (ex i) (ey i)
 
 -- A NEW MEMBER
 
@@ -125,36 +126,37 @@ module _ (schema : Lists) (live : Living) (items : Items) (lists : Rows) (m : Db
       record {
         pairs = λ s o. kept s o ∙ rings.pairs s o;
         members = λ s o x h. ⊎_elim
-          (λ new. let same = same_key x m new.1 in (subst (λ (y : DbKey). live y ≡ true) (sym same) alive, subst (λ (y : DbKey). is_some (member_clause schema s y.rtype) ≡ true) (sym same) (clause s o new.0)))
-          (λ old. rings.members s o x old)
-          (parts s o x h);
+            (λ new. let same = same_key x m new.1 in (subst (λ (y : DbKey). live y ≡ true) (sym same) alive, subst (λ (y : DbKey). is_some (member_clause schema s y.rtype) ≡ true) (sym same) (clause s o new.0)))
+            (λ old. rings.members s o x old)
+            (parts s o x h);
         in_one = λ s o p x ho hp. ⊎_elim
-          (λ a. ⊎_elim
+            (λ a. ⊎_elim
             (λ b. one s o p a.0 b.0)
             (λ old. absurd (false≢true (sym (absent s o p a.0) ∙ subst (λ (y : DbKey). is_member y (members_in lists s p) ≡ true) (same_key x m a.1) old)))
             (parts s p x hp))
-          (λ old. ⊎_elim
+            (λ old. ⊎_elim
             (λ b. absurd (false≢true (sym (absent s p o b.0) ∙ subst (λ (y : DbKey). is_member y (members_in lists s o) ≡ true) (same_key x m b.1) old)))
             (λ old2. rings.in_one s o p x old old2)
             (parts s p x hp))
-          (parts s o x ho);
+            (parts s o x ho);
         once = λ s o. at_placed (λ list. pairwise differ list ≡ true) s o refl
-          (λ h. pairwise-placed differ differ-swap (spots s) m (members_in lists s o) (all-none (key_eq m) (differ m) (members_in lists s o) (λ x e. not_from_false _ e) (absent s o o h)) (rings.once s o))
-          (rings.once s o);
+            (λ h. pairwise-placed differ differ-swap (spots s) m (members_in lists s o) (all-none (key_eq m) (differ m) (members_in lists s o) (λ x e. not_from_false _ e) (absent s o o h)) (rings.once s o))
+            (rings.once s o);
         sorted = λ s o. at_placed (λ list. pairwise (ordered schema items s) list ≡ true) s o refl (order s o) (rings.sorted s o);
       } where
-    kept : (s : ℕ) (o : Owner) → is_some (with_placed s o) ≡ is_some (lists s o)
-    kept s o =
-        elim (into s o) as (λ b. is_some (cond b (option_map (placed (spots s) m) (lists s o)) (lists s o)) ≡ is_some (lists s o)) [
-          | true ↦ elim (lists s o) as (λ l. is_some (option_map (placed (spots s) m) l) ≡ is_some l) [ None ↦ refl | Some list ↦ refl ]
-          | false ↦ refl
-        ]
-    parts : (s : ℕ) (o : Owner) (x : DbKey) → is_member x (members_in with_placed s o) ≡ true → ((into s o ≡ true) × (key_eq x m ≡ true)) ⊎ (is_member x (members_in lists s o) ≡ true)
-    parts s o x h =
-        ⊎_elim
-        (λ new. let ns = and_parts (into s o && is_some (lists s o)) (key_eq x m) new in inl ((and_parts (into s o) (is_some (lists s o)) ns.0).0, ns.1))
-        (λ old. inr old)
-        (or_cases (into s o && is_some (lists s o) && key_eq x m) (is_member x (members_in lists s o)) (sym (member-with_placed s o x) ∙ h))
+        kept : (s : ℕ) (o : Owner) → is_some (with_placed s o) ≡ is_some (lists s o)
+        kept s o =
+            elim (into s o) as (λ b. is_some (cond b (option_map (placed (spots s) m) (lists s o)) (lists s o)) ≡ is_some (lists s o)) [
+              | true ↦ elim (lists s o) as (λ l. is_some (option_map (placed (spots s) m) l) ≡ is_some l) [ None ↦ refl | Some list ↦ refl ]
+              | false ↦ refl
+            ]
+
+        parts : (s : ℕ) (o : Owner) (x : DbKey) → is_member x (members_in with_placed s o) ≡ true → ((into s o ≡ true) × (key_eq x m ≡ true)) ⊎ (is_member x (members_in lists s o) ≡ true)
+        parts s o x h =
+            ⊎_elim
+            (λ new. let ns = and_parts (into s o && is_some (lists s o)) (key_eq x m) new in inl ((and_parts (into s o) (is_some (lists s o)) ns.0).0, ns.1))
+            (λ old. inr old)
+            (or_cases (into s o && is_some (lists s o) && key_eq x m) (is_member x (members_in lists s o)) (sym (member-with_placed s o x) ∙ h))
 
 -- THE ORDER OF A LIST WITH A NEW MEMBER
 

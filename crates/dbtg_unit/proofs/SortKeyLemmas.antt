@@ -60,22 +60,23 @@ module _ (schema : Lists) (good : IsSchema schema) (s : ℕ) (set : SetType) (is
   key_of_picture t its m p h g fit =
       let type_is : m.rtype ≡ t = eqb-true m.rtype t (found_passes (λ member. eqb member.rtype t) set.members m h) in
       ap (some_and (value_fits p)) (key_item_is t its m h) ∙ at_key m.key (subst (λ u. option_and_then (λ i. picture_of schema u i) m.key ≡ Some p) type_is g) where
-    at_key : (key : Option ℕ) → option_and_then (λ i. picture_of schema t i) key ≡ Some p → some_and (value_fits p) (option_map (λ i. slice_index_or its i (Num 0)) key) ≡ true
-    at_key None g = absurd (none_some g)
-    at_key (Some i) g = fits_at (pictures schema t) its i p fit g
+        at_key : (key : Option ℕ) → option_and_then (λ i. picture_of schema t i) key ≡ Some p → some_and (value_fits p) (option_map (λ i. slice_index_or its i (Num 0)) key) ≡ true
+        at_key None g = absurd (none_some g)
+        at_key (Some i) g = fits_at (pictures schema t) its i p fit g
 
   has_picture : (t : ℕ) (m : Member) → clause_for t ≡ Some m → is_sorted set.order ≡ true → (p : Picture) × (key_picture_of schema m ≡ Some p)
   has_picture t m h sorted =
       let its = at_entry (IsSetType schema) schema.sets s set good.sets is in
       at_key m.key (for_clause (λ c. is_some c.key ≡ is_sorted set.order) t m h its.keys ∙ sorted) (for_clause (λ c. IfSome c.key (λ i. i < length (item_list schema c.rtype))) t m h its.key_items) where
-    in_list : (xs : List Item) (i : ℕ) → i < length xs → is_some (slice_get xs i) ≡ true
-    in_list [] i low = absurd (omega arith)
-    in_list (x ∷ xs) i low = ap is_some (slice_get-get_or (x ∷ xs) i x low)
-    at_key : (key : Option ℕ) → is_some key ≡ true → IfSome key (λ i. i < length (item_list schema m.rtype)) → (p : Picture) × (option_and_then (λ i. picture_of schema m.rtype i) key ≡ Some p)
-    at_key None h low = absurd (false≢true h)
-    at_key (Some i) h low =
-        let e = some_of (slice_get (item_list schema m.rtype) i) (in_list (item_list schema m.rtype) i low) in
-        (e.0.picture, slice_get-map (λ (x : Item). x.picture) (item_list schema m.rtype) i ∙ ap (option_map (λ (x : Item). x.picture)) e.1)
+        in_list : (xs : List Item) (i : ℕ) → i < length xs → is_some (slice_get xs i) ≡ true
+        in_list [] i low = absurd (omega arith)
+        in_list (x ∷ xs) i low = ap is_some (slice_get-get_or (x ∷ xs) i x low)
+
+        at_key : (key : Option ℕ) → is_some key ≡ true → IfSome key (λ i. i < length (item_list schema m.rtype)) → (p : Picture) × (option_and_then (λ i. picture_of schema m.rtype i) key ≡ Some p)
+        at_key None h low = absurd (false≢true h)
+        at_key (Some i) h low =
+            let e = some_of (slice_get (item_list schema m.rtype) i) (in_list (item_list schema m.rtype) i low) in
+            (e.0.picture, slice_get-map (λ (x : Item). x.picture) (item_list schema m.rtype) i ∙ ap (option_map (λ (x : Item). x.picture)) e.1)
 
   pub keys_of_set : (t u : ℕ) (its jts : List Value) → is_sorted set.order ≡ true → is_some (member_clause schema s t) ≡ true → is_some (member_clause schema s u) ≡ true
       → values_fit (pictures schema t) its ≡ true → values_fit (pictures schema u) jts ≡ true

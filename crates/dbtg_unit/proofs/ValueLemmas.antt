@@ -30,13 +30,13 @@ bytes-trans (x ∷ xs) [] (z ∷ zs) h g = absurd (false≢true h)
 bytes-trans (x ∷ xs) (y ∷ ys) (z ∷ zs) h g =
     ⊎_elim
     (λ less. let l = ltb-true x y less in ⊎_elim
-      (λ less2. let l2 = ltb-true y z less2 in or_left _ _ (lt-ltb x z (omega arith)))
-      (λ same2. let e2 = eqb-true y z (and_parts _ _ same2).0 in or_left _ _ (lt-ltb x z (omega arith)))
-      (or_cases _ _ g))
+    (λ less2. let l2 = ltb-true y z less2 in or_left _ _ (lt-ltb x z (omega arith)))
+    (λ same2. let e2 = eqb-true y z (and_parts _ _ same2).0 in or_left _ _ (lt-ltb x z (omega arith)))
+    (or_cases _ _ g))
     (λ same. let ss = and_parts _ _ same in let e = eqb-true x y ss.0 in ⊎_elim
-      (λ less2. let l2 = ltb-true y z less2 in or_left _ _ (lt-ltb x z (omega arith)))
-      (λ same2. let ss2 = and_parts _ _ same2 in let e2 = eqb-true y z ss2.0 in or_right _ _ (and_from _ _ (eq-eqb x z (e ∙ e2)) (bytes-trans xs ys zs ss.1 ss2.1)))
-      (or_cases _ _ g))
+    (λ less2. let l2 = ltb-true y z less2 in or_left _ _ (lt-ltb x z (omega arith)))
+    (λ same2. let ss2 = and_parts _ _ same2 in let e2 = eqb-true y z ss2.0 in or_right _ _ (and_from _ _ (eq-eqb x z (e ∙ e2)) (bytes-trans xs ys zs ss.1 ss2.1)))
+    (or_cases _ _ g))
     (or_cases _ _ h)
 
 bytes-order : (a b : List ℕ) → bytes_same a b ≡ false → (bytes_lt a b || bytes_lt b a) ≡ true
@@ -46,12 +46,12 @@ bytes-order [] (y ∷ ys) h = refl
 bytes-order (x ∷ xs) (y ∷ ys) h =
     ⊎_elim
     (λ e. ⊎_elim
-      (λ l. or_left _ _ (or_right _ _ (and_from _ _ (eq-eqb x y e) l)))
-      (λ l. or_right _ _ (or_right _ _ (and_from _ _ (eq-eqb y x (sym e)) l)))
-      (or_cases _ _ (bytes-order xs ys (sym (ap (λ b. b && bytes_same xs ys) (eq-eqb x y e)) ∙ h))))
+    (λ l. or_left _ _ (or_right _ _ (and_from _ _ (eq-eqb x y e) l)))
+    (λ l. or_right _ _ (or_right _ _ (and_from _ _ (eq-eqb y x (sym e)) l)))
+    (or_cases _ _ (bytes-order xs ys (sym (ap (λ b. b && bytes_same xs ys) (eq-eqb x y e)) ∙ h))))
     (⊎_elim
-      (λ l. or_left _ _ (or_left _ _ (lt-ltb x y l)))
-      (λ l. or_right _ _ (or_left _ _ (lt-ltb y x l))))
+    (λ l. or_left _ _ (or_left _ _ (lt-ltb x y l)))
+    (λ l. or_right _ _ (or_left _ _ (lt-ltb y x l))))
     (cases_order x y)
 
 bytes-swap : (a b : List ℕ) → bytes_same a b ≡ true → bytes_same b a ≡ true
