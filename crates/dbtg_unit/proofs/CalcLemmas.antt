@@ -16,7 +16,7 @@ use Rattle.dbtg_unit.specs.Legal.{Legal}
 use Rattle.dbtg_unit.proofs.KeyLemmas.{same_key, key_eq-refl}
 use Rattle.dbtg_unit.proofs.LegalParts.{unique_calc}
 use Rattle.dbtg_unit.proofs.RingsLemmas.{keeps_member}
-use Rattle.dbtg_unit.proofs.OwnerLemmas.{listed}
+use Rattle.dbtg_unit.proofs.LiveKeys.{in_member, live_in}
 
 -- some member passes, where one does
 pub any_member : (p : DbKey → Bool) (xs : List DbKey) (x : DbKey) → is_member x xs ≡ true → p x ≡ true → list_any p xs ≡ true
@@ -41,5 +41,5 @@ not_taken schema capacity db t items left_out legal free unique x live of_type s
     false_from_ne_true _ (λ same. false≢true
     (sym (none_where_unique (calc_of schema t) (list_any (λ k. not (left_out k)) (with_calc schema capacity db t (calc_items schema t items))) free unique)
     ∙ any_member (λ k. not (left_out k)) (with_calc schema capacity db t (calc_items schema t items)) x
-    (keeps_member x (λ k. values_eq (calc_items schema t (items_of db k)) (calc_items schema t items)) (live_keys capacity db t) (subst (λ u. is_member x (live_keys capacity db u) ≡ true) of_type (listed schema capacity db legal x live)) same)
+    (keeps_member x (λ k. values_eq (calc_items schema t (items_of db k)) (calc_items schema t items)) (live_keys capacity db t) (subst (λ u. is_member x (live_keys capacity db u) ≡ true) of_type (in_member x (live_keys capacity db x.rtype) (live_in schema capacity db legal x live))) same)
     (not_from_false _ stays)))

@@ -1,5 +1,5 @@
 -- Items after a MODIFY: those that are not named stay, and each is of its picture.
-use Rattle.std.proofs.Common.{◌≡◌, refl, sym, ◌∙◌, ap, ℕ, zero, suc, Bool, true, false, List, [], ◌∷◌, length, Option, Some, None, eqb, map, get_or-set_other, arith}
+use Rattle.std.proofs.Common.{◌||◌, ◌≡◌, refl, sym, ◌∙◌, ap, ℕ, zero, suc, Bool, true, false, List, [], ◌∷◌, length, Option, Some, None, eqb, map, get_or-set_other, arith}
 use Rattle.std.specs.Prelude.{is_some, slice_index_or, slice_set, slice_get, option_map, option_and_then, unwrap_or}
 use Rattle.std.specs.List.{list_any, list_all, find}
 use Rattle.std.proofs.lemmas.Bool.{and_parts, and_from, or_parts, false≢true, eqb-false, false_from_ne_true}
@@ -18,8 +18,11 @@ use Rattle.dbtg_unit.specs.declared.statement.Change.{Change}
 use Rattle.dbtg_unit.specs.Base.{picked, calc_items, key_item}
 use Rattle.dbtg_unit.specs.Fits.{value_fits, values_fit}
 use Rattle.dbtg_unit.specs.Effect.{changed_items, names_calc}
-use Rattle.dbtg_unit.proofs.OwnerLemmas.{any-map}
 use Rattle.dbtg_unit.proofs.CheckLemmas.{has_number, number_kept, number_in}
+
+any-map : {X Y : Type 0} (p : Y → Bool) (f : X → Y) (xs : List X) → list_any p (map f xs) ≡ list_any (λ x. p (f x)) xs
+any-map p f [] = refl
+any-map p f (x ∷ xs) = ap (λ b. p (f x) || b) (any-map p f xs)
 
 -- an item that no change names
 unnamed : (changes : List Change) (items : List Value) (i : ℕ) → list_any (λ c. eqb c.item i) changes ≡ false → slice_index_or (changed_items changes items) i (Num 0) ≡ slice_index_or items i (Num 0)

@@ -25,7 +25,8 @@ use Rattle.dbtg_schema.specs.Structure.{pictures}
 use Rattle.dbtg_unit.proofs.KeyLemmas.{same_key}
 use Rattle.dbtg_unit.proofs.LegalParts.{Rings, Stock, is_fixed, has_list, members_in, sound_of, uses_of, legal_raised}
 use Rattle.dbtg_unit.proofs.RingsLemmas.{keeps_member, member_kept, member_passes, rings_kept}
-use Rattle.dbtg_unit.proofs.OwnerLemmas.{any_number, listed_all}
+use Rattle.dbtg_unit.proofs.CheckLemmas.{any_number}
+use Rattle.dbtg_unit.proofs.LiveKeys.{in_member, live_in_all}
 use Rattle.dbtg_unit.proofs.CalcLemmas.{any_member}
 use Rattle.dbtg_unit.proofs.ItemLemmas.{set_number}
 
@@ -123,7 +124,7 @@ module _ (schema : Lists) (capacity : ℕ) (db : Database) (option : Erase) (k :
   dragged j m has live drag =
       let least = least_closed_is_least (drags schema capacity db option) (key_eq k) (all_keys schema capacity db) in
       subst (λ list. is_member m list ≡ true) least.closed
-      (keeps_member m (λ y. key_eq k y || list_any (λ x. drags schema capacity db option x y) gone) (all_keys schema capacity db) (listed_all schema capacity db legal m live)
+      (keeps_member m (λ y. key_eq k y || list_any (λ x. drags schema capacity db option x y) gone) (all_keys schema capacity db) (in_member m (all_keys schema capacity db) (live_in_all schema capacity db legal m live))
       (or_right _ _ (any_member (λ x. drags schema capacity db option x m) gone j has drag)))
 
   -- a fixed member that an option other than plain takes with its owner

@@ -33,8 +33,7 @@ use Rattle.dbtg_unit.specs.Effect.{calc_taken, changed_items, conflict, connecte
 use Rattle.dbtg_unit.specs.Legal.{Legal, mode_in}
 use Rattle.dbtg_unit.specs.LegalWith.{IsUnitIn}
 use Rattle.dbtg_unit.proofs.KeyLemmas.{key_eq-refl}
-use Rattle.dbtg_unit.proofs.CheckLemmas.{finding_kept, has_number, number_passes, number_within, on_current_kept, passes, passes_check, passes-append, passes-each, passes-map, unless_kept}
-use Rattle.dbtg_unit.proofs.OwnerLemmas.{any_number}
+use Rattle.dbtg_unit.proofs.CheckLemmas.{any_number, finding_kept, has_number, number_passes, number_within, on_current_kept, passes, passes_check, passes-append, passes-each, passes-map, unless_kept}
 use Rattle.dbtg_unit.proofs.LegalConnect.{can_join}
 use Rattle.dbtg_unit.proofs.LegalParts.{is_fixed}
 use Rattle.dbtg_unit.proofs.LegalMoves.{insert_legal, remove_legal}
@@ -55,13 +54,13 @@ pub record IsStep (schema : Lists) (capacity : ℕ) (before : Database) (number 
 -- CHECKS PASSED
 
 -- the checks without cells that the laws need
-record Passed (schema : Lists) (unit : Unit) (statement : Statement) : Type 0 where
-  type_is : some_and (λ t. not (accepts_type schema statement t)) (current_type unit) ≡ false
-  leaves : is_removing_mandatory schema unit statement ≡ false
-  opens : is_opening_again unit statement ≡ false
-  placed : lacks_current schema unit statement ≡ false
+pub record Passed (schema : Lists) (unit : Unit) (statement : Statement) : Type 0 where
+  pub type_is : some_and (λ t. not (accepts_type schema statement t)) (current_type unit) ≡ false
+  pub leaves : is_removing_mandatory schema unit statement ≡ false
+  pub opens : is_opening_again unit statement ≡ false
+  pub placed : lacks_current schema unit statement ≡ false
 
-passed : (schema : Lists) (capacity : ℕ) (unit : Unit) (statement : Statement) → refused_at_once schema capacity unit statement ≡ None → Passed schema unit statement
+pub passed : (schema : Lists) (capacity : ℕ) (unit : Unit) (statement : Statement) → refused_at_once schema capacity unit statement ≡ None → Passed schema unit statement
 passed schema capacity unit statement h =
     let current = passes_check (needs_current statement && is_none unit.currency.run_unit) NoCurrentOfRunUnit _ h in
     let type_is = passes_check (some_and (λ t. not (accepts_type schema statement t)) (current_type unit)) OtherRecordType _ current.1 in
@@ -75,15 +74,15 @@ none_from : {X : Type 0} (o : Option X) → is_some o ≡ false → o ≡ None
 none_from None h = refl
 none_from (Some x) h = absurd (false≢true (sym h))
 
-some_from : {X : Type 0} (o : Option X) → is_none o ≡ false → (x : X) × (o ≡ Some x)
+pub some_from : {X : Type 0} (o : Option X) → is_none o ≡ false → (x : X) × (o ≡ Some x)
 some_from None h = absurd (true≢false h)
 some_from (Some x) h = (x, refl)
 
 -- none of a list, so not one
-none_at : (p : ℕ → Bool) (s : ℕ) (xs : List ℕ) → has_number s xs ≡ true → list_any p xs ≡ false → p s ≡ false
+pub none_at : (p : ℕ → Bool) (s : ℕ) (xs : List ℕ) → has_number s xs ≡ true → list_any p xs ≡ false → p s ≡ false
 none_at p s xs h none = false_from_ne_true _ (λ e. false≢true (sym none ∙ any_number p s xs h e))
 
-first_has : (xs : List ℕ) (n : ℕ) → first xs ≡ Some n → has_number n xs ≡ true
+pub first_has : (xs : List ℕ) (n : ℕ) → first xs ≡ Some n → has_number n xs ≡ true
 first_has [] n h = absurd (none_some h) where
   none_some : None ≡ Some n → ⊥
   none_some h = cc

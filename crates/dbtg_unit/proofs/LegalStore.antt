@@ -1,7 +1,7 @@
 -- STORE keeps a database legal.
-use Rattle.std.proofs.Common.{◌≡◌, refl, sym, ◌∙◌, ap, subst, ℕ, ◌+◌, ◌<◌, ◌≤◌, true, false, cond, ◌&&◌, ◌||◌, List, [], length, Option, Some, None, inl, inr, ⊎_elim, ◌⊎◌, eqb, arith}
+use Rattle.std.proofs.Common.{Bool, ◌≡◌, refl, sym, ◌∙◌, ap, subst, ℕ, ◌+◌, ◌<◌, ◌≤◌, true, false, cond, ◌&&◌, ◌||◌, List, [], length, Option, Some, None, inl, inr, ⊎_elim, ◌⊎◌, eqb, arith}
 use Rattle.std.specs.Prelude.{is_some, is_none, option_map, option_and_then, unwrap_or, slice_get}
-use Rattle.std.specs.List.{find}
+use Rattle.std.specs.List.{find, list_any}
 use Rattle.std.proofs.lemmas.Bool.{and_parts, and_from, and_right, or_right, or_left, cases_Bool, cond_both, false≢true, eqb-true, eq-eqb, false_from_ne_true}
 use Rattle.std.proofs.lemmas.Option.{slice_get_within}
 use Rattle.dbtg_schema.specs.Lists.{Lists}
@@ -9,7 +9,7 @@ use Rattle.dbtg_schema.specs.WellFormed.{IsSchema}
 use Rattle.dbtg_schema.specs.declared.shape.Member.{Member}
 use Rattle.dbtg_schema.specs.declared.shape.SetType.{SetType}
 use Rattle.dbtg_schema.specs.Lookups.{some_and}
-use Rattle.dbtg_schema.specs.Structure.{automatic_sets, is_automatic, is_mandatory, member_clause, owns, pictures, set_numbers}
+use Rattle.dbtg_schema.specs.Structure.{automatic_sets, order_of, is_automatic, is_mandatory, member_clause, owns, pictures, set_numbers}
 use Rattle.dbtg_cells.specs.declared.key.DbKey.{DbKey}
 use Rattle.dbtg_cells.specs.declared.key.Owner.{Owner}
 use Rattle.dbtg_cells.specs.declared.key.Owner.TheVariants.{System, Rec}
@@ -19,7 +19,7 @@ use Rattle.dbtg_unit.specs.declared.unit.Unit.{Unit}
 use Rattle.dbtg_unit.specs.Base.{Database, Record, is_live, items_of, key_at, is_member, members_of, key_item, sort_key, calc_items}
 use Rattle.dbtg_unit.specs.Units.{place_in}
 use Rattle.dbtg_unit.specs.Fits.{values_fit}
-use Rattle.dbtg_unit.specs.Effect.{calc_taken, connected_in, new_key, with_new, is_current_owner, option_value_eq}
+use Rattle.dbtg_unit.specs.Effect.{calc_taken, connected_in, is_current_owner, new_key, option_value_eq, refuses_equal, with_new}
 use Rattle.dbtg_unit.specs.Legal.{Legal}
 use Rattle.dbtg_unit.proofs.KeyLemmas.{same_key, key_eq-refl, same_owner}
 use Rattle.dbtg_unit.proofs.ValueLemmas.{values-swap}
@@ -205,19 +205,27 @@ module _ (schema : Lists) (capacity : ℕ) (db : Database) (t n : ℕ) (its : Li
         rings = connected_rings schema unit (automatic_sets schema t) (is_live after) (items_of after) after.lists k good stock.typed rings_after (live_new k (key_eq-refl k))
             (λ s h. some_clause (member_clause schema s t) (automatic_clause s h))
             (λ s o h. false_from_ne_true _ (λ g. false≢true (sym not_yet ∙ (legal.members s o k (was_member s o k g)).0)))
-            (λ s o j refuses. let js = and_parts _ _ j in false_from_ne_true _ (λ g.
-            let m = member_of_any _ (members_in after.lists s o) g in
-            let was = was_member s o m.0 m.1 in
-            let live = (legal.members s o m.0 was).0 in
-            false≢true (sym ((join s js.0).differs o js.1 refuses)
-            ∙ any_member (λ x. option_value_eq (sort_key schema db s x) (key_item schema s t its)) (members_of db s o) m.0 was
-            (sym (λ d. option_value_eq (same_key_in s m.0 live d) (key_item schema s t (items_new k (key_eq-refl k) d))) ∙ m.2))));
+            (λ s o j. let js = and_parts _ _ j in still_free (refuses_equal (order_of schema s)) _ _ (equal_was s o) ((join s js.0).differs o js.1));
         fixed = λ s m live fix. ⊎_elim
             (λ same. subst (λ (x : DbKey). (o : Owner) × (is_member x (members_in (connected_in schema after unit (automatic_sets schema t) k).lists s o) ≡ true)) (same_key k m same) (joined s (subst (λ (x : DbKey). is_fixed schema s x.rtype ≡ true) (sym (same_key k m same)) fix)))
             (λ old. let r = legal.mandatory_automatic s m old.1 fix in (r.0, member_in s r.0 m ∙ or_right _ _ (still_member s r.0 m r.1)))
             (new_or_old m live);
       })
       (uses_of schema capacity db legal) where
+        still_free : (a b c : Bool) → (c ≡ true → b ≡ true) → (a && b) ≡ false → (a && c) ≡ false
+        still_free true b c w h = false_from_ne_true c (λ g. false≢true (sym h ∙ w g))
+        still_free false b c w h = refl
+
+        -- an equal key that is there was there
+        equal_was : (s : ℕ) (o : Owner) → list_any (λ x. option_value_eq (key_in schema (items_of after) s x) (key_in schema (items_of after) s k)) (members_in after.lists s o) ≡ true
+            → list_any (λ x. option_value_eq (sort_key schema db s x) (key_item schema s t its)) (members_of db s o) ≡ true
+        equal_was s o g =
+            let m = member_of_any (λ x. option_value_eq (key_in schema (items_of after) s x) (key_in schema (items_of after) s k)) (members_in after.lists s o) g in
+            let was = was_member s o m.0 m.1 in
+            let live = (legal.members s o m.0 was).0 in
+            any_member (λ x. option_value_eq (sort_key schema db s x) (key_item schema s t its)) (members_of db s o) m.0 was
+            (sym (λ d. option_value_eq (same_key_in s m.0 live d) (key_item schema s t (items_new k (key_eq-refl k) d))) ∙ m.2)
+
         member_in : (s : ℕ) (o : Owner) (x : DbKey) → is_member x (members_in (connected_in schema after unit (automatic_sets schema t) k).lists s o) ≡ ((joins schema unit (automatic_sets schema t) (is_live after) (items_of after) after.lists k s o && is_some (after.lists s o) && key_eq x k) || is_member x (members_in after.lists s o))
         member_in s o x = member-with_placed schema (is_live after) (items_of after) after.lists k (joins schema unit (automatic_sets schema t) (is_live after) (items_of after) after.lists k) (spot_in schema unit (automatic_sets schema t) (is_live after) (items_of after) after.lists k) s o x
 

@@ -24,7 +24,8 @@ use Rattle.dbtg_unit.specs.Units.{noted, owners_of, seen, seen_place, suppresses
 use Rattle.dbtg_unit.specs.Effect.{moved}
 use Rattle.dbtg_unit.specs.Legal.{Legal, pairwise}
 use Rattle.dbtg_unit.proofs.PlacedLemmas.{all-filter, all-kept, all-weaker, pairwise-append, pairwise-filter}
-use Rattle.dbtg_unit.proofs.OwnerLemmas.{member_of_owner, there}
+use Rattle.dbtg_unit.proofs.LiveKeys.{member_of_owner}
+use Rattle.dbtg_unit.proofs.RingsLemmas.{there}
 
 -- ENTRIES
 
@@ -268,7 +269,7 @@ module _ (schema : Lists) (capacity : ℕ) (unit : Unit) (good : IsGood schema c
         seen_in : (r : ℕ) (was : Option Place) (b : Bool) (o : Option Owner) → owns schema r k.rtype ≡ b → at (owners_of schema capacity db k) r ≡ o → IsGoodKey schema capacity k → IsGoodPlace schema capacity r was → IsGoodPlace schema capacity r (seen_place was b k o)
         seen_in r was true o owner_is of key place = record { of_set = and_from _ _ owner_is refl; within = and_from _ _ key.number refl }
         seen_in r was false (Some o) owner_is of key place =
-            let owner = list_owner schema capacity db legal r o (there k (db.lists r o) (member_of_owner schema capacity db legal r k o (at-number (λ n. owner_of schema capacity db n k) (length schema.sets) r o of))) in
+            let owner = list_owner schema capacity db legal r o (there k (db.lists r o) (member_of_owner schema capacity db legal r o k (at-number (λ n. owner_of schema capacity db n k) (length schema.sets) r o of))) in
             record { of_set = and_from _ _ owner.of_set key.key; within = and_from _ _ owner.within key.number }
         seen_in r was false None owner_is of key place = place
 
