@@ -83,7 +83,7 @@ mutual_conflict m n = both (is_exclusive m) (is_exclusive n) (is_protected m && 
 mode_agrees : (es : List (ℕ × Mode)) (e : ℕ × Mode) (number : ℕ) (m : Mode) → list_all (agree e) es ≡ true → mode_in es number ≡ Some m → conflict e.1 m ≡ false
 mode_agrees [] e number m h is = absurd (none_some is)
 mode_agrees (f ∷ es) e number m h is =
-    let hs = and_parts _ _ h in
+    let hs = and_parts (agree e f) (list_all (agree e) es) h in
     elim (cases_Bool (eqb f.0 number)) [
       | inl own ↦
           let same : Some f.1 ≡ Some m = ap (λ b. cond b (Some f.1) (mode_in es number)) (sym own) ∙ is in
@@ -95,7 +95,7 @@ mode_agrees (f ∷ es) e number m h is =
 modes_agree : (es : List (ℕ × Mode)) (p q : ℕ) (m n : Mode) → (p ≡ q → ⊥) → pairwise agree es ≡ true → mode_in es p ≡ Some m → mode_in es q ≡ Some n → conflict m n ≡ false
 modes_agree [] p q m n apart h first second = absurd (none_some first)
 modes_agree (e ∷ es) p q m n apart h first second =
-    let hs = and_parts _ _ h in
+    let hs = and_parts (list_all (agree e) es) (pairwise agree es) h in
     elim (cases_Bool (eqb e.0 p)) [
       | inl own ↦
           let same : Some e.1 ≡ Some m = ap (λ b. cond b (Some e.1) (mode_in es p)) (sym own) ∙ first in
