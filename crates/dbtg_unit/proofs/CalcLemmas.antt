@@ -1,5 +1,5 @@
 -- What it says that no record has a CALC key.
-use Rattle.std.proofs.Common.{◌≡◌, refl, sym, ◌∙◌, ap, subst, ℕ, Bool, true, false, not, ◌&&◌, ◌||◌, List, [], ◌∷◌, Option, Some, None, ⊎_elim}
+use Rattle.std.proofs.Common.{◌≡◌, sym, ◌∙◌, subst, ℕ, Bool, true, false, not, ◌&&◌, List, [], ◌∷◌, Option, Some, None, ⊎_elim}
 use Rattle.std.specs.List.{list_any}
 use Rattle.std.proofs.lemmas.Bool.{or_cases, or_left, or_right, false≢true, false_from_ne_true, not_from_false}
 use Rattle.dbtg_schema.specs.Lists.{Lists}
@@ -8,7 +8,7 @@ use Rattle.dbtg_schema.specs.Lookups.{some_and}
 use Rattle.dbtg_schema.specs.Structure.{calc_of}
 use Rattle.dbtg_cells.specs.declared.key.DbKey.{DbKey}
 use Rattle.dbtg_cells.specs.declared.key.Value.{Value}
-use Rattle.dbtg_cells.specs.Keys.{key_eq, values_eq}
+use Rattle.dbtg_cells.specs.Keys.{values_eq}
 use Rattle.dbtg_unit.specs.Base.{Database, is_live, items_of, is_member, calc_items, live_keys}
 use Rattle.dbtg_unit.specs.Found.{with_calc}
 use Rattle.dbtg_unit.specs.Effect.{calc_taken}
@@ -16,7 +16,7 @@ use Rattle.dbtg_unit.specs.Legal.{Legal}
 use Rattle.dbtg_unit.proofs.KeyLemmas.{same_key, key_eq-refl}
 use Rattle.dbtg_unit.proofs.LegalParts.{unique_calc}
 use Rattle.dbtg_unit.proofs.RingsLemmas.{keeps_member}
-use Rattle.dbtg_unit.proofs.OwnerLemmas.{listed}
+use Rattle.dbtg_unit.proofs.LiveKeys.{in_member, live_in}
 
 -- some member passes, where one does
 pub any_member : (p : DbKey → Bool) (xs : List DbKey) (x : DbKey) → is_member x xs ≡ true → p x ≡ true → list_any p xs ≡ true
@@ -39,7 +39,7 @@ pub not_taken : (schema : Lists) (capacity : ℕ) (db : Database) (t : ℕ) (ite
     → (x : DbKey) → is_live db x ≡ true → x.rtype ≡ t → left_out x ≡ false → values_eq (calc_items schema t (items_of db x)) (calc_items schema t items) ≡ false
 not_taken schema capacity db t items left_out legal free unique x live of_type stays =
     false_from_ne_true _ (λ same. false≢true
-      (sym (none_where_unique (calc_of schema t) (list_any (λ k. not (left_out k)) (with_calc schema capacity db t (calc_items schema t items))) free unique)
-      ∙ any_member (λ k. not (left_out k)) (with_calc schema capacity db t (calc_items schema t items)) x
-        (keeps_member x (λ k. values_eq (calc_items schema t (items_of db k)) (calc_items schema t items)) (live_keys capacity db t) (subst (λ u. is_member x (live_keys capacity db u) ≡ true) of_type (listed schema capacity db legal x live)) same)
-        (not_from_false _ stays)))
+    (sym (none_where_unique (calc_of schema t) (list_any (λ k. not (left_out k)) (with_calc schema capacity db t (calc_items schema t items))) free unique)
+    ∙ any_member (λ k. not (left_out k)) (with_calc schema capacity db t (calc_items schema t items)) x
+    (keeps_member x (λ k. values_eq (calc_items schema t (items_of db k)) (calc_items schema t items)) (live_keys capacity db t) (subst (λ u. is_member x (live_keys capacity db u) ≡ true) of_type (in_member x (live_keys capacity db x.rtype) (live_in schema capacity db legal x live))) same)
+    (not_from_false _ stays)))

@@ -1,9 +1,8 @@
 -- What a statement that passes its checks has passed, and what holds of an outcome whether refused or not.
-use Rattle.std.proofs.Common.{◌≡◌, refl, sym, ◌∙◌, ap, subst, ℕ, zero, suc, ◌+◌, ◌<◌, ◌≤◌, Bool, true, false, cond, ◌&&◌, ◌||◌, List, [], ◌∷◌, ◌++◌, Option, Some, None, inl, inr, ⊎_elim, eqb, arith, map}
+use Rattle.std.proofs.Common.{◌≡◌, refl, sym, ◌∙◌, ap, subst, ℕ, zero, suc, ◌+◌, ◌<◌, ◌≤◌, Bool, true, false, cond, List, [], ◌∷◌, ◌++◌, Option, Some, None, inl, inr, ⊎_elim, eqb, arith, map}
 use Rattle.std.specs.Prelude.{filter, Result, Ok, Err}
 use Rattle.std.specs.List.{list_any, flat_map, range_with_len}
-use Rattle.std.proofs.lemmas.List.Folds.{list_any-append}
-use Rattle.std.proofs.lemmas.Bool.{and_parts, or_cases, or_left, or_right, cases_Bool, cond_both, false≢true, eqb-true, eqb-false}
+use Rattle.std.proofs.lemmas.Bool.{or_cases, or_left, or_right, cases_Bool, cond_both, false≢true, eqb-true, eqb-false}
 use Rattle.dbtg_cells.specs.declared.key.DbKey.{DbKey}
 use Rattle.dbtg_unit.specs.declared.unit.Unit.{Unit}
 use Rattle.dbtg_unit.specs.declared.unit.Cause.{Cause}
@@ -77,9 +76,9 @@ number_passes p s [] h = absurd (false≢true h)
 number_passes p s (x ∷ xs) h =
     elim (cases_Bool (p x)) [
       | inl e ↦ ⊎_elim
-        (λ same. (or_left _ _ same, subst (λ y. p y ≡ true) (eqb-true x s same) e))
-        (λ rest. let r = number_passes p s xs rest in (or_right _ _ r.0, r.1))
-        (or_cases (eqb x s) (has_number s (filter p xs)) (subst (λ b. has_number s (cond b (x ∷ filter p xs) (filter p xs)) ≡ true) e h))
+          (λ same. (or_left _ _ same, subst (λ y. p y ≡ true) (eqb-true x s same) e))
+          (λ rest. let r = number_passes p s xs rest in (or_right _ _ r.0, r.1))
+          (or_cases (eqb x s) (has_number s (filter p xs)) (subst (λ b. has_number s (cond b (x ∷ filter p xs) (filter p xs)) ≡ true) e h))
       | inr e ↦ let r = number_passes p s xs (subst (λ b. has_number s (cond b (x ∷ filter p xs) (filter p xs)) ≡ true) e h) in (or_right _ _ r.0, r.1)
     ]
 
@@ -106,3 +105,9 @@ number_within s a (suc n) h =
     (λ e. let same = eqb-true a s e in (omega arith, omega arith))
     (λ r. let w = number_within s (a + 1) n r in let low = w.0 in let high = w.1 in (omega arith, omega arith))
     (or_cases _ _ h)
+
+-- what a number of a list passes, some number passes
+pub any_number : (p : ℕ → Bool) (n : ℕ) (xs : List ℕ) → has_number n xs ≡ true → p n ≡ true → list_any p xs ≡ true
+any_number p n [] h g = absurd (false≢true h)
+any_number p n (x ∷ xs) h g =
+    ⊎_elim (λ e. or_left _ _ (subst (λ y. p y ≡ true) (sym (eqb-true x n e)) g)) (λ r. or_right _ _ (any_number p n xs r g)) (or_cases _ _ h)

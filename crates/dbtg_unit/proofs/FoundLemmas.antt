@@ -1,8 +1,8 @@
 -- What a FIND finds in a legal database is live.
-use Rattle.std.proofs.Common.{◌≡◌, refl, sym, ◌∙◌, ap, subst, ℕ, zero, suc, ◌+◌, ◌-◌, ◌<◌, ◌≤◌, Bool, true, false, cond, not, ◌&&◌, ◌||◌, List, [], ◌∷◌, ◌++◌, length, Option, Some, None, inl, inr, ℤ, pos, negsuc, arith, get_or, reverse, map, eqb}
-use Rattle.std.specs.Prelude.{Result, Ok, Err, is_none, unwrap_or, option_and_then, option_map, filter, slice_get, pred}
+use Rattle.std.proofs.Common.{◌≡◌, refl, sym, ◌∙◌, ap, subst, ℕ, zero, suc, ◌-◌, ◌<◌, Bool, true, false, cond, not, ◌&&◌, List, [], ◌∷◌, length, Option, Some, None, inl, inr, ℤ, pos, negsuc, arith, get_or, reverse, map}
+use Rattle.std.specs.Prelude.{Result, Ok, Err, is_none, option_and_then, filter, slice_get, pred}
 use Rattle.std.specs.List.{find, flat_map, list_all, range_with_len}
-use Rattle.std.proofs.lemmas.Bool.{and_parts, and_from, cases_Bool, cond_both, false≢true}
+use Rattle.std.proofs.lemmas.Bool.{and_parts, and_from, cases_Bool, cond_both}
 use Rattle.std.proofs.lemmas.List.{get_or-reverse, length-reverse}
 use Rattle.std.proofs.lemmas.List.Folds.{list_all-append}
 use Rattle.dbtg_schema.specs.Lists.{Lists}
@@ -22,7 +22,7 @@ use Rattle.dbtg_unit.specs.declared.unit.Cause.{Cause}
 use Rattle.dbtg_unit.specs.declared.unit.Cause.TheVariants.{Deleted, End, NoneSatisfies, PositionLost}
 use Rattle.dbtg_unit.specs.Base.{Database, is_live, items_of, calc_items, key_at, live_keys, members_of, sort_key}
 use Rattle.dbtg_unit.specs.Units.{place_in, key_of_place}
-use Rattle.dbtg_unit.specs.Found.{chosen, chosen_by_key, earlier, found, found_unless, has_type, is_lost, keys_in_area, later, needs_position, with_calc, with_current}
+use Rattle.dbtg_unit.specs.Found.{chosen, chosen_by_key, found, found_unless, has_type, is_lost, keys_in_area, needs_position, with_calc, with_current}
 use Rattle.dbtg_unit.specs.Legal.{Legal}
 use Rattle.dbtg_unit.proofs.PlacedLemmas.{all-filter, all-kept}
 use Rattle.dbtg_unit.proofs.RingsLemmas.{all-members}
@@ -48,9 +48,9 @@ all_from_at p (x ∷ xs) w = and_from _ _ (w zero x (omega arith)) (all_from_at 
 all-reverse : {X : Type 0} (p : X → Bool) (xs : List X) → list_all p xs ≡ true → list_all p (reverse xs) ≡ true
 all-reverse {X} p xs h =
     all_from_at p (reverse xs) (λ i d low.
-      let size : length (reverse xs) ≡ length xs = length-reverse xs in
-      let low' : i < length xs = omega arith in
-      subst (λ (z : X). p z ≡ true) (sym (get_or-reverse xs i d low')) (passes_at p xs (length xs - 1 - i) d h (omega arith)))
+    let size : length (reverse xs) ≡ length xs = length-reverse xs in
+    let low' : i < length xs = omega arith in
+    subst (λ (z : X). p z ≡ true) (sym (get_or-reverse xs i d low')) (passes_at p xs (length xs - 1 - i) d h (omega arith)))
 
 first_passes : {X : Type 0} (p : X → Bool) (xs : List X) (x : X) → list_all p xs ≡ true → first xs ≡ Some x → p x ≡ true
 first_passes p [] x h e = at_passes p [] 0 x h e
@@ -158,18 +158,18 @@ module _ (schema : Lists) (capacity : ℕ) (db : Database) (unit : Unit) (legal 
   found_live (CurrentOfSet s) = of_current (option_and_then key_of_place (place_in schema unit s)) if_live (λ k. where_live k Deleted)
   found_live (InSet which r s) = of_current (place_in schema unit s) (in_list which r s) (λ place.
       of_key (first_cause ((is_none (db.lists s place.owner), Deleted) ∷ (needs_position which && is_lost place.at (members_of db s place.owner), PositionLost) ∷ [])) (chosen which (has_type r) place.at (members_of db s place.owner)) End
-        (λ x e. chosen_passes (is_live db) which (has_type r) place.at (members_of db s place.owner) x (members_live s place.owner) e))
+      (λ x e. chosen_passes (is_live db) which (has_type r) place.at (members_of db s place.owner) x (members_live s place.owner) e))
   found_live (InArea which r a) =
       of_key None (chosen_by_key which (at unit.currency.areas a) (keys_in_area schema capacity db r a)) End
       (λ x e. by_key_passes (is_live db) which (at unit.currency.areas a) (keys_in_area schema capacity db r a) x
-        (all-filter (is_live db) (has_type r) (flat_map (live_keys capacity db) (types_in schema a)) (all-flat (is_live db) (live_keys capacity db) (types_in schema a) keys_live)) e)
+      (all-filter (is_live db) (has_type r) (flat_map (live_keys capacity db) (types_in schema a)) (all-flat (is_live db) (live_keys capacity db) (types_in schema a) keys_live)) e)
   found_live (OwnerOf s) = of_current (option_and_then (λ place. key_of_place (record place { at = None })) (place_in schema unit s)) if_live (λ k. where_live k Deleted)
   found_live (Calc r values) =
       of_key None (first (with_calc schema capacity db r values)) NoneSatisfies (λ x e. first_passes (is_live db) (with_calc schema capacity db r values) x (calc_live r values) e)
   found_live (NextDuplicate r) = of_current (at unit.currency.types r) (next_equal r) (λ k.
       let equal = with_calc schema capacity db r (calc_items schema r (items_of db k)) in
       of_key (first_cause ((not (is_live db k), Deleted) ∷ [])) (first (filter (key_lt k) equal)) End
-        (λ x e. first_passes (is_live db) (filter (key_lt k) equal) x (all-filter (is_live db) (key_lt k) equal (calc_live r (calc_items schema r (items_of db k)))) e))
+      (λ x e. first_passes (is_live db) (filter (key_lt k) equal) x (all-filter (is_live db) (key_lt k) equal (calc_live r (calc_items schema r (items_of db k)))) e))
   found_live (Sorted value s) = of_current (place_in schema unit s) (by_value value s) (λ place.
       of_key (first_cause ((is_none (db.lists s place.owner), Deleted) ∷ [])) (find (λ k. some_and (value_eq value) (sort_key schema db s k)) (members_of db s place.owner)) NoneSatisfies
-        (λ x e. found_in (is_live db) (λ k. some_and (value_eq value) (sort_key schema db s k)) (members_of db s place.owner) x (members_live s place.owner) e))
+      (λ x e. found_in (is_live db) (λ k. some_and (value_eq value) (sort_key schema db s k)) (members_of db s place.owner) x (members_live s place.owner) e))

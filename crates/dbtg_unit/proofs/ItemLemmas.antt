@@ -1,8 +1,8 @@
 -- Items after a MODIFY: those that are not named stay, and each is of its picture.
-use Rattle.std.proofs.Common.{◌≡◌, refl, sym, ◌∙◌, ap, subst, ℕ, zero, suc, Bool, true, false, ◌&&◌, ◌||◌, List, [], ◌∷◌, length, Option, Some, None, eqb, map, get_or, get_or-set_other, arith}
+use Rattle.std.proofs.Common.{◌||◌, ◌≡◌, refl, sym, ◌∙◌, ap, ℕ, zero, suc, Bool, true, false, List, [], ◌∷◌, length, Option, Some, None, eqb, map, get_or-set_other, arith}
 use Rattle.std.specs.Prelude.{is_some, slice_index_or, slice_set, slice_get, option_map, option_and_then, unwrap_or}
 use Rattle.std.specs.List.{list_any, list_all, find}
-use Rattle.std.proofs.lemmas.Bool.{and_parts, and_from, or_parts, false≢true, eqb-false, cases_Bool, false_from_ne_true}
+use Rattle.std.proofs.lemmas.Bool.{and_parts, and_from, or_parts, false≢true, eqb-false, false_from_ne_true}
 use Rattle.std.proofs.lemmas.Option.{slice_get_within}
 use Rattle.dbtg_schema.specs.Lists.{Lists}
 use Rattle.dbtg_schema.specs.declared.numbers.ItemNo.{ItemNo}
@@ -18,8 +18,11 @@ use Rattle.dbtg_unit.specs.declared.statement.Change.{Change}
 use Rattle.dbtg_unit.specs.Base.{picked, calc_items, key_item}
 use Rattle.dbtg_unit.specs.Fits.{value_fits, values_fit}
 use Rattle.dbtg_unit.specs.Effect.{changed_items, names_calc}
-use Rattle.dbtg_unit.proofs.OwnerLemmas.{any-map}
 use Rattle.dbtg_unit.proofs.CheckLemmas.{has_number, number_kept, number_in}
+
+any-map : {X Y : Type 0} (p : Y → Bool) (f : X → Y) (xs : List X) → list_any p (map f xs) ≡ list_any (λ x. p (f x)) xs
+any-map p f [] = refl
+any-map p f (x ∷ xs) = ap (λ b. p (f x) || b) (any-map p f xs)
 
 -- an item that no change names
 unnamed : (changes : List Change) (items : List Value) (i : ℕ) → list_any (λ c. eqb c.item i) changes ≡ false → slice_index_or (changed_items changes items) i (Num 0) ≡ slice_index_or items i (Num 0)
@@ -38,7 +41,7 @@ unnamed_picked changes items (i ∷ numbers) h =
 pub same_calc_items : (schema : Lists) (t : ℕ) (changes : List Change) (items : List Value) → names_calc schema t changes ≡ false → calc_items schema t (changed_items changes items) ≡ calc_items schema t items
 same_calc_items schema t changes items h =
     (elim (calc_of schema t) as (λ calc. some_and (λ c. list_any (λ i. list_any (λ d. eqb d.item i) changes) c.items) calc ≡ false
-        → unwrap_or (option_map (λ (c : Calc). picked c.items (changed_items changes items)) calc) [] ≡ unwrap_or (option_map (λ (c : Calc). picked c.items items) calc) []) [
+    → unwrap_or (option_map (λ (c : Calc). picked c.items (changed_items changes items)) calc) [] ≡ unwrap_or (option_map (λ (c : Calc). picked c.items items) calc) []) [
       | None ↦ λ h. refl
       | Some calc ↦ λ h. unnamed_picked changes items calc.items h
     ]) h
@@ -56,12 +59,14 @@ pub same_key_item : (schema : Lists) (s t : ℕ) (changes : List Change) (items 
 same_key_item schema s t changes items h = go (member_clause schema s t) refl where
   q : ℕ → Bool
   q r = some_and (λ m. some_and (λ i. list_any (λ j. eqb j i) (map (λ c. c.item) changes)) m.key) (member_clause schema r t)
+
   at_key : (m : Member) (key : Option ℕ) → m.key ≡ key → member_clause schema s t ≡ Some m → option_map (λ i. slice_index_or (changed_items changes items) i (Num 0)) key ≡ option_map (λ i. slice_index_or items i (Num 0)) key
   at_key m None e at = refl
   at_key m (Some i) e at =
       ap Some (unnamed changes items i (sym (any-map (λ j. eqb j i) (λ c. c.item) changes) ∙ false_from_ne_true _ (λ named.
-        false≢true (sym h ∙ number_kept q s (set_numbers schema) (set_number schema s t (ap is_some at))
-          (ap (some_and (λ (m : Member). some_and (λ i. list_any (λ j. eqb j i) (map (λ (c : Change). c.item) changes)) m.key)) at ∙ ap (some_and (λ i. list_any (λ j. eqb j i) (map (λ (c : Change). c.item) changes))) e ∙ named)))))
+      false≢true (sym h ∙ number_kept q s (set_numbers schema) (set_number schema s t (ap is_some at))
+      (ap (some_and (λ (m : Member). some_and (λ i. list_any (λ j. eqb j i) (map (λ (c : Change). c.item) changes)) m.key)) at ∙ ap (some_and (λ i. list_any (λ j. eqb j i) (map (λ (c : Change). c.item) changes))) e ∙ named)))))
+
   go : (m : Option Member) → member_clause schema s t ≡ m → key_item schema s t (changed_items changes items) ≡ key_item schema s t items
   go None at = ap (option_and_then (λ (m : Member). option_map (λ i. slice_index_or (changed_items changes items) i (Num 0)) m.key)) at ∙ ap (option_and_then (λ (m : Member). option_map (λ i. slice_index_or items i (Num 0)) m.key)) (sym at)
   go (Some m) at =

@@ -1,8 +1,8 @@
 -- A record that is placed in its current owners' lists, by STORE and INSERT, keeps the lists legal.
-use Rattle.std.proofs.Common.{◌≡◌, refl, sym, ◌∙◌, ap, subst, ℕ, Bool, true, false, not, ◌&&◌, List, [], ◌∷◌, Option, Some, None}
+use Rattle.std.proofs.Common.{◌≡◌, refl, sym, ◌∙◌, subst, ℕ, Bool, true, false, ◌&&◌, List, [], ◌∷◌, Option, Some, None}
 use Rattle.std.specs.Prelude.{is_some, is_none, option_and_then, unwrap_or}
 use Rattle.std.specs.List.{list_any}
-use Rattle.std.proofs.lemmas.Bool.{and_parts, false≢true, true≢false, not-true, not_from_false}
+use Rattle.std.proofs.lemmas.Bool.{and_parts, false≢true, true≢false}
 use Rattle.dbtg_schema.specs.Lists.{Lists}
 use Rattle.dbtg_schema.specs.WellFormed.{IsSchema}
 use Rattle.dbtg_schema.specs.Lookups.{some_and, first_cause}
@@ -12,24 +12,20 @@ use Rattle.dbtg_cells.specs.declared.key.Owner.{Owner}
 use Rattle.dbtg_cells.specs.declared.key.Owner.TheVariants.{System}
 use Rattle.dbtg_cells.specs.declared.key.Value.{Value}
 use Rattle.dbtg_cells.specs.Placed.{Spot}
-use Rattle.dbtg_cells.specs.Keys.{key_eq, owner_eq}
+use Rattle.dbtg_cells.specs.Keys.{owner_eq}
 use Rattle.dbtg_unit.specs.declared.unit.Place.{Place}
 use Rattle.dbtg_unit.specs.declared.unit.Unit.{Unit}
 use Rattle.dbtg_unit.specs.Base.{Database, is_member, members_of, sort_key}
 use Rattle.dbtg_unit.specs.Units.{place_in}
 use Rattle.dbtg_unit.specs.Fits.{values_fit}
-use Rattle.dbtg_unit.specs.Effect.{place_checks, is_current_owner, spot, refuses_equal, option_value_eq, uses_position}
+use Rattle.dbtg_unit.specs.Effect.{place_checks, is_current_owner, refuses_equal, option_value_eq, uses_position}
 use Rattle.dbtg_unit.specs.Found.{is_lost}
 use Rattle.dbtg_unit.specs.declared.unit.Cause.{Cause}
 use Rattle.dbtg_unit.specs.declared.unit.Cause.TheVariants.{Deleted, PositionLost, DuplicatesNotAllowed}
 use Rattle.dbtg_unit.proofs.KeyLemmas.{same_owner, owner_eq-refl}
-use Rattle.dbtg_unit.proofs.PlacedLemmas.{all-both}
-use Rattle.dbtg_unit.proofs.PairwiseLemmas.{all-none}
-use Rattle.dbtg_unit.proofs.ValueLemmas.{apart}
 use Rattle.dbtg_unit.proofs.LegalParts.{Living, Items, Rows, members_in, key_in, Rings}
-use Rattle.dbtg_unit.proofs.RingsLemmas.{all-members, rings_placed, sorted-placed, with_placed}
+use Rattle.dbtg_unit.proofs.RingsLemmas.{rings_placed, spot_at, with_placed}
 use Rattle.dbtg_unit.proofs.CheckLemmas.{has_number, passes}
-use Rattle.dbtg_unit.proofs.SortKeyLemmas.{strict_keys}
 
 pub current_owner_is : (place : Option Place) (o p : Owner) → some_and (λ q. owner_eq q.owner o) place ≡ true → some_and (λ q. owner_eq q.owner p) place ≡ true → o ≡ p
 current_owner_is None o p h g = absurd (false≢true h)
@@ -48,7 +44,7 @@ place_owner (Some q) h = owner_eq-refl q.owner
 -- what the checks of a placing have passed: the current owner's list is there, and has no equal key where it refuses them
 pub record CanJoin (schema : Lists) (db : Database) (unit : Unit) (s : ℕ) (key : Option Value) : Type 0 where
   pub list : (o : Owner) → is_current_owner schema unit s o ≡ true → is_some (db.lists s o) ≡ true
-  pub differs : (o : Owner) → is_current_owner schema unit s o ≡ true → refuses_equal (order_of schema s) ≡ true → list_any (λ x. option_value_eq (sort_key schema db s x) key) (members_of db s o) ≡ false
+  pub differs : (o : Owner) → is_current_owner schema unit s o ≡ true → (refuses_equal (order_of schema s) && list_any (λ x. option_value_eq (sort_key schema db s x) key) (members_of db s o)) ≡ false
 
 some_from_none : {X : Type 0} (o : Option X) → is_none o ≡ false → is_some o ≡ true
 some_from_none None h = absurd (true≢false h)
@@ -71,11 +67,8 @@ module _ (schema : Lists) (db : Database) (unit : Unit) (s : ℕ) (key : Option 
       let free = passes taken [] found.1 in
       record {
         list = λ o c. subst (λ (p : Owner). is_some (db.lists s p) ≡ true) (owner_of_place (place_in schema unit s) o c) (some_from_none (db.lists s current_place.owner) present.0);
-        differs = λ o c refuses. subst (λ (p : Owner). list_any (λ x. option_value_eq (sort_key schema db s x) key) (members_of db s p) ≡ false) (owner_of_place (place_in schema unit s) o c) (right_false (refuses_equal (order_of schema s)) _ refuses free.0);
-      } where
-    right_false : (a b : Bool) → a ≡ true → (a && b) ≡ false → b ≡ false
-    right_false true b h g = g
-    right_false false b h g = absurd (false≢true h)
+        differs = λ o c. subst (λ (p : Owner). (refuses_equal (order_of schema s) && list_any (λ x. option_value_eq (sort_key schema db s x) key) (members_of db s p)) ≡ false) (owner_of_place (place_in schema unit s) o c) free.0;
+      }
 
 module _ (schema : Lists) (unit : Unit) (sets : List ℕ) (live : Living) (items : Items) (lists : Rows) (m : DbKey) where
   -- the lists that m joins, and where
@@ -83,22 +76,17 @@ module _ (schema : Lists) (unit : Unit) (sets : List ℕ) (live : Living) (items
   joins s o = has_number s sets && is_current_owner schema unit s o
 
   abbrev pub spot_in : ℕ → Spot DbKey
-  spot_in s = spot (order_of schema s) (option_and_then (λ place. place.at) (place_in schema unit s)) (key_in schema items s) m
+  spot_in = spot_at schema live items lists m joins (λ s. option_and_then (λ place. place.at) (place_in schema unit s))
 
   pub connected_rings : IsSchema schema → ((x : DbKey) → live x ≡ true → values_fit (pictures schema x.rtype) (items x) ≡ true)
       → Rings schema live items lists → live m ≡ true
       → ((s : ℕ) → has_number s sets ≡ true → is_some (member_clause schema s m.rtype) ≡ true)
       → ((s : ℕ) (o : Owner) → has_number s sets ≡ true → is_member m (members_in lists s o) ≡ false)
-      → ((s : ℕ) (o : Owner) → joins s o ≡ true → refuses_equal (order_of schema s) ≡ true → list_any (λ x. option_value_eq (key_in schema items s x) (key_in schema items s m)) (members_in lists s o) ≡ false)
+      → ((s : ℕ) (o : Owner) → joins s o ≡ true → (refuses_equal (order_of schema s) && list_any (λ x. option_value_eq (key_in schema items s x) (key_in schema items s m)) (members_in lists s o)) ≡ false)
       → Rings schema live items (with_placed schema live items lists m joins spot_in)
   connected_rings good typed rings alive clause absent differs =
-      rings_placed schema live items lists m joins spot_in rings alive
+      rings_placed schema live items lists m joins (λ s. option_and_then (λ place. place.at) (place_in schema unit s)) good typed rings alive
       (λ s o j. clause s (and_parts _ _ j).0)
       (λ s o p j. absent s p (and_parts _ _ j).0)
       (λ s o p j k. current_owner_is (place_in schema unit s) o p (and_parts _ _ j).1 (and_parts _ _ k).1)
-      (λ s o j. sorted-placed (order_of schema s) (option_and_then (λ place. place.at) (place_in schema unit s)) (key_in schema items s) m (members_in lists s o)
-        (λ refuses. all-both (λ x. is_member x (members_in lists s o)) (λ x. not (option_value_eq (key_in schema items s x) (key_in schema items s m))) (λ x. apart (key_in schema items s x) (key_in schema items s m)) (members_in lists s o)
-          (λ x in_list ne. let r = rings.members s o x in_list in strict_keys schema good s x.rtype m.rtype (items x) (items m) refuses r.1 (clause s (and_parts _ _ j).0) (typed x r.0) (typed m alive) (not-true _ ne))
-          (all-members (λ x. is_member x (members_in lists s o)) (members_in lists s o) (λ x h. h))
-          (all-none (λ x. option_value_eq (key_in schema items s x) (key_in schema items s m)) (λ x. not (option_value_eq (key_in schema items s x) (key_in schema items s m))) (members_in lists s o) (λ x e. not_from_false _ e) (differs s o j refuses)))
-        (rings.sorted s o))
+      differs

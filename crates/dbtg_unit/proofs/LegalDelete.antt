@@ -1,10 +1,9 @@
 -- DELETE keeps a database legal, in each of its forms.
-use Rattle.std.proofs.Common.{◌≡◌, refl, sym, ◌∙◌, ap, subst, ℕ, ◌<◌, Bool, true, false, cond, not, ◌&&◌, ◌||◌, List, [], ◌∷◌, length, Option, Some, None, inl, inr, eqb, ltb, arith}
+use Rattle.std.proofs.Common.{◌≡◌, refl, sym, ◌∙◌, ap, subst, ℕ, Bool, true, false, cond, not, ◌&&◌, ◌||◌, List, [], ◌∷◌, length, Option, Some, None, inl, inr, ltb, arith}
 use Rattle.std.specs.Prelude.{is_some, option_map, unwrap_or, filter}
-use Rattle.std.specs.List.{list_any, list_all}
-use Rattle.std.proofs.lemmas.Bool.{and_parts, and_from, and_right, or_left, or_right, cases_Bool, cond_both, false≢true, false_from_ne_true, not_from_false, not-true, lt-ltb}
+use Rattle.std.specs.List.{list_any}
+use Rattle.std.proofs.lemmas.Bool.{and_parts, and_from, and_right, or_right, cases_Bool, false≢true, false_from_ne_true, not_from_false, not-true, lt-ltb}
 use Rattle.dbtg_schema.specs.Lists.{Lists}
-use Rattle.dbtg_schema.specs.Closure.{grown}
 use Rattle.dbtg_schema.specs.Lookups.{some_and}
 use Rattle.dbtg_schema.specs.Structure.{is_automatic, is_mandatory, member_clause, owns, set_numbers}
 use Rattle.dbtg_schema.specs.declared.shape.Member.{Member}
@@ -24,9 +23,10 @@ use Rattle.dbtg_unit.specs.Fits.{values_fit}
 use Rattle.dbtg_unit.specs.Legal.{Legal}
 use Rattle.dbtg_schema.specs.Structure.{pictures}
 use Rattle.dbtg_unit.proofs.KeyLemmas.{same_key}
-use Rattle.dbtg_unit.proofs.LegalParts.{Rows, Rings, Stock, Fixed, is_fixed, has_list, members_in, sound_of, uses_of, legal_raised}
+use Rattle.dbtg_unit.proofs.LegalParts.{Rings, Stock, is_fixed, has_list, members_in, sound_of, uses_of, legal_raised}
 use Rattle.dbtg_unit.proofs.RingsLemmas.{keeps_member, member_kept, member_passes, rings_kept}
-use Rattle.dbtg_unit.proofs.OwnerLemmas.{any_number, listed_all}
+use Rattle.dbtg_unit.proofs.CheckLemmas.{any_number}
+use Rattle.dbtg_unit.proofs.LiveKeys.{in_member, live_in_all}
 use Rattle.dbtg_unit.proofs.CalcLemmas.{any_member}
 use Rattle.dbtg_unit.proofs.ItemLemmas.{set_number}
 
@@ -41,7 +41,7 @@ module _ (schema : Lists) (capacity : ℕ) (db : Database) (option : Erase) (k :
   after =
       record db {
         records = λ x. cond (is_member x gone) None (db.records x);
-        lists = λ s o. cond (is_gone gone o) None (option_map (filter stays) (db.lists s o))
+        lists = λ s o. cond (is_gone gone o) None (option_map (filter stays) (db.lists s o));
       }
 
   live_after : (x : DbKey) → is_live after x ≡ true → (is_member x gone ≡ false) × (is_live db x ≡ true)
@@ -65,9 +65,9 @@ module _ (schema : Lists) (capacity : ℕ) (db : Database) (option : Erase) (k :
         generations = legal.generations;
         no_number = legal.no_number;
         calc = λ i j hi hj same unique eq.
-          let a = live_after i hi in
-          let b = live_after j hj in
-          legal.calc i j a.1 b.1 same unique (sym (λ d. values_eq (calc_items schema i.rtype (items_kept i a.0 d)) (calc_items schema j.rtype (items_kept j b.0 d))) ∙ eq);
+            let a = live_after i hi in
+            let b = live_after j hj in
+            legal.calc i j a.1 b.1 same unique (sym (λ d. values_eq (calc_items schema i.rtype (items_kept i a.0 d)) (calc_items schema j.rtype (items_kept j b.0 d))) ∙ eq);
       }
 
   -- who is a member still was one, stays, and so does the owner
@@ -77,9 +77,9 @@ module _ (schema : Lists) (capacity : ℕ) (db : Database) (option : Erase) (k :
         | inl e ↦ absurd (false≢true (ap (λ b. is_member x (unwrap_or (cond b None (option_map (filter stays) (db.lists s o))) [])) (sym e) ∙ h))
         | inr e ↦ of (db.lists s o) (ap (λ b. is_member x (unwrap_or (cond b None (option_map (filter stays) (db.lists s o))) [])) (sym e) ∙ h)
       ] where
-    of : (list : Option (List DbKey)) → is_member x (unwrap_or (option_map (filter stays) list) []) ≡ true → (is_member x gone ≡ false) × (is_member x (unwrap_or list []) ≡ true)
-    of None h = absurd (false≢true h)
-    of (Some list) h = let r = member_kept x stays list h in (not-true _ r.1, r.0)
+        of : (list : Option (List DbKey)) → is_member x (unwrap_or (option_map (filter stays) list) []) ≡ true → (is_member x gone ≡ false) × (is_member x (unwrap_or list []) ≡ true)
+        of None h = absurd (false≢true h)
+        of (Some list) h = let r = member_kept x stays list h in (not-true _ r.1, r.0)
 
   still_member : (s : ℕ) (o : Owner) (x : DbKey) → is_gone gone o ≡ false → is_member x gone ≡ false → is_member x (members_of db s o) ≡ true → is_member x (members_in after.lists s o) ≡ true
   still_member s o x e n h = ap (λ b. is_member x (unwrap_or (cond b None (option_map (filter stays) (db.lists s o))) [])) e ∙ of (db.lists s o) h where
@@ -93,9 +93,9 @@ module _ (schema : Lists) (capacity : ℕ) (db : Database) (option : Erase) (k :
         | true ↦ (λ x. false, nothing (unwrap_or (db.lists s o) []))
         | false ↦ (stays, elim (db.lists s o) as (λ l. unwrap_or (option_map (filter stays) l) [] ≡ filter stays (unwrap_or l [])) [ None ↦ refl | Some list ↦ refl ])
       ] where
-    nothing : (xs : List DbKey) → [] ≡ filter (λ x. false) xs
-    nothing [] = refl
-    nothing (x ∷ xs) = nothing xs
+        nothing : (xs : List DbKey) → [] ≡ filter (λ x. false) xs
+        nothing [] = refl
+        nothing (x ∷ xs) = nothing xs
 
   pairs_after : (s : ℕ) (o : Owner) → is_some (after.lists s o) ≡ has_list schema (is_live after) s o
   pairs_after s System = mapped (db.lists s System) ∙ legal.pairs s System where
@@ -107,9 +107,9 @@ module _ (schema : Lists) (capacity : ℕ) (db : Database) (option : Erase) (k :
         | inl e ↦ ap (λ b. is_some (cond b None (option_map (filter stays) (db.lists s (Rec j))))) e ∙ sym (and_right (owns schema s j.rtype) (is_live after j) (ap (λ b. is_some (cond b None (db.records j))) e))
         | inr e ↦ ap (λ b. is_some (cond b None (option_map (filter stays) (db.lists s (Rec j))))) e ∙ mapped (db.lists s (Rec j)) ∙ legal.pairs s (Rec j) ∙ ap (λ b. owns schema s j.rtype && b) (sym (live_kept j e))
       ] where
-    mapped : (list : Option (List DbKey)) → is_some (option_map (filter stays) list) ≡ is_some list
-    mapped None = refl
-    mapped (Some list) = refl
+        mapped : (list : Option (List DbKey)) → is_some (option_map (filter stays) list) ≡ is_some list
+        mapped None = refl
+        mapped (Some list) = refl
 
   rings_after : Rings schema (is_live after) (items_of after) after.lists
   rings_after =
@@ -124,8 +124,8 @@ module _ (schema : Lists) (capacity : ℕ) (db : Database) (option : Erase) (k :
   dragged j m has live drag =
       let least = least_closed_is_least (drags schema capacity db option) (key_eq k) (all_keys schema capacity db) in
       subst (λ list. is_member m list ≡ true) least.closed
-        (keeps_member m (λ y. key_eq k y || list_any (λ x. drags schema capacity db option x y) gone) (all_keys schema capacity db) (listed_all schema capacity db legal m live)
-          (or_right _ _ (any_member (λ x. drags schema capacity db option x m) gone j has drag)))
+      (keeps_member m (λ y. key_eq k y || list_any (λ x. drags schema capacity db option x y) gone) (all_keys schema capacity db) (in_member m (all_keys schema capacity db) (live_in_all schema capacity db legal m live))
+      (or_right _ _ (any_member (λ x. drags schema capacity db option x m) gone j has drag)))
 
   -- a fixed member that an option other than plain takes with its owner
   taken : (s : ℕ) (o : Owner) (m : DbKey) → is_plain option ≡ false → is_fixed schema s m.rtype ≡ true → takes schema capacity db option s o m ≡ true
@@ -133,6 +133,7 @@ module _ (schema : Lists) (capacity : ℕ) (db : Database) (option : Erase) (k :
     mandatory : (q : Bool → Bool) → (q true ≡ true) → (c : Option Member) → some_and (λ c. is_mandatory c.class && is_automatic c.class) c ≡ true → some_and (λ c. q (is_mandatory c.class)) c ≡ true
     mandatory q e None h = absurd (false≢true h)
     mandatory q e (Some c) h = ap q (and_parts _ _ h).0 ∙ e
+
     by : (e : Erase) → is_plain e ≡ false → takes schema capacity db e s o m ≡ true
     by Plain h = absurd (false≢true (sym h))
     by Only h = mandatory (λ b. b) refl (member_clause schema s m.rtype) fix
@@ -143,11 +144,12 @@ module _ (schema : Lists) (capacity : ℕ) (db : Database) (option : Erase) (k :
   only_start plain j h =
       let least = least_closed_is_least (drags schema capacity db option) (key_eq k) (all_keys schema capacity db) in
       same_key k j (member_passes (key_eq k) gone j (least.least (key_eq k) (λ y e. e) (λ x y px drag. absurd (false≢true (sym (no_drag x y) ∙ drag)))) h) where
-    none : (f : ℕ → Bool) (xs : List ℕ) → list_any (λ s. f s && false) xs ≡ false
-    none f [] = refl
-    none f (x ∷ xs) = ap (λ b. b || list_any (λ s. f s && false) xs) (and_right (f x) false refl) ∙ none f xs
-    no_drag : (x y : DbKey) → drags schema capacity db option x y ≡ false
-    no_drag x y = ap (λ (e : Erase). drags schema capacity db e x y) plain ∙ none (λ s. is_member y (members_of db s (Rec x))) (set_numbers schema)
+        none : (f : ℕ → Bool) (xs : List ℕ) → list_any (λ s. f s && false) xs ≡ false
+        none f [] = refl
+        none f (x ∷ xs) = ap (λ b. b || list_any (λ s. f s && false) xs) (and_right (f x) false refl) ∙ none f xs
+
+        no_drag : (x y : DbKey) → drags schema capacity db option x y ≡ false
+        no_drag x y = ap (λ (e : Erase). drags schema capacity db e x y) plain ∙ none (λ s. is_member y (members_of db s (Rec x))) (set_numbers schema)
 
   -- the owner of a fixed member that stays stays
   owner_stays : (is_plain option && has_members schema db k) ≡ false → (s : ℕ) (o : Owner) (m : DbKey) → is_member m gone ≡ false → is_live db m ≡ true → is_fixed schema s m.rtype ≡ true → is_member m (members_of db s o) ≡ true → is_gone gone o ≡ false
@@ -156,22 +158,24 @@ module _ (schema : Lists) (capacity : ℕ) (db : Database) (option : Erase) (k :
       let number = set_number schema s m.rtype (legal.members s (Rec j) m h).1 in
       false_from_ne_true _ (λ g. elim (cases_Bool (is_plain option)) [
         | inl p ↦
-          let same = only_start (plain_is option p) j g in
-          false≢true (sym (right_false _ _ p empty) ∙ any_number (λ r. ltb 0 (length (members_of db r (Rec k)))) s (set_numbers schema) number (subst (λ (y : DbKey). ltb 0 (length (members_of db s (Rec y))) ≡ true) (sym same) (some_length (members_of db s (Rec j)) h)))
+            let same = only_start (plain_is option p) j g in
+            false≢true (sym (right_false _ _ p empty) ∙ any_number (λ r. ltb 0 (length (members_of db r (Rec k)))) s (set_numbers schema) number (subst (λ (y : DbKey). ltb 0 (length (members_of db s (Rec y))) ≡ true) (sym same) (some_length (members_of db s (Rec j)) h)))
         | inr p ↦
-          false≢true (sym n ∙ dragged j m g live (any_number (λ r. is_member m (members_of db r (Rec j)) && takes schema capacity db option r (Rec j) m) s (set_numbers schema) number (and_from _ _ h (taken s (Rec j) m p fix))))
+            false≢true (sym n ∙ dragged j m g live (any_number (λ r. is_member m (members_of db r (Rec j)) && takes schema capacity db option r (Rec j) m) s (set_numbers schema) number (and_from _ _ h (taken s (Rec j) m p fix))))
       ]) where
-    right_false : (a b : Bool) → a ≡ true → (a && b) ≡ false → b ≡ false
-    right_false true b h g = g
-    right_false false b h g = absurd (false≢true h)
-    plain_is : (e : Erase) → is_plain e ≡ true → e ≡ Plain
-    plain_is Plain h = refl
-    plain_is Only h = absurd (false≢true h)
-    plain_is Selective h = absurd (false≢true h)
-    plain_is All h = absurd (false≢true h)
-    some_length : (xs : List DbKey) → is_member m xs ≡ true → ltb 0 (length xs) ≡ true
-    some_length [] h = h
-    some_length (x ∷ xs) h = lt-ltb 0 (length (x ∷ xs)) (omega arith)
+        right_false : (a b : Bool) → a ≡ true → (a && b) ≡ false → b ≡ false
+        right_false true b h g = g
+        right_false false b h g = absurd (false≢true h)
+
+        plain_is : (e : Erase) → is_plain e ≡ true → e ≡ Plain
+        plain_is Plain h = refl
+        plain_is Only h = absurd (false≢true h)
+        plain_is Selective h = absurd (false≢true h)
+        plain_is All h = absurd (false≢true h)
+
+        some_length : (xs : List DbKey) → is_member m xs ≡ true → ltb 0 (length xs) ≡ true
+        some_length [] h = h
+        some_length (x ∷ xs) h = lt-ltb 0 (length (x ∷ xs)) (omega arith)
 
   pub delete_legal : (unit : Unit) → (is_plain option && has_members schema db k) ≡ false → Legal schema capacity (deleted schema capacity db unit option k).database
   delete_legal unit empty =
@@ -180,8 +184,8 @@ module _ (schema : Lists) (capacity : ℕ) (db : Database) (option : Erase) (k :
         stock = stock_after;
         rings = rings_after;
         fixed = λ s m h fix.
-          let l = live_after m h in
-          let r = legal.mandatory_automatic s m l.1 fix in
-          (r.0, still_member s r.0 m (owner_stays empty s r.0 m l.0 l.1 fix r.1) l.0 r.1);
+            let l = live_after m h in
+            let r = legal.mandatory_automatic s m l.1 fix in
+            (r.0, still_member s r.0 m (owner_stays empty s r.0 m l.0 l.1 fix r.1) l.0 r.1);
       })
       (uses_of schema capacity db legal)

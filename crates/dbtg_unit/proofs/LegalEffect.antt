@@ -1,13 +1,12 @@
 -- Each statement keeps a database legal, and its unit a unit of it.
-use Rattle.std.proofs.Common.{◌≡◌, refl, sym, ◌∙◌, ap, subst, ℕ, zero, suc, ◌+◌, ◌<◌, ◌≤◌, Bool, true, false, cond, not, ◌&&◌, ◌||◌, List, [], ◌∷◌, ◌++◌, length, Option, Some, None, inl, inr, ⊎_elim, eqb, ltb, leb, arith, map, length-set}
-use Rattle.std.specs.Prelude.{is_some, is_none, unwrap_or, option_map, option_and_then, filter, slice_get, slice_set, Result, Ok, Err}
-use Rattle.std.specs.List.{list_any, list_all, range_with_len, flat_map}
-use Rattle.std.proofs.lemmas.Bool.{and_parts, and_from, and_left, or_left, or_right, cases_Bool, false≢true, true≢false, not-false, not-true, ltb-true, eqb-true, eq-eqb, lt-ltb, le-leb, false_from_ne_true}
+use Rattle.std.proofs.Common.{◌≡◌, refl, sym, ◌∙◌, ap, subst, ℕ, ◌<◌, Bool, true, false, cond, not, ◌&&◌, List, [], ◌∷◌, ◌++◌, length, Option, Some, None, eqb, ltb, arith, map, length-set}
+use Rattle.std.specs.Prelude.{is_some, is_none, unwrap_or, option_map, option_and_then, filter, slice_set}
+use Rattle.std.specs.List.{list_any, list_all, range_with_len}
+use Rattle.std.proofs.lemmas.Bool.{and_parts, and_left, or_left, false≢true, true≢false, not-false, not-true, ltb-true, eqb-true, eq-eqb, false_from_ne_true}
 use Rattle.dbtg_schema.specs.Lists.{Lists}
 use Rattle.dbtg_schema.specs.WellFormed.{IsSchema}
 use Rattle.dbtg_schema.specs.Lookups.{at, first, first_cause, some_and}
-use Rattle.dbtg_schema.specs.Structure.{automatic_sets, set_numbers, is_automatic, is_mandatory, member_clause, order_of, pictures, picture_of}
-use Rattle.dbtg_schema.specs.declared.shape.Class.{Class}
+use Rattle.dbtg_schema.specs.Structure.{automatic_sets, set_numbers, is_automatic, is_mandatory, member_clause, pictures, picture_of}
 use Rattle.dbtg_schema.specs.declared.shape.Member.{Member}
 use Rattle.dbtg_cells.specs.declared.key.DbKey.{DbKey}
 use Rattle.dbtg_cells.specs.declared.key.Owner.{Owner}
@@ -17,28 +16,24 @@ use Rattle.dbtg_cells.specs.declared.usage.Mode.{Mode}
 use Rattle.dbtg_cells.specs.Keys.{key_eq}
 use Rattle.dbtg_unit.specs.declared.statement.Change.{Change}
 use Rattle.dbtg_unit.specs.declared.statement.Erase.{Erase}
-use Rattle.dbtg_unit.specs.declared.statement.Form.{Form}
 use Rattle.dbtg_unit.specs.declared.statement.Statement.{Statement}
 use Rattle.dbtg_unit.specs.declared.statement.Statement.TheVariants.{OpenArea, CloseArea, Find, Get, Store, Insert, Remove, Modify, Delete, Keep, Free}
 use Rattle.dbtg_unit.specs.declared.statement.Suppress.{Suppress}
 use Rattle.dbtg_unit.specs.declared.unit.Place.{Place}
 use Rattle.dbtg_unit.specs.declared.unit.Unit.{Unit}
 use Rattle.dbtg_unit.specs.declared.unit.Cause.{Cause}
-use Rattle.dbtg_unit.specs.declared.unit.Cause.TheVariants.{AlreadyMember, AreaAlreadyOpen, ChangedByAnother, Deleted, DuplicatesNotAllowed, Mandatory, MandatoryAutomatic as MandatoryAutomaticSet, NoCurrentOfRunUnit, NoRoom, NoSuchCurrent, NotMember, OtherRecordType, OwnerHasMembers, UsageConflict}
+use Rattle.dbtg_unit.specs.declared.unit.Cause.TheVariants.{AlreadyMember, AreaAlreadyOpen, Deleted, DuplicatesNotAllowed, Mandatory, MandatoryAutomatic as MandatoryAutomaticSet, NoCurrentOfRunUnit, NoRoom, NoSuchCurrent, OtherRecordType, OwnerHasMembers, UsageConflict}
 use Rattle.dbtg_unit.specs.Base.{Database, is_live, is_member, members_of, items_of, key_at, key_item, owner_of, sort_key}
-use Rattle.dbtg_unit.specs.Belongs.{IsUnitOf, IsWithin}
-use Rattle.dbtg_unit.specs.Units.{forgotten, kept_version, noted, place_in, seen}
+use Rattle.dbtg_unit.specs.Units.{forgotten, noted, place_in, seen}
 use Rattle.dbtg_unit.specs.Found.{found}
 use Rattle.dbtg_unit.specs.Doomed.{doomed}
 use Rattle.dbtg_unit.specs.Fits.{fits, is_type, values_fit, value_fits, suppress_fits, distinct_items}
-use Rattle.dbtg_unit.specs.Checks.{accepts_type, class_in, current_type, is_inserting_mandatory_automatic, is_opening_again, is_removing_mandatory, lacks_current, needs_current, refused_at_once}
+use Rattle.dbtg_unit.specs.Checks.{accepts_type, current_type, is_inserting_mandatory_automatic, is_opening_again, is_removing_mandatory, lacks_current, needs_current, refused_at_once}
 use Rattle.dbtg_unit.specs.Effect.{calc_taken, changed_items, conflict, connected_in, delete_checks, deleted, done, effect, effect_on_cells, free_number, insert_checks, inserted, modified, modify_checks, moved, new_key, own_checks, place_checks, remove_checks, removed, renoted, replaced_sets, store_checks, stored, version_of, with_new, has_members, is_plain, names_calc}
-use Rattle.dbtg_unit.specs.Legal.{Legal, UsageAgrees, mode_in}
-use Rattle.dbtg_unit.specs.LegalWith.{IsUnitIn, LegalWith}
-use Rattle.dbtg_unit.proofs.PlacedLemmas.{all-kept}
+use Rattle.dbtg_unit.specs.Legal.{Legal, mode_in}
+use Rattle.dbtg_unit.specs.LegalWith.{IsUnitIn}
 use Rattle.dbtg_unit.proofs.KeyLemmas.{key_eq-refl}
-use Rattle.dbtg_unit.proofs.CheckLemmas.{finding_kept, has_number, number_passes, number_within, on_current_kept, passes, passes_check, passes-append, passes-each, passes-map, unless_kept}
-use Rattle.dbtg_unit.proofs.OwnerLemmas.{any_number}
+use Rattle.dbtg_unit.proofs.CheckLemmas.{any_number, finding_kept, has_number, number_passes, number_within, on_current_kept, passes, passes_check, passes-append, passes-each, passes-map, unless_kept}
 use Rattle.dbtg_unit.proofs.LegalConnect.{can_join}
 use Rattle.dbtg_unit.proofs.LegalParts.{is_fixed}
 use Rattle.dbtg_unit.proofs.LegalMoves.{insert_legal, remove_legal}
@@ -47,7 +42,7 @@ use Rattle.dbtg_unit.proofs.LegalModify.{CanChange, key_refused, modify_legal}
 use Rattle.dbtg_unit.proofs.LegalDelete.{delete_legal}
 use Rattle.dbtg_unit.proofs.LegalOpen.{open_legal, open_agrees, open_others, open_users, close_legal, close_agrees, close_others, close_users}
 use Rattle.dbtg_unit.proofs.FoundLemmas.{found_live}
-use Rattle.dbtg_unit.proofs.UnitLemmas.{IsGood, IsKept, good-moved, good-seen, kept-filtered, kept-noted, kept-renoted, kept_of, list_owner, live_key, with_kept, with_modes, with_no_run_unit}
+use Rattle.dbtg_unit.proofs.UnitLemmas.{IsGood, good-moved, good-seen, kept-filtered, kept-noted, kept-renoted, kept_of, list_owner, live_key, with_kept, with_modes, with_no_run_unit}
 
 -- what a step of a unit leaves: a legal database, the unit a unit of it, the entries of the others as they were
 pub record IsStep (schema : Lists) (capacity : ℕ) (before : Database) (number : ℕ) (db : Database) (unit : Unit) : Type 0 where
@@ -158,16 +153,17 @@ module _ (schema : Lists) (capacity : ℕ) (db : Database) (unit : Unit) (number
   fresh t its there fit room =
       let n = some_from (free_number capacity db t) room in
       subst (λ (o : Option ℕ). IsFresh schema capacity db t (unwrap_or o 0) its) (sym n.1) (at_number n.0 n.1) where
-    free : ℕ → Bool
-    free n = not (is_live db (key_at db t n)) && ltb (db.last t n) 255
-    at_number : (n : ℕ) → free_number capacity db t ≡ Some n → IsFresh schema capacity db t n its
-    at_number n is =
-        let p = number_passes free n (range_with_len 1 capacity) (first_has (filter free (range_with_len 1 capacity)) n is) in
-        let w = number_within n 1 capacity p.0 in
-        let low = w.0 in
-        let high = w.1 in
-        let q = and_parts (not (is_live db (key_at db t n))) (ltb (db.last t n) 255) p.1 in
-        record { in_schema = ltb-true t (length schema.types) there; low = omega arith; high = omega arith; unused = not-true _ q.0; unspent = ltb-true (db.last t n) 255 q.1; fit = fit }
+        free : ℕ → Bool
+        free n = not (is_live db (key_at db t n)) && ltb (db.last t n) 255
+
+        at_number : (n : ℕ) → free_number capacity db t ≡ Some n → IsFresh schema capacity db t n its
+        at_number n is =
+            let p = number_passes free n (range_with_len 1 capacity) (first_has (filter free (range_with_len 1 capacity)) n is) in
+            let w = number_within n 1 capacity p.0 in
+            let low = w.0 in
+            let high = w.1 in
+            let q = and_parts (not (is_live db (key_at db t n))) (ltb (db.last t n) 255) p.1 in
+            record { in_schema = ltb-true t (length schema.types) there; low = omega arith; high = omega arith; unused = not-true _ q.0; unspent = ltb-true (db.last t n) 255 q.1; fit = fit }
 
   store_step : (t : ℕ) (its : List Value) (suppress : Suppress) → is_type schema t ≡ true → values_fit (pictures schema t) its ≡ true → lacks_current schema unit (Store t its suppress) ≡ false
       → first_cause (store_checks schema capacity db unit t its) ≡ None
@@ -179,8 +175,8 @@ module _ (schema : Lists) (capacity : ℕ) (db : Database) (unit : Unit) (number
       let k = new_key db t n in
       let is_fresh = fresh t its there fit room.0 in
       let lawful = store_legal schema capacity db t n its legal is_fresh unit schema_is unique.0
-          (λ s h. none_at (λ s. is_none (place_in schema unit s)) s (automatic_sets schema t) h placed)
-          (λ s h. can_join schema db unit s (key_item schema s t its) (passes-each (λ s. place_checks schema db unit s (key_item schema s t its)) (automatic_sets schema t) s h unique.1)) in
+      (λ s h. none_at (λ s. is_none (place_in schema unit s)) s (automatic_sets schema t) h placed)
+      (λ s h. can_join schema db unit s (key_item schema s t its) (passes-each (λ s. place_checks schema db unit s (key_item schema s t its)) (automatic_sets schema t) s h unique.1)) in
       let new = connected_in schema (with_new schema db k its) unit (automatic_sets schema t) k in
       quiet new (seen schema capacity new unit k suppress) lawful refl refl refl (good-seen schema capacity unit good new k suppress lawful (live_new schema capacity db t n its legal is_fresh k (key_eq-refl k)))
 
@@ -236,7 +232,7 @@ module _ (schema : Lists) (capacity : ℕ) (db : Database) (unit : Unit) (number
       let nobody = with_no_run_unit schema capacity (renoted taken_out new unit) after in
       quiet new (deleted schema capacity db unit option k).unit (delete_legal schema capacity db option k legal unit empty.0) refl refl refl
       (with_kept schema capacity (record (renoted taken_out new unit) { currency = record unit.currency { run_unit = None } }) nobody (forgotten k (renoted taken_out new unit).kept)
-        (kept-filtered schema capacity (renoted taken_out new unit).kept (kept_of schema capacity (renoted taken_out new unit) after) (λ e. not (key_eq k e.0))))
+      (kept-filtered schema capacity (renoted taken_out new unit).kept (kept_of schema capacity (renoted taken_out new unit) after) (λ e. not (key_eq k e.0))))
 
   -- THE WHOLE
 
@@ -263,6 +259,7 @@ module _ (schema : Lists) (capacity : ℕ) (db : Database) (unit : Unit) (number
     by_clause : (m : Option Member) → some_and is_mandatory (option_map (λ m. m.class) m) ≡ false → some_and (λ c. is_mandatory c.class && is_automatic c.class) m ≡ false
     by_clause None h = refl
     by_clause (Some m) h = and_left _ _ h
+
     free : (s : ℕ) (k : DbKey) → unit.currency.run_unit ≡ Some k → is_removing_mandatory schema unit (Remove s) ≡ false → is_fixed schema s k.rtype ≡ false
     free s k e h = by_clause (member_clause schema s k.rtype) (ap (λ (o : Option DbKey). some_and is_mandatory (option_and_then (λ t. option_map (λ m. m.class) (member_clause schema s t)) (option_map (λ (j : DbKey). j.rtype) o))) (sym e) ∙ h)
   on_cells (Modify t changes) fit p = on_current_kept Step db unit now unit.currency.run_unit (modify_checks schema capacity db unit changes) (modified schema capacity db unit changes) (λ k e h.

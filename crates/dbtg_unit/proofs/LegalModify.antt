@@ -1,12 +1,12 @@
 -- MODIFY keeps a database legal.
-use Rattle.std.proofs.Common.{◌≡◌, refl, sym, ◌∙◌, ap, subst, ℕ, Bool, true, false, cond, not, ◌&&◌, ◌||◌, List, [], ◌∷◌, Option, Some, None, inl, inr, ⊎_elim, eqb, map}
+use Rattle.std.proofs.Common.{◌≡◌, refl, sym, ◌∙◌, ap, subst, ℕ, Bool, true, false, cond, not, ◌&&◌, List, [], Option, Some, None, inl, inr, map}
 use Rattle.std.specs.Prelude.{is_some, option_map, option_and_then, unwrap_or, filter}
 use Rattle.std.specs.List.{list_any, list_all}
 use Rattle.std.proofs.lemmas.Bool.{and_parts, and_from, or_right, or_left, cases_Bool, false≢true, false_from_ne_true, not_from_false, not-true}
 use Rattle.dbtg_schema.specs.Lists.{Lists}
 use Rattle.dbtg_schema.specs.WellFormed.{IsSchema}
 use Rattle.dbtg_schema.specs.Lookups.{some_and}
-use Rattle.dbtg_schema.specs.Structure.{member_clause, order_of, picture_of, owns, pictures, rekeyed_sets}
+use Rattle.dbtg_schema.specs.Structure.{order_of, picture_of, owns, pictures, rekeyed_sets}
 use Rattle.dbtg_cells.specs.declared.key.DbKey.{DbKey}
 use Rattle.dbtg_cells.specs.declared.key.Owner.{Owner}
 use Rattle.dbtg_cells.specs.declared.key.Owner.TheVariants.{System, Rec}
@@ -18,19 +18,16 @@ use Rattle.dbtg_unit.specs.declared.unit.Unit.{Unit}
 use Rattle.dbtg_unit.specs.Base.{Database, Record, is_live, items_of, is_member, members_of, owner_of, calc_items, key_item, sort_key}
 use Rattle.dbtg_unit.specs.Units.{place_in}
 use Rattle.dbtg_unit.specs.Fits.{value_fits, values_fit}
-use Rattle.dbtg_unit.specs.Effect.{calc_taken, changed_items, modified, names_calc, option_value_eq, refuses_equal, replaced_sets, spot, with_items, with_its_items, without, joined}
+use Rattle.dbtg_unit.specs.Effect.{calc_taken, changed_items, modified, names_calc, option_value_eq, refuses_equal, replaced_sets, with_items, with_its_items, without, joined}
 use Rattle.dbtg_unit.specs.Legal.{Legal}
 use Rattle.dbtg_unit.proofs.KeyLemmas.{same_key, key_eq-refl}
-use Rattle.dbtg_unit.proofs.PlacedLemmas.{all-both}
-use Rattle.dbtg_unit.proofs.PairwiseLemmas.{all-none}
-use Rattle.dbtg_unit.proofs.ValueLemmas.{apart, values-swap}
-use Rattle.dbtg_unit.proofs.LegalParts.{Rows, Rings, Sound, Stock, Fixed, has_list, unique_calc, members_in, key_in, sound_of, uses_of, legal_raised}
-use Rattle.dbtg_unit.proofs.RingsLemmas.{all-members, filter-true, keeps_member, member_kept, member-with_placed, rings_kept, rings_placed, sorted-placed, with_placed, key-swap}
-use Rattle.dbtg_unit.proofs.OwnerLemmas.{owner_of_member, there}
+use Rattle.dbtg_unit.proofs.ValueLemmas.{values-swap}
+use Rattle.dbtg_unit.proofs.LegalParts.{Rows, Rings, Sound, Stock, has_list, unique_calc, members_in, key_in, sound_of, uses_of, legal_raised}
+use Rattle.dbtg_unit.proofs.RingsLemmas.{filter-true, keeps_member, key-swap, member_kept, member-with_placed, rings_kept, rings_placed, spot_at, there, with_placed}
+use Rattle.dbtg_unit.proofs.LiveKeys.{owner_is}
 use Rattle.dbtg_unit.proofs.CheckLemmas.{has_number, number_kept}
 use Rattle.dbtg_unit.proofs.CalcLemmas.{not_taken}
 use Rattle.dbtg_unit.proofs.ItemLemmas.{changed_fit, same_calc_items, same_key_item}
-use Rattle.dbtg_unit.proofs.SortKeyLemmas.{strict_keys}
 
 -- with its new items, k has the sort key of another member of the list that has it, in a set that refuses that
 abbrev pub key_refused : Lists → ℕ → Database → List Change → DbKey → ℕ → Bool
@@ -62,7 +59,7 @@ module _ (schema : Lists) (capacity : ℕ) (db : Database) (unit : Unit) (change
   lists_less s o = cond (again s o) (option_map (without k) (db.lists s o)) (db.lists s o)
 
   abbrev spot_again : ℕ → Spot DbKey
-  spot_again s = spot (order_of schema s) (option_and_then (λ place. place.at) (place_in schema unit s)) (key_in schema (items_of after) s) k
+  spot_again = spot_at schema (is_live after) (items_of after) lists_less k again (λ s. option_and_then (λ place. place.at) (place_in schema unit s))
 
   live_after : (x : DbKey) → is_live after x ≡ is_live db x
   live_after x = elim (key_eq k x) as (λ b. is_some (cond b (option_map (with_its_items items) (db.records x)) (db.records x)) ≡ is_some (db.records x)) [
@@ -111,21 +108,23 @@ module _ (schema : Lists) (capacity : ℕ) (db : Database) (unit : Unit) (change
           ]
         ];
       } where
-    type_of : (x : DbKey) → key_eq k x ≡ true → x.rtype ≡ k.rtype
-    type_of x same = ap (λ (y : DbKey). y.rtype) (sym (same_key k x same))
-    and_free : (a b : Bool) → (a && b) ≡ false → (a ≡ true → b ≡ false)
-    and_free true b h g = h
-    and_free false b h g = absurd (false≢true g)
-    -- an old record with the new CALC key
-    clash : (j : DbKey) → key_eq k j ≡ false → is_live db j ≡ true → j.rtype ≡ k.rtype → unique_calc schema k.rtype ≡ true → values_eq (calc_items schema j.rtype (items_of db j)) (calc_items schema k.rtype items) ≡ true → k ≡ j
-    clash j other live_j same unique eq =
-        elim (cases_Bool (names_calc schema k.rtype changes)) [
-          | inl named ↦
-            absurd (false≢true (sym (not_taken schema capacity db k.rtype items (key_eq k) legal (and_free _ _ can.calc_free named) unique j live_j same other) ∙ (λ d. values_eq (calc_items schema (sym same d) (items_of db j)) (calc_items schema k.rtype items)) ∙ eq))
-          | inr unnamed ↦
-            legal.calc k j live live_j (sym same) unique
-            (values-swap (calc_items schema j.rtype (items_of db j)) (calc_items schema k.rtype (items_of db k)) ((λ d. values_eq (calc_items schema j.rtype (items_of db j)) (sym (same_calc_items schema k.rtype changes (items_of db k) unnamed) d)) ∙ eq))
-        ]
+        type_of : (x : DbKey) → key_eq k x ≡ true → x.rtype ≡ k.rtype
+        type_of x same = ap (λ (y : DbKey). y.rtype) (sym (same_key k x same))
+
+        and_free : (a b : Bool) → (a && b) ≡ false → (a ≡ true → b ≡ false)
+        and_free true b h g = h
+        and_free false b h g = absurd (false≢true g)
+
+        -- an old record with the new CALC key
+        clash : (j : DbKey) → key_eq k j ≡ false → is_live db j ≡ true → j.rtype ≡ k.rtype → unique_calc schema k.rtype ≡ true → values_eq (calc_items schema j.rtype (items_of db j)) (calc_items schema k.rtype items) ≡ true → k ≡ j
+        clash j other live_j same unique eq =
+            elim (cases_Bool (names_calc schema k.rtype changes)) [
+              | inl named ↦
+                  absurd (false≢true (sym (not_taken schema capacity db k.rtype items (key_eq k) legal (and_free _ _ can.calc_free named) unique j live_j same other) ∙ (λ d. values_eq (calc_items schema (sym same d) (items_of db j)) (calc_items schema k.rtype items)) ∙ eq))
+              | inr unnamed ↦
+                  legal.calc k j live live_j (sym same) unique
+                  (values-swap (calc_items schema j.rtype (items_of db j)) (calc_items schema k.rtype (items_of db k)) ((λ d. values_eq (calc_items schema j.rtype (items_of db j)) (sym (same_calc_items schema k.rtype changes (items_of db k) unnamed) d)) ∙ eq))
+            ]
 
   -- THE LISTS LESS THE RECORD
 
@@ -165,9 +164,9 @@ module _ (schema : Lists) (capacity : ℕ) (db : Database) (unit : Unit) (change
   same_key_in s o x h =
       elim (cases_Bool (key_eq k x)) [
         | inl same ↦
-          let own = subst (λ (y : DbKey). is_member y (members_in lists_less s o) ≡ true) (sym (same_key k x same)) h in
-          let none : has_number s sets ≡ false = false_from_ne_true _ (λ g. false≢true (sym (gone s o g) ∙ own)) in
-          subst (λ (y : DbKey). key_in schema (items_of after) s y ≡ key_in schema (items_of db) s y) (same_key k x same) (ap (key_item schema s k.rtype) items_own ∙ same_key_item schema s k.rtype changes (items_of db k) none)
+            let own = subst (λ (y : DbKey). is_member y (members_in lists_less s o) ≡ true) (sym (same_key k x same)) h in
+            let none : has_number s sets ≡ false = false_from_ne_true _ (λ g. false≢true (sym (gone s o g) ∙ own)) in
+            subst (λ (y : DbKey). key_in schema (items_of after) s y ≡ key_in schema (items_of db) s y) (same_key k x same) (ap (key_item schema s k.rtype) items_own ∙ same_key_item schema s k.rtype changes (items_of db k) none)
         | inr other ↦ ap (key_item schema s x.rtype) (items_other x other)
       ]
 
@@ -178,9 +177,9 @@ module _ (schema : Lists) (capacity : ℕ) (db : Database) (unit : Unit) (change
       (λ s o. same_there s o ∙ sound.rings.pairs s o ∙ same_list s o)
       thin
       (λ s o x h. (live_after x ∙ (sound.rings.members s o x (was_member s o x h)).0, same_key_in s o x h)) where
-    same_list : (s : ℕ) (o : Owner) → has_list schema (is_live db) s o ≡ has_list schema (is_live after) s o
-    same_list s System = refl
-    same_list s (Rec j) = ap (λ b. owns schema s j.rtype && b) (sym (live_after j))
+        same_list : (s : ℕ) (o : Owner) → has_list schema (is_live db) s o ≡ has_list schema (is_live after) s o
+        same_list s System = refl
+        same_list s (Rec j) = ap (λ b. owns schema s j.rtype && b) (sym (live_after j))
 
   -- THE RECORD PLACED AGAIN
 
@@ -188,30 +187,22 @@ module _ (schema : Lists) (capacity : ℕ) (db : Database) (unit : Unit) (change
   lists_again = with_placed schema (is_live after) (items_of after) lists_less k again spot_again
 
   -- where an equal key is refused, no other member has the new one
-  apart_again : CanChange schema capacity db changes k → IsSchema schema → Stock schema capacity (is_live after) (items_of after) db.last → (s : ℕ) (o : Owner) → again s o ≡ true → refuses_equal (order_of schema s) ≡ true
-      → list_all (λ x. apart (key_in schema (items_of after) s x) (key_in schema (items_of after) s k)) (members_in lists_less s o) ≡ true
-  apart_again can good stock s o h refuses =
+  free_again : CanChange schema capacity db changes k → (s : ℕ) (o : Owner) → again s o ≡ true
+      → (refuses_equal (order_of schema s) && list_any (λ x. option_value_eq (sort_key schema after s x) (sort_key schema after s k)) (members_in lists_less s o)) ≡ false
+  free_again can s o h =
       let hs = and_parts _ _ h in
-      let owner = owner_of_member schema capacity db legal s o k hs.1 in
+      let owner = owner_is schema capacity db legal s o k hs.1 in
       let in_sets : has_number s (replaced_sets schema capacity db changes k) ≡ true = number_kept (λ r. is_some (owner_of schema capacity db r k)) s sets hs.0 (ap is_some owner) in
       let list_is : members_in lists_less s o ≡ without k (unwrap_or (option_map (members_of db s) (owner_of schema capacity db s k)) []) = list_again s o h ∙ ap (λ (p : Option Owner). without k (unwrap_or (option_map (members_of db s) p) [])) (sym owner) in
-      let none : list_any (λ x. option_value_eq (sort_key schema after s x) (sort_key schema after s k)) (members_in lists_less s o) ≡ false = ap (list_any (λ x. option_value_eq (sort_key schema after s x) (sort_key schema after s k))) list_is ∙ right_false _ _ refuses (can.key_free s in_sets) in
-      all-both (λ x. is_member x (members_in lists_less s o)) (λ x. not (option_value_eq (sort_key schema after s x) (sort_key schema after s k))) (λ x. apart (sort_key schema after s x) (sort_key schema after s k)) (members_in lists_less s o)
-        (λ x in_list ne. let r = rings_less.members s o x in_list in
-          strict_keys schema good s x.rtype k.rtype (items_of after x) (items_of after k) refuses r.1 (legal.members s o k hs.1).1 (stock.typed x r.0) (stock.typed k (live_after k ∙ live)) (not-true _ ne))
-        (all-members (λ x. is_member x (members_in lists_less s o)) (members_in lists_less s o) (λ x h. h))
-        (all-none (λ x. option_value_eq (sort_key schema after s x) (sort_key schema after s k)) (λ x. not (option_value_eq (sort_key schema after s x) (sort_key schema after s k))) (members_in lists_less s o) (λ x e. not_from_false _ e) none) where
-    right_false : (a b : Bool) → a ≡ true → (a && b) ≡ false → b ≡ false
-    right_false true b h g = g
-    right_false false b h g = absurd (false≢true h)
+      ap (λ list. refuses_equal (order_of schema s) && list_any (λ x. option_value_eq (sort_key schema after s x) (sort_key schema after s k)) list) list_is ∙ can.key_free s in_sets
 
   rings_again : CanChange schema capacity db changes k → IsSchema schema → Stock schema capacity (is_live after) (items_of after) db.last → Rings schema (is_live after) (items_of after) lists_again
   rings_again can good stock =
-      rings_placed schema (is_live after) (items_of after) lists_less k again spot_again rings_less (live_after k ∙ live)
+      rings_placed schema (is_live after) (items_of after) lists_less k again (λ s. option_and_then (λ place. place.at) (place_in schema unit s)) good stock.typed rings_less (live_after k ∙ live)
       (λ s o h. (legal.members s o k (and_parts _ _ h).1).1)
       (λ s o p h. gone s p (and_parts _ _ h).0)
       (λ s o p h g. legal.in_one s o p k (and_parts _ _ h).1 (and_parts _ _ g).1)
-      (λ s o h. sorted-placed (order_of schema s) (option_and_then (λ place. place.at) (place_in schema unit s)) (key_in schema (items_of after) s) k (members_in lists_less s o) (apart_again can good stock s o h) (rings_less.sorted s o))
+      (free_again can)
 
   -- a member is a member again
   member_again : (s : ℕ) (o : Owner) (m : DbKey) → is_member m (members_of db s o) ≡ true → is_member m (members_in lists_again s o) ≡ true
@@ -234,7 +225,7 @@ module _ (schema : Lists) (capacity : ℕ) (db : Database) (unit : Unit) (change
     at : (s : ℕ) (o : Owner) → lists_again s o ≡ lists_modified s o
     at s o =
         elim (again s o) as (λ b. cond b (option_map (placed (spot_again s) k) (cond b (option_map (without k) (db.lists s o)) (db.lists s o))) (cond b (option_map (without k) (db.lists s o)) (db.lists s o))
-            ≡ cond b (option_map (λ list. joined schema after unit s k (without k list)) (db.lists s o)) (db.lists s o)) [
+        ≡ cond b (option_map (λ list. joined schema after unit s k (without k list)) (db.lists s o)) (db.lists s o)) [
           | true ↦ elim (db.lists s o) as (λ l. option_map (placed (spot_again s) k) (option_map (without k) l) ≡ option_map (λ list. joined schema after unit s k (without k list)) l) [ None ↦ refl | Some list ↦ refl ]
           | false ↦ refl
         ]

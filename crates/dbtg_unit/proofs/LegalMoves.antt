@@ -1,8 +1,8 @@
 -- INSERT and REMOVE keep a database legal.
-use Rattle.std.proofs.Common.{◌≡◌, refl, sym, ◌∙◌, ap, subst, ℕ, Bool, true, false, cond, not, ◌&&◌, ◌||◌, List, [], ◌∷◌, Option, Some, None, inl, inr, ⊎_elim, eqb}
+use Rattle.std.proofs.Common.{◌&&◌, ◌≡◌, refl, sym, ◌∙◌, subst, ℕ, Bool, true, false, cond, not, [], ◌∷◌, Some, None, ⊎_elim, eqb}
 use Rattle.std.specs.Prelude.{is_some, option_map, unwrap_or, filter}
 use Rattle.std.specs.List.{list_any}
-use Rattle.std.proofs.lemmas.Bool.{and_parts, or_cases, or_right, cases_Bool, false≢true, eqb-true, not_from_false, false_from_ne_true}
+use Rattle.std.proofs.lemmas.Bool.{and_parts, or_cases, or_right, false≢true, eqb-true, not_from_false, false_from_ne_true}
 use Rattle.dbtg_schema.specs.Lists.{Lists}
 use Rattle.dbtg_schema.specs.WellFormed.{IsSchema}
 use Rattle.dbtg_schema.specs.Structure.{member_clause, order_of}
@@ -13,10 +13,10 @@ use Rattle.dbtg_unit.specs.declared.unit.Unit.{Unit}
 use Rattle.dbtg_unit.specs.Base.{Database, is_live, items_of, is_member, members_of, owner_of, sort_key}
 use Rattle.dbtg_unit.specs.Effect.{connected_in, inserted, removed, without, is_current_owner, refuses_equal, option_value_eq}
 use Rattle.dbtg_unit.specs.Legal.{Legal}
-use Rattle.dbtg_unit.proofs.KeyLemmas.{same_key, key_eq-refl}
-use Rattle.dbtg_unit.proofs.LegalParts.{Rows, Rings, Fixed, is_fixed, members_in, has_list, sound_of, uses_of, legal_raised}
+use Rattle.dbtg_unit.proofs.KeyLemmas.{same_key}
+use Rattle.dbtg_unit.proofs.LegalParts.{Rows, is_fixed, members_in, sound_of, uses_of, legal_raised}
 use Rattle.dbtg_unit.proofs.RingsLemmas.{filter-true, rings_kept, member-with_placed, member_kept, keeps_member}
-use Rattle.dbtg_unit.proofs.OwnerLemmas.{no_owner}
+use Rattle.dbtg_unit.proofs.LiveKeys.{member_nowhere, none_is}
 use Rattle.dbtg_unit.proofs.CheckLemmas.{has_number}
 use Rattle.dbtg_unit.proofs.LegalConnect.{CanJoin, connected_rings, joins, spot_in}
 
@@ -32,12 +32,12 @@ module _ (schema : Lists) (capacity : ℕ) (db : Database) (unit : Unit) (s : �
       (record {
         stock = sound.stock;
         rings = connected_rings schema unit (s ∷ []) (is_live db) (items_of db) db.lists k good sound.stock.typed sound.rings live
-          (λ t h. subst (λ r. is_some (member_clause schema r k.rtype) ≡ true) (alone s t h) clause)
-          (λ t o h. subst (λ r. is_member k (members_of db r o) ≡ false) (alone s t h) (no_owner schema capacity db legal s k free o))
-          (λ t o j. let js = and_parts _ _ j in
-            subst (λ r. is_current_owner schema unit r o ≡ true → refuses_equal (order_of schema r) ≡ true → list_any (λ x. option_value_eq (sort_key schema db r x) (sort_key schema db r k)) (members_of db r o) ≡ false) (alone s t js.0) (join.differs o) js.1);
+            (λ t h. subst (λ r. is_some (member_clause schema r k.rtype) ≡ true) (alone s t h) clause)
+            (λ t o h. subst (λ r. is_member k (members_of db r o) ≡ false) (alone s t h) (member_nowhere schema capacity db legal s k (none_is (owner_of schema capacity db s k) free) o))
+            (λ t o j. let js = and_parts _ _ j in
+            subst (λ r. is_current_owner schema unit r o ≡ true → (refuses_equal (order_of schema r) && list_any (λ x. option_value_eq (sort_key schema db r x) (sort_key schema db r k)) (members_of db r o)) ≡ false) (alone s t js.0) (join.differs o) js.1);
         fixed = λ t m alive fix. let r = sound.fixed t m alive fix in
-          (r.0, member-with_placed schema (is_live db) (items_of db) db.lists k (joins schema unit (s ∷ []) (is_live db) (items_of db) db.lists k) (spot_in schema unit (s ∷ []) (is_live db) (items_of db) db.lists k) t r.0 m ∙ or_right _ _ r.1);
+            (r.0, member-with_placed schema (is_live db) (items_of db) db.lists k (joins schema unit (s ∷ []) (is_live db) (items_of db) db.lists k) (spot_in schema unit (s ∷ []) (is_live db) (items_of db) db.lists k) t r.0 m ∙ or_right _ _ r.1);
       })
       (uses_of schema capacity db legal)
 
@@ -76,11 +76,11 @@ module _ (schema : Lists) (capacity : ℕ) (db : Database) (unit : Unit) (s : �
       (record {
         stock = sound.stock;
         rings = rings_kept schema (is_live db) (is_live db) (items_of db) (items_of db) db.lists lists_after sound.rings
-          (λ t o. same_there t o ∙ sound.rings.pairs t o)
-          thin
-          (λ t o x h. ((sound.rings.members t o x (member_kept x (thin t o).0 (members_in db.lists t o) (subst (λ list. is_member x list ≡ true) (thin t o).1 h)).0).0, refl));
+            (λ t o. same_there t o ∙ sound.rings.pairs t o)
+            thin
+            (λ t o x h. ((sound.rings.members t o x (member_kept x (thin t o).0 (members_in db.lists t o) (subst (λ list. is_member x list ≡ true) (thin t o).1 h)).0).0, refl));
         fixed = λ t m alive fix. let r = sound.fixed t m alive fix in (r.0, stays t r.0 m (λ same. other t m same fix) r.1);
       })
       (uses_of schema capacity db legal) where
-    other : (t : ℕ) (m : DbKey) → t ≡ s → is_fixed schema t m.rtype ≡ true → key_eq k m ≡ false
-    other t m same fix = false_from_ne_true _ (λ e. false≢true (sym free ∙ subst (λ (x : DbKey). is_fixed schema s x.rtype ≡ true) (sym (same_key k m e)) (subst (λ r. is_fixed schema r m.rtype ≡ true) same fix)))
+        other : (t : ℕ) (m : DbKey) → t ≡ s → is_fixed schema t m.rtype ≡ true → key_eq k m ≡ false
+        other t m same fix = false_from_ne_true _ (λ e. false≢true (sym free ∙ subst (λ (x : DbKey). is_fixed schema s x.rtype ≡ true) (sym (same_key k m e)) (subst (λ r. is_fixed schema r m.rtype ≡ true) same fix)))

@@ -1,5 +1,5 @@
 -- OPEN and CLOSE keep a database legal, and the modes of each unit its entries in the usage lists.
-use Rattle.std.proofs.Common.{◌≡◌, refl, sym, ◌∙◌, ap, subst, ℕ, ◌<◌, ◌≤◌, Bool, true, false, cond, not, ◌&&◌, List, [], ◌∷◌, ◌++◌, length, Option, None, Some, arith, eqb, inl, inr, get_or-set_same, get_or-set_other}
+use Rattle.std.proofs.Common.{◌≡◌, refl, sym, ◌∙◌, ap, subst, ℕ, ◌<◌, Bool, true, false, cond, not, ◌&&◌, List, [], ◌∷◌, ◌++◌, length, Option, None, Some, arith, eqb, inl, inr, get_or-set_same, get_or-set_other}
 use Rattle.std.specs.Prelude.{filter, slice_set}
 use Rattle.std.proofs.lemmas.List.Folds.{list_all-append}
 use Rattle.std.specs.List.{list_any, list_all}
@@ -34,7 +34,7 @@ usage_after : (usage : ℕ → List (ℕ × Mode)) (a number : ℕ) (mode : Mode
 usage_after usage a number mode h none free b =
     cond_both (eqb b a) _ _ (λ es. pairwise agree es ≡ true)
     (λ e. let same = eqb-true b a e in
-      subst (λ c. pairwise agree (usage c ++ (number, mode) ∷ []) ≡ true) (sym same) (pairwise-push agree (usage a) (number, mode) (h a) (agrees_with_new (usage a) number mode none free)))
+    subst (λ c. pairwise agree (usage c ++ (number, mode) ∷ []) ≡ true) (sym same) (pairwise-push agree (usage a) (number, mode) (h a) (agrees_with_new (usage a) number mode none free)))
     (λ e. h b)
 
 -- the mode of a unit that a list gains, and of each other
@@ -57,8 +57,8 @@ mode-gone number (e ∷ es) =
     elim (cases_Bool (eqb e.0 number)) [
       | inl h ↦ ap (λ b. mode_in (cond (not b) (e ∷ filter (λ e. not (eqb e.0 number)) es) (filter (λ e. not (eqb e.0 number)) es)) number) h ∙ mode-gone number es
       | inr h ↦
-        ap (λ b. mode_in (cond (not b) (e ∷ filter (λ e. not (eqb e.0 number)) es) (filter (λ e. not (eqb e.0 number)) es)) number) h
-        ∙ ap (λ b. cond b (Some e.1) (mode_in (filter (λ e. not (eqb e.0 number)) es) number)) h ∙ mode-gone number es
+          ap (λ b. mode_in (cond (not b) (e ∷ filter (λ e. not (eqb e.0 number)) es) (filter (λ e. not (eqb e.0 number)) es)) number) h
+          ∙ ap (λ b. cond b (Some e.1) (mode_in (filter (λ e. not (eqb e.0 number)) es) number)) h ∙ mode-gone number es
     ]
 
 mode-left : (number lost : ℕ) → (number ≡ lost → ⊥) → (es : List (ℕ × Mode)) → mode_in (filter (λ e. not (eqb e.0 lost)) es) number ≡ mode_in es number
@@ -66,12 +66,12 @@ mode-left number lost other [] = refl
 mode-left number lost other (e ∷ es) =
     elim (cases_Bool (eqb e.0 lost)) [
       | inl h ↦
-        ap (λ b. mode_in (cond (not b) (e ∷ filter (λ e. not (eqb e.0 lost)) es) (filter (λ e. not (eqb e.0 lost)) es)) number) h
-        ∙ mode-left number lost other es
-        ∙ ap (λ b. cond b (Some e.1) (mode_in es number)) (sym (ne_eqb e.0 number (λ s. other (sym s ∙ eqb-true e.0 lost h))))
+          ap (λ b. mode_in (cond (not b) (e ∷ filter (λ e. not (eqb e.0 lost)) es) (filter (λ e. not (eqb e.0 lost)) es)) number) h
+          ∙ mode-left number lost other es
+          ∙ ap (λ b. cond b (Some e.1) (mode_in es number)) (sym (ne_eqb e.0 number (λ s. other (sym s ∙ eqb-true e.0 lost h))))
       | inr h ↦
-        ap (λ b. mode_in (cond (not b) (e ∷ filter (λ e. not (eqb e.0 lost)) es) (filter (λ e. not (eqb e.0 lost)) es)) number) h
-        ∙ ap (λ (rest : Option Mode). cond (eqb e.0 number) (Some e.1) rest) (mode-left number lost other es)
+          ap (λ b. mode_in (cond (not b) (e ∷ filter (λ e. not (eqb e.0 lost)) es) (filter (λ e. not (eqb e.0 lost)) es)) number) h
+          ∙ ap (λ (rest : Option Mode). cond (eqb e.0 number) (Some e.1) rest) (mode-left number lost other es)
     ]
 
 module _ (schema : Lists) (capacity : ℕ) (db : Database) (unit : Unit) (a : ℕ) (legal : Legal schema capacity db) where
@@ -92,13 +92,13 @@ module _ (schema : Lists) (capacity : ℕ) (db : Database) (unit : Unit) (a : �
   open_agrees mode low none agrees b =
       elim (cases_Bool (eqb b a)) [
         | inl h ↦
-          let same = eqb-true b a h in
-          ap (λ c. mode_in (cond c (db.usage b ++ (unit.number, mode) ∷ []) (db.usage b)) unit.number) h
-          ∙ mode-own unit.number mode (db.usage b) (ap (λ c. mode_in (db.usage c) unit.number) same ∙ none)
-          ∙ sym (ap (at (slice_set unit.modes a (Some mode))) same ∙ get_or-set_same unit.modes a (Some mode) None low)
+            let same = eqb-true b a h in
+            ap (λ c. mode_in (cond c (db.usage b ++ (unit.number, mode) ∷ []) (db.usage b)) unit.number) h
+            ∙ mode-own unit.number mode (db.usage b) (ap (λ c. mode_in (db.usage c) unit.number) same ∙ none)
+            ∙ sym (ap (at (slice_set unit.modes a (Some mode))) same ∙ get_or-set_same unit.modes a (Some mode) None low)
         | inr h ↦
-          ap (λ c. mode_in (cond c (db.usage b ++ (unit.number, mode) ∷ []) (db.usage b)) unit.number) h
-          ∙ agrees b ∙ sym (get_or-set_other unit.modes a b (Some mode) None (eqb-false b a h))
+            ap (λ c. mode_in (cond c (db.usage b ++ (unit.number, mode) ∷ []) (db.usage b)) unit.number) h
+            ∙ agrees b ∙ sym (get_or-set_other unit.modes a b (Some mode) None (eqb-false b a h))
       ]
 
   pub open_others : (mode : Mode) (number : ℕ) → (number ≡ unit.number → ⊥) → (b : ℕ) → mode_in ((opened mode).usage b) number ≡ mode_in (db.usage b) number
@@ -128,12 +128,12 @@ module _ (schema : Lists) (capacity : ℕ) (db : Database) (unit : Unit) (a : �
   close_agrees low agrees b =
       elim (cases_Bool (eqb b a)) [
         | inl h ↦
-          ap (λ c. mode_in (cond c (left (db.usage b)) (db.usage b)) unit.number) h
-          ∙ mode-gone unit.number (db.usage b)
-          ∙ sym (ap (at (slice_set unit.modes a None)) (eqb-true b a h) ∙ get_or-set_same unit.modes a None None low)
+            ap (λ c. mode_in (cond c (left (db.usage b)) (db.usage b)) unit.number) h
+            ∙ mode-gone unit.number (db.usage b)
+            ∙ sym (ap (at (slice_set unit.modes a None)) (eqb-true b a h) ∙ get_or-set_same unit.modes a None None low)
         | inr h ↦
-          ap (λ c. mode_in (cond c (left (db.usage b)) (db.usage b)) unit.number) h
-          ∙ agrees b ∙ sym (get_or-set_other unit.modes a b None None (eqb-false b a h))
+            ap (λ c. mode_in (cond c (left (db.usage b)) (db.usage b)) unit.number) h
+            ∙ agrees b ∙ sym (get_or-set_other unit.modes a b None None (eqb-false b a h))
       ]
 
   pub close_others : (number : ℕ) → (number ≡ unit.number → ⊥) → (b : ℕ) → mode_in (closed.usage b) number ≡ mode_in (db.usage b) number

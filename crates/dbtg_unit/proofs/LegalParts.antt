@@ -1,5 +1,5 @@
 -- The laws of a legal database in parts: of what is stored, of the lists, of the usage lists.
-use Rattle.std.proofs.Common.{◌≡◌, refl, sym, ◌∙◌, ap, subst, ℕ, ◌<◌, ◌≤◌, Bool, true, false, cond, not, ◌&&◌, List, [], length, Option, Some, None, ◌⊎◌}
+use Rattle.std.proofs.Common.{◌≡◌, refl, sym, ◌∙◌, subst, ℕ, ◌<◌, ◌≤◌, Bool, true, false, cond, not, ◌&&◌, List, [], length, Option, Some, None, ◌⊎◌}
 use Rattle.std.specs.Prelude.{is_some, unwrap_or, option_map}
 use Rattle.dbtg_schema.specs.Lists.{Lists}
 use Rattle.dbtg_cells.specs.declared.key.DbKey.{DbKey}
@@ -7,7 +7,7 @@ use Rattle.dbtg_cells.specs.declared.key.Owner.{Owner}
 use Rattle.dbtg_cells.specs.declared.key.Owner.TheVariants.{System, Rec}
 use Rattle.dbtg_cells.specs.declared.key.Value.{Value}
 use Rattle.dbtg_cells.specs.declared.usage.Mode.{Mode}
-use Rattle.dbtg_cells.specs.Keys.{key_eq, values_eq}
+use Rattle.dbtg_cells.specs.Keys.{values_eq}
 use Rattle.dbtg_schema.specs.Lookups.{some_and}
 use Rattle.dbtg_unit.specs.Base.{Database, Record, is_live, items_of, is_member, key_item, calc_items}
 use Rattle.dbtg_unit.specs.Fits.{values_fit}
@@ -133,5 +133,5 @@ pub legal_raised : (schema : Lists) (capacity : ℕ) (test : DbKey → Bool) (db
 legal_raised schema capacity test db sound uses =
     legal_from schema capacity (raised test db)
     (subst (λ (live : Living). Sound schema capacity live (items_of (raised test db)) db.lists db.last) (sym (live-raised test db))
-      (subst (λ (items : Items). Sound schema capacity (is_live db) items db.lists db.last) (sym (items-raised test db)) sound))
+    (subst (λ (items : Items). Sound schema capacity (is_live db) items db.lists db.last) (sym (items-raised test db)) sound))
     uses

@@ -2,13 +2,11 @@ pub mod Schemas
 pub mod OwnSchemas
 pub mod Listing
 pub mod PlacedLemmas
-pub mod PairwiseLemmas
 pub mod ValueLemmas
 pub mod KeyLemmas
 pub mod LegalParts
 pub mod RingsLemmas
 pub mod CheckLemmas
-pub mod OwnerLemmas
 pub mod SortKeyLemmas
 pub mod LegalConnect
 pub mod LegalMoves
@@ -29,6 +27,7 @@ pub mod Rows
 pub mod Sets
 pub mod Orders
 pub mod Openings
+pub mod LegalHistory
 pub mod PlacedMaps
 pub mod CellNameLemmas
 pub mod SameItems

@@ -9,7 +9,7 @@ use Rattle.dbtg_unit.specs.Fits.{if_named}
 use Rattle.dbtg_unit.specs.Units.{opening_unit}
 
 -- every entry is null
-nothing_at : {X : Type 0} → (n i : ℕ) → at {X = X} (replicate n None) i ≡ None
+pub nothing_at : {X : Type 0} → (n i : ℕ) → at {X = X} (replicate n None) i ≡ None
 nothing_at zero i = refl
 nothing_at (suc n) zero = refl
 nothing_at (suc n) (suc i) = nothing_at n i

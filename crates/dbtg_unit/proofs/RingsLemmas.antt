@@ -1,25 +1,24 @@
 -- How the lists of a legal database change: a part of each kept, or a new member placed.
-use Rattle.std.proofs.Common.{◌≡◌, refl, sym, ◌∙◌, ap, subst, ℕ, Bool, true, false, cond, not, ◌&&◌, ◌||◌, List, [], ◌∷◌, Option, Some, None, inl, inr, ⊎_elim, ◌⊎◌}
+use Rattle.std.proofs.Common.{◌≡◌, refl, sym, ◌∙◌, ap, subst, ℕ, Bool, true, false, cond, ◌&&◌, ◌||◌, List, [], ◌∷◌, Option, Some, None, inl, inr, ⊎_elim, ◌⊎◌}
 use Rattle.std.specs.Prelude.{is_some, unwrap_or, option_map, filter}
-use Rattle.std.specs.List.{list_any, list_all}
-use Rattle.std.proofs.lemmas.Bool.{and_parts, and_from, or_cases, or_left, or_right, cases_Bool, false≢true, not_from_false, not-false, not-true, cond_both, false_from_ne_true}
+use Rattle.std.specs.List.{list_all}
+use Rattle.std.proofs.lemmas.Bool.{and_parts, and_from, or_cases, or_left, or_right, cases_Bool, false≢true, not_from_false, not-true, cond_both, false_from_ne_true}
 use Rattle.dbtg_schema.specs.Lists.{Lists}
-use Rattle.dbtg_schema.specs.Structure.{member_clause, order_of}
-use Rattle.dbtg_schema.specs.declared.shape.Order.{Order}
-use Rattle.dbtg_schema.specs.declared.shape.Order.TheVariants.{First, Last, Next, Prior, Sorted}
-use Rattle.dbtg_schema.specs.declared.shape.Duplicates.TheVariants.{NotAllowed, Last as LastAmongEqual, First as FirstAmongEqual}
+use Rattle.dbtg_schema.specs.Structure.{member_clause, order_of, pictures}
 use Rattle.dbtg_cells.specs.declared.key.DbKey.{DbKey}
 use Rattle.dbtg_cells.specs.declared.key.Owner.{Owner}
-use Rattle.dbtg_cells.specs.declared.key.Value.{Value}
 use Rattle.dbtg_cells.specs.Keys.{key_eq}
 use Rattle.dbtg_cells.specs.Placed.{Spot, placed}
 use Rattle.dbtg_unit.specs.Base.{is_member}
-use Rattle.dbtg_unit.specs.Effect.{key_below, spot, refuses_equal}
+use Rattle.dbtg_unit.specs.Effect.{spot, refuses_equal}
 use Rattle.dbtg_unit.specs.Legal.{pairwise, differ, keys_in_order}
 use Rattle.dbtg_unit.proofs.Listing.{any-placed}
-use Rattle.dbtg_unit.proofs.PlacedLemmas.{all-weaker, pairwise-filter, pairwise-among, pairwise-placed}
-use Rattle.dbtg_unit.proofs.PairwiseLemmas.{all-each, all-none, pairwise-each, pairwise-same}
-use Rattle.dbtg_unit.proofs.ValueLemmas.{apart, apart-cases, below-asym, below-trans}
+use Rattle.dbtg_unit.proofs.PlacedLemmas.{pairwise-filter, pairwise-placed}
+use Rattle.dbtg_unit.proofs.PlacingOrder.{all_from_none, pairwise-weaker, placing_keeps_order}
+use Rattle.dbtg_unit.proofs.SortKeyLemmas.{keys_compare}
+use Rattle.dbtg_unit.specs.Placing.{compares, has_equal}
+use Rattle.dbtg_unit.specs.Fits.{values_fit}
+use Rattle.dbtg_schema.specs.WellFormed.{IsSchema}
 use Rattle.dbtg_unit.proofs.KeyLemmas.{same_key, key_eq-refl}
 use Rattle.dbtg_unit.proofs.LegalParts.{Living, Items, Rows, members_in, key_in, ordered, has_list, Rings}
 
@@ -36,10 +35,10 @@ member_kept x t [] h = absurd (false≢true h)
 member_kept x t (y ∷ ys) h =
     elim (cases_Bool (t y)) [
       | inl e ↦
-        ⊎_elim
-        (λ same. (or_left _ _ same, subst (λ (z : DbKey). t z ≡ true) (sym (same_key x y same)) e))
-        (λ rest. let r = member_kept x t ys rest in (or_right _ _ r.0, r.1))
-        (or_cases (key_eq x y) (is_member x (filter t ys)) (subst (λ b. is_member x (cond b (y ∷ filter t ys) (filter t ys)) ≡ true) e h))
+          ⊎_elim
+          (λ same. (or_left _ _ same, subst (λ (z : DbKey). t z ≡ true) (sym (same_key x y same)) e))
+          (λ rest. let r = member_kept x t ys rest in (or_right _ _ r.0, r.1))
+          (or_cases (key_eq x y) (is_member x (filter t ys)) (subst (λ b. is_member x (cond b (y ∷ filter t ys) (filter t ys)) ≡ true) e h))
       | inr e ↦ let r = member_kept x t ys (subst (λ b. is_member x (cond b (y ∷ filter t ys) (filter t ys)) ≡ true) e h) in (or_right _ _ r.0, r.1)
     ]
 
@@ -50,6 +49,11 @@ keeps_member x t (y ∷ ys) h g =
     (λ same. let e : t y ≡ true = subst (λ (z : DbKey). t z ≡ true) (same_key x y same) g in subst (λ b. is_member x (cond b (y ∷ filter t ys) (filter t ys)) ≡ true) (sym e) (or_left _ _ same))
     (λ rest. cond_both (t y) _ _ (λ zs. is_member x zs ≡ true) (λ e. or_right _ _ (keeps_member x t ys rest g)) (λ e. keeps_member x t ys rest g))
     (or_cases _ _ h)
+
+-- a list with a member is there
+pub there : (k : DbKey) (list : Option (List DbKey)) → is_member k (unwrap_or list []) ≡ true → is_some list ≡ true
+there k None h = absurd (false≢true h)
+there k (Some list) h = refl
 
 -- all are kept
 pub filter-true : (xs : List DbKey) → xs ≡ filter (λ x. true) xs
@@ -80,15 +84,16 @@ module _ (schema : Lists) (live live' : Living) (items items' : Items) (lists li
         members = λ s o m h. ((still s o m h).0, (rings.members s o m (old s o m h)).1);
         in_one = λ s o p m ho hp. rings.in_one s o p m (old s o m ho) (old s p m hp);
         once = λ s o. subst (λ list. pairwise differ list ≡ true) (sym (thin s o).1) (pairwise-filter differ (thin s o).0 (members_in lists s o) (rings.once s o));
-        sorted = λ s o. pairwise-same (λ x. is_member x (members_in lists' s o)) (ordered schema items s) (ordered schema items' s) (members_in lists' s o)
-          (λ x y hx hy h. read s x y (still s o x hx).1 (still s o y hy).1 ∙ h)
-          (all-members (λ x. is_member x (members_in lists' s o)) (members_in lists' s o) (λ x h. h))
-          (subst (λ list. pairwise (ordered schema items s) list ≡ true) (sym (thin s o).1) (pairwise-filter (ordered schema items s) (thin s o).0 (members_in lists s o) (rings.sorted s o)));
+        sorted = λ s o. pairwise-weaker (ordered schema items s) (ordered schema items' s) (λ x. is_member x (members_in lists' s o)) (members_in lists' s o)
+            (λ x y hx hy h. read s x y (still s o x hx).1 (still s o y hy).1 ∙ h)
+            (all-members (λ x. is_member x (members_in lists' s o)) (members_in lists' s o) (λ x h. h))
+            (subst (λ list. pairwise (ordered schema items s) list ≡ true) (sym (thin s o).1) (pairwise-filter (ordered schema items s) (thin s o).0 (members_in lists s o) (rings.sorted s o)));
       } where
-    old : (s : ℕ) (o : Owner) (m : DbKey) → is_member m (members_in lists' s o) ≡ true → is_member m (members_in lists s o) ≡ true
-    old s o m h = (member_kept m (thin s o).0 (members_in lists s o) (subst (λ list. is_member m list ≡ true) (thin s o).1 h)).0
-    read : (s : ℕ) (x y : DbKey) → key_in schema items' s x ≡ key_in schema items s x → key_in schema items' s y ≡ key_in schema items s y → ordered schema items' s x y ≡ ordered schema items s x y
-    read s x y ex ey = λ i. keys_in_order (order_of schema s) (ex i) (ey i)
+        old : (s : ℕ) (o : Owner) (m : DbKey) → is_member m (members_in lists' s o) ≡ true → is_member m (members_in lists s o) ≡ true
+        old s o m h = (member_kept m (thin s o).0 (members_in lists s o) (subst (λ list. is_member m list ≡ true) (thin s o).1 h)).0
+
+        read : (s : ℕ) (x y : DbKey) → key_in schema items' s x ≡ key_in schema items s x → key_in schema items' s y ≡ key_in schema items s y → ordered schema items' s x y ≡ ordered schema items s x y
+        read s x y ex ey = λ i. keys_in_order (order_of schema s) (ex i) (ey i)
 
 -- A NEW MEMBER
 
@@ -115,69 +120,57 @@ module _ (schema : Lists) (live : Living) (items : Items) (lists : Rows) (m : Db
         | false ↦ λ w. old
       ] new
 
-  pub rings_placed : Rings schema live items lists → live m ≡ true
+module _ (schema : Lists) (live : Living) (items : Items) (lists : Rows) (m : DbKey) (into : ℕ → Owner → Bool) (positions : ℕ → Option DbKey) where
+  -- where the order of each set places m, from its position
+  abbrev pub spot_at : ℕ → Spot DbKey
+  spot_at s = spot (order_of schema s) (positions s) (key_in schema items s) m
+
+  pub rings_placed : IsSchema schema → ((x : DbKey) → live x ≡ true → values_fit (pictures schema x.rtype) (items x) ≡ true)
+      → Rings schema live items lists → live m ≡ true
       → ((s : ℕ) (o : Owner) → into s o ≡ true → is_some (member_clause schema s m.rtype) ≡ true)
       → ((s : ℕ) (o p : Owner) → into s o ≡ true → is_member m (members_in lists s p) ≡ false)
       → ((s : ℕ) (o p : Owner) → into s o ≡ true → into s p ≡ true → o ≡ p)
-      → ((s : ℕ) (o : Owner) → into s o ≡ true → pairwise (ordered schema items s) (placed (spots s) m (members_in lists s o)) ≡ true)
-      → Rings schema live items with_placed
-  rings_placed rings alive clause absent one order =
+      → ((s : ℕ) (o : Owner) → into s o ≡ true → (refuses_equal (order_of schema s) && has_equal (key_in schema items s) m (members_in lists s o)) ≡ false)
+      → Rings schema live items (with_placed schema live items lists m into spot_at)
+  rings_placed good typed rings alive clause absent one differs =
       record {
         pairs = λ s o. kept s o ∙ rings.pairs s o;
         members = λ s o x h. ⊎_elim
-          (λ new. let same = same_key x m new.1 in (subst (λ (y : DbKey). live y ≡ true) (sym same) alive, subst (λ (y : DbKey). is_some (member_clause schema s y.rtype) ≡ true) (sym same) (clause s o new.0)))
-          (λ old. rings.members s o x old)
-          (parts s o x h);
+            (λ new. let same = same_key x m new.1 in (subst (λ (y : DbKey). live y ≡ true) (sym same) alive, subst (λ (y : DbKey). is_some (member_clause schema s y.rtype) ≡ true) (sym same) (clause s o new.0)))
+            (λ old. rings.members s o x old)
+            (parts s o x h);
         in_one = λ s o p x ho hp. ⊎_elim
-          (λ a. ⊎_elim
+            (λ a. ⊎_elim
             (λ b. one s o p a.0 b.0)
             (λ old. absurd (false≢true (sym (absent s o p a.0) ∙ subst (λ (y : DbKey). is_member y (members_in lists s p) ≡ true) (same_key x m a.1) old)))
             (parts s p x hp))
-          (λ old. ⊎_elim
+            (λ old. ⊎_elim
             (λ b. absurd (false≢true (sym (absent s p o b.0) ∙ subst (λ (y : DbKey). is_member y (members_in lists s o) ≡ true) (same_key x m b.1) old)))
             (λ old2. rings.in_one s o p x old old2)
             (parts s p x hp))
-          (parts s o x ho);
-        once = λ s o. at_placed (λ list. pairwise differ list ≡ true) s o refl
-          (λ h. pairwise-placed differ differ-swap (spots s) m (members_in lists s o) (all-none (key_eq m) (differ m) (members_in lists s o) (λ x e. not_from_false _ e) (absent s o o h)) (rings.once s o))
-          (rings.once s o);
-        sorted = λ s o. at_placed (λ list. pairwise (ordered schema items s) list ≡ true) s o refl (order s o) (rings.sorted s o);
+            (parts s o x ho);
+        once = λ s o. at_placed schema live items lists m into spot_at (λ list. pairwise differ list ≡ true) s o refl
+            (λ h. pairwise-placed differ differ-swap (spot_at s) m (members_in lists s o) (all_from_none (key_eq m) (members_in lists s o) (absent s o o h)) (rings.once s o))
+            (rings.once s o);
+        sorted = λ s o. at_placed schema live items lists m into spot_at (λ list. pairwise (ordered schema items s) list ≡ true) s o refl (in_its_place s o) (rings.sorted s o);
       } where
-    kept : (s : ℕ) (o : Owner) → is_some (with_placed s o) ≡ is_some (lists s o)
-    kept s o =
-        elim (into s o) as (λ b. is_some (cond b (option_map (placed (spots s) m) (lists s o)) (lists s o)) ≡ is_some (lists s o)) [
-          | true ↦ elim (lists s o) as (λ l. is_some (option_map (placed (spots s) m) l) ≡ is_some l) [ None ↦ refl | Some list ↦ refl ]
-          | false ↦ refl
-        ]
-    parts : (s : ℕ) (o : Owner) (x : DbKey) → is_member x (members_in with_placed s o) ≡ true → ((into s o ≡ true) × (key_eq x m ≡ true)) ⊎ (is_member x (members_in lists s o) ≡ true)
-    parts s o x h =
-        ⊎_elim
-        (λ new. let ns = and_parts (into s o && is_some (lists s o)) (key_eq x m) new in inl ((and_parts (into s o) (is_some (lists s o)) ns.0).0, ns.1))
-        (λ old. inr old)
-        (or_cases (into s o && is_some (lists s o) && key_eq x m) (is_member x (members_in lists s o)) (sym (member-with_placed s o x) ∙ h))
+        kept : (s : ℕ) (o : Owner) → is_some (with_placed schema live items lists m into spot_at s o) ≡ is_some (lists s o)
+        kept s o =
+            elim (into s o) as (λ b. is_some (cond b (option_map (placed (spot_at s) m) (lists s o)) (lists s o)) ≡ is_some (lists s o)) [
+              | true ↦ elim (lists s o) as (λ l. is_some (option_map (placed (spot_at s) m) l) ≡ is_some l) [ None ↦ refl | Some list ↦ refl ]
+              | false ↦ refl
+            ]
 
--- THE ORDER OF A LIST WITH A NEW MEMBER
+        parts : (s : ℕ) (o : Owner) (x : DbKey) → is_member x (members_in (with_placed schema live items lists m into spot_at) s o) ≡ true → ((into s o ≡ true) × (key_eq x m ≡ true)) ⊎ (is_member x (members_in lists s o) ≡ true)
+        parts s o x h =
+            ⊎_elim
+            (λ new. let ns = and_parts (into s o && is_some (lists s o)) (key_eq x m) new in inl ((and_parts (into s o) (is_some (lists s o)) ns.0).0, ns.1))
+            (λ old. inr old)
+            (or_cases (into s o && is_some (lists s o) && key_eq x m) (is_member x (members_in lists s o)) (sym (member-with_placed schema live items lists m into spot_at s o x) ∙ h))
 
-pub sorted-placed : (order : Order) (p : Option DbKey) (key : DbKey → Option Value) (m : DbKey) (xs : List DbKey)
-    → (refuses_equal order ≡ true → list_all (λ x. apart (key x) (key m)) xs ≡ true)
-    → pairwise (λ x y. keys_in_order order (key x) (key y)) xs ≡ true
-    → pairwise (λ x y. keys_in_order order (key x) (key y)) (placed (spot order p key m) m xs) ≡ true
-sorted-placed First p key m xs strict h = pairwise-each (λ (x y : DbKey). true) (placed (spot First p key m) m xs) (λ x y. refl)
-sorted-placed Last p key m xs strict h = pairwise-each (λ (x y : DbKey). true) (placed (spot Last p key m) m xs) (λ x y. refl)
-sorted-placed Next p key m xs strict h = pairwise-each (λ (x y : DbKey). true) (placed (spot Next p key m) m xs) (λ x y. refl)
-sorted-placed Prior p key m xs strict h = pairwise-each (λ (x y : DbKey). true) (placed (spot Prior p key m) m xs) (λ x y. refl)
-sorted-placed (Sorted up NotAllowed) p key m xs strict h =
-    pairwise-among (λ x y. key_below up (key x) (key y)) (λ x. key_below up (key x) (key m)) m xs
-    (λ x y cx cy low high. below-trans up (key x) (key m) (key y) low high)
-    (all-weaker _ _ xs (λ x a. cond_both (key_below up (key x) (key m)) _ _ (λ b. b ≡ true) (λ e. e) (λ e. apart-cases up (key x) (key m) a e)) (strict refl))
-    h
-sorted-placed (Sorted up LastAmongEqual) p key m xs strict h =
-    pairwise-among (λ x y. not (key_below up (key y) (key x))) (λ x. not (key_below up (key m) (key x))) m xs
-    (λ x y cx cy low high. not_from_false _ (false_from_ne_true _ (λ yx. false≢true (sym (not-true _ cx) ∙ below-trans up (key m) (key y) (key x) (not-false _ cy) yx))))
-    (all-each _ xs (λ x. cond_both (not (key_below up (key m) (key x))) _ _ (λ b. b ≡ true) (λ e. e) (λ e. not_from_false _ (below-asym up (key m) (key x) (not-false _ e)))))
-    h
-sorted-placed (Sorted up FirstAmongEqual) p key m xs strict h =
-    pairwise-among (λ x y. not (key_below up (key y) (key x))) (λ x. key_below up (key x) (key m)) m xs
-    (λ x y cx cy low high. not_from_false _ (false_from_ne_true _ (λ yx. false≢true (sym cy ∙ below-trans up (key y) (key x) (key m) yx cx))))
-    (all-each _ xs (λ x. cond_both (key_below up (key x) (key m)) _ _ (λ b. b ≡ true) (λ e. not_from_false _ (below-asym up (key x) (key m) e)) (λ e. not_from_false _ e)))
-    h
+        in_its_place : (s : ℕ) (o : Owner) → into s o ≡ true → pairwise (ordered schema items s) (placed (spot_at s) m (members_in lists s o)) ≡ true
+        in_its_place s o j =
+            (placing_keeps_order (positions s) (key_in schema items s) m (members_in lists s o) (absent s o o j) (order_of schema s)
+            (all-members (λ x. compares (order_of schema s) (key_in schema items s x) (key_in schema items s m)) (members_in lists s o)
+            (λ x h. let r = rings.members s o x h in keys_compare schema good s x.rtype m.rtype (items x) (items m) r.1 (clause s o j) (typed x r.0) (typed m alive)))
+            (differs s o j) (rings.sorted s o)).in_order

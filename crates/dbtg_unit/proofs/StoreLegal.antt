@@ -1,4 +1,4 @@
--- STORE keeps each record in one list of a set, wherever its order places it.
+-- Who is a member of a list after a record was stored or placed.
 use Rattle.std.proofs.Common.{◌≡◌, refl, sym, ◌∙◌, ap, subst, ℕ, Bool, true, false, cond, ◌&&◌, ◌||◌, List, [], Option, Some, None, eqb, inl, inr, ⊎_elim, ◌⊎◌}
 use Rattle.std.specs.Prelude.{is_some, option_map, unwrap_or}
 use Rattle.std.specs.List.{list_any}
@@ -59,32 +59,3 @@ member-new schema capacity db k items legal fresh s o x =
 -- a record that is not live is in no list
 pub not_member : (schema : Lists) (capacity : ℕ) (db : Database) (k : DbKey) → Legal schema capacity db → is_live db k ≡ false → (s : ℕ) (o : Owner) → is_member k (members_of db s o) ≡ true → ⊥
 not_member schema capacity db k legal fresh s o h = false≢true (sym fresh ∙ (legal.members s o k h).0)
-
-current_owner_is : (place : Option Place) (o p : Owner) → some_and (λ q. owner_eq q.owner o) place ≡ true → some_and (λ q. owner_eq q.owner p) place ≡ true → o ≡ p
-current_owner_is None o p h g = absurd (false≢true h)
-current_owner_is (Some q) o p h g = sym (same_owner q.owner o h) ∙ same_owner q.owner p g
-
-module _ (schema : Lists) (capacity : ℕ) (db : Database) (unit : Unit) (k : DbKey) (items : List Value) (sets : List ℕ) where
-  abbrev pub after_store : Database
-  after_store = connected_in schema (with_new schema db k items) unit sets k
-
-  pub members_after : Legal schema capacity db → is_live db k ≡ false → (s : ℕ) (o : Owner) (x : DbKey)
-      → is_member x (members_of after_store s o) ≡ true → ((key_eq x k ≡ true) × (is_current_owner schema unit s o ≡ true)) ⊎ (is_member x (members_of db s o) ≡ true)
-  members_after legal fresh s o x h =
-      ⊎_elim (λ joined. let js = and_parts _ _ joined in inl (js.1, (and_parts _ _ (and_parts _ _ js.0).0).1))
-      (λ old. inr (sym (member-new schema capacity db k items legal fresh s o x) ∙ old))
-      (or_cases _ _ (sym (member-connected schema (with_new schema db k items) unit sets k s o x) ∙ h))
-
-  pub store_in_one : Legal schema capacity db → is_live db k ≡ false → (s : ℕ) (o p : Owner) (x : DbKey)
-      → is_member x (members_of after_store s o) ≡ true → is_member x (members_of after_store s p) ≡ true → o ≡ p
-  store_in_one legal fresh s o p x ho hp =
-      ⊎_elim
-      (λ a. ⊎_elim
-        (λ b. current_owner_is (place_in schema unit s) o p a.1 b.1)
-        (λ old. absurd (not_member schema capacity db k legal fresh s p (subst (λ (y : DbKey). is_member y (members_of db s p) ≡ true) (same_key x k a.0) old)))
-        (members_after legal fresh s p x hp))
-      (λ old. ⊎_elim
-        (λ b. absurd (not_member schema capacity db k legal fresh s o (subst (λ (y : DbKey). is_member y (members_of db s o) ≡ true) (same_key x k b.0) old)))
-        (λ old'. legal.in_one s o p x old old')
-        (members_after legal fresh s p x hp))
-      (members_after legal fresh s o x ho)

@@ -1,30 +1,31 @@
 -- A unit of the schema stays so after each change that a statement makes to it.
-use Rattle.std.proofs.Common.{◌≡◌, refl, sym, ◌∙◌, ap, subst, ℕ, zero, suc, ◌+◌, ◌<◌, ◌≤◌, Bool, true, false, cond, not, ◌&&◌, ◌||◌, List, [], ◌∷◌, ◌++◌, length, Option, Some, None, ⊎_elim, eqb, leb, ltb, map, arith, replicate}
+use Rattle.std.proofs.Common.{◌≡◌, refl, sym, ◌∙◌, subst, ℕ, zero, suc, ◌+◌, Bool, true, false, cond, ◌&&◌, ◌||◌, List, [], ◌∷◌, length, Option, Some, None, ⊎_elim, eqb, ltb, map, arith}
 use Rattle.std.specs.Prelude.{is_some, filter, slice_set}
 use Rattle.std.specs.List.{list_all, enumerate_from, range_with_len}
-use Rattle.std.proofs.lemmas.Bool.{and_parts, and_from, or_cases, or_left, or_right, cond_both, false≢true, lt-ltb, le-leb, ltb-true, eqb-true, eq-eqb}
+use Rattle.std.proofs.lemmas.Bool.{and_parts, and_from, or_cases, or_left, or_right, cond_both, lt-ltb, le-leb, ltb-true, eqb-true, eq-eqb}
 use Rattle.std.proofs.lemmas.List.{length-set, length-map}
 use Rattle.std.proofs.lemmas.List.FromFn.{length-enumerate_from}
-use Rattle.std.proofs.lemmas.List.Folds.{list_all-append, list_all-map}
+use Rattle.std.proofs.lemmas.List.Folds.{list_all-append}
 use Rattle.dbtg_schema.specs.Lists.{Lists}
 use Rattle.dbtg_schema.specs.Lookups.{at}
-use Rattle.dbtg_schema.specs.Structure.{area_of, is_system, owns, set_numbers}
+use Rattle.dbtg_schema.specs.Structure.{area_of, owns}
 use Rattle.dbtg_cells.specs.declared.key.DbKey.{DbKey}
 use Rattle.dbtg_cells.specs.declared.key.Owner.{Owner}
 use Rattle.dbtg_cells.specs.declared.key.Owner.TheVariants.{System, Rec}
 use Rattle.dbtg_cells.specs.declared.usage.Mode.{Mode}
-use Rattle.dbtg_cells.specs.Keys.{key_eq, key_lt}
+use Rattle.dbtg_cells.specs.Keys.{key_lt}
 use Rattle.dbtg_unit.specs.declared.statement.Suppress.{Suppress}
 use Rattle.dbtg_unit.specs.declared.unit.Place.{Place}
 use Rattle.dbtg_unit.specs.declared.unit.Unit.{Unit}
-use Rattle.dbtg_unit.specs.Base.{Database, is_live, is_member, members_of, owner_of}
+use Rattle.dbtg_unit.specs.Base.{Database, is_live, owner_of}
 use Rattle.dbtg_unit.specs.Fits.{if_named}
 use Rattle.dbtg_unit.specs.Belongs.{is_key_of, is_owner_in, is_place_in, is_number, owner_within, IsUnitOf, IsWithin}
-use Rattle.dbtg_unit.specs.Units.{forgotten, noted, owners_of, seen, seen_place, suppresses}
-use Rattle.dbtg_unit.specs.Effect.{moved, renoted, version_of}
+use Rattle.dbtg_unit.specs.Units.{noted, owners_of, seen, seen_place, suppresses}
+use Rattle.dbtg_unit.specs.Effect.{moved}
 use Rattle.dbtg_unit.specs.Legal.{Legal, pairwise}
 use Rattle.dbtg_unit.proofs.PlacedLemmas.{all-filter, all-kept, all-weaker, pairwise-append, pairwise-filter}
-use Rattle.dbtg_unit.proofs.OwnerLemmas.{member_of_owner, there}
+use Rattle.dbtg_unit.proofs.LiveKeys.{member_of_owner}
+use Rattle.dbtg_unit.proofs.RingsLemmas.{there}
 
 -- ENTRIES
 
@@ -43,7 +44,7 @@ at-each_from P f n (x ∷ xs) none w zero = let e : n + 0 ≡ n = omega arith in
 at-each_from {X} P f n (x ∷ xs) none w (suc s) =
     let shift : (m : ℕ) → n + suc m ≡ (n + 1) + m = λ m. omega arith in
     subst (λ m. P m (at (map f (enumerate_from (n + 1) xs)) s)) (sym (shift s))
-      (at-each_from P f (n + 1) xs none (λ m. subst (λ r. P r (f (r, at xs m))) (shift m) (w (suc m))) s)
+    (at-each_from P f (n + 1) xs none (λ m. subst (λ r. P r (f (r, at xs m))) (shift m) (w (suc m))) s)
 
 at-each : {X : Type 0} (P : ℕ → Option X → Type 0) (f : ℕ × Option X → Option X) (xs : List (Option X)) → ((s : ℕ) → P s None) → ((s : ℕ) → P s (f (s, at xs s))) → (s : ℕ) → P s (at (map f (enumerate_from 0 xs)) s)
 at-each P f xs none w s =
@@ -67,30 +68,31 @@ pub key_lt-trans : (a b c : DbKey) → key_lt a b ≡ true → key_lt b c ≡ tr
 key_lt-trans a b c h g =
     ⊎_elim
     (λ x. let x' = ltb-true a.rtype b.rtype x in ⊎_elim
-      (λ y. let y' = ltb-true b.rtype c.rtype y in or_left _ _ (lt-ltb a.rtype c.rtype (omega arith)))
-      (λ y. let y' = eqb-true b.rtype c.rtype (and_parts _ _ y).0 in or_left _ _ (lt-ltb a.rtype c.rtype (omega arith)))
-      (or_cases (ltb b.rtype c.rtype) _ g))
+    (λ y. let y' = ltb-true b.rtype c.rtype y in or_left _ _ (lt-ltb a.rtype c.rtype (omega arith)))
+    (λ y. let y' = eqb-true b.rtype c.rtype (and_parts _ _ y).0 in or_left _ _ (lt-ltb a.rtype c.rtype (omega arith)))
+    (or_cases (ltb b.rtype c.rtype) _ g))
     (λ x. let xs = and_parts (eqb a.rtype b.rtype) _ x in let x' = eqb-true a.rtype b.rtype xs.0 in ⊎_elim
-      (λ y. let y' = ltb-true b.rtype c.rtype y in or_left _ _ (lt-ltb a.rtype c.rtype (omega arith)))
-      (λ y. let ys = and_parts (eqb b.rtype c.rtype) _ y in let y' = eqb-true b.rtype c.rtype ys.0 in
-        or_right _ _ (and_from _ _ (eq-eqb a.rtype c.rtype (x' ∙ y')) (numbers xs.1 ys.1)))
-      (or_cases (ltb b.rtype c.rtype) _ g))
+    (λ y. let y' = ltb-true b.rtype c.rtype y in or_left _ _ (lt-ltb a.rtype c.rtype (omega arith)))
+    (λ y. let ys = and_parts (eqb b.rtype c.rtype) _ y in let y' = eqb-true b.rtype c.rtype ys.0 in
+    or_right _ _ (and_from _ _ (eq-eqb a.rtype c.rtype (x' ∙ y')) (numbers xs.1 ys.1)))
+    (or_cases (ltb b.rtype c.rtype) _ g))
     (or_cases (ltb a.rtype b.rtype) _ h) where
-  below : DbKey → DbKey → Bool
-  below p q = ltb p.number q.number || (eqb p.number q.number && ltb p.generation q.generation)
-  numbers : below a b ≡ true → below b c ≡ true → below a c ≡ true
-  numbers h g =
-      ⊎_elim
-      (λ x. let x' = ltb-true a.number b.number x in ⊎_elim
-        (λ y. let y' = ltb-true b.number c.number y in or_left _ _ (lt-ltb a.number c.number (omega arith)))
-        (λ y. let y' = eqb-true b.number c.number (and_parts _ _ y).0 in or_left _ _ (lt-ltb a.number c.number (omega arith)))
-        (or_cases (ltb b.number c.number) (eqb b.number c.number && ltb b.generation c.generation) g))
-      (λ x. let xs = and_parts (eqb a.number b.number) (ltb a.generation b.generation) x in let x' = eqb-true a.number b.number xs.0 in let u = ltb-true a.generation b.generation xs.1 in ⊎_elim
-        (λ y. let y' = ltb-true b.number c.number y in or_left _ _ (lt-ltb a.number c.number (omega arith)))
-        (λ y. let ys = and_parts (eqb b.number c.number) (ltb b.generation c.generation) y in let y' = eqb-true b.number c.number ys.0 in let v = ltb-true b.generation c.generation ys.1 in
+      below : DbKey → DbKey → Bool
+      below p q = ltb p.number q.number || (eqb p.number q.number && ltb p.generation q.generation)
+
+      numbers : below a b ≡ true → below b c ≡ true → below a c ≡ true
+      numbers h g =
+          ⊎_elim
+          (λ x. let x' = ltb-true a.number b.number x in ⊎_elim
+          (λ y. let y' = ltb-true b.number c.number y in or_left _ _ (lt-ltb a.number c.number (omega arith)))
+          (λ y. let y' = eqb-true b.number c.number (and_parts _ _ y).0 in or_left _ _ (lt-ltb a.number c.number (omega arith)))
+          (or_cases (ltb b.number c.number) (eqb b.number c.number && ltb b.generation c.generation) g))
+          (λ x. let xs = and_parts (eqb a.number b.number) (ltb a.generation b.generation) x in let x' = eqb-true a.number b.number xs.0 in let u = ltb-true a.generation b.generation xs.1 in ⊎_elim
+          (λ y. let y' = ltb-true b.number c.number y in or_left _ _ (lt-ltb a.number c.number (omega arith)))
+          (λ y. let ys = and_parts (eqb b.number c.number) (ltb b.generation c.generation) y in let y' = eqb-true b.number c.number ys.0 in let v = ltb-true b.generation c.generation ys.1 in
           or_right _ _ (and_from _ _ (eq-eqb a.number c.number (x' ∙ y')) (lt-ltb a.generation c.generation (omega arith))))
-        (or_cases (ltb b.number c.number) (eqb b.number c.number && ltb b.generation c.generation) g))
-      (or_cases (ltb a.number b.number) (eqb a.number b.number && ltb a.generation b.generation) h)
+          (or_cases (ltb b.number c.number) (eqb b.number c.number && ltb b.generation c.generation) g))
+          (or_cases (ltb a.number b.number) (eqb a.number b.number && ltb a.generation b.generation) h)
 
 -- KEPT LISTS
 
@@ -116,10 +118,11 @@ module _ (schema : Lists) (capacity : ℕ) (kept : List (DbKey × ℕ)) (good : 
         order = same-order f same kept ∙ good.order;
         numbers = same-keys (λ k. is_number capacity k.number) f same kept ∙ good.numbers;
       } where
-    f : DbKey × ℕ → DbKey × ℕ
-    f e = cond (test e.0) (e.0, version e.0) e
-    same : (e : DbKey × ℕ) → (f e).0 ≡ e.0
-    same e = cond_both (test e.0) (e.0, version e.0) e (λ (g : DbKey × ℕ). g.0 ≡ e.0) (λ h. refl) (λ h. refl)
+        f : DbKey × ℕ → DbKey × ℕ
+        f e = cond (test e.0) (e.0, version e.0) e
+
+        same : (e : DbKey × ℕ) → (f e).0 ≡ e.0
+        same e = cond_both (test e.0) (e.0, version e.0) e (λ (g : DbKey × ℕ). g.0 ≡ e.0) (λ h. refl) (λ h. refl)
 
   pub kept-filtered : (test : DbKey × ℕ → Bool) → IsKept schema capacity (filter test kept)
   kept-filtered test =
@@ -134,18 +137,20 @@ module _ (schema : Lists) (capacity : ℕ) (kept : List (DbKey × ℕ)) (good : 
       record {
         keys = parts (λ e. is_key_of schema e.0) key good.keys;
         order = pairwise-append (λ e f. key_lt e.0 f.0) low ((k, v) ∷ high) (pairwise-filter (λ e f. key_lt e.0 f.0) (λ e. key_lt e.0 k) kept good.order)
-          (and_from _ _ (all-kept (λ e. key_lt k e.0) kept) (pairwise-filter (λ e f. key_lt e.0 f.0) (λ e. key_lt k e.0) kept good.order))
-          (all-weaker (λ e. key_lt e.0 k) (λ e. list_all (λ f. key_lt e.0 f.0) ((k, v) ∷ high)) low
+            (and_from _ _ (all-kept (λ e. key_lt k e.0) kept) (pairwise-filter (λ e f. key_lt e.0 f.0) (λ e. key_lt k e.0) kept good.order))
+            (all-weaker (λ e. key_lt e.0 k) (λ e. list_all (λ f. key_lt e.0 f.0) ((k, v) ∷ high)) low
             (λ e below. and_from _ _ below (all-weaker (λ f. key_lt k f.0) (λ f. key_lt e.0 f.0) high (λ f above. key_lt-trans e.0 k f.0 below above) (all-kept (λ f. key_lt k f.0) kept)))
             (all-kept (λ e. key_lt e.0 k) kept));
         numbers = parts (λ e. is_number capacity e.0.number) number good.numbers;
       } where
-    low : List (DbKey × ℕ)
-    low = filter (λ e. key_lt e.0 k) kept
-    high : List (DbKey × ℕ)
-    high = filter (λ e. key_lt k e.0) kept
-    parts : (p : DbKey × ℕ → Bool) → p (k, v) ≡ true → list_all p kept ≡ true → list_all p (noted k v kept) ≡ true
-    parts p h all = list_all-append p low ((k, v) ∷ high) ∙ and_from _ _ (all-filter p (λ e. key_lt e.0 k) kept all) (and_from _ _ h (all-filter p (λ e. key_lt k e.0) kept all))
+        low : List (DbKey × ℕ)
+        low = filter (λ e. key_lt e.0 k) kept
+
+        high : List (DbKey × ℕ)
+        high = filter (λ e. key_lt k e.0) kept
+
+        parts : (p : DbKey × ℕ → Bool) → p (k, v) ≡ true → list_all p kept ≡ true → list_all p (noted k v kept) ≡ true
+        parts p h all = list_all-append p low ((k, v) ∷ high) ∙ and_from _ _ (all-filter p (λ e. key_lt e.0 k) kept all) (and_from _ _ h (all-filter p (λ e. key_lt k e.0) kept all))
 
 -- UNITS
 
@@ -241,9 +246,9 @@ module _ (schema : Lists) (capacity : ℕ) (unit : Unit) (good : IsGood schema c
           every_mode = s.every_mode;
           run_unit = key.key;
           of_types = λ t. cond_both suppress.types was.types (slice_set was.types k.rtype (Some k)) (λ l. if_named (λ j. eqb j.rtype t) (at l t) ≡ true) (λ e. s.of_types t)
-            (λ e. at-set (λ u o. if_named (λ j. eqb j.rtype u) o ≡ true) was.types k.rtype (Some k) (eq-eqb k.rtype k.rtype refl) s.of_types t);
+              (λ e. at-set (λ u o. if_named (λ j. eqb j.rtype u) o ≡ true) was.types k.rtype (Some k) (eq-eqb k.rtype k.rtype refl) s.of_types t);
           of_areas = λ a. cond_both suppress.areas was.areas (slice_set was.areas (area_of schema k.rtype) (Some k)) (λ l. if_named (is_key_of schema) (at l a) ≡ true) (λ e. s.of_areas a)
-            (λ e. at-set (λ u o. if_named (is_key_of schema) o ≡ true) was.areas (area_of schema k.rtype) (Some k) key.key s.of_areas a);
+              (λ e. at-set (λ u o. if_named (is_key_of schema) o ≡ true) was.areas (area_of schema k.rtype) (Some k) key.key s.of_areas a);
           of_sets = λ r. (places key r).of_set;
           kept_keys = s.kept_keys;
           kept_order = s.kept_order;
@@ -251,23 +256,25 @@ module _ (schema : Lists) (capacity : ℕ) (unit : Unit) (good : IsGood schema c
         within = record {
           run_unit = key.number;
           types = λ t. cond_both suppress.types was.types (slice_set was.types k.rtype (Some k)) (λ l. if_named (λ j. is_number capacity j.number) (at l t) ≡ true) (λ e. w.types t)
-            (λ e. at-set (λ u o. if_named (λ j. is_number capacity j.number) o ≡ true) was.types k.rtype (Some k) key.number w.types t);
+              (λ e. at-set (λ u o. if_named (λ j. is_number capacity j.number) o ≡ true) was.types k.rtype (Some k) key.number w.types t);
           areas = λ a. cond_both suppress.areas was.areas (slice_set was.areas (area_of schema k.rtype) (Some k)) (λ l. if_named (λ j. is_number capacity j.number) (at l a) ≡ true) (λ e. w.areas a)
-            (λ e. at-set (λ u o. if_named (λ j. is_number capacity j.number) o ≡ true) was.areas (area_of schema k.rtype) (Some k) key.number w.areas a);
+              (λ e. at-set (λ u o. if_named (λ j. is_number capacity j.number) o ≡ true) was.areas (area_of schema k.rtype) (Some k) key.number w.areas a);
           sets = λ r. (places key r).within;
           kept = w.kept;
         };
       } where
-    place_after : ℕ × Option Place → Option Place
-    place_after e = cond (suppresses suppress e.0) e.1 (seen_place e.1 (owns schema e.0 k.rtype) k (at (owners_of schema capacity db k) e.0))
-    seen_in : (r : ℕ) (was : Option Place) (b : Bool) (o : Option Owner) → owns schema r k.rtype ≡ b → at (owners_of schema capacity db k) r ≡ o → IsGoodKey schema capacity k → IsGoodPlace schema capacity r was → IsGoodPlace schema capacity r (seen_place was b k o)
-    seen_in r was true o owner_is of key place = record { of_set = and_from _ _ owner_is refl; within = and_from _ _ key.number refl }
-    seen_in r was false (Some o) owner_is of key place =
-        let owner = list_owner schema capacity db legal r o (there k (db.lists r o) (member_of_owner schema capacity db legal r k o (at-number (λ n. owner_of schema capacity db n k) (length schema.sets) r o of))) in
-        record { of_set = and_from _ _ owner.of_set key.key; within = and_from _ _ owner.within key.number }
-    seen_in r was false None owner_is of key place = place
-    places : IsGoodKey schema capacity k → (r : ℕ) → IsGoodPlace schema capacity r (at (map place_after (enumerate_from 0 unit.currency.sets)) r)
-    places key =
-        at-each (λ r place. IsGoodPlace schema capacity r place) place_after unit.currency.sets (λ r. record { of_set = refl; within = refl })
-        (λ r. cond_both (suppresses suppress r) _ _ (λ place. IsGoodPlace schema capacity r place) (λ e. place_of_set r)
-          (λ e. seen_in r (at unit.currency.sets r) (owns schema r k.rtype) (at (owners_of schema capacity db k) r) refl refl key (place_of_set r)))
+        place_after : ℕ × Option Place → Option Place
+        place_after e = cond (suppresses suppress e.0) e.1 (seen_place e.1 (owns schema e.0 k.rtype) k (at (owners_of schema capacity db k) e.0))
+
+        seen_in : (r : ℕ) (was : Option Place) (b : Bool) (o : Option Owner) → owns schema r k.rtype ≡ b → at (owners_of schema capacity db k) r ≡ o → IsGoodKey schema capacity k → IsGoodPlace schema capacity r was → IsGoodPlace schema capacity r (seen_place was b k o)
+        seen_in r was true o owner_is of key place = record { of_set = and_from _ _ owner_is refl; within = and_from _ _ key.number refl }
+        seen_in r was false (Some o) owner_is of key place =
+            let owner = list_owner schema capacity db legal r o (there k (db.lists r o) (member_of_owner schema capacity db legal r o k (at-number (λ n. owner_of schema capacity db n k) (length schema.sets) r o of))) in
+            record { of_set = and_from _ _ owner.of_set key.key; within = and_from _ _ owner.within key.number }
+        seen_in r was false None owner_is of key place = place
+
+        places : IsGoodKey schema capacity k → (r : ℕ) → IsGoodPlace schema capacity r (at (map place_after (enumerate_from 0 unit.currency.sets)) r)
+        places key =
+            at-each (λ r place. IsGoodPlace schema capacity r place) place_after unit.currency.sets (λ r. record { of_set = refl; within = refl })
+            (λ r. cond_both (suppresses suppress r) _ _ (λ place. IsGoodPlace schema capacity r place) (λ e. place_of_set r)
+            (λ e. seen_in r (at unit.currency.sets r) (owns schema r k.rtype) (at (owners_of schema capacity db k) r) refl refl key (place_of_set r)))
