@@ -62,3 +62,4 @@ pub mod LocalDelete
 pub mod InTurn
 pub mod LocalStatements
 pub mod LocalReady
+pub mod TwoDatabases
