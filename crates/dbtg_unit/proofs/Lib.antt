@@ -63,3 +63,4 @@ pub mod InTurn
 pub mod LocalStatements
 pub mod LocalReady
 pub mod TwoDatabases
+pub mod AlikeFind

@@ -66,6 +66,12 @@ same_at {X} {Y} f g (y ∷ xs) h x i = elim i [
   | inr j ↦ same_at f g xs (ap tail_of h) x j
 ]
 
+-- a live key of a type is of that type
+pub live_key_type : (capacity t : ℕ) (d : Database) (x : DbKey) → In x (live_keys capacity d t) → x.rtype ≡ t
+live_key_type capacity t d x i =
+    let made = of_map (key_at d t) x (range_with_len 1 capacity) (of_filter (is_live d) x (map (key_at d t) (range_with_len 1 capacity)) i).0 in
+    ap (λ (y : DbKey). y.rtype) (sym made.2)
+
 module _ (schema : Lists) (capacity : ℕ) (db eb : Database) (ldb : Legal schema capacity db) (leb : Legal schema capacity eb) where
   pub usage_alike : (a : ℕ) → cell schema capacity db (Usage a) ≡ cell schema capacity eb (Usage a) → db.usage a ≡ eb.usage a
   unfolding cell
@@ -154,11 +160,8 @@ module _ (schema : Lists) (capacity : ℕ) (db eb : Database) (ldb : Legal schem
         (λ i. filter (is_live db) (map (λ n. key_at_alike n i) (range_with_len 1 capacity)))
         ∙ filter_agrees (is_live db) (is_live eb) (map (key_at eb t) (range_with_len 1 capacity)) (λ x j. let made = of_map (key_at eb t) x (range_with_len 1 capacity) j in live_alike x (ap (λ (y : DbKey). y.rtype) (sym made.2)))
 
-    live_key_type : (d : Database) (x : DbKey) → In x (live_keys capacity d t) → x.rtype ≡ t
-    live_key_type d x i = let made = of_map (key_at d t) x (range_with_len 1 capacity) (of_filter (is_live d) x (map (key_at d t) (range_with_len 1 capacity)) i).0 in ap (λ (y : DbKey). y.rtype) (sym made.2)
-
     pub with_calc_alike : (values : List Value) → with_calc schema capacity db t values ≡ with_calc schema capacity eb t values
     with_calc_alike values =
         ap (filter (λ k. values_eq (calc_items schema t (items_of db k)) values)) live_keys_alike
         ∙ filter_agrees (λ k. values_eq (calc_items schema t (items_of db k)) values) (λ k. values_eq (calc_items schema t (items_of eb k)) values) (live_keys capacity eb t)
-            (λ x i. ap (λ c. values_eq c values) (calc_items_alike x (live_key_type eb x i)))
+            (λ x i. ap (λ c. values_eq c values) (calc_items_alike x (live_key_type capacity t eb x i)))
