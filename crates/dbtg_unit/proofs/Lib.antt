@@ -64,3 +64,4 @@ pub mod LocalStatements
 pub mod LocalReady
 pub mod TwoDatabases
 pub mod AlikeFind
+pub mod AlikeReading
