@@ -65,3 +65,5 @@ pub mod LocalReady
 pub mod TwoDatabases
 pub mod AlikeFind
 pub mod AlikeReading
+pub mod AlikeMoves
+pub mod AlikeRemove
