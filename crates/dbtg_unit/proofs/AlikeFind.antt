@@ -88,7 +88,7 @@ module _ (schema : Lists) (capacity : ℕ) (db eb : Database) (ldb : Legal schem
   in_set_alike which r s None h = refl
   in_set_alike which r s (Some place) h =
       ap (λ (l : Option (List DbKey)). found_unless (first_cause ((is_none l, Deleted) ∷ (needs_position which && is_lost place.at (unwrap_or l []), PositionLost) ∷ [])) (chosen which (has_type r) place.at (unwrap_or l [])) End)
-        (list_alike schema capacity db eb ldb leb s place.owner (h (Ring s (place_of place.owner)) (inl refl)))
+      (list_alike schema capacity db eb ldb leb s place.owner (h (Ring s (place_of place.owner)) (inl refl)))
 
   sorted_alike : (v : Value) (s : ℕ) (p : Option Place) → ((c : CellName) → In c (ring_names s (option_map (λ (place : Place). place.owner) p)) → Alike c)
       → with_current p (λ place. found_unless (first_cause ((is_none (db.lists s place.owner), Deleted) ∷ [])) (find (λ k. some_and (value_eq v) (sort_key schema db s k)) (members_of db s place.owner)) NoneSatisfies)
@@ -98,9 +98,9 @@ module _ (schema : Lists) (capacity : ℕ) (db eb : Database) (ldb : Legal schem
       let ring = h (Ring s (place_of place.owner)) (inl refl) in
       let list = list_alike schema capacity db eb ldb leb s place.owner ring in
       let hit : find (λ k. some_and (value_eq v) (sort_key schema db s k)) (members_of db s place.owner) ≡ find (λ k. some_and (value_eq v) (sort_key schema eb s k)) (members_of eb s place.owner)
-            = find_agrees (λ k. some_and (value_eq v) (sort_key schema db s k)) (λ k. some_and (value_eq v) (sort_key schema eb s k)) (members_of db s place.owner)
-                (λ x i. ap (some_and (value_eq v)) (keys_alike schema capacity db eb ldb leb s place.owner ring x i))
-              ∙ ap (find (λ k. some_and (value_eq v) (sort_key schema eb s k))) (members_alike schema capacity db eb ldb leb s place.owner ring) in
+      = find_agrees (λ k. some_and (value_eq v) (sort_key schema db s k)) (λ k. some_and (value_eq v) (sort_key schema eb s k)) (members_of db s place.owner)
+      (λ x i. ap (some_and (value_eq v)) (keys_alike schema capacity db eb ldb leb s place.owner ring x i))
+      ∙ ap (find (λ k. some_and (value_eq v) (sort_key schema eb s k))) (members_alike schema capacity db eb ldb leb s place.owner ring) in
       λ i. found_unless (first_cause ((is_none (list i), Deleted) ∷ [])) (hit i) NoneSatisfies
 
   -- the keys of an area, of one type or of all
@@ -111,14 +111,14 @@ module _ (schema : Lists) (capacity : ℕ) (db eb : Database) (ldb : Legal schem
       filter-flat_map (has_type (Some r)) (live_keys capacity db) (types_in schema a)
       ∙ flat_map_agrees (λ t. filter (has_type (Some r)) (live_keys capacity db t)) (λ t. filter (has_type (Some r)) (live_keys capacity eb t)) (types_in schema a) (λ t i. of_type t)
       ∙ sym (filter-flat_map (has_type (Some r)) (live_keys capacity eb) (types_in schema a)) where
-    of_type : (t : ℕ) → filter (has_type (Some r)) (live_keys capacity db t) ≡ filter (has_type (Some r)) (live_keys capacity eb t)
-    of_type t =
-        elim (cases_Bool (eqb t r)) [
-          | inl e ↦ ap (filter (has_type (Some r))) (subst (λ u. live_keys capacity db u ≡ live_keys capacity eb u) (sym (eqb-true t r e)) (live_keys_alike schema capacity db eb ldb leb r (h (Extent r) (inl refl))))
-          | inr e ↦ none_pass (has_type (Some r)) (live_keys capacity db t) (λ x i. ap (λ u. eqb u r) (type_of db x i) ∙ e) ∙ sym (none_pass (has_type (Some r)) (live_keys capacity eb t) (λ x i. ap (λ u. eqb u r) (type_of eb x i) ∙ e))
-        ] where
-      type_of : (d : Database) (x : DbKey) → In x (live_keys capacity d t) → x.rtype ≡ t
-      type_of d x i = live_key_type capacity t d x i
+        of_type : (t : ℕ) → filter (has_type (Some r)) (live_keys capacity db t) ≡ filter (has_type (Some r)) (live_keys capacity eb t)
+        of_type t =
+            elim (cases_Bool (eqb t r)) [
+              | inl e ↦ ap (filter (has_type (Some r))) (subst (λ u. live_keys capacity db u ≡ live_keys capacity eb u) (sym (eqb-true t r e)) (live_keys_alike schema capacity db eb ldb leb r (h (Extent r) (inl refl))))
+              | inr e ↦ none_pass (has_type (Some r)) (live_keys capacity db t) (λ x i. ap (λ u. eqb u r) (type_of db x i) ∙ e) ∙ sym (none_pass (has_type (Some r)) (live_keys capacity eb t) (λ x i. ap (λ u. eqb u r) (type_of eb x i) ∙ e))
+            ] where
+              type_of : (d : Database) (x : DbKey) → In x (live_keys capacity d t) → x.rtype ≡ t
+              type_of d x i = live_key_type capacity t d x i
 
   duplicate_alike : (r : ℕ) (o : Option DbKey) → if_named (λ k. eqb k.rtype r) o ≡ true → Alike (Extent r)
       → with_current o (λ k. found_unless (first_cause ((not (is_live db k), Deleted) ∷ [])) (first (filter (key_lt k) (with_calc schema capacity db r (calc_items schema r (items_of db k))))) End)
@@ -128,7 +128,7 @@ module _ (schema : Lists) (capacity : ℕ) (db eb : Database) (ldb : Legal schem
       let is_r = eqb-true k.rtype r typed in
       let live = live_alike schema capacity db eb ldb leb r h k is_r in
       let keys : with_calc schema capacity db r (calc_items schema r (items_of db k)) ≡ with_calc schema capacity eb r (calc_items schema r (items_of eb k))
-            = with_calc_alike schema capacity db eb ldb leb r h (calc_items schema r (items_of db k)) ∙ ap (with_calc schema capacity eb r) (calc_items_alike schema capacity db eb ldb leb r h k is_r) in
+      = with_calc_alike schema capacity db eb ldb leb r h (calc_items schema r (items_of db k)) ∙ ap (with_calc schema capacity eb r) (calc_items_alike schema capacity db eb ldb leb r h k is_r) in
       λ i. found_unless (first_cause ((not (live i), Deleted) ∷ [])) (first (filter (key_lt k) (keys i))) End
 
   pub found_alike : IsUnitOf schema unit → (form : Form) → ((c : CellName) → In c (find_cells schema capacity db unit form) → Alike c) → found schema capacity db unit form ≡ found schema capacity eb unit form
@@ -141,7 +141,7 @@ module _ (schema : Lists) (capacity : ℕ) (db eb : Database) (ldb : Legal schem
       in_set_alike which r s (place_in schema unit s) (λ c i. h c (in_left c (ring_names s (current_owner schema unit s)) (found_slot (found schema capacity db unit (InSet which r s))) i))
   found_alike of_schema (InArea which r a) h =
       ap (λ keys. found_unless None (chosen_by_key which (at unit.currency.areas a) keys) End)
-        (area_alike r a (λ c i. h c (in_left c (map Extent (unwrap_or (option_map (λ t. t ∷ []) r) (types_in schema a))) (found_slot (found schema capacity db unit (InArea which r a))) i)))
+      (area_alike r a (λ c i. h c (in_left c (map Extent (unwrap_or (option_map (λ t. t ∷ []) r) (types_in schema a))) (found_slot (found schema capacity db unit (InArea which r a))) i)))
   found_alike of_schema (OwnerOf s) h = current_alike (option_and_then (λ (place : Place). key_of_place (record place { at = None })) (place_in schema unit s)) h
   found_alike of_schema (Calc r values) h = ap (λ keys. found_unless None (first keys) NoneSatisfies) (with_calc_alike schema capacity db eb ldb leb r (h (Extent r) (inl refl)) values)
   found_alike of_schema (NextDuplicate r) h = duplicate_alike r (at unit.currency.types r) (of_schema.of_types r) (h (Extent r) (inl refl))

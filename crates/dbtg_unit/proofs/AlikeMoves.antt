@@ -69,7 +69,7 @@ slot_with schema capacity db new t n last same owner =
     ((λ i. option_map (slot_of schema capacity new (e i)) (new.records (e i)))
     ∙ ap (option_map (slot_of schema capacity new k)) same
     ∙ option_agree (slot_of schema capacity new k) (slot_of schema capacity db k) (db.records k)
-        (λ r there. λ i. record { generation = k.generation; version = r.version; items = r.items; owners = map_agrees (λ s. owner_of schema capacity new s k) (λ s. owner_of schema capacity db s k) (set_numbers schema) owner i }))
+    (λ r there. λ i. record { generation = k.generation; version = r.version; items = r.items; owners = map_agrees (λ s. owner_of schema capacity new s k) (λ s. owner_of schema capacity db s k) (set_numbers schema) owner i }))
 
 module _ (schema : Lists) (capacity : ℕ) (db eb : Database) (ldb : Legal schema capacity db) (leb : Legal schema capacity eb) where
   abbrev Alike : CellName → Type 0
@@ -121,8 +121,8 @@ module _ (schema : Lists) (capacity : ℕ) (db eb : Database) (ldb : Legal schem
     key_after s o keys x i =
         ap (key_item schema s x.rtype) (raised_items (key_eq k) (record db { lists = ld }) x)
         ∙ ⊎_elim
-          (λ e. subst (λ (y : DbKey). sort_key schema db s y ≡ sort_key schema eb s y) e (ap (λ (r : Option Record). key_item schema s k.rtype (unwrap_or (option_map (λ (r : Record). r.items) r) [])) own))
-          (λ j. keys x j) (members s o x i)
+        (λ e. subst (λ (y : DbKey). sort_key schema db s y ≡ sort_key schema eb s y) e (ap (λ (r : Option Record). key_item schema s k.rtype (unwrap_or (option_map (λ (r : Record). r.items) r) [])) own))
+        (λ j. keys x j) (members s o x i)
         ∙ sym (ap (key_item schema s x.rtype) (raised_items (key_eq k) (record eb { lists = le }) x))
 
     pub changed_alike : ((s : ℕ) (x : DbKey) → In s (set_numbers schema) → is_live db x ≡ true → db.records x ≡ eb.records x → owner_of schema capacity db s x ≡ owner_of schema capacity eb s x → owner_of schema capacity nd s x ≡ owner_of schema capacity ne s x)
@@ -139,41 +139,41 @@ module _ (schema : Lists) (capacity : ℕ) (db eb : Database) (ldb : Legal schem
         ⊎_elim
         (λ none. ring_none schema capacity ne nd s q (ap (ld s) at_d ∙ none_d s (owner_at db q) none.0) (ap (le s) at_e ∙ none_e s (owner_at eb q) none.1))
         (λ same.
-          let o = owner_at db q in
-          let ring : Alike (Ring s (place_of o)) = subst (λ (p : Option (ℕ × ℕ)). Alike (Ring s p)) (sym (place_of_owner_at db q)) h in
-          let keys = keys_alike schema capacity db eb ldb leb s o ring in
-          let list : ld s o ≡ le s o = lists s o (list_alike schema capacity db eb ldb leb s o ring) keys in
-          let to_e : o ≡ owner_at ne q = same ∙ sym at_e in
-          ring_same schema capacity ne nd s q (at_d ∙ to_e)
-            (subst (λ (p : Owner). ld s p ≡ le s p) to_e list)
-            (λ x m. key_after s o keys x (member_in x (unwrap_or (ld s o) []) (ap (λ (l : Option (List DbKey)). is_member x (unwrap_or l [])) (list ∙ ap (le s) to_e) ∙ m))))
+        let o = owner_at db q in
+        let ring : Alike (Ring s (place_of o)) = subst (λ (p : Option (ℕ × ℕ)). Alike (Ring s p)) (sym (place_of_owner_at db q)) h in
+        let keys = keys_alike schema capacity db eb ldb leb s o ring in
+        let list : ld s o ≡ le s o = lists s o (list_alike schema capacity db eb ldb leb s o ring) keys in
+        let to_e : o ≡ owner_at ne q = same ∙ sym at_e in
+        ring_same schema capacity ne nd s q (at_d ∙ to_e)
+        (subst (λ (p : Owner). ld s p ≡ le s p) to_e list)
+        (λ x m. key_after s o keys x (member_in x (unwrap_or (ld s o) []) (ap (λ (l : Option (List DbKey)). is_member x (unwrap_or l [])) (list ∙ ap (le s) to_e) ∙ m))))
         (ring_cases s q h)
     changed_alike owner (Slot t n) h =
         ⊎_elim
         (λ none. slot_vacant schema capacity ne nd t n (vacant_after (record db { lists = ld }) (key_eq k) (key_at db t n) none.0) (vacant_after (record eb { lists = le }) (key_eq k) (key_at eb t n) none.1))
         (λ there.
-          let x = key_at db t n in
-          let same : x ≡ key_at eb t n = λ i. record { rtype = t; number = n; generation = there.0 i } in
-          let records = record_alike schema capacity db eb ldb leb x h in
-          slot_with schema capacity ne nd t n there.0
-            (subst (λ (y : DbKey). nd.records y ≡ ne.records y) same (record_after x records))
-            (λ s i. subst (λ (y : DbKey). owner_of schema capacity nd s y ≡ owner_of schema capacity ne s y) same
-              (owner s x i there.1 records (map_at (λ s. owner_of schema capacity db s x) (λ s. owner_of schema capacity eb s x) (set_numbers schema) (owners_alike schema capacity db eb ldb leb x h there.1) s i))))
+        let x = key_at db t n in
+        let same : x ≡ key_at eb t n = λ i. record { rtype = t; number = n; generation = there.0 i } in
+        let records = record_alike schema capacity db eb ldb leb x h in
+        slot_with schema capacity ne nd t n there.0
+        (subst (λ (y : DbKey). nd.records y ≡ ne.records y) same (record_after x records))
+        (λ s i. subst (λ (y : DbKey). owner_of schema capacity nd s y ≡ owner_of schema capacity ne s y) same
+        (owner s x i there.1 records (map_at (λ s. owner_of schema capacity db s x) (λ s. owner_of schema capacity eb s x) (set_numbers schema) (owners_alike schema capacity db eb ldb leb x h there.1) s i))))
         (slot_cases t n h)
 
     -- the kept list, with the next version of k
     pub renoted_alike : (unit : Unit) → renoted (key_eq k) nd unit ≡ renoted (key_eq k) ne unit
     renoted_alike unit =
         ap (λ (kept : List (DbKey × ℕ)). record unit { kept = kept })
-          (map_agrees (λ (e : DbKey × ℕ). if key_eq k e.0 then (e.0, version_of nd e.0) else e) (λ (e : DbKey × ℕ). if key_eq k e.0 then (e.0, version_of ne e.0) else e) unit.kept (λ e i. note e)) where
-      note : (e : DbKey × ℕ) → (if key_eq k e.0 then (e.0, version_of nd e.0) else e) ≡ (if key_eq k e.0 then (e.0, version_of ne e.0) else e)
-      note e =
-          elim (cases_Bool (key_eq k e.0)) [
-            | inl h ↦
-              let same : nd.records e.0 ≡ ne.records e.0 = subst (λ (x : DbKey). nd.records x ≡ ne.records x) (same_key k e.0 h) (record_after k own) in
-              ap (λ (r : Option Record). if key_eq k e.0 then (e.0, unwrap_or (option_map (λ (r : Record). r.version) r) 0) else e) same
-            | inr h ↦ cond-false (key_eq k e.0) (e.0, version_of nd e.0) e h ∙ sym (cond-false (key_eq k e.0) (e.0, version_of ne e.0) e h)
-          ]
+        (map_agrees (λ (e : DbKey × ℕ). if key_eq k e.0 then (e.0, version_of nd e.0) else e) (λ (e : DbKey × ℕ). if key_eq k e.0 then (e.0, version_of ne e.0) else e) unit.kept (λ e i. note e)) where
+          note : (e : DbKey × ℕ) → (if key_eq k e.0 then (e.0, version_of nd e.0) else e) ≡ (if key_eq k e.0 then (e.0, version_of ne e.0) else e)
+          note e =
+              elim (cases_Bool (key_eq k e.0)) [
+                | inl h ↦
+                    let same : nd.records e.0 ≡ ne.records e.0 = subst (λ (x : DbKey). nd.records x ≡ ne.records x) (same_key k e.0 h) (record_after k own) in
+                    ap (λ (r : Option Record). if key_eq k e.0 then (e.0, unwrap_or (option_map (λ (r : Record). r.version) r) 0) else e) same
+                | inr h ↦ cond-false (key_eq k e.0) (e.0, version_of nd e.0) e h ∙ sym (cond-false (key_eq k e.0) (e.0, version_of ne e.0) e h)
+              ]
 
   -- the checks of a record that is deleted in both are the same, and of a live one where the rest is
   pub own_checks_alike : (unit : Unit) (k : DbKey) (rest rest' : List (Bool × Cause)) → db.records k ≡ eb.records k → (is_live db k ≡ true → first_cause rest ≡ first_cause rest')
@@ -181,7 +181,7 @@ module _ (schema : Lists) (capacity : ℕ) (db eb : Database) (ldb : Legal schem
   own_checks_alike unit k rest rest' own h =
       elim (cases_Bool (is_live db k)) [
         | inr dead ↦
-          cond-true (not (is_live db k)) (Some Deleted) _ (not_from_false _ dead)
-          ∙ sym (cond-true (not (is_live eb k)) (Some Deleted) _ (not_from_false _ (ap is_some (sym own) ∙ dead)))
+            cond-true (not (is_live db k)) (Some Deleted) _ (not_from_false _ dead)
+            ∙ sym (cond-true (not (is_live eb k)) (Some Deleted) _ (not_from_false _ (ap is_some (sym own) ∙ dead)))
         | inl live ↦ λ i. cond (not (is_some (own i))) (Some Deleted) (cond (some_and (λ v. not (v == unwrap_or (option_map (λ (r : Record). r.version) (own i)) 0)) (kept_version unit k)) (Some ChangedByAnother) (h live i))
       ]

@@ -87,10 +87,10 @@ module _ (schema : Lists) (capacity : ℕ) (db eb : Database) (ldb : Legal schem
       → Same (effect_on_cells schema capacity db unit (Find form suppress)) (effect_on_cells schema capacity eb unit (Find form suppress))
   find_alike of_schema form suppress held =
       finding_alike (found schema capacity db unit form) (found schema capacity eb unit form) (λ k. seen schema capacity db unit k suppress) (λ k. seen schema capacity eb unit k suppress)
-        (found_alike schema capacity db eb ldb leb unit of_schema form (λ c i. same c (held c i)))
-        (λ k is. ap (λ owners. seen_with schema unit k owners suppress)
-          (owners_alike schema capacity db eb ldb leb k (same (slot_name k) (held (slot_name k) (slot_of_found schema capacity db unit form k is)))
-            (found_live schema capacity db unit ldb form k is)))
+      (found_alike schema capacity db eb ldb leb unit of_schema form (λ c i. same c (held c i)))
+      (λ k is. ap (λ owners. seen_with schema unit k owners suppress)
+      (owners_alike schema capacity db eb ldb leb k (same (slot_name k) (held (slot_name k) (slot_of_found schema capacity db unit form k is)))
+      (found_live schema capacity db unit ldb form k is)))
 
   usage_changed : (u v : ℕ → List (ℕ × Mode)) → ((a : ℕ) → db.usage a ≡ eb.usage a → u a ≡ v a) → (c : CellName) → holds hands.cells c ≡ true → cell schema capacity (record db { usage = u }) c ≡ cell schema capacity (record eb { usage = v }) c
   unfolding cell
@@ -104,36 +104,36 @@ module _ (schema : Lists) (capacity : ℕ) (db eb : Database) (ldb : Legal schem
   open_alike a mode held =
       let users = usage_alike schema capacity db eb ldb leb a (same (Usage a) held) in
       unless_alike (first_cause ((list_any (λ e. conflict e.1 mode) (db.usage a), UsageConflict) ∷ [])) (first_cause ((list_any (λ e. conflict e.1 mode) (eb.usage a), UsageConflict) ∷ []))
-        (done (record db { usage = λ b. if b == a then db.usage b ++ (unit.number, mode) ∷ [] else db.usage b }) (record unit { modes = slice_set unit.modes a (Some mode) }) None None)
-        (done (record eb { usage = λ b. if b == a then eb.usage b ++ (unit.number, mode) ∷ [] else eb.usage b }) (record unit { modes = slice_set unit.modes a (Some mode) }) None None)
-        (λ i. first_cause ((list_any (λ e. conflict e.1 mode) (users i), UsageConflict) ∷ []))
-        (λ free. record {
-          answer = refl;
-          unit = refl;
-          cells = usage_changed (λ b. if b == a then db.usage b ++ (unit.number, mode) ∷ [] else db.usage b) (λ b. if b == a then eb.usage b ++ (unit.number, mode) ∷ [] else eb.usage b)
+      (done (record db { usage = λ b. if b == a then db.usage b ++ (unit.number, mode) ∷ [] else db.usage b }) (record unit { modes = slice_set unit.modes a (Some mode) }) None None)
+      (done (record eb { usage = λ b. if b == a then eb.usage b ++ (unit.number, mode) ∷ [] else eb.usage b }) (record unit { modes = slice_set unit.modes a (Some mode) }) None None)
+      (λ i. first_cause ((list_any (λ e. conflict e.1 mode) (users i), UsageConflict) ∷ []))
+      (λ free. record {
+        answer = refl;
+        unit = refl;
+        cells = usage_changed (λ b. if b == a then db.usage b ++ (unit.number, mode) ∷ [] else db.usage b) (λ b. if b == a then eb.usage b ++ (unit.number, mode) ∷ [] else eb.usage b)
             (λ b e. ap (λ (es : List (ℕ × Mode)). if b == a then es ++ (unit.number, mode) ∷ [] else es) e);
-        })
+      })
 
   close_alike : (a : ℕ) → Same (effect_on_cells schema capacity db unit (CloseArea a)) (effect_on_cells schema capacity eb unit (CloseArea a))
   close_alike a = record {
     answer = refl;
     unit = refl;
     cells = usage_changed (λ b. if b == a then filter (λ e. not (e.0 == unit.number)) (db.usage b) else db.usage b) (λ b. if b == a then filter (λ e. not (e.0 == unit.number)) (eb.usage b) else eb.usage b)
-      (λ b e. ap (λ (es : List (ℕ × Mode)). if b == a then filter (λ e. not (e.0 == unit.number)) es else es) e);
+        (λ b e. ap (λ (es : List (ℕ × Mode)). if b == a then filter (λ e. not (e.0 == unit.number)) es else es) e);
   }
 
   get_alike : (r : Option ℕ) → ((c : CellName) → In c (slot_names unit.currency.run_unit) → holds hands.cells c ≡ true) → Same (effect_on_cells schema capacity db unit (Get r)) (effect_on_cells schema capacity eb unit (Get r))
   get_alike r held =
       current_alike unit.currency.run_unit (λ k. (not (is_live db k), Deleted) ∷ []) (λ k. (not (is_live eb k), Deleted) ∷ []) (λ k. done db unit (Some k) (Some (items_of db k))) (λ k. done eb unit (Some k) (Some (items_of eb k)))
-        (λ k e. ap (λ (x : Option Record). first_cause ((not (is_some x), Deleted) ∷ [])) (current_slot k e held))
-        (λ k e h. done_alike unit unit (Some k) (Some (items_of db k)) (Some (items_of eb k)) refl (ap (λ (x : Option Record). Some (unwrap_or (option_map (λ (r : Record). r.items) x) [])) (current_slot k e held)))
+      (λ k e. ap (λ (x : Option Record). first_cause ((not (is_some x), Deleted) ∷ [])) (current_slot k e held))
+      (λ k e h. done_alike unit unit (Some k) (Some (items_of db k)) (Some (items_of eb k)) refl (ap (λ (x : Option Record). Some (unwrap_or (option_map (λ (r : Record). r.items) x) [])) (current_slot k e held)))
 
   keep_alike : ((c : CellName) → In c (slot_names unit.currency.run_unit) → holds hands.cells c ≡ true) → Same (effect_on_cells schema capacity db unit Keep) (effect_on_cells schema capacity eb unit Keep)
   keep_alike held =
       current_alike unit.currency.run_unit (λ k. (not (is_live db k), Deleted) ∷ []) (λ k. (not (is_live eb k), Deleted) ∷ [])
-        (λ k. done db (record unit { kept = noted k (version_of db k) unit.kept }) None None) (λ k. done eb (record unit { kept = noted k (version_of eb k) unit.kept }) None None)
-        (λ k e. ap (λ (x : Option Record). first_cause ((not (is_some x), Deleted) ∷ [])) (current_slot k e held))
-        (λ k e h. done_alike _ _ None None None (ap (λ (x : Option Record). record unit { kept = noted k (unwrap_or (option_map (λ (r : Record). r.version) x) 0) unit.kept }) (current_slot k e held)) refl)
+      (λ k. done db (record unit { kept = noted k (version_of db k) unit.kept }) None None) (λ k. done eb (record unit { kept = noted k (version_of eb k) unit.kept }) None None)
+      (λ k e. ap (λ (x : Option Record). first_cause ((not (is_some x), Deleted) ∷ [])) (current_slot k e held))
+      (λ k e h. done_alike _ _ None None None (ap (λ (x : Option Record). record unit { kept = noted k (unwrap_or (option_map (λ (r : Record). r.version) x) 0) unit.kept }) (current_slot k e held)) refl)
 
   free_alike : Same (effect_on_cells schema capacity db unit (Free false)) (effect_on_cells schema capacity eb unit (Free false))
   free_alike = current_alike unit.currency.run_unit (λ k. []) (λ k. []) (λ k. done db (record unit { kept = forgotten k unit.kept }) None None) (λ k. done eb (record unit { kept = forgotten k unit.kept }) None None) (λ k e. refl) (λ k e h. done_alike _ _ None None None refl refl)
@@ -161,12 +161,12 @@ pub effect_alike : (schema : Lists) (capacity : ℕ) (db eb : Database) (unit : 
 unfolding effect
 effect_alike schema capacity db eb unit hands agrees agrees' statement h =
     unless_alike schema capacity db eb agrees.legal agrees'.legal unit hands (held_alike schema capacity db eb hands.cells agrees.cells agrees'.cells)
-      (refused_at_once schema capacity unit statement) (refused_at_once schema capacity unit statement) _ _ refl h
+    (refused_at_once schema capacity unit statement) (refused_at_once schema capacity unit statement) _ _ refl h
 
 pub reading_is_determined : (schema : Lists) (capacity : ℕ) (db eb : Database) (hands : Hands) (unit : Unit) (statement : Statement)
     → IsUnitOf schema unit → Agrees schema capacity db hands unit → Agrees schema capacity eb hands unit → changes_records statement ≡ false
     → need schema capacity db unit hands statement ≡ Ready → DoTheSame schema capacity hands (effect schema capacity db unit statement) (effect schema capacity eb unit statement)
 reading_is_determined schema capacity db eb hands unit statement of_schema agrees agrees' reads ready =
     effect_alike schema capacity db eb unit hands agrees agrees' statement (λ passes.
-      reading_alike schema capacity db eb agrees.legal agrees'.legal unit hands (held_alike schema capacity db eb hands.cells agrees.cells agrees'.cells) of_schema statement reads
-        (ready_has schema capacity db unit hands statement passes ready).0)
+    reading_alike schema capacity db eb agrees.legal agrees'.legal unit hands (held_alike schema capacity db eb hands.cells agrees.cells agrees'.cells) of_schema statement reads
+    (ready_has schema capacity db unit hands statement passes ready).0)

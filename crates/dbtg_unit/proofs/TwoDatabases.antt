@@ -97,13 +97,14 @@ module _ (schema : Lists) (capacity : ℕ) (db eb : Database) (ldb : Legal schem
       list_here : (l : Option (List DbKey)) → In x (unwrap_or l []) → is_some l ≡ true
       list_here None i = absurd i
       list_here (Some list) i = refl
+
       by_ring : (r : Option Occurrence) → RingValue r ≡ cell schema capacity db (Ring s (place_of o)) → is_some (db.lists s o) ≡ true → sort_key schema db s x ≡ sort_key schema eb s x
       by_ring None is there = absurd (false≢true (sym (ap is_some (ring_reads schema capacity db ldb s o None is)) ∙ there))
       by_ring (Some occurrence) is there =
           elim (cases_Bool (owner_eq occurrence.owner o)) [
             | inr other ↦ absurd (false≢true (sym (ap is_some (ring_reads schema capacity db ldb s o (Some occurrence) is ∙ cond-false (owner_eq occurrence.owner o) (Some (map (λ (m : DbKey × Option Value). m.0) occurrence.members)) None other)) ∙ there))
             | inl same ↦ same_at (sort_key schema db s) (sort_key schema eb s) (members_of db s o)
-              (sym (ring_keys_read schema capacity db ldb s o occurrence is same) ∙ ring_keys_read schema capacity eb leb s o occurrence (is ∙ h) same ∙ ap (map (λ x. (x, sort_key schema eb s x))) (sym members_alike)) x i
+                (sym (ring_keys_read schema capacity db ldb s o occurrence is same) ∙ ring_keys_read schema capacity eb leb s o occurrence (is ∙ h) same ∙ ap (map (λ x. (x, sort_key schema eb s x))) (sym members_alike)) x i
           ]
 
   module _ (k : DbKey) (h : cell schema capacity db (Slot k.rtype k.number) ≡ cell schema capacity eb (Slot k.rtype k.number)) where
@@ -164,4 +165,4 @@ module _ (schema : Lists) (capacity : ℕ) (db eb : Database) (ldb : Legal schem
     with_calc_alike values =
         ap (filter (λ k. values_eq (calc_items schema t (items_of db k)) values)) live_keys_alike
         ∙ filter_agrees (λ k. values_eq (calc_items schema t (items_of db k)) values) (λ k. values_eq (calc_items schema t (items_of eb k)) values) (live_keys capacity eb t)
-            (λ x i. ap (λ c. values_eq c values) (calc_items_alike x (live_key_type capacity t eb x i)))
+        (λ x i. ap (λ c. values_eq c values) (calc_items_alike x (live_key_type capacity t eb x i)))
