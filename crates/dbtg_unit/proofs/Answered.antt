@@ -46,15 +46,15 @@ module _ (db : Database) (unit : Unit) (statement : Statement) where
 module _ (schema : Lists) (capacity : ℕ) (db : Database) (unit : Unit) where
   on_cells : (statement : Statement) → IsAnswered db unit statement (effect_on_cells schema capacity db unit statement)
   on_cells (OpenArea a mode) =
-      of_unless_refused db unit (OpenArea a mode) (first_cause ((list_any (λ e. conflict e.1 mode) (db.usage a), UsageConflict) ∷ [])) 
-        (done (record db { usage = λ b. if b == a then db.usage b ++ (unit.number, mode) ∷ [] else db.usage b }) (record unit { modes = slice_set unit.modes a (Some mode) }) None None)
-        (record { refusal = λ c e. not_refused e; key = refl; items = refl })
+      of_unless_refused db unit (OpenArea a mode) (first_cause ((list_any (λ e. conflict e.1 mode) (db.usage a), UsageConflict) ∷ []))
+      (done (record db { usage = λ b. if b == a then db.usage b ++ (unit.number, mode) ∷ [] else db.usage b }) (record unit { modes = slice_set unit.modes a (Some mode) }) None None)
+      (record { refusal = λ c e. not_refused e; key = refl; items = refl })
   on_cells (CloseArea a) = of_done db unit (CloseArea a) _ _ None None refl refl
   on_cells (Find form suppress) = of_finding db unit (Find form suppress) (found schema capacity db unit form) _ refl refl
   on_cells (Get r) = of_current db unit (Get r) unit.currency.run_unit _ _ (λ k. of_done db unit (Get r) _ _ _ _ refl refl)
   on_cells (Store t items suppress) =
       of_unless_refused db unit (Store t items suppress) (first_cause (store_checks schema capacity db unit t items))
-        (stored schema capacity db unit (new_key db t (unwrap_or (free_number capacity db t) 0)) items suppress) (record { refusal = λ c e. not_refused e; key = refl; items = refl })
+      (stored schema capacity db unit (new_key db t (unwrap_or (free_number capacity db t) 0)) items suppress) (record { refusal = λ c e. not_refused e; key = refl; items = refl })
   on_cells (Insert s) = of_current db unit (Insert s) unit.currency.run_unit _ _ (λ k. of_done db unit (Insert s) _ _ _ _ refl refl)
   on_cells (Remove s) = of_current db unit (Remove s) unit.currency.run_unit _ _ (λ k. of_done db unit (Remove s) _ _ _ _ refl refl)
   on_cells (Modify t changes) = of_current db unit (Modify t changes) unit.currency.run_unit _ _ (λ k. of_done db unit (Modify t changes) _ _ _ _ refl refl)

@@ -71,19 +71,19 @@ module _ (schema : Lists) (capacity : ℕ) (db eb : Database) (ldb : Legal schem
   same_last t n =
       ⊎_elim
       (λ ht. ⊎_elim
-        (λ hn. ⊎_elim
-          (λ hc. ap (λ (m : Number). m.last)
-            (sym (get_or-map-range_with_len (number_of schema db t) 1 capacity (n - 1) n (number_of schema db t n) (omega arith) (omega arith))
-            ∙ ap (λ l. get_or l (n - 1) (number_of schema db t n)) (ap extent_in (same (Extent t) (lt-ltb _ _ ht)))
-            ∙ get_or-map-range_with_len (number_of schema eb t) 1 capacity (n - 1) n (number_of schema db t n) (omega arith) (omega arith)))
-          (λ hc. out (inr (inr (omega arith))))
-          (cases_lt n (capacity + 1)))
-        (λ hn. out (inr (inl (omega arith))))
-        (cases_lt 0 n))
+      (λ hn. ⊎_elim
+      (λ hc. ap (λ (m : Number). m.last)
+      (sym (get_or-map-range_with_len (number_of schema db t) 1 capacity (n - 1) n (number_of schema db t n) (omega arith) (omega arith))
+      ∙ ap (λ l. get_or l (n - 1) (number_of schema db t n)) (ap extent_in (same (Extent t) (lt-ltb _ _ ht)))
+      ∙ get_or-map-range_with_len (number_of schema eb t) 1 capacity (n - 1) n (number_of schema db t n) (omega arith) (omega arith)))
+      (λ hc. out (inr (inr (omega arith))))
+      (cases_lt n (capacity + 1)))
+      (λ hn. out (inr (inl (omega arith))))
+      (cases_lt 0 n))
       (λ ht. out (inl ht))
       (cases_lt t (length schema.types)) where
-    out : (length schema.types ≤ t) ⊎ (n ≡ 0) ⊎ (capacity < n) → db.last t n ≡ eb.last t n
-    out h = ldb.no_number t n h ∙ sym (leb.no_number t n h)
+        out : (length schema.types ≤ t) ⊎ (n ≡ 0) ⊎ (capacity < n) → db.last t n ≡ eb.last t n
+        out h = ldb.no_number t n h ∙ sym (leb.no_number t n h)
 
   same_key_at : (t n : ℕ) → key_at db t n ≡ key_at eb t n
   same_key_at t n = λ i. record { rtype = t; number = n; generation = same_last t n i }
@@ -103,14 +103,14 @@ module _ (schema : Lists) (capacity : ℕ) (db eb : Database) (ldb : Legal schem
   same_records k =
       elim (cases_Bool (is_live db k)) [
         | inl h ↦
-          let at : k ≡ key_at db k.rtype k.number = latest db ldb k h in
-          let r = ldb.keys k h in
-          ap db.records at ∙ same_at k.rtype k.number r.0 r.1 r.2 ∙ ap eb.records (sym (at ∙ same_key_at k.rtype k.number))
+            let at : k ≡ key_at db k.rtype k.number = latest db ldb k h in
+            let r = ldb.keys k h in
+            ap db.records at ∙ same_at k.rtype k.number r.0 r.1 r.2 ∙ ap eb.records (sym (at ∙ same_key_at k.rtype k.number))
         | inr h ↦ elim (cases_Bool (is_live eb k)) [
           | inl g ↦
-            let at : k ≡ key_at eb k.rtype k.number = latest eb leb k g in
-            let r = leb.keys k g in
-            ap db.records (at ∙ sym (same_key_at k.rtype k.number)) ∙ same_at k.rtype k.number r.0 r.1 r.2 ∙ ap eb.records (sym at)
+              let at : k ≡ key_at eb k.rtype k.number = latest eb leb k g in
+              let r = leb.keys k g in
+              ap db.records (at ∙ sym (same_key_at k.rtype k.number)) ∙ same_at k.rtype k.number r.0 r.1 r.2 ∙ ap eb.records (sym at)
           | inr g ↦ none_of (db.records k) h ∙ sym (none_of (eb.records k) g)
         ]
       ]
@@ -139,20 +139,20 @@ module _ (schema : Lists) (capacity : ℕ) (db eb : Database) (ldb : Legal schem
   same_lists s o =
       elim (cases_Bool (has_occurrence schema db s o)) [
         | inl h ↦
-          let at = standing s o h in
-          ap (db.lists s) (sym at)
-          ∙ sym (back (ring_of schema db s (owner_at db (place_of o))) members_in (λ list. firsts-map _ list) (db.lists s (owner_at db (place_of o))))
-          ∙ ap (option_map members_in) (ap ring_in (same (Ring s (place_of o)) (is_ring s o h)))
-          ∙ back (ring_of schema eb s (owner_at eb (place_of o))) members_in (λ list. firsts-map _ list) (eb.lists s (owner_at eb (place_of o)))
-          ∙ ap (eb.lists s) (sym (same_owner_at (place_of o)) ∙ at)
+            let at = standing s o h in
+            ap (db.lists s) (sym at)
+            ∙ sym (back (ring_of schema db s (owner_at db (place_of o))) members_in (λ list. firsts-map _ list) (db.lists s (owner_at db (place_of o))))
+            ∙ ap (option_map members_in) (ap ring_in (same (Ring s (place_of o)) (is_ring s o h)))
+            ∙ back (ring_of schema eb s (owner_at eb (place_of o))) members_in (λ list. firsts-map _ list) (eb.lists s (owner_at eb (place_of o)))
+            ∙ ap (eb.lists s) (sym (same_owner_at (place_of o)) ∙ at)
         | inr h ↦ none_of (db.lists s o) (ldb.pairs s o ∙ h) ∙ sym (none_of (eb.lists s o) (leb.pairs s o ∙ sym (same_occurrence s o) ∙ h))
       ] where
-    is_ring : (s : ℕ) (o : Owner) → has_occurrence schema db s o ≡ true → is_cell schema capacity (Ring s (place_of o)) ≡ true
-    is_ring s System h = h
-    is_ring s (Rec k) h =
-        let parts = and_parts _ _ h in
-        let facts = ldb.keys k parts.1 in
-        and_from _ _ parts.0 (and_from _ _ (lt-ltb _ _ facts.1) (le-leb _ _ facts.2))
+        is_ring : (s : ℕ) (o : Owner) → has_occurrence schema db s o ≡ true → is_cell schema capacity (Ring s (place_of o)) ≡ true
+        is_ring s System h = h
+        is_ring s (Rec k) h =
+            let parts = and_parts _ _ h in
+            let facts = ldb.keys k parts.1 in
+            and_from _ _ parts.0 (and_from _ _ (lt-ltb _ _ facts.1) (le-leb _ _ facts.2))
 
   pub cells_determine : db ≡ eb
   cells_determine = λ i. record { records = λ k. same_records k i; lists = λ s o. same_lists s o i; last = λ t n. same_last t n i; usage = λ a. same_usage a i }

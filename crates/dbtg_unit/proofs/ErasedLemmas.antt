@@ -28,7 +28,7 @@ module _ {X : Type 0} (same : X → X → Bool) (sound : (x y : X) → same x y 
   pub least_set : (leads : X → X → Bool) (start : X → Bool) (xs ys : List X) → IsLeastClosed leads start xs ys → IsLeastSet same leads start xs ys
   least_set leads start xs ys h =
       let grows : (x : X) → In x xs → (start x || list_any (λ z. leads z x) ys) ≡ true → list_any (same x) ys ≡ true
-          = λ x i g. any_in (same x) x ys (subst (In x) h.closed (in_filter (λ y. start y || list_any (λ z. leads z y) ys) x xs i g)) (self x) in
+      = λ x i g. any_in (same x) x ys (subst (In x) h.closed (in_filter (λ y. start y || list_any (λ z. leads z y) ys) x xs i g)) (self x) in
       record {
         within = λ x g. any_in (same x) x xs (of_filter (λ y. start y || list_any (λ z. leads z y) ys) x xs (subst (In x) (sym h.closed) (element x ys g))).0 (self x);
         starts = λ x i g. grows x (element x xs i) (or_left _ _ g);
@@ -39,12 +39,12 @@ module _ {X : Type 0} (same : X → X → Bool) (sound : (x y : X) → same x y 
 pub doomed_is_least_set : (schema : Lists) (capacity : ℕ) (db : Database) (option : Erase) (k : DbKey) → IsLeastSet key_eq (drags schema capacity db option) (key_eq k) (all_keys schema capacity db) (doomed schema capacity db option k)
 doomed_is_least_set schema capacity db option k =
     least_set key_eq same_key key_eq-refl (drags schema capacity db option) (key_eq k) (all_keys schema capacity db) (doomed schema capacity db option k)
-      (least_closed_is_least (drags schema capacity db option) (key_eq k) (all_keys schema capacity db))
+    (least_closed_is_least (drags schema capacity db option) (key_eq k) (all_keys schema capacity db))
 
 pub reachable_is_least : (schema : Lists) (t : ℕ) → IsLeastSet (λ u v. eqb u v) (has_member_type schema) (λ u. eqb u t) (range_with_len 0 (length schema.types)) (reachable_types schema t)
 reachable_is_least schema t =
     least_set eqb eqb-true (λ u. eq-eqb u u refl) (has_member_type schema) (λ u. eqb u t) (range_with_len 0 (length schema.types)) (reachable_types schema t)
-      (least_closed_is_least (has_member_type schema) (λ u. eqb u t) (range_with_len 0 (length schema.types)))
+    (least_closed_is_least (has_member_type schema) (λ u. eqb u t) (range_with_len 0 (length schema.types)))
 
 -- AREAS
 
@@ -79,16 +79,16 @@ module _ (schema : Lists) (capacity : ℕ) (db : Database) (legal : Legal schema
       let facts = legal.members s (Rec x) y g in
       let owner = and_parts _ _ (listed schema capacity db legal s (Rec x) y g) in
       (reachable_is_least schema k.rtype).closed x.rtype y.rtype h
-        (any_in (λ s'. owns schema s' x.rtype && is_some (member_clause schema s' y.rtype)) s (set_numbers schema) (set_of_member schema s y.rtype facts.1) (and_from _ _ owner.0 facts.1))
-        (type_in y facts.0)
+      (any_in (λ s'. owns schema s' x.rtype && is_some (member_clause schema s' y.rtype)) s (set_numbers schema) (set_of_member schema s y.rtype facts.1) (and_from _ _ owner.0 facts.1))
+      (type_in y facts.0)
 
   doomed_reached : (d : DbKey) → is_member d (doomed schema capacity db option k) ≡ true → is_reached d.rtype ≡ true
   unfolding is_reached
   doomed_reached d h =
       (doomed_is_least_set schema capacity db option k).least (λ x. is_reached x.rtype)
-        (λ x e. subst (λ (y : DbKey). is_reached y.rtype ≡ true) (same_key k x e) ((reachable_is_least schema k.rtype).starts k.rtype (type_in k live) (eq-eqb k.rtype k.rtype refl)))
-        (λ x y e g. let s = any_element (λ s. is_member y (members_of db s (Rec x)) && takes schema capacity db option s (Rec x) y) (set_numbers schema) g in next_reached s.0 x y e (and_parts _ _ s.2).0)
-        d h
+      (λ x e. subst (λ (y : DbKey). is_reached y.rtype ≡ true) (same_key k x e) ((reachable_is_least schema k.rtype).starts k.rtype (type_in k live) (eq-eqb k.rtype k.rtype refl)))
+      (λ x y e g. let s = any_element (λ s. is_member y (members_of db s (Rec x)) && takes schema capacity db option s (Rec x) y) (set_numbers schema) g in next_reached s.0 x y e (and_parts _ _ s.2).0)
+      d h
 
   reached_within : (x : DbKey) → is_reached x.rtype ≡ true → IsWithinAreas schema (erase_areas schema k.rtype) x
   unfolding is_reached
@@ -96,7 +96,7 @@ module _ (schema : Lists) (capacity : ℕ) (db : Database) (legal : Legal schema
       let e = any_element (eqb x.rtype) (reachable_types schema k.rtype) h in
       let reached : In x.rtype (reachable_types schema k.rtype) = subst (λ t. In t (reachable_types schema k.rtype)) (sym (eqb-true x.rtype e.0 e.2)) e.1 in
       let within : (a : ℕ) → In a (areas_with_homes schema x.rtype) → list_any (λ b. eqb b a) (erase_areas schema k.rtype) ≡ true
-          = λ a i. any_in (λ b. eqb b a) a _ (in_flattened (areas_with_homes schema) x.rtype a _ reached i) (eq-eqb a a refl) in
+      = λ a i. any_in (λ b. eqb b a) a _ (in_flattened (areas_with_homes schema) x.rtype a _ reached i) (eq-eqb a a refl) in
       record {
         own = within (area_of schema x.rtype) (inl refl);
         homes = λ s member. within (home schema s) (inr (in_map (home schema) s _ (in_filter (λ s'. is_some (member_clause schema s' x.rtype)) s (set_numbers schema) (set_of_member schema s x.rtype member) member)));

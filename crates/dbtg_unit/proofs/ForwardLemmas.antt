@@ -66,7 +66,7 @@ raised_forward db d test h =
     let below : (t n : ℕ) → db.last t n ≤ d.last t n = λ t n. let e = h.last t n in omega arith in
     record {
       versions = λ k. let v = h.versions k in
-        cond_both (test k) (option_map next_version (d.records k)) (d.records k) (λ o. version_in o ≤ version_in (db.records k) + 1)
+          cond_both (test k) (option_map next_version (d.records k)) (d.records k) (λ o. version_in o ≤ version_in (db.records k) + 1)
           (λ e. let w = next-version_in (d.records k) in omega arith) (λ e. omega arith);
       generations = below;
       spent = spent_stays db (raised test d) (λ k e. cond_both (test k) (option_map next_version (d.records k)) (d.records k) (λ o. is_some o ≡ false) (λ t. next-is_some (d.records k) ∙ h.live k e) (λ t. h.live k e)) below;
@@ -76,26 +76,27 @@ stored_forward : (schema : Lists) (db : Database) (t n : ℕ) (items : List Valu
 stored_forward schema db t n items =
     let k = new_key db t n in
     let rises : (u m : ℕ) → db.last u m ≤ cond (eqb u t && eqb m n) (db.last t n + 1) (db.last u m)
-          = λ u m. cond_both (eqb u t && eqb m n) (db.last t n + 1) (db.last u m) (λ g. db.last u m ≤ g) (λ e. let es = and_parts _ _ e in risen u m (eqb-true u t es.0) (eqb-true m n es.1)) (λ e. omega arith) in
+    = λ u m. cond_both (eqb u t && eqb m n) (db.last t n + 1) (db.last u m) (λ g. db.last u m ≤ g) (λ e. let es = and_parts _ _ e in risen u m (eqb-true u t es.0) (eqb-true m n es.1)) (λ e. omega arith) in
     record {
       versions = λ x. cond_both (key_eq k x) (Some (record { items = items; version = 1 })) (db.records x) (λ o. version_in o ≤ version_of db x + 1) (λ e. omega arith) (λ e. omega arith);
       generations = rises;
       spent = λ x h.
-        let hs = and_parts _ _ h in
-        let below = leb-true x.generation (db.last x.rtype x.number) hs.1 in
-        let rise = rises x.rtype x.number in
-        and_from _ _
+          let hs = and_parts _ _ h in
+          let below = leb-true x.generation (db.last x.rtype x.number) hs.1 in
+          let rise = rises x.rtype x.number in
+          and_from _ _
           (cond_both (key_eq k x) (Some (record { items = items; version = 1 })) (db.records x) (λ o. not (is_some o) ≡ true)
-            (λ e. absurd (not_new x (same_key k x e) below)) (λ e. hs.0))
+          (λ e. absurd (not_new x (same_key k x e) below)) (λ e. hs.0))
           (le-leb x.generation (cond (eqb x.rtype t && eqb x.number n) (db.last t n + 1) (db.last x.rtype x.number)) (omega arith));
     } where
-  risen : (u m : ℕ) → u ≡ t → m ≡ n → db.last u m ≤ db.last t n + 1
-  risen u m e f = let same : db.last u m ≡ db.last t n = λ i. db.last (e i) (f i) in omega arith
-  not_new : (x : DbKey) → new_key db t n ≡ x → x.generation ≤ db.last x.rtype x.number → ⊥
-  not_new x e below =
-      let generation : db.last t n + 1 ≡ x.generation = ap (λ (y : DbKey). y.generation) e in
-      let last : db.last t n ≡ db.last x.rtype x.number = λ i. db.last ((e i).rtype) ((e i).number) in
-      absurd (omega arith)
+      risen : (u m : ℕ) → u ≡ t → m ≡ n → db.last u m ≤ db.last t n + 1
+      risen u m e f = let same : db.last u m ≡ db.last t n = λ i. db.last (e i) (f i) in omega arith
+
+      not_new : (x : DbKey) → new_key db t n ≡ x → x.generation ≤ db.last x.rtype x.number → ⊥
+      not_new x e below =
+          let generation : db.last t n + 1 ≡ x.generation = ap (λ (y : DbKey). y.generation) e in
+          let last : db.last t n ≡ db.last x.rtype x.number = λ i. db.last ((e i).rtype) ((e i).number) in
+          absurd (omega arith)
 
 module _ (schema : Lists) (capacity : ℕ) (db : Database) (unit : Unit) where
   abbrev Forward : Outcome → Type 0
@@ -104,41 +105,42 @@ module _ (schema : Lists) (capacity : ℕ) (db : Database) (unit : Unit) where
   on_cells : (statement : Statement) → Forward (effect_on_cells schema capacity db unit statement)
   on_cells (OpenArea a mode) =
       of_unless db unit Forward (λ cause. same_forward db) (first_cause ((list_any (λ e. conflict e.1 mode) (db.usage a), UsageConflict) ∷ []))
-        (done (record db { usage = λ b. if b == a then db.usage b ++ (unit.number, mode) ∷ [] else db.usage b }) (record unit { modes = slice_set unit.modes a (Some mode) }) None None)
-        (λ h. forward_from db _ (record { versions = λ k. omega arith; live = λ k h. h; last = λ t n. refl }))
+      (done (record db { usage = λ b. if b == a then db.usage b ++ (unit.number, mode) ∷ [] else db.usage b }) (record unit { modes = slice_set unit.modes a (Some mode) }) None None)
+      (λ h. forward_from db _ (record { versions = λ k. omega arith; live = λ k h. h; last = λ t n. refl }))
   on_cells (CloseArea a) = forward_from db _ (record { versions = λ k. omega arith; live = λ k h. h; last = λ t n. refl })
   on_cells (Find form suppress) = of_finding db unit Forward (λ cause. same_forward db) (found schema capacity db unit form) _ (λ k h. same_forward db)
   on_cells (Get r) = of_current db unit Forward (λ cause. same_forward db) unit.currency.run_unit _ _ (λ k e h. same_forward db)
   on_cells (Store t items suppress) =
       of_unless db unit Forward (λ cause. same_forward db) (first_cause (store_checks schema capacity db unit t items))
-        (stored schema capacity db unit (new_key db t (unwrap_or (free_number capacity db t) 0)) items suppress)
-        (λ h. let new = stored_forward schema db t (unwrap_or (free_number capacity db t) 0) items in record { versions = new.versions; generations = new.generations; spent = new.spent })
+      (stored schema capacity db unit (new_key db t (unwrap_or (free_number capacity db t) 0)) items suppress)
+      (λ h. let new = stored_forward schema db t (unwrap_or (free_number capacity db t) 0) items in record { versions = new.versions; generations = new.generations; spent = new.spent })
   on_cells (Insert s) =
       of_current db unit Forward (λ cause. same_forward db) unit.currency.run_unit _ _
-        (λ k e h. raised_forward db (connected_in schema db unit (s ∷ []) k) (key_eq k) (record { versions = λ x. omega arith; live = λ x h. h; last = λ t n. refl }))
+      (λ k e h. raised_forward db (connected_in schema db unit (s ∷ []) k) (key_eq k) (record { versions = λ x. omega arith; live = λ x h. h; last = λ t n. refl }))
   on_cells (Remove s) =
       of_current db unit Forward (λ cause. same_forward db) unit.currency.run_unit _ _
-        (λ k e h. raised_forward db _ (key_eq k) (record { versions = λ x. omega arith; live = λ x h. h; last = λ t n. refl }))
+      (λ k e h. raised_forward db _ (key_eq k) (record { versions = λ x. omega arith; live = λ x h. h; last = λ t n. refl }))
   on_cells (Modify t changes) =
       of_current db unit Forward (λ cause. same_forward db) unit.currency.run_unit _ _
-        (λ k e h. raised_forward db _ (key_eq k) (record { versions = λ x. items_version k x (changed_items changes (items_of db k)); live = λ x l. items_live k x (changed_items changes (items_of db k)) ∙ l; last = λ t n. refl })) where
-    items_version : (k x : DbKey) (items : List Value) → version_of (with_items db k items) x ≤ version_of db x
-    items_version k x items = cond_both (key_eq k x) (option_map (with_its_items items) (db.records x)) (db.records x) (λ o. version_in o ≤ version_of db x) (λ e. kept (db.records x)) (λ e. omega arith) where
-      kept : (o : Option Record) → version_in (option_map (with_its_items items) o) ≤ version_in o
-      kept None = omega arith
-      kept (Some r) = omega arith
-    items_live : (k x : DbKey) (items : List Value) → is_live (with_items db k items) x ≡ is_live db x
-    items_live k x items = cond_both (key_eq k x) (option_map (with_its_items items) (db.records x)) (db.records x) (λ o. is_some o ≡ is_live db x) (λ e. kept (db.records x)) (λ e. refl) where
-      kept : (o : Option Record) → is_some (option_map (with_its_items items) o) ≡ is_some o
-      kept None = refl
-      kept (Some r) = refl
+      (λ k e h. raised_forward db _ (key_eq k) (record { versions = λ x. items_version k x (changed_items changes (items_of db k)); live = λ x l. items_live k x (changed_items changes (items_of db k)) ∙ l; last = λ t n. refl })) where
+        items_version : (k x : DbKey) (items : List Value) → version_of (with_items db k items) x ≤ version_of db x
+        items_version k x items = cond_both (key_eq k x) (option_map (with_its_items items) (db.records x)) (db.records x) (λ o. version_in o ≤ version_of db x) (λ e. kept (db.records x)) (λ e. omega arith) where
+          kept : (o : Option Record) → version_in (option_map (with_its_items items) o) ≤ version_in o
+          kept None = omega arith
+          kept (Some r) = omega arith
+
+        items_live : (k x : DbKey) (items : List Value) → is_live (with_items db k items) x ≡ is_live db x
+        items_live k x items = cond_both (key_eq k x) (option_map (with_its_items items) (db.records x)) (db.records x) (λ o. is_some o ≡ is_live db x) (λ e. kept (db.records x)) (λ e. refl) where
+          kept : (o : Option Record) → is_some (option_map (with_its_items items) o) ≡ is_some o
+          kept None = refl
+          kept (Some r) = refl
   on_cells (Delete option) =
       of_current db unit Forward (λ cause. same_forward db) unit.currency.run_unit _ _
-        (λ k e h. let gone = doomed schema capacity db option k in raised_forward db _ _ (record {
-          versions = λ x. cond_both (is_member x gone) None (db.records x) (λ o. version_in o ≤ version_of db x) (λ e. omega arith) (λ e. omega arith);
-          live = λ x l. cond_both (is_member x gone) None (db.records x) (λ o. is_some o ≡ false) (λ e. refl) (λ e. l);
-          last = λ t n. refl;
-        }))
+      (λ k e h. let gone = doomed schema capacity db option k in raised_forward db _ _ (record {
+        versions = λ x. cond_both (is_member x gone) None (db.records x) (λ o. version_in o ≤ version_of db x) (λ e. omega arith) (λ e. omega arith);
+        live = λ x l. cond_both (is_member x gone) None (db.records x) (λ o. is_some o ≡ false) (λ e. refl) (λ e. l);
+        last = λ t n. refl;
+      }))
   on_cells Keep = of_current db unit Forward (λ cause. same_forward db) unit.currency.run_unit _ _ (λ k e h. same_forward db)
   on_cells (Free true) = same_forward db
   on_cells (Free false) = of_current db unit Forward (λ cause. same_forward db) unit.currency.run_unit _ _ (λ k e h. same_forward db)

@@ -35,11 +35,11 @@ shorter x [] h = absurd (false≢true h)
 shorter x (y ∷ ys) h =
     elim (cases_Bool (key_eq x y)) [
       | inl e ↦
-        let both = length-filter_both (differ x) (λ z. not (differ x z)) (λ z. refl) ys in
-        subst (λ b. length (cond (not b) (y ∷ filter (differ x) ys) (filter (differ x) ys)) < length (y ∷ ys)) (sym e) (omega arith)
+          let both = length-filter_both (differ x) (λ z. not (differ x z)) (λ z. refl) ys in
+          subst (λ b. length (cond (not b) (y ∷ filter (differ x) ys) (filter (differ x) ys)) < length (y ∷ ys)) (sym e) (omega arith)
       | inr e ↦
-        let rest = shorter x ys (subst (λ b. (b || is_member x ys) ≡ true) e h) in
-        subst (λ b. length (cond (not b) (y ∷ filter (differ x) ys) (filter (differ x) ys)) < length (y ∷ ys)) (sym e) (omega arith)
+          let rest = shorter x ys (subst (λ b. (b || is_member x ys) ≡ true) e h) in
+          subst (λ b. length (cond (not b) (y ∷ filter (differ x) ys) (filter (differ x) ys)) < length (y ∷ ys)) (sym e) (omega arith)
     ]
 
 -- keys that differ and are all in a list are no more than it has
@@ -87,7 +87,7 @@ all_pass p order [] h g = h
 all_pass p order (x ∷ xs) h g =
     let gs = and_parts _ _ g in
     all_pass p (cond (is_member x order) order (order ++ x ∷ [])) xs
-      (elim (is_member x order) as (λ b. list_all p (cond b order (order ++ x ∷ [])) ≡ true) [ true ↦ h | false ↦ list_all-append p order (x ∷ []) ∙ and_from _ _ h (and_from _ _ gs.0 refl) ]) gs.1
+    (elim (is_member x order) as (λ b. list_all p (cond b order (order ++ x ∷ [])) ≡ true) [ true ↦ h | false ↦ list_all-append p order (x ∷ []) ∙ and_from _ _ h (and_from _ _ gs.0 refl) ]) gs.1
 
 slice_get_front : {X : Type 0} (xs ys : List X) (j : ℕ) → j < length xs → slice_get (xs ++ ys) j ≡ slice_get xs j
 slice_get_front [] ys j h = absurd (omega arith)
@@ -106,9 +106,9 @@ module _ (schema : Lists) (capacity : ℕ) (db : Database) (legal : Legal schema
       let s = of_flat_map (λ s. filter (takes schema capacity db option s (Rec d)) (members_of db s (Rec d))) x (set_numbers schema) i in
       let kept = of_filter (takes schema capacity db option s.0 (Rec d)) x (members_of db s.0 (Rec d)) s.2 in
       (legal.members s.0 (Rec d) x (in_member x (members_of db s.0 (Rec d)) kept.0)).0) where
-    all_from : (xs : List DbKey) → ((x : DbKey) → In x xs → is_live db x ≡ true) → list_all (is_live db) xs ≡ true
-    all_from [] h = refl
-    all_from (x ∷ xs) h = and_from _ _ (h x (inl refl)) (all_from xs (λ y j. h y (inr j)))
+        all_from : (xs : List DbKey) → ((x : DbKey) → In x xs → is_live db x ≡ true) → list_all (is_live db) xs ≡ true
+        all_from [] h = refl
+        all_from (x ∷ xs) h = and_from _ _ (h x (inl refl)) (all_from xs (λ y j. h y (inr j)))
 
   -- those before place i have brought all that they drag along; the keys are live, each once
   record Turn (i : ℕ) (order : List DbKey) : Type 0 where
@@ -130,14 +130,14 @@ module _ (schema : Lists) (capacity : ℕ) (db : Database) (legal : Legal schema
         let long : i < length order = slice_get_within order i d e in
         record {
           brought = λ j x below at y m.
-            let near : j < length order = omega arith in
-            let was : slice_get order j ≡ Some x = sym (slice_get_front order r.0 j near) ∙ ap (λ ys. slice_get ys j) (sym r.1) ∙ at in
-            elim (cases_eq j i) [
-              | inl same ↦
-                let is_d : d ≡ x = same_Some d x (sym e ∙ ap (slice_get order) (sym same) ∙ was) in
-                has_those order news y (subst (λ (z : DbKey). In y (taken_with schema capacity db option z)) (sym is_d) m)
-              | inr apart ↦ still order news y (h.brought j x (omega arith) was y m)
-            ];
+              let near : j < length order = omega arith in
+              let was : slice_get order j ≡ Some x = sym (slice_get_front order r.0 j near) ∙ ap (λ ys. slice_get ys j) (sym r.1) ∙ at in
+              elim (cases_eq j i) [
+                | inl same ↦
+                    let is_d : d ≡ x = same_Some d x (sym e ∙ ap (slice_get order) (sym same) ∙ was) in
+                    has_those order news y (subst (λ (z : DbKey). In y (taken_with schema capacity db option z)) (sym is_d) m)
+                | inr apart ↦ still order news y (h.brought j x (omega arith) was y m)
+              ];
           once = each_once order news h.once;
           live = all_pass (is_live db) order news h.live (taken_live d);
         }
@@ -178,12 +178,12 @@ module _ (schema : Lists) (capacity : ℕ) (db : Database) (legal : Legal schema
         let s = any_element (λ s. is_member y (members_of db s (Rec x)) && takes schema capacity db option s (Rec x) y) (set_numbers schema) d in
         let parts = and_parts _ _ s.2 in
         turns.brought at.0 x (omega arith) at.1 y
-          (in_flat_map (λ s. filter (takes schema capacity db option s (Rec x)) (members_of db s (Rec x))) s.0 y (set_numbers schema) s.1
-            (in_filter (takes schema capacity db option s.0 (Rec x)) y (members_of db s.0 (Rec x)) (member_in y (members_of db s.0 (Rec x)) parts.0) parts.1))
+        (in_flat_map (λ s. filter (takes schema capacity db option s (Rec x)) (members_of db s (Rec x))) s.0 y (set_numbers schema) s.1
+        (in_filter (takes schema capacity db option s.0 (Rec x)) y (members_of db s.0 (Rec x)) (member_in y (members_of db s.0 (Rec x)) parts.0) parts.1))
 
     pub doomed_is_met : (x : DbKey) → is_member x (doomed schema capacity db option k) ≡ true → is_member x (doomed_in_turn schema capacity db option k) ≡ true
     unfolding order
     doomed_is_met x h =
         (doomed_is_least_set schema capacity db option k).least (λ y. is_member y order)
-          (λ y e. subst (λ (z : DbKey). is_member z order ≡ true) (same_key k y e) (kept_through (length (all_keys schema capacity db)) 0 (k ∷ []) k (or_left _ _ (key_eq-refl k))))
-          closed x h
+        (λ y e. subst (λ (z : DbKey). is_member z order ≡ true) (same_key k y e) (kept_through (length (all_keys schema capacity db)) 0 (k ∷ []) k (or_left _ _ (key_eq-refl k))))
+        closed x h

@@ -67,3 +67,8 @@ pub mod SkipLemmas
 pub mod HeldLemmas
 pub mod LoanLemmas
 pub mod EffectEdits
+pub mod TwoDatabases
+pub mod AlikeFind
+pub mod AlikeReading
+pub mod AlikeMoves
+pub mod AlikeRemove

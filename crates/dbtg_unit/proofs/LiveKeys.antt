@@ -129,7 +129,7 @@ find_only p (y ∷ xs) x i h only =
     elim (cases_Bool (p y)) [
       | inl e ↦ ap (λ b. cond b (Some y) (find p xs)) e ∙ ap Some (only y e)
       | inr e ↦ ap (λ b. cond b (Some y) (find p xs)) e
-        ∙ ⊎_elim (λ same. absurd (false≢true (sym e ∙ ap p same ∙ h))) (λ j. find_only p xs x j h only) i
+          ∙ ⊎_elim (λ same. absurd (false≢true (sym e ∙ ap p same ∙ h))) (λ j. find_only p xs x j h only) i
     ]
 
 pub find_none : {X : Type 0} (p : X → Bool) (xs : List X) → ((x : X) → p x ≡ true → ⊥) → find p xs ≡ None
@@ -145,8 +145,8 @@ module _ (schema : Lists) (capacity : ℕ) (db : Database) (legal : Legal schema
   live_in k h =
       let facts = legal.keys k h in
       in_filter (is_live db) k _ (subst (λ (x : DbKey). In x (map (key_at db k.rtype) (range_with_len 1 capacity))) (latest k h) (in_map (key_at db k.rtype) k.number _ (number_in k.number facts.1 facts.2))) h where
-    number_in : (n : ℕ) → 0 < n → n ≤ capacity → In n (range_with_len 1 capacity)
-    number_in n low high = in_range capacity 1 n (omega arith) (omega arith)
+        number_in : (n : ℕ) → 0 < n → n ≤ capacity → In n (range_with_len 1 capacity)
+        number_in n low high = in_range capacity 1 n (omega arith) (omega arith)
 
   pub live_of : (k : DbKey) (t : ℕ) → In k (live_keys capacity db t) → (is_live db k ≡ true) × (k.rtype ≡ t)
   live_of k t i =
@@ -171,10 +171,10 @@ module _ (schema : Lists) (capacity : ℕ) (db : Database) (legal : Legal schema
       let same = eqb-true set.0 k.rtype set.2 in
       let is_not_system = system_or_owned (slice_get schema.sets s) set.0 set.1 in
       subst (λ b. In (Rec k) (cond b (System ∷ []) (unwrap_or (option_map (λ t. map Rec (live_keys capacity db t)) (owner_type schema s)) []))) (sym is_not_system)
-        (subst (λ (o : Option ℕ). In (Rec k) (unwrap_or (option_map (λ t. map Rec (live_keys capacity db t)) o) [])) (sym (set.1 ∙ ap Some same)) (in_map Rec k _ (live_in k parts.1))) where
-    system_or_owned : (set : Option SetType) (t : ℕ) → option_and_then (λ (x : SetType). x.owner) set ≡ Some t → some_and (λ (x : SetType). is_none x.owner) set ≡ false
-    system_or_owned None t h = refl
-    system_or_owned (Some x) t h = ap is_none h
+      (subst (λ (o : Option ℕ). In (Rec k) (unwrap_or (option_map (λ t. map Rec (live_keys capacity db t)) o) [])) (sym (set.1 ∙ ap Some same)) (in_map Rec k _ (live_in k parts.1))) where
+        system_or_owned : (set : Option SetType) (t : ℕ) → option_and_then (λ (x : SetType). x.owner) set ≡ Some t → some_and (λ (x : SetType). is_none x.owner) set ≡ false
+        system_or_owned None t h = refl
+        system_or_owned (Some x) t h = ap is_none h
 
   -- whose list has a record
   pub listed : (s : ℕ) (o : Owner) (k : DbKey) → is_member k (members_of db s o) ≡ true → has_occurrence schema db s o ≡ true

@@ -57,8 +57,8 @@ module _ (schema : Lists) (capacity : ℕ) (db new : Database) where
   unfolding cell
   extent_same t last calc =
       λ i. ExtentValue (map (λ n. record { last = last n i; calc = number n i }) (range_with_len 1 capacity)) where
-    number : (n : ℕ) → option_map (λ (r : Record). calc_items schema t r.items) (new.records (key_at new t n)) ≡ option_map (λ (r : Record). calc_items schema t r.items) (db.records (key_at db t n))
-    number n = calc (key_at new t n) refl ∙ (λ i. option_map (λ (r : Record). calc_items schema t r.items) (db.records (record { rtype = t; number = n; generation = last n i })))
+        number : (n : ℕ) → option_map (λ (r : Record). calc_items schema t r.items) (new.records (key_at new t n)) ≡ option_map (λ (r : Record). calc_items schema t r.items) (db.records (key_at db t n))
+        number n = calc (key_at new t n) refl ∙ (λ i. option_map (λ (r : Record). calc_items schema t r.items) (db.records (record { rtype = t; number = n; generation = last n i })))
 
   pub ring_same : (s : ℕ) (q : Option (ℕ × ℕ)) → owner_at new q ≡ owner_at db q → new.lists s (owner_at db q) ≡ db.lists s (owner_at db q)
       → ((x : DbKey) → is_member x (members_of db s (owner_at db q)) ≡ true → sort_key schema new s x ≡ sort_key schema db s x)
@@ -69,7 +69,7 @@ module _ (schema : Lists) (capacity : ℕ) (db new : Database) where
       ((λ i. option_map (ring_of schema new s (owner i)) (new.lists s (owner i)))
       ∙ ap (option_map (ring_of schema new s (owner_at db q))) list
       ∙ option_agree (ring_of schema new s (owner_at db q)) (ring_of schema db s (owner_at db q)) (db.lists s (owner_at db q))
-          (λ xs e. λ i. record { owner = owner_at db q; members = map_agree (λ x. (x, sort_key schema new s x)) (λ x. (x, sort_key schema db s x)) xs (λ x m. λ j. (x, keys x (ap (λ (l : Option (List DbKey)). is_member x (unwrap_or l [])) e ∙ m) j)) i }))
+      (λ xs e. λ i. record { owner = owner_at db q; members = map_agree (λ x. (x, sort_key schema new s x)) (λ x. (x, sort_key schema db s x)) xs (λ x m. λ j. (x, keys x (ap (λ (l : Option (List DbKey)). is_member x (unwrap_or l [])) e ∙ m) j)) i }))
 
   -- an occurrence that is in neither
   pub ring_none : (s : ℕ) (q : Option (ℕ × ℕ)) → new.lists s (owner_at new q) ≡ None → db.lists s (owner_at db q) ≡ None → cell schema capacity new (Ring s q) ≡ cell schema capacity db (Ring s q)
@@ -87,7 +87,7 @@ module _ (schema : Lists) (capacity : ℕ) (db new : Database) where
       ((λ i. option_map (slot_of schema capacity new (e i)) (new.records (e i)))
       ∙ ap (option_map (slot_of schema capacity new k)) same
       ∙ option_agree (slot_of schema capacity new k) (slot_of schema capacity db k) (db.records k)
-          (λ r there. λ i. record { generation = k.generation; version = r.version; items = r.items; owners = map (λ s. owner s (ap is_some there) i) (set_numbers schema) }))
+      (λ r there. λ i. record { generation = k.generation; version = r.version; items = r.items; owners = map (λ s. owner s (ap is_some there) i) (set_numbers schema) }))
 
   -- WHERE THE SAME RECORDS ARE LIVE
 

@@ -40,10 +40,10 @@ stays_member gone x [] h = refl
 stays_member gone x (y ∷ ys) h =
     elim (cases_Bool (key_eq x y)) [
       | inl e ↦
-        let stays : not (is_member y gone) ≡ true = not_from_false _ (ap (λ (z : DbKey). is_member z gone) (sym (same_key x y e)) ∙ h) in
-        ap (is_member x) (cond-true (not (is_member y gone)) (y ∷ staying gone ys) (staying gone ys) stays) ∙ ap (λ b. key_eq x y || b) (stays_member gone x ys h)
+          let stays : not (is_member y gone) ≡ true = not_from_false _ (ap (λ (z : DbKey). is_member z gone) (sym (same_key x y e)) ∙ h) in
+          ap (is_member x) (cond-true (not (is_member y gone)) (y ∷ staying gone ys) (staying gone ys) stays) ∙ ap (λ b. key_eq x y || b) (stays_member gone x ys h)
       | inr e ↦
-        cond_both (not (is_member y gone)) (y ∷ staying gone ys) (staying gone ys) (λ zs. is_member x zs ≡ (key_eq x y || is_member x ys))
+          cond_both (not (is_member y gone)) (y ∷ staying gone ys) (staying gone ys) (λ zs. is_member x zs ≡ (key_eq x y || is_member x ys))
           (λ kept. ap (λ b. key_eq x y || b) (stays_member gone x ys h)) (λ left. stays_member gone x ys h ∙ ap (λ b. b || is_member x ys) (sym e))
     ]
 
@@ -60,7 +60,7 @@ module _ (schema : Lists) (capacity : ℕ) (db : Database) (unit : Unit) (option
   abbrev without_gone : Database
   without_gone = record db {
     records = λ x. cond (is_member x gone) None (db.records x);
-    lists = λ s o. cond (is_gone gone o) None (option_map (staying gone) (db.lists s o))
+    lists = λ s o. cond (is_gone gone o) None (option_map (staying gone) (db.lists s o));
   }
 
   staying_record : (x : DbKey) → is_member x gone ≡ false → without_gone.records x ≡ db.records x
@@ -82,29 +82,32 @@ module _ (schema : Lists) (capacity : ℕ) (db : Database) (unit : Unit) (option
     ring_at s q is_c = by_owner (owner_at db q) refl where
       same_place : (o : Owner) → owner_at db q ≡ o → c ≡ Ring s (place_of o)
       same_place o e = is_c ∙ ap (Ring s) (sym (place_of_owner_at db q) ∙ ap place_of e)
+
       same_at : owner_at after_delete q ≡ owner_at db q
       same_at = last_alone q where
         last_alone : (q : Option (ℕ × ℕ)) → owner_at after_delete q ≡ owner_at db q
         last_alone None = refl
         last_alone (Some p) = refl
+
       kept : (o : Owner) → owner_at db q ≡ o → is_gone gone o ≡ false → cell schema capacity after_delete (Ring s q) ≡ cell schema capacity db (Ring s q)
       kept o e h =
           let stay : (x : DbKey) → is_member x (members_of db s (owner_at db q)) ≡ true → is_member x gone ≡ false
-                = λ x m. false_from_ne_true _ (λ g. not_outer x s (owner_at db q) g m (same_place (owner_at db q) refl)) in
+          = λ x m. false_from_ne_true _ (λ g. not_outer x s (owner_at db q) g m (same_place (owner_at db q) refl)) in
           ring_same schema capacity db after_delete s q same_at
-            (cond-false (is_gone gone (owner_at db q)) None (option_map (staying gone) (db.lists s (owner_at db q))) (ap (is_gone gone) e ∙ h) ∙ same_list (db.lists s (owner_at db q)) stay)
-            (λ x m. ap (λ (i : Option (List Value)). key_item schema s x.rtype (unwrap_or i [])) (staying_of_items (λ items. items) x (stay x m))) where
-        same_list : (l : Option (List DbKey)) → ((x : DbKey) → is_member x (unwrap_or l []) ≡ true → is_member x gone ≡ false) → option_map (staying gone) l ≡ l
-        same_list None h = refl
-        same_list (Some list) h = ap Some (all_stay gone list h)
+          (cond-false (is_gone gone (owner_at db q)) None (option_map (staying gone) (db.lists s (owner_at db q))) (ap (is_gone gone) e ∙ h) ∙ same_list (db.lists s (owner_at db q)) stay)
+          (λ x m. ap (λ (i : Option (List Value)). key_item schema s x.rtype (unwrap_or i [])) (staying_of_items (λ items. items) x (stay x m))) where
+            same_list : (l : Option (List DbKey)) → ((x : DbKey) → is_member x (unwrap_or l []) ≡ true → is_member x gone ≡ false) → option_map (staying gone) l ≡ l
+            same_list None h = refl
+            same_list (Some list) h = ap Some (all_stay gone list h)
+
       by_owner : (o : Owner) → owner_at db q ≡ o → cell schema capacity after_delete (Ring s q) ≡ cell schema capacity db (Ring s q)
       by_owner System e = kept System e refl
       by_owner (Rec d) e =
           elim (cases_Bool (is_member d gone)) [
             | inr h ↦ kept (Rec d) e h
             | inl h ↦
-              let unowned : owns schema s d.rtype ≡ false = false_from_ne_true _ (λ own. not_ring d s h own (same_place (Rec d) e)) in
-              ring_none schema capacity db after_delete s q (ap (after_delete.lists s) (same_at ∙ e) ∙ no_list after_delete legal' s d unowned) (ap (db.lists s) e ∙ no_list db legal s d unowned)
+                let unowned : owns schema s d.rtype ≡ false = false_from_ne_true _ (λ own. not_ring d s h own (same_place (Rec d) e)) in
+                ring_none schema capacity db after_delete s q (ap (after_delete.lists s) (same_at ∙ e) ∙ no_list after_delete legal' s d unowned) (ap (db.lists s) e ∙ no_list db legal s d unowned)
           ]
 
     slot_at : (t n : ℕ) → c ≡ Slot t n → cell schema capacity after_delete (Slot t n) ≡ cell schema capacity db (Slot t n)
@@ -112,23 +115,24 @@ module _ (schema : Lists) (capacity : ℕ) (db : Database) (unit : Unit) (option
         let x = key_at db t n in
         let stays : is_member x gone ≡ false = false_from_ne_true _ (λ g. not_slot x g is_c) in
         let not_out : is_taken_out x ≡ false = false_from_ne_true _ (λ out.
-              let s = any_element (λ s. list_any (λ o. is_member x (members_of db s (Rec o))) gone) (set_numbers schema) (and_parts _ _ out).1 in
-              let d = any_element (λ o. is_member x (members_of db s.0 (Rec o))) gone s.2 in
-              not_member_slot d.0 s.0 x (in_member d.0 gone d.1) d.2 is_c) in
+        let s = any_element (λ s. list_any (λ o. is_member x (members_of db s (Rec o))) gone) (set_numbers schema) (and_parts _ _ out).1 in
+        let d = any_element (λ o. is_member x (members_of db s.0 (Rec o))) gone s.2 in
+        not_member_slot d.0 s.0 x (in_member d.0 gone d.1) d.2 is_c) in
         slot_same schema capacity db after_delete t n refl
-          (cond-false (is_taken_out x) (option_map next_version (without_gone.records x)) (without_gone.records x) not_out ∙ staying_record x stays)
-          (λ s live. owner_of_legal schema capacity db after_delete legal legal' s x (members_same x s stays (λ d g m. not_member_slot d s x g m is_c))) where
-      members_same : (x : DbKey) (s : ℕ) → is_member x gone ≡ false → ((d : DbKey) → is_member d gone ≡ true → is_member x (members_of db s (Rec d)) ≡ true → ⊥) → (o : Owner)
-          → is_member x (members_of after_delete s o) ≡ is_member x (members_of db s o)
-      members_same x s stays none o =
-          cond_both (is_gone gone o) None (option_map (staying gone) (db.lists s o)) (λ l. is_member x (unwrap_or l []) ≡ is_member x (members_of db s o))
-            (λ g. sym (false_from_ne_true _ (in_gone o g))) (λ g. kept (db.lists s o)) where
-        in_gone : (o : Owner) → is_gone gone o ≡ true → is_member x (members_of db s o) ≡ true → ⊥
-        in_gone System g m = false≢true g
-        in_gone (Rec d) g m = none d g m
-        kept : (l : Option (List DbKey)) → is_member x (unwrap_or (option_map (staying gone) l) []) ≡ is_member x (unwrap_or l [])
-        kept None = refl
-        kept (Some list) = stays_member gone x list stays
+        (cond-false (is_taken_out x) (option_map next_version (without_gone.records x)) (without_gone.records x) not_out ∙ staying_record x stays)
+        (λ s live. owner_of_legal schema capacity db after_delete legal legal' s x (members_same x s stays (λ d g m. not_member_slot d s x g m is_c))) where
+          members_same : (x : DbKey) (s : ℕ) → is_member x gone ≡ false → ((d : DbKey) → is_member d gone ≡ true → is_member x (members_of db s (Rec d)) ≡ true → ⊥) → (o : Owner)
+              → is_member x (members_of after_delete s o) ≡ is_member x (members_of db s o)
+          members_same x s stays none o =
+              cond_both (is_gone gone o) None (option_map (staying gone) (db.lists s o)) (λ l. is_member x (unwrap_or l []) ≡ is_member x (members_of db s o))
+              (λ g. sym (false_from_ne_true _ (in_gone o g))) (λ g. kept (db.lists s o)) where
+                in_gone : (o : Owner) → is_gone gone o ≡ true → is_member x (members_of db s o) ≡ true → ⊥
+                in_gone System g m = false≢true g
+                in_gone (Rec d) g m = none d g m
+
+                kept : (l : Option (List DbKey)) → is_member x (unwrap_or (option_map (staying gone) l) []) ≡ is_member x (unwrap_or l [])
+                kept None = refl
+                kept (Some list) = stays_member gone x list stays
 
     by_name : (e : CellName) → c ≡ e → cell schema capacity after_delete e ≡ cell schema capacity db e
     by_name (Usage a) is_c = usage_same schema capacity db after_delete a refl

@@ -35,9 +35,9 @@ raised_live test db x = cond_both (test x) (option_map next_version (db.records 
 pub raised_of_items : {X : Type 0} (f : List Value → X) (test : DbKey → Bool) (db : Database) (x : DbKey) → option_map (λ (r : Record). f r.items) ((raised test db).records x) ≡ option_map (λ (r : Record). f r.items) (db.records x)
 raised_of_items f test db x =
     cond_both (test x) (option_map next_version (db.records x)) (db.records x) (λ o. option_map (λ (r : Record). f r.items) o ≡ option_map (λ (r : Record). f r.items) (db.records x)) (λ e. kept (db.records x)) (λ e. refl) where
-  kept : (o : Option Record) → option_map (λ (r : Record). f r.items) (option_map next_version o) ≡ option_map (λ (r : Record). f r.items) o
-  kept None = refl
-  kept (Some r) = refl
+      kept : (o : Option Record) → option_map (λ (r : Record). f r.items) (option_map next_version o) ≡ option_map (λ (r : Record). f r.items) o
+      kept None = refl
+      kept (Some r) = refl
 
 pub raised_items : (test : DbKey → Bool) (db : Database) (x : DbKey) → items_of (raised test db) x ≡ items_of db x
 raised_items test db x = ap (λ (o : Option (List Value)). unwrap_or o []) (raised_of_items (λ items. items) test db x)
@@ -69,14 +69,14 @@ module _ (schema : Lists) (capacity : ℕ) (db : Database) (unit : Unit) (s : �
   inserted_local (Extent t) not_ring not_slot = extent_same schema capacity db after_insert t (λ n. refl) (λ x e. raised_of_items _ (key_eq k) (connected_in schema db unit (s ∷ []) k) x)
   inserted_local (Ring s' q) not_ring not_slot =
       ring_same schema capacity db after_insert s' q (owner_at_same schema capacity db after_insert (λ t n. refl) (λ x. raised_live (key_eq k) (connected_in schema db unit (s ∷ []) k) x) q)
-        (other_list s' (owner_at db q) (λ h.
-          let hs = and_parts _ _ h in
-          let place = current_owner_place schema unit s' (owner_at db q) hs.1 in
-          let same : s ≡ s' = only hs.0 in
-          not_ring place.0 (subst (λ n. place_in schema unit n ≡ Some place.0) (sym same) place.1) (λ i. Ring (sym same i) ((sym (place_of_owner_at db q) ∙ ap place_of (sym place.2)) i))))
-        (λ x m. ap (key_item schema s' x.rtype) (raised_items (key_eq k) (connected_in schema db unit (s ∷ []) k) x)) where
-    only : (eqb s s' || false) ≡ true → s ≡ s'
-    only h = elim (or_cases _ _ h) [ inl e ↦ eqb-true s s' e | inr e ↦ absurd (false≢true e) ]
+      (other_list s' (owner_at db q) (λ h.
+      let hs = and_parts _ _ h in
+      let place = current_owner_place schema unit s' (owner_at db q) hs.1 in
+      let same : s ≡ s' = only hs.0 in
+      not_ring place.0 (subst (λ n. place_in schema unit n ≡ Some place.0) (sym same) place.1) (λ i. Ring (sym same i) ((sym (place_of_owner_at db q) ∙ ap place_of (sym place.2)) i))))
+      (λ x m. ap (key_item schema s' x.rtype) (raised_items (key_eq k) (connected_in schema db unit (s ∷ []) k) x)) where
+        only : (eqb s s' || false) ≡ true → s ≡ s'
+        only h = elim (or_cases _ _ h) [ inl e ↦ eqb-true s s' e | inr e ↦ absurd (false≢true e) ]
   inserted_local (Slot t n) not_ring not_slot =
       slot_same schema capacity db after_insert t n refl (cond-false _ (option_map next_version (db.records (key_at db t n))) (db.records (key_at db t n)) (other_key db k t n not_slot))
-        (λ s' live. owner_of_same schema capacity db after_insert (λ u m. refl) (λ x. raised_live (key_eq k) (connected_in schema db unit (s ∷ []) k) x) s' (key_at db t n) (other_member (key_at db t n) (other_key' db k t n not_slot) s'))
+      (λ s' live. owner_of_same schema capacity db after_insert (λ u m. refl) (λ x. raised_live (key_eq k) (connected_in schema db unit (s ∷ []) k) x) s' (key_at db t n) (other_member (key_at db t n) (other_key' db k t n not_slot) s'))

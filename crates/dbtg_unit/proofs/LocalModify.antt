@@ -63,22 +63,22 @@ module _ (schema : Lists) (capacity : ℕ) (db : Database) (unit : Unit) (change
       raised_of_items f (key_eq k) placed_anew k
       ∙ ap (option_map (λ (r : Record). f r.items)) (cond-true (key_eq k k) (option_map (with_its_items items_now) (db.records k)) (db.records k) (key_eq-refl k))
       ∙ kept (db.records k) where
-    kept : (o : Option Record) → option_map (λ (r : Record). f r.items) (option_map (with_its_items items_now) o) ≡ option_map (λ (r : Record). f items_now) o
-    kept None = refl
-    kept (Some r) = refl
+        kept : (o : Option Record) → option_map (λ (r : Record). f r.items) (option_map (with_its_items items_now) o) ≡ option_map (λ (r : Record). f items_now) o
+        kept None = refl
+        kept (Some r) = refl
 
   other_list : (s : ℕ) (o : Owner) → (among s renamed ≡ true → is_member k (members_of db s o) ≡ true → ⊥) → after_modify.lists s o ≡ db.lists s o
   other_list s o h =
       cond-false (among s renamed && is_member k (members_of db s o)) (option_map (λ list. joined schema placed_anew unit s k (without k list)) (db.lists s o)) (db.lists s o)
-        (false_from_ne_true _ (λ e. let es = and_parts _ _ e in h es.0 es.1))
+      (false_from_ne_true _ (λ e. let es = and_parts _ _ e in h es.0 es.1))
 
   other_member : (x : DbKey) → key_eq x k ≡ false → (s : ℕ) (o : Owner) → is_member x (members_of after_modify s o) ≡ is_member x (members_of db s o)
   other_member x h s o =
       cond_both (among s renamed && is_member k (members_of db s o)) (option_map (λ list. joined schema placed_anew unit s k (without k list)) (db.lists s o)) (db.lists s o)
-        (λ l. is_member x (unwrap_or l []) ≡ is_member x (members_of db s o)) (λ e. moved (db.lists s o)) (λ e. refl) where
-    moved : (l : Option (List DbKey)) → is_member x (unwrap_or (option_map (λ list. joined schema placed_anew unit s k (without k list)) l) []) ≡ is_member x (unwrap_or l [])
-    moved None = refl
-    moved (Some list) = any-placed (key_eq x) _ k (without k list) ∙ ap (λ b. b || is_member x (without k list)) h ∙ member-without k x list h
+      (λ l. is_member x (unwrap_or l []) ≡ is_member x (members_of db s o)) (λ e. moved (db.lists s o)) (λ e. refl) where
+        moved : (l : Option (List DbKey)) → is_member x (unwrap_or (option_map (λ list. joined schema placed_anew unit s k (without k list)) l) []) ≡ is_member x (unwrap_or l [])
+        moved None = refl
+        moved (Some list) = any-placed (key_eq x) _ k (without k list) ∙ ap (λ b. b || is_member x (without k list)) h ∙ member-without k x list h
 
   -- the CALC values of a record whose extent is not named
   calc_kept : (t : ℕ) → (names_calc schema k.rtype changes ≡ true → Extent t ≡ Extent k.rtype → ⊥) → (x : DbKey) → x.rtype ≡ t
@@ -87,16 +87,16 @@ module _ (schema : Lists) (capacity : ℕ) (db : Database) (unit : Unit) (change
       elim (cases_Bool (key_eq k x)) [
         | inr other ↦ ap (option_map (λ (r : Record). calc_items schema t r.items)) (other_record x other)
         | inl same ↦
-          let e : k ≡ x = same_key k x same in
-          let type : k.rtype ≡ t = ap (λ (y : DbKey). y.rtype) e ∙ is_t in
-          let unnamed : names_calc schema t changes ≡ false = false_from_ne_true _ (λ named. free (subst (λ u. names_calc schema u changes ≡ true) (sym type) named) (ap Extent (sym type))) in
-          subst (λ (y : DbKey). option_map (λ (r : Record). calc_items schema t r.items) (after_modify.records y) ≡ option_map (λ (r : Record). calc_items schema t r.items) (db.records y)) e
+            let e : k ≡ x = same_key k x same in
+            let type : k.rtype ≡ t = ap (λ (y : DbKey). y.rtype) e ∙ is_t in
+            let unnamed : names_calc schema t changes ≡ false = false_from_ne_true _ (λ named. free (subst (λ u. names_calc schema u changes ≡ true) (sym type) named) (ap Extent (sym type))) in
+            subst (λ (y : DbKey). option_map (λ (r : Record). calc_items schema t r.items) (after_modify.records y) ≡ option_map (λ (r : Record). calc_items schema t r.items) (db.records y)) e
             (own_of_items (calc_items schema t) ∙ same_calc (db.records k) refl unnamed)
       ] where
-    same_calc : (o : Option Record) → db.records k ≡ o → names_calc schema t changes ≡ false → option_map (λ (r : Record). calc_items schema t items_now) o ≡ option_map (λ (r : Record). calc_items schema t r.items) o
-    same_calc None at unnamed = refl
-    same_calc (Some r) at unnamed =
-        ap Some (same_calc_items schema t changes (items_of db k) unnamed ∙ ap (λ (o : Option Record). calc_items schema t (unwrap_or (option_map (λ (r : Record). r.items) o) [])) at)
+        same_calc : (o : Option Record) → db.records k ≡ o → names_calc schema t changes ≡ false → option_map (λ (r : Record). calc_items schema t items_now) o ≡ option_map (λ (r : Record). calc_items schema t r.items) o
+        same_calc None at unnamed = refl
+        same_calc (Some r) at unnamed =
+            ap Some (same_calc_items schema t changes (items_of db k) unnamed ∙ ap (λ (o : Option Record). calc_items schema t (unwrap_or (option_map (λ (r : Record). r.items) o) [])) at)
 
   -- the sort key of a member of a list that is not placed anew
   key_kept : (s : ℕ) (o : Owner) → is_live db k ≡ true → (among s renamed ≡ true → is_member k (members_of db s o) ≡ true → ⊥) → (x : DbKey) → is_member x (members_of db s o) ≡ true → sort_key schema after_modify s x ≡ sort_key schema db s x
@@ -104,14 +104,14 @@ module _ (schema : Lists) (capacity : ℕ) (db : Database) (unit : Unit) (change
       elim (cases_Bool (key_eq k x)) [
         | inr other ↦ ap (key_item schema s x.rtype) (other_items x other)
         | inl same ↦
-          let e : k ≡ x = same_key k x same in
-          let unnamed : among s renamed ≡ false = false_from_ne_true _ (λ named. free named (subst (λ (y : DbKey). is_member y (members_of db s o) ≡ true) (sym e) m)) in
-          subst (λ (y : DbKey). sort_key schema after_modify s y ≡ sort_key schema db s y) e
+            let e : k ≡ x = same_key k x same in
+            let unnamed : among s renamed ≡ false = false_from_ne_true _ (λ named. free named (subst (λ (y : DbKey). is_member y (members_of db s o) ≡ true) (sym e) m)) in
+            subst (λ (y : DbKey). sort_key schema after_modify s y ≡ sort_key schema db s y) e
             (ap (λ (i : Option (List Value)). key_item schema s k.rtype (unwrap_or i [])) (own_of_items (λ items. items)) ∙ of_live (db.records k) live ∙ same_key_item schema s k.rtype changes (items_of db k) unnamed)
       ] where
-    of_live : (r : Option Record) → is_some r ≡ true → key_item schema s k.rtype (unwrap_or (option_map (λ (r : Record). items_now) r) []) ≡ key_item schema s k.rtype items_now
-    of_live None h = absurd (false≢true h)
-    of_live (Some r) h = refl
+        of_live : (r : Option Record) → is_some r ≡ true → key_item schema s k.rtype (unwrap_or (option_map (λ (r : Record). items_now) r) []) ≡ key_item schema s k.rtype items_now
+        of_live None h = absurd (false≢true h)
+        of_live (Some r) h = refl
 
   pub modified_local : is_live db k ≡ true → (c : CellName)
       → ((s : ℕ) (o : Owner) → among s renamed ≡ true → is_member k (members_of db s o) ≡ true → c ≡ Ring s (place_of o) → ⊥)
@@ -122,7 +122,7 @@ module _ (schema : Lists) (capacity : ℕ) (db : Database) (unit : Unit) (change
   modified_local live (Ring s q) not_ring not_extent not_slot =
       let free : among s renamed ≡ true → is_member k (members_of db s (owner_at db q)) ≡ true → ⊥ = λ named m. not_ring s (owner_at db q) named m (ap (Ring s) (sym (place_of_owner_at db q))) in
       ring_same schema capacity db after_modify s q (owner_at_same schema capacity db after_modify (λ t n. refl) live_same q)
-        (other_list s (owner_at db q) free) (key_kept s (owner_at db q) live free)
+      (other_list s (owner_at db q) free) (key_kept s (owner_at db q) live free)
   modified_local live (Slot t n) not_ring not_extent not_slot =
       slot_same schema capacity db after_modify t n refl (other_record (key_at db t n) (other_key db k t n not_slot))
-        (λ s l. owner_of_same schema capacity db after_modify (λ u m. refl) live_same s (key_at db t n) (other_member (key_at db t n) (other_key' db k t n not_slot) s))
+      (λ s l. owner_of_same schema capacity db after_modify (λ u m. refl) live_same s (key_at db t n) (other_member (key_at db t n) (other_key' db k t n not_slot) s))

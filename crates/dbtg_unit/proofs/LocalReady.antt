@@ -27,6 +27,10 @@ use Rattle.dbtg_unit.specs.Hands.{Hands}
 use Rattle.dbtg_unit.specs.Legal.{Legal}
 use Rattle.dbtg_unit.specs.Local.{Agrees, holds}
 use Rattle.dbtg_unit.specs.Needs.{areas_in_order, cells_of, is_stale, need, need_of_cells, next_of, stale_owners}
+use Rattle.dbtg_schema.specs.WellFormed.{IsSchema}
+use Rattle.dbtg_unit.specs.Belongs.{IsUnitOf, IsWithin}
+use Rattle.dbtg_unit.specs.Fits.{fits}
+use Rattle.dbtg_unit.proofs.LegalEffect.{effect_step}
 use Rattle.dbtg_unit.proofs.Outcomes.{of_current, of_finding}
 use Rattle.dbtg_unit.proofs.LiveKeys.{In, any_element}
 use Rattle.dbtg_unit.proofs.ReadingCells.{same_name, name_eq-refl}
@@ -52,8 +56,8 @@ all_held cells [] h c i = absurd i
 all_held cells (d ∷ names) h c i =
     elim (cases_Bool (list_any (λ e. name_eq d e.0) cells)) [
       | inl held ↦
-        let rest = subst (λ b. cond (not b) (Some d) (find (λ c. not (list_any (λ e. name_eq c e.0) cells)) names) ≡ None) held h in
-        elim i [ inl e ↦ subst (λ (x : CellName). holds cells x ≡ true) e (sym (holds_any cells d) ∙ held) | inr j ↦ all_held cells names rest c j ]
+          let rest = subst (λ b. cond (not b) (Some d) (find (λ c. not (list_any (λ e. name_eq c e.0) cells)) names) ≡ None) held h in
+          elim i [ inl e ↦ subst (λ (x : CellName). holds cells x ≡ true) e (sym (holds_any cells d) ∙ held) | inr j ↦ all_held cells names rest c j ]
       | inr wanting ↦ absurd (none-some d (sym (subst (λ b. cond (not b) (Some d) (find (λ c. not (list_any (λ e. name_eq c e.0) cells)) names) ≡ None) wanting h)))
     ]
 
@@ -61,7 +65,7 @@ all_held cells (d ∷ names) h c i =
 pub not_named : (cells : List (CellName × Cell)) (names : List CellName) → ((c : CellName) → In c names → holds cells c ≡ true) → (c : CellName) → holds cells c ≡ false → list_any (name_eq c) names ≡ false
 not_named cells names held c h =
     false_from_ne_true _ (λ m. let d = any_element (name_eq c) names m in
-      false≢true (sym h ∙ ap (holds cells) (same_name c d.0 d.2) ∙ held d.0 d.1))
+    false≢true (sym h ∙ ap (holds cells) (same_name c d.0 d.2) ∙ held d.0 d.1))
 
 second_passes : (b d : Bool) (x y : Cause) (rest : Option Cause) → cond b (Some x) (cond d (Some y) rest) ≡ None → d ≡ false
 second_passes true d x y rest h = absurd (none-some x (sym h))
@@ -75,11 +79,11 @@ module _ (schema : Lists) (capacity : ℕ) (db : Database) (unit : Unit) (hands 
   unfolding need
   ready_has statement passes h =
       let r = ready_parts
-            (find (λ a. not (list_any (λ b. b == a) hands.areas)) (areas_in_order schema unit statement))
-            (find (λ c. not (list_any (λ e. name_eq c e.0) hands.cells)) (cells_of schema capacity db unit hands.guesses statement))
-            (is_stale schema capacity db unit hands.guesses statement)
-            (stale_owners schema capacity db unit hands.guesses statement)
-            (subst (λ (o : Option Cause). cond (is_some o) Ready (need_of_cells schema capacity db unit hands statement) ≡ Ready) passes h) in
+      (find (λ a. not (list_any (λ b. b == a) hands.areas)) (areas_in_order schema unit statement))
+      (find (λ c. not (list_any (λ e. name_eq c e.0) hands.cells)) (cells_of schema capacity db unit hands.guesses statement))
+      (is_stale schema capacity db unit hands.guesses statement)
+      (stale_owners schema capacity db unit hands.guesses statement)
+      (subst (λ (o : Option Cause). cond (is_some o) Ready (need_of_cells schema capacity db unit hands statement) ≡ Ready) passes h) in
       (all_held hands.cells (cells_of schema capacity db unit hands.guesses statement) r.0, r.1)
 
   -- the current of run-unit of a MODIFY is of its type
@@ -115,3 +119,9 @@ module _ (schema : Lists) (capacity : ℕ) (db : Database) (unit : Unit) (hands 
     by_refusal None e l =
         let has = ready_has statement e ready in
         stays agrees.legal statement e has.1 l c (not_named hands.cells (cells_of schema capacity db unit hands.guesses statement) has.0 c free)
+
+-- the effect of a statement that fits leaves a legal database
+pub legal_after : (schema : Lists) (capacity : ℕ) (db : Database) (unit : Unit) (hands : Hands) → IsSchema schema → IsUnitOf schema unit → IsWithin capacity unit → (statement : Statement) → fits schema statement ≡ true
+    → Agrees schema capacity db hands unit → Legal schema capacity (effect schema capacity db unit statement).database
+legal_after schema capacity db unit hands schema_is of_schema within statement fit agrees =
+    (effect_step schema capacity db unit unit.number schema_is agrees.legal (record { number_is = refl; of_schema = of_schema; within = within; usage = agrees.usage }) statement fit).legal

@@ -63,9 +63,9 @@ once_kept met [] c i = absurd i
 once_kept met (x ∷ xs) c i =
     elim (cases_Bool (list_any (name_eq x) met)) [
       | inl h ↦ subst (λ b. (list_any (name_eq c) met ≡ true) ⊎ (list_any (name_eq c) (cond b (names_once met xs) (x ∷ names_once (x ∷ met) xs)) ≡ true)) (sym h)
-        (⊎_elim (λ e. inl (subst (λ (y : CellName). list_any (name_eq y) met ≡ true) e h)) (λ j. once_kept met xs c j) i)
+          (⊎_elim (λ e. inl (subst (λ (y : CellName). list_any (name_eq y) met ≡ true) e h)) (λ j. once_kept met xs c j) i)
       | inr h ↦ subst (λ b. (list_any (name_eq c) met ≡ true) ⊎ (list_any (name_eq c) (cond b (names_once met xs) (x ∷ names_once (x ∷ met) xs)) ≡ true)) (sym h)
-        (⊎_elim
+          (⊎_elim
           (λ e. inr (or_left _ _ (subst (λ (y : CellName). name_eq c y ≡ true) (sym e) (name_eq-refl c))))
           (λ j. ⊎_elim (λ m. ⊎_elim (λ here. inr (or_left _ _ here)) (λ there. inl there) (or_cases _ _ m)) (λ r. inr (or_right _ _ r)) (once_kept (x ∷ met) xs c j))
           i)
@@ -82,9 +82,9 @@ set_of_owner schema s t h =
     let set = of_chain (slice_get schema.sets s) owner.0 owner.1 in
     let below = slice_get_within schema.sets s set.0 set.1 in
     in_range (length schema.sets) 0 s (omega arith) (omega arith) where
-  of_chain : (set : Option SetType) (t : ℕ) → option_and_then (λ (x : SetType). x.owner) set ≡ Some t → (x : SetType) × (set ≡ Some x)
-  of_chain None t e = absurd (none-some t e)
-  of_chain (Some x) t e = (x, refl)
+      of_chain : (set : Option SetType) (t : ℕ) → option_and_then (λ (x : SetType). x.owner) set ≡ Some t → (x : SetType) × (set ≡ Some x)
+      of_chain None t e = absurd (none-some t e)
+      of_chain (Some x) t e = (x, refl)
 
 -- GUESSES
 
@@ -98,9 +98,9 @@ module _ (schema : Lists) (capacity : ℕ) (db : Database) (unit : Unit) (guesse
       → (s : ℕ) (o : Owner) → In s (guessed_sets schema unit statement) → is_member k (members_of db s o) ≡ true → at guesses s ≡ Some o
   guess_is statement k fresh current live s o needed m =
       right_guess o (at guesses s) (false_from_ne_true _ (λ wrong. false≢true (sym fresh
-        ∙ ap (some_and (λ (x : DbKey). is_live db x && list_any (λ s'. is_wrong_guess (owner_of schema capacity db s' x) (at guesses s')) (guessed_sets schema unit statement))) current
-        ∙ and_from _ _ live (any_in (λ s'. is_wrong_guess (owner_of schema capacity db s' k) (at guesses s')) s (guessed_sets schema unit statement) needed
-            (ap (λ (p : Option Owner). is_wrong_guess p (at guesses s)) (owner_is schema capacity db legal s o k m) ∙ wrong)))))
+      ∙ ap (some_and (λ (x : DbKey). is_live db x && list_any (λ s'. is_wrong_guess (owner_of schema capacity db s' x) (at guesses s')) (guessed_sets schema unit statement))) current
+      ∙ and_from _ _ live (any_in (λ s'. is_wrong_guess (owner_of schema capacity db s' k) (at guesses s')) s (guessed_sets schema unit statement) needed
+      (ap (λ (p : Option Owner). is_wrong_guess p (at guesses s)) (owner_is schema capacity db legal s o k m) ∙ wrong)))))
 
   -- the ring of a guess that is the owner's is named
   ring_in_names : (s : ℕ) (o : Owner) (guess : Option Owner) → guess ≡ Some o → In (Ring s (place_of o)) (ring_names s guess)
@@ -125,44 +125,44 @@ module _ (schema : Lists) (capacity : ℕ) (db : Database) (unit : Unit) (guesse
   pub of_remove : (s : ℕ) → is_stale schema capacity db unit guesses (Remove s) ≡ false → Stays (Remove s) (effect_on_cells schema capacity db unit (Remove s))
   of_remove s fresh =
       of_current db unit (Stays (Remove s)) (λ cause legal' c h. refl) unit.currency.run_unit _ _ (λ k e checks legal' c h.
-        let split = passes-append (own_checks db unit k) ((is_none (owner_of schema capacity db s k), NotMember) ∷ []) checks in
-        let owner = some_is (owner_of schema capacity db s k) (not_none (owner_of schema capacity db s k) (passes (is_none (owner_of schema capacity db s k), NotMember) [] split.1).0) in
-        let has = member_of_owner schema capacity db legal s owner.0 k owner.1 in
-        let guess = guess_is (Remove s) k fresh e (own_live k _ checks) s owner.0 (inl refl) has in
-        removed_local schema capacity db unit s k legal owner.0 has c
-          (λ is. not_it c (Ring s (place_of owner.0)) _ h (in_left _ (ring_names s (at guesses s)) (slot_names unit.currency.run_unit) (ring_in_names s owner.0 (at guesses s) guess)) is)
-          (λ is. not_it c (slot_name k) _ h (in_right _ (ring_names s (at guesses s)) (slot_names unit.currency.run_unit) (slot_in_names k e)) is)) where
-    not_none : {X : Type 0} (o : Option X) → is_none o ≡ false → is_some o ≡ true
-    not_none None h = absurd (false≢true (sym h))
-    not_none (Some x) h = refl
+      let split = passes-append (own_checks db unit k) ((is_none (owner_of schema capacity db s k), NotMember) ∷ []) checks in
+      let owner = some_is (owner_of schema capacity db s k) (not_none (owner_of schema capacity db s k) (passes (is_none (owner_of schema capacity db s k), NotMember) [] split.1).0) in
+      let has = member_of_owner schema capacity db legal s owner.0 k owner.1 in
+      let guess = guess_is (Remove s) k fresh e (own_live k _ checks) s owner.0 (inl refl) has in
+      removed_local schema capacity db unit s k legal owner.0 has c
+      (λ is. not_it c (Ring s (place_of owner.0)) _ h (in_left _ (ring_names s (at guesses s)) (slot_names unit.currency.run_unit) (ring_in_names s owner.0 (at guesses s) guess)) is)
+      (λ is. not_it c (slot_name k) _ h (in_right _ (ring_names s (at guesses s)) (slot_names unit.currency.run_unit) (slot_in_names k e)) is)) where
+        not_none : {X : Type 0} (o : Option X) → is_none o ≡ false → is_some o ≡ true
+        not_none None h = absurd (false≢true (sym h))
+        not_none (Some x) h = refl
 
   pub of_insert : (s : ℕ) → Stays (Insert s) (effect_on_cells schema capacity db unit (Insert s))
   of_insert s =
       of_current db unit (Stays (Insert s)) (λ cause legal' c h. refl) unit.currency.run_unit _ _ (λ k e checks legal' c h.
-        inserted_local schema capacity db unit s k c
-          (λ place stands is. not_it c (Ring s (place_of place.owner)) _ h
-            (in_left _ (ring_names s (current_owner schema unit s)) (slot_names unit.currency.run_unit) (ring_in_names s place.owner (current_owner schema unit s) (ap (option_map (λ (p : Place). p.owner)) stands))) is)
-          (λ is. not_it c (slot_name k) _ h (in_right _ (ring_names s (current_owner schema unit s)) (slot_names unit.currency.run_unit) (slot_in_names k e)) is))
+      inserted_local schema capacity db unit s k c
+      (λ place stands is. not_it c (Ring s (place_of place.owner)) _ h
+      (in_left _ (ring_names s (current_owner schema unit s)) (slot_names unit.currency.run_unit) (ring_in_names s place.owner (current_owner schema unit s) (ap (option_map (λ (p : Place). p.owner)) stands))) is)
+      (λ is. not_it c (slot_name k) _ h (in_right _ (ring_names s (current_owner schema unit s)) (slot_names unit.currency.run_unit) (slot_in_names k e)) is))
 
   pub of_modify : (t : ℕ) (changes : List Change) → is_stale schema capacity db unit guesses (Modify t changes) ≡ false → ((k : DbKey) → unit.currency.run_unit ≡ Some k → k.rtype ≡ t)
       → Stays (Modify t changes) (effect_on_cells schema capacity db unit (Modify t changes))
   of_modify t changes fresh typed =
       of_current db unit (Stays (Modify t changes)) (λ cause legal' c h. refl) unit.currency.run_unit _ _ (λ k e checks legal' c h.
-        let is_t = typed k e in
-        let live = own_live k _ checks in
-        let extents : List CellName = if names_calc schema t changes then Extent t ∷ [] else [] in
-        let rings : List CellName = flat_map (λ s. ring_names s (at guesses s)) (rekeyed_sets schema t (map (λ (c : Change). c.item) changes)) in
-        modified_local schema capacity db unit changes k live c
-          (λ s o named has is.
-            let here : In s (rekeyed_sets schema t (map (λ (c : Change). c.item) changes)) = subst (λ u. In s (rekeyed_sets schema u (map (λ (c : Change). c.item) changes))) is_t (number_of_test s (rekeyed_sets schema k.rtype (map (λ (c : Change). c.item) changes)) named) in
-            let guess = guess_is (Modify t changes) k fresh e live s o here has in
-            not_it c (Ring s (place_of o)) _ h (in_left _ (extents ++ rings) (slot_names unit.currency.run_unit) (in_right _ extents rings (in_flat_map (λ s. ring_names s (at guesses s)) s _ _ here (ring_in_names s o (at guesses s) guess)))) is)
-          (λ named is.
-            let named' : names_calc schema t changes ≡ true = subst (λ u. names_calc schema u changes ≡ true) is_t named in
-            not_it c (Extent t) _ h (in_left _ (extents ++ rings) (slot_names unit.currency.run_unit) (in_left _ extents rings (subst (λ b. In (Extent t) (cond b (Extent t ∷ []) [])) (sym named') (inl refl)))) (is ∙ ap Extent is_t))
-          (λ is. not_it c (slot_name k) _ h (in_right _ (extents ++ rings) (slot_names unit.currency.run_unit) (slot_in_names k e)) is)) where
-    number_of_test : (s : ℕ) (sets : List ℕ) → among s sets ≡ true → In s sets
-    number_of_test s sets h = let e = any_element (λ s'. eqb s' s) sets h in subst (λ n. In n sets) (eqb-true e.0 s e.2) e.1
+      let is_t = typed k e in
+      let live = own_live k _ checks in
+      let extents : List CellName = if names_calc schema t changes then Extent t ∷ [] else [] in
+      let rings : List CellName = flat_map (λ s. ring_names s (at guesses s)) (rekeyed_sets schema t (map (λ (c : Change). c.item) changes)) in
+      modified_local schema capacity db unit changes k live c
+      (λ s o named has is.
+      let here : In s (rekeyed_sets schema t (map (λ (c : Change). c.item) changes)) = subst (λ u. In s (rekeyed_sets schema u (map (λ (c : Change). c.item) changes))) is_t (number_of_test s (rekeyed_sets schema k.rtype (map (λ (c : Change). c.item) changes)) named) in
+      let guess = guess_is (Modify t changes) k fresh e live s o here has in
+      not_it c (Ring s (place_of o)) _ h (in_left _ (extents ++ rings) (slot_names unit.currency.run_unit) (in_right _ extents rings (in_flat_map (λ s. ring_names s (at guesses s)) s _ _ here (ring_in_names s o (at guesses s) guess)))) is)
+      (λ named is.
+      let named' : names_calc schema t changes ≡ true = subst (λ u. names_calc schema u changes ≡ true) is_t named in
+      not_it c (Extent t) _ h (in_left _ (extents ++ rings) (slot_names unit.currency.run_unit) (in_left _ extents rings (subst (λ b. In (Extent t) (cond b (Extent t ∷ []) [])) (sym named') (inl refl)))) (is ∙ ap Extent is_t))
+      (λ is. not_it c (slot_name k) _ h (in_right _ (extents ++ rings) (slot_names unit.currency.run_unit) (slot_in_names k e)) is)) where
+        number_of_test : (s : ℕ) (sets : List ℕ) → among s sets ≡ true → In s sets
+        number_of_test s sets h = let e = any_element (λ s'. eqb s' s) sets h in subst (λ n. In n sets) (eqb-true e.0 s e.2) e.1
 
   abbrev opened : ℕ → Mode → Outcome
   opened a mode = done (record db { usage = λ b. if b == a then db.usage b ++ (unit.number, mode) ∷ [] else db.usage b }) (record unit { modes = slice_set unit.modes a (Some mode) }) None None
@@ -221,59 +221,59 @@ module _ (schema : Lists) (capacity : ℕ) (db : Database) (unit : Unit) (guesse
   pub of_store : (t : ℕ) (items : List Value) (suppress : Suppress) → Stays (Store t items suppress) (effect_on_cells schema capacity db unit (Store t items suppress))
   of_store t items suppress =
       of_unless db unit (Stays (Store t items suppress)) (λ cause legal' c h. refl) (first_cause (store_checks schema capacity db unit t items))
-        (stored schema capacity db unit (new_key db t (unwrap_or (free_number capacity db t) 0)) items suppress)
-        (λ checks legal' c h.
-          let n = unwrap_or (free_number capacity db t) 0 in
-          let k = new_key db t n in
-          let rest = flat_map (λ s. place_checks schema db unit s (key_item schema s t items)) (automatic_sets schema t) in
-          let first = passes (is_none (free_number capacity db t), NoRoom) ((calc_taken schema capacity db t items (λ k. false), DuplicatesNotAllowed) ∷ rest) checks in
-          let second = passes (calc_taken schema capacity db t items (λ k. false), DuplicatesNotAllowed) rest first.1 in
-          let free : free_number capacity db t ≡ Some n = there (free_number capacity db t) first.0 in
-          let names : List CellName = Extent t ∷ (store_rings schema unit k ++ slot_name k ∷ []) in
-          let others : list_any (name_eq c) names ≡ false
-                = sym (λ i. list_any (name_eq c) (Extent t ∷ store_cells schema unit capacity db t (free i) (second.0 i))) ∙ h in
-          stored_local schema capacity db unit t n items legal legal' c
-            (λ is. not_it c (Extent t) names others (inl refl) is)
-            (λ is. not_it c (Slot t n) names others (inr (in_right _ (store_rings schema unit k) (slot_name k ∷ []) (inl refl))) is)
-            (λ s place joins stands is. not_it c (Ring s (place_of place.owner)) names others
-              (inr (in_left _ (store_rings schema unit k) (slot_name k ∷ []) (in_flat_map (rings_of k) s _ (set_numbers schema) (automatic_set s t joins)
-                (in_left _ (joined_rings t s) (owned_rings t n s) (subst (λ b. In (Ring s (place_of place.owner)) (cond b (ring_names s (current_owner schema unit s)) [])) (sym joins)
-                  (ring_in_names s place.owner (current_owner schema unit s) (ap (option_map (λ (p : Place). p.owner)) stands))))))) is)
-            (λ s own is. not_it c (Ring s (Some (t, n))) names others
-              (inr (in_left _ (store_rings schema unit k) (slot_name k ∷ []) (in_flat_map (rings_of k) s _ (set_numbers schema) (set_of_owner schema s t own)
-                (in_right _ (joined_rings t s) (owned_rings t n s) (subst (λ b. In (Ring s (Some (t, n))) (cond b (Ring s (Some (t, n)) ∷ []) [])) (sym own) (inl refl)))))) is))
+      (stored schema capacity db unit (new_key db t (unwrap_or (free_number capacity db t) 0)) items suppress)
+      (λ checks legal' c h.
+      let n = unwrap_or (free_number capacity db t) 0 in
+      let k = new_key db t n in
+      let rest = flat_map (λ s. place_checks schema db unit s (key_item schema s t items)) (automatic_sets schema t) in
+      let first = passes (is_none (free_number capacity db t), NoRoom) ((calc_taken schema capacity db t items (λ k. false), DuplicatesNotAllowed) ∷ rest) checks in
+      let second = passes (calc_taken schema capacity db t items (λ k. false), DuplicatesNotAllowed) rest first.1 in
+      let free : free_number capacity db t ≡ Some n = there (free_number capacity db t) first.0 in
+      let names : List CellName = Extent t ∷ (store_rings schema unit k ++ slot_name k ∷ []) in
+      let others : list_any (name_eq c) names ≡ false
+      = sym (λ i. list_any (name_eq c) (Extent t ∷ store_cells schema unit capacity db t (free i) (second.0 i))) ∙ h in
+      stored_local schema capacity db unit t n items legal legal' c
+      (λ is. not_it c (Extent t) names others (inl refl) is)
+      (λ is. not_it c (Slot t n) names others (inr (in_right _ (store_rings schema unit k) (slot_name k ∷ []) (inl refl))) is)
+      (λ s place joins stands is. not_it c (Ring s (place_of place.owner)) names others
+      (inr (in_left _ (store_rings schema unit k) (slot_name k ∷ []) (in_flat_map (rings_of k) s _ (set_numbers schema) (automatic_set s t joins)
+      (in_left _ (joined_rings t s) (owned_rings t n s) (subst (λ b. In (Ring s (place_of place.owner)) (cond b (ring_names s (current_owner schema unit s)) [])) (sym joins)
+      (ring_in_names s place.owner (current_owner schema unit s) (ap (option_map (λ (p : Place). p.owner)) stands))))))) is)
+      (λ s own is. not_it c (Ring s (Some (t, n))) names others
+      (inr (in_left _ (store_rings schema unit k) (slot_name k ∷ []) (in_flat_map (rings_of k) s _ (set_numbers schema) (set_of_owner schema s t own)
+      (in_right _ (joined_rings t s) (owned_rings t n s) (subst (λ b. In (Ring s (Some (t, n))) (cond b (Ring s (Some (t, n)) ∷ []) [])) (sym own) (inl refl)))))) is))
 
   pub of_delete : (option : Erase) → Stays (Delete option) (effect_on_cells schema capacity db unit (Delete option))
   of_delete option =
       of_current db unit (Stays (Delete option)) (λ cause legal' c h. refl) unit.currency.run_unit _ _ (λ k e checks legal' c h.
-        let split = passes-append (own_checks db unit k) ((is_plain option && has_members schema db k, OwnerHasMembers) ∷ []) checks in
-        let met = doomed_in_turn schema capacity db option k in
-        let live = own_live k _ checks in
-        let names = slot_name k ∷ own_rings schema k ++ flat_map (cells_of_doomed schema db) met ++ outer_cells schema capacity db met in
-        let named : delete_cells_of schema capacity db unit option unit.currency.run_unit ≡ names_once [] names
-              = ap (delete_cells_of schema capacity db unit option) e
-              ∙ cond-false (is_some (first_cause (own_checks db unit k))) (slot_name k ∷ []) _ (ap is_some split.0)
-              ∙ cond-false (is_plain option && has_members schema db k) _ _ (passes (is_plain option && has_members schema db k, OwnerHasMembers) [] split.1).0 in
-        let others : list_any (name_eq c) (names_once [] names) ≡ false = ap (list_any (name_eq c)) (sym named) ∙ h in
-        let turn : (d : DbKey) → is_member d (doomed schema capacity db option k) ≡ true → In d met = λ d g. member_in d met (doomed_is_met schema capacity db legal option k live d g) in
-        let of_one : (d : DbKey) (x : CellName) → is_member d (doomed schema capacity db option k) ≡ true → In x (cells_of_doomed schema db d) → c ≡ x → ⊥
-              = λ d x g i is. once_has names c x others
-                  (inr (in_left x (own_rings schema k ++ flat_map (cells_of_doomed schema db) met) (outer_cells schema capacity db met)
-                    (in_right x (own_rings schema k) (flat_map (cells_of_doomed schema db) met) (in_flat_map (cells_of_doomed schema db) d x met (turn d g) i)))) is in
-        let of_outer : (x : CellName) → In x (outer_cells schema capacity db met) → c ≡ x → ⊥
-              = λ x i is. once_has names c x others
-                  (inr (in_right x (own_rings schema k ++ flat_map (cells_of_doomed schema db) met) (outer_cells schema capacity db met) i)) is in
-        deleted_local schema capacity db unit option k legal legal' c
-          (λ d g is. of_one d (slot_name d) g (inl refl) is)
-          (λ d s x g m is. of_one d (slot_name x) g
-            (inr (in_right _ (own_rings schema d) _ (in_map slot_name x _ (in_flat_map (λ s. members_of db s (Rec d)) s x (set_numbers schema) (set_of_member schema s x.rtype (legal.members s (Rec d) x m).1) (member_in x (members_of db s (Rec d)) m))))) is)
-          (λ d s g own is. of_one d (Ring s (Some (d.rtype, d.number))) g
-            (inr (in_left _ (own_rings schema d) _ (in_map (λ s. Ring s (Some (d.rtype, d.number))) s _ (in_filter (λ s. owns schema s d.rtype) s (set_numbers schema) (set_of_owner schema s d.rtype own) own)))) is)
-          (λ d s o g m is. of_outer (Ring s (place_of o)) (in_right _ (extents_of met) (rings_with met)
-            (in_flat_map (λ s. map (λ o. Ring s (place_of o)) (filter (λ o. list_any (λ d. is_member d (members_of db s o)) met) (owners schema capacity db s))) s _ (set_numbers schema)
-              (set_of_member schema s d.rtype (legal.members s o d m).1)
-              (in_map (λ o. Ring s (place_of o)) o _ (in_filter (λ o. list_any (λ d. is_member d (members_of db s o)) met) o (owners schema capacity db s) (owner_in schema capacity db legal s o (listed schema capacity db legal s o d m))
-                (any_in (λ d. is_member d (members_of db s o)) d met (turn d g) m))))) is)
-          (λ d g is. of_outer (Extent d.rtype) (in_left _ (extents_of met) (rings_with met)
-            (in_map Extent d.rtype _ (in_filter (λ t. list_any (λ d. eqb d.rtype t) met) d.rtype (range_with_len 0 (length schema.types)) (type_in option d k live g)
-              (any_in (λ x. eqb x.rtype d.rtype) d met (turn d g) (eq-eqb d.rtype d.rtype refl))))) is))
+      let split = passes-append (own_checks db unit k) ((is_plain option && has_members schema db k, OwnerHasMembers) ∷ []) checks in
+      let met = doomed_in_turn schema capacity db option k in
+      let live = own_live k _ checks in
+      let names = slot_name k ∷ own_rings schema k ++ flat_map (cells_of_doomed schema db) met ++ outer_cells schema capacity db met in
+      let named : delete_cells_of schema capacity db unit option unit.currency.run_unit ≡ names_once [] names
+      = ap (delete_cells_of schema capacity db unit option) e
+      ∙ cond-false (is_some (first_cause (own_checks db unit k))) (slot_name k ∷ []) _ (ap is_some split.0)
+      ∙ cond-false (is_plain option && has_members schema db k) _ _ (passes (is_plain option && has_members schema db k, OwnerHasMembers) [] split.1).0 in
+      let others : list_any (name_eq c) (names_once [] names) ≡ false = ap (list_any (name_eq c)) (sym named) ∙ h in
+      let turn : (d : DbKey) → is_member d (doomed schema capacity db option k) ≡ true → In d met = λ d g. member_in d met (doomed_is_met schema capacity db legal option k live d g) in
+      let of_one : (d : DbKey) (x : CellName) → is_member d (doomed schema capacity db option k) ≡ true → In x (cells_of_doomed schema db d) → c ≡ x → ⊥
+      = λ d x g i is. once_has names c x others
+      (inr (in_left x (own_rings schema k ++ flat_map (cells_of_doomed schema db) met) (outer_cells schema capacity db met)
+      (in_right x (own_rings schema k) (flat_map (cells_of_doomed schema db) met) (in_flat_map (cells_of_doomed schema db) d x met (turn d g) i)))) is in
+      let of_outer : (x : CellName) → In x (outer_cells schema capacity db met) → c ≡ x → ⊥
+      = λ x i is. once_has names c x others
+      (inr (in_right x (own_rings schema k ++ flat_map (cells_of_doomed schema db) met) (outer_cells schema capacity db met) i)) is in
+      deleted_local schema capacity db unit option k legal legal' c
+      (λ d g is. of_one d (slot_name d) g (inl refl) is)
+      (λ d s x g m is. of_one d (slot_name x) g
+      (inr (in_right _ (own_rings schema d) _ (in_map slot_name x _ (in_flat_map (λ s. members_of db s (Rec d)) s x (set_numbers schema) (set_of_member schema s x.rtype (legal.members s (Rec d) x m).1) (member_in x (members_of db s (Rec d)) m))))) is)
+      (λ d s g own is. of_one d (Ring s (Some (d.rtype, d.number))) g
+      (inr (in_left _ (own_rings schema d) _ (in_map (λ s. Ring s (Some (d.rtype, d.number))) s _ (in_filter (λ s. owns schema s d.rtype) s (set_numbers schema) (set_of_owner schema s d.rtype own) own)))) is)
+      (λ d s o g m is. of_outer (Ring s (place_of o)) (in_right _ (extents_of met) (rings_with met)
+      (in_flat_map (λ s. map (λ o. Ring s (place_of o)) (filter (λ o. list_any (λ d. is_member d (members_of db s o)) met) (owners schema capacity db s))) s _ (set_numbers schema)
+      (set_of_member schema s d.rtype (legal.members s o d m).1)
+      (in_map (λ o. Ring s (place_of o)) o _ (in_filter (λ o. list_any (λ d. is_member d (members_of db s o)) met) o (owners schema capacity db s) (owner_in schema capacity db legal s o (listed schema capacity db legal s o d m))
+      (any_in (λ d. is_member d (members_of db s o)) d met (turn d g) m))))) is)
+      (λ d g is. of_outer (Extent d.rtype) (in_left _ (extents_of met) (rings_with met)
+      (in_map Extent d.rtype _ (in_filter (λ t. list_any (λ d. eqb d.rtype t) met) d.rtype (range_with_len 0 (length schema.types)) (type_in option d k live g)
+      (any_in (λ x. eqb x.rtype d.rtype) d met (turn d g) (eq-eqb d.rtype d.rtype refl))))) is))

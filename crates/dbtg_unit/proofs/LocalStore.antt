@@ -79,26 +79,26 @@ module _ (schema : Lists) (capacity : ℕ) (db : Database) (unit : Unit) (t n : 
     stored_local (Usage a) not_extent not_slot not_joined not_owned = usage_same schema capacity db after_store a refl
     stored_local (Extent u) not_extent not_slot not_joined not_owned =
         extent_same schema capacity db after_store u (λ m. other_last u m (λ e f. not_extent (ap Extent e)))
-          (λ x is_u. ap (option_map (λ (r : Record). calc_items schema u r.items)) (other_record x (false_from_ne_true _ (λ e. not_extent (ap Extent (sym is_u ∙ ap (λ (y : DbKey). y.rtype) (sym (same_key k x e))))))))
+        (λ x is_u. ap (option_map (λ (r : Record). calc_items schema u r.items)) (other_record x (false_from_ne_true _ (λ e. not_extent (ap Extent (sym is_u ∙ ap (λ (y : DbKey). y.rtype) (sym (same_key k x e))))))))
     stored_local (Ring s q) not_extent not_slot not_joined not_owned =
         elim (cases_Bool (place_eq q (Some (t, n)))) [
           | inl h ↦
-            let e = same_place q (Some (t, n)) h in
-            let unowned : owns schema s t ≡ false = false_from_ne_true _ (λ own. not_owned s own (ap (Ring s) e)) in
-            subst (λ (p : Option (ℕ × ℕ)). cell schema capacity after_store (Ring s p) ≡ cell schema capacity db (Ring s p)) (sym e)
+              let e = same_place q (Some (t, n)) h in
+              let unowned : owns schema s t ≡ false = false_from_ne_true _ (λ own. not_owned s own (ap (Ring s) e)) in
+              subst (λ (p : Option (ℕ × ℕ)). cell schema capacity after_store (Ring s p) ≡ cell schema capacity db (Ring s p)) (sym e)
               (ring_none schema capacity db after_store s (Some (t, n)) (no_list after_store legal' s n unowned) (no_list db legal s n unowned))
           | inr h ↦
-            ring_same schema capacity db after_store s q (other_place q h)
+              ring_same schema capacity db after_store s q (other_place q h)
               (other_list s (owner_at db q)
-                (λ j. let js = and_parts _ _ j in let place = current_owner_place schema unit s (owner_at db q) js.1 in
-                  not_joined s place.0 js.0 place.1 (ap (Ring s) (sym (place_of_owner_at db q) ∙ ap place_of (sym place.2))))
-                (λ j. let js = and_parts _ _ j in
-                  false≢true (sym h ∙ ap (λ p. place_eq p (Some (t, n))) (sym (place_of_owner_at db q) ∙ ap place_of (sym (same_owner (Rec k) (owner_at db q) js.1))) ∙ place_eq-refl (Some (t, n)))))
+              (λ j. let js = and_parts _ _ j in let place = current_owner_place schema unit s (owner_at db q) js.1 in
+              not_joined s place.0 js.0 place.1 (ap (Ring s) (sym (place_of_owner_at db q) ∙ ap place_of (sym place.2))))
+              (λ j. let js = and_parts _ _ j in
+              false≢true (sym h ∙ ap (λ p. place_eq p (Some (t, n))) (sym (place_of_owner_at db q) ∙ ap place_of (sym (same_owner (Rec k) (owner_at db q) js.1))) ∙ place_eq-refl (Some (t, n)))))
               (λ x m. ap (λ (o : Option Record). key_item schema s x.rtype (unwrap_or (option_map (λ (r : Record). r.items) o) [])) (other_record x (other_live x (legal.members s (owner_at db q) x m).0)))
         ]
     stored_local (Slot u m) not_extent not_slot not_joined not_owned =
         let x = key_at db u m in
         slot_same schema capacity db after_store u m (other_last u m (λ e f. not_slot (λ i. Slot (e i) (f i))))
-          (other_record x (false_from_ne_true _ (λ e. not_slot (λ i. Slot ((sym (same_key k x e) i).rtype) ((sym (same_key k x e) i).number)))))
-          (λ s live. owner_of_legal schema capacity db after_store legal legal' s x
-            (other_member x (false_from_ne_true _ (λ e. not_slot (λ i. Slot ((same_key x k e i).rtype) ((same_key x k e i).number)))) s))
+        (other_record x (false_from_ne_true _ (λ e. not_slot (λ i. Slot ((sym (same_key k x e) i).rtype) ((sym (same_key k x e) i).number)))))
+        (λ s live. owner_of_legal schema capacity db after_store legal legal' s x
+        (other_member x (false_from_ne_true _ (λ e. not_slot (λ i. Slot ((same_key x k e i).rtype) ((same_key x k e i).number)))) s))

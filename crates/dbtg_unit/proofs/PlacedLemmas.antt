@@ -149,11 +149,11 @@ parts {X} c (x ∷ xs) h =
     elim (cases_Bool (c x)) [
       | inl e ↦ subst (λ b. goal b) (sym e) (ap (λ ys. x ∷ ys) (parts c xs (and_parts _ _ h).1))
       | inr e ↦
-        let rest : list_all (λ y. not (c y)) xs ≡ true = subst (λ b. list_all (λ y. b || not (c y)) xs ≡ true) e (and_parts _ _ h).0 in
-        subst (λ b. goal b) (sym e) ((λ i. filter-none c xs rest i ++ x ∷ filter-all (λ y. not (c y)) xs rest i))
+          let rest : list_all (λ y. not (c y)) xs ≡ true = subst (λ b. list_all (λ y. b || not (c y)) xs ≡ true) e (and_parts _ _ h).0 in
+          subst (λ b. goal b) (sym e) ((λ i. filter-none c xs rest i ++ x ∷ filter-all (λ y. not (c y)) xs rest i))
     ] where
-  goal : Bool → Type 0
-  goal b = cond b (x ∷ filter c xs) (filter c xs) ++ cond (not b) (x ∷ filter (λ y. not (c y)) xs) (filter (λ y. not (c y)) xs) ≡ x ∷ xs
+      goal : Bool → Type 0
+      goal b = cond b (x ∷ filter c xs) (filter c xs) ++ cond (not b) (x ∷ filter (λ y. not (c y)) xs) (filter (λ y. not (c y)) xs) ≡ x ∷ xs
 
 -- what is kept of a list is kept of it with a new member that goes
 pub filter-placed : {X : Type 0} (p : X → Bool) (spot : Spot X) (m : X) (xs : List X) → p m ≡ false → divides spot xs ≡ true → filter p (placed spot m xs) ≡ filter p xs
@@ -209,9 +209,9 @@ pairwise-among {X} r c m xs across sides h =
     let low : list_all (λ x. r x m) (filter c xs) ≡ true = all-both c (on_its_side r c m) (λ x. r x m) (filter c xs) (λ x e s. subst (λ b. cond b (r x m) (r m x) ≡ true) e s) (all-kept c xs) (all-filter (on_its_side r c m) c xs sides) in
     let high : list_all (r m) (filter others xs) ≡ true = all-both others (on_its_side r c m) (r m) (filter others xs) (λ x e s. subst (λ b. cond b (r x m) (r m x) ≡ true) (not-true (c x) e) s) (all-kept others xs) (all-filter (on_its_side r c m) others xs sides) in
     pairwise-append r (filter c xs) (m ∷ filter others xs) (pairwise-filter r c xs h) (and_from _ _ high (pairwise-filter r others xs h))
-      (all-both c (λ x. r x m) (λ x. list_all (r x) (m ∷ filter others xs)) (filter c xs)
-        (λ x e l. and_from _ _ l (all-both others (r m) (r x) (filter others xs) (λ y f g. across x y e (not-true (c y) f) l g) (all-kept others xs) high))
-        (all-kept c xs) low)
+    (all-both c (λ x. r x m) (λ x. list_all (r x) (m ∷ filter others xs)) (filter c xs)
+    (λ x e l. and_from _ _ l (all-both others (r m) (r x) (filter others xs) (λ y f g. across x y e (not-true (c y) f) l g) (all-kept others xs) high))
+    (all-kept c xs) low)
 
 module _ {X : Type 0} (r : X → X → Bool) (same : (x y : X) → r x y ≡ true → r y x ≡ true) where
   -- each kept element with each other one
@@ -254,7 +254,7 @@ module _ {X : Type 0} (r : X → X → Bool) (same : (x y : X) → r x y ≡ tru
   pairwise-placed (Among c) m xs h g =
       let others : X → Bool = λ x. not (c x) in
       pairwise-append r (filter c xs) (m ∷ filter others xs) (pairwise-filter r c xs g) (and_from _ _ (all-filter (r m) others xs h) (pairwise-filter r others xs g))
-        (all-both (r m) (λ z. list_all (r z) (filter others xs)) (λ z. list_all (r z) (m ∷ filter others xs)) (filter c xs) (λ z e f. and_from _ _ (same m z e) f) (all-filter (r m) c xs h) (across c xs g))
+      (all-both (r m) (λ z. list_all (r z) (filter others xs)) (λ z. list_all (r z) (m ∷ filter others xs)) (filter c xs) (λ z e f. and_from _ _ (same m z e) f) (all-filter (r m) c xs h) (across c xs g))
 
 -- THE PLACE
 

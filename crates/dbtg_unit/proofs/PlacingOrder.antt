@@ -50,7 +50,6 @@ clash h g = absurd (false≢true (sym h ∙ g))
 
 -- EACH RULE FOR EQUAL KEYS
 
-
 -- a test that is false, since it would be a contradiction
 not_so : (b : Bool) → (b ≡ true → ⊥) → not b ≡ true
 not_so b h = not_from_false b (false_from_ne_true b h)
@@ -95,9 +94,9 @@ divided up LastAmongEqual x y m j k h =
       ]
       | inr l ↦ or_left _ _ (not_from_false _ l)
     ] where
-  -- y is not m and m is not below y
-  other_side : (y m : Option Value) → comparable y m ≡ true → option_value_eq y m ≡ false → key_below up m y ≡ false → key_below up y m ≡ true
-  other_side y m k e n = elim (cases_Bool (key_below up y m)) [ inl t ↦ t | inr t ↦ clash n (key_below-either up y m k e t) ]
+      -- y is not m and m is not below y
+      other_side : (y m : Option Value) → comparable y m ≡ true → option_value_eq y m ≡ false → key_below up m y ≡ false → key_below up y m ≡ true
+      other_side y m k e n = elim (cases_Bool (key_below up y m)) [ inl t ↦ t | inr t ↦ clash n (key_below-either up y m k e t) ]
 divided up FirstAmongEqual x y m j k h =
     elim (cases_Bool (key_below up x m)) [
       | inl l ↦ or_left _ _ l
@@ -142,19 +141,20 @@ module _ (position : Option DbKey) (key : DbKey → Option Value) (m : DbKey) (l
       → IsPlaced (Sorted up duplicates) position key m list (placed (spot (Sorted up duplicates) position key m) m list)
   sorted_at up duplicates kinds apart in_order right =
       placed_at (Sorted up duplicates)
-        (pairwise-weaker (λ x y. keys_in_order (Sorted up duplicates) (key x) (key y)) _ (λ x. comparable (key x) (key m)) list (λ x y j k h. divided up duplicates (key x) (key y) (key m) j k h) kinds in_order)
-        (pairwise-among (λ x y. keys_in_order (Sorted up duplicates) (key x) (key y)) (λ x. comes_before up duplicates (key x) (key m)) m list
-          (λ x y c d h g. across up duplicates (key x) (key y) (key m) c d h g)
-          (all-both (λ x. comparable (key x) (key m)) (λ x. not (refuses_equal (Sorted up duplicates) && option_value_eq (key x) (key m))) _ list (λ x k e. side_of up duplicates (key x) (key m) k (not-true _ e)) kinds (none_equal duplicates apart))
-          in_order)
-        right where
-    all_true : (xs : List DbKey) → list_all (λ y. true) xs ≡ true
-    all_true [] = refl
-    all_true (x ∷ xs) = all_true xs
-    none_equal : (duplicates : Duplicates) → (refuses_equal (Sorted up duplicates) && has_equal key m list) ≡ false → list_all (λ x. not (refuses_equal (Sorted up duplicates) && option_value_eq (key x) (key m))) list ≡ true
-    none_equal NotAllowed apart = all_from_none _ list apart
-    none_equal FirstAmongEqual apart = all_true list
-    none_equal LastAmongEqual apart = all_true list
+      (pairwise-weaker (λ x y. keys_in_order (Sorted up duplicates) (key x) (key y)) _ (λ x. comparable (key x) (key m)) list (λ x y j k h. divided up duplicates (key x) (key y) (key m) j k h) kinds in_order)
+      (pairwise-among (λ x y. keys_in_order (Sorted up duplicates) (key x) (key y)) (λ x. comes_before up duplicates (key x) (key m)) m list
+      (λ x y c d h g. across up duplicates (key x) (key y) (key m) c d h g)
+      (all-both (λ x. comparable (key x) (key m)) (λ x. not (refuses_equal (Sorted up duplicates) && option_value_eq (key x) (key m))) _ list (λ x k e. side_of up duplicates (key x) (key m) k (not-true _ e)) kinds (none_equal duplicates apart))
+      in_order)
+      right where
+        all_true : (xs : List DbKey) → list_all (λ y. true) xs ≡ true
+        all_true [] = refl
+        all_true (x ∷ xs) = all_true xs
+
+        none_equal : (duplicates : Duplicates) → (refuses_equal (Sorted up duplicates) && has_equal key m list) ≡ false → list_all (λ x. not (refuses_equal (Sorted up duplicates) && option_value_eq (key x) (key m))) list ≡ true
+        none_equal NotAllowed apart = all_from_none _ list apart
+        none_equal FirstAmongEqual apart = all_true list
+        none_equal LastAmongEqual apart = all_true list
 
   divides_after : (p : Option DbKey) → divides (after_position p) list ≡ true
   divides_after None = refl
@@ -181,12 +181,12 @@ module _ (position : Option DbKey) (key : DbKey → Option Value) (m : DbKey) (l
   placing_keeps_order (Sorted up FirstAmongEqual) kinds apart in_order =
       let before_m : DbKey → Bool = λ x. key_below up (key x) (key m) in
       sorted_at up FirstAmongEqual kinds apart in_order
-        (ap (has_equal key m) (in_front_of_it (key_eq m) m (filter before_m list) _ (key_eq-refl m) (low_part before_m))
-        ∙ none_from_all _ (filter before_m list) (all-weaker before_m _ (filter before_m list) (λ x l. not_so _ (λ e. key_below-irrefl up (key m) (subst (λ (z : Option Value). key_below up z (key m) ≡ true) (same_option_value (key x) (key m) e) l))) (all-kept before_m list)))
+      (ap (has_equal key m) (in_front_of_it (key_eq m) m (filter before_m list) _ (key_eq-refl m) (low_part before_m))
+      ∙ none_from_all _ (filter before_m list) (all-weaker before_m _ (filter before_m list) (λ x l. not_so _ (λ e. key_below-irrefl up (key m) (subst (λ (z : Option Value). key_below up z (key m) ≡ true) (same_option_value (key x) (key m) e) l))) (all-kept before_m list)))
   placing_keeps_order (Sorted up LastAmongEqual) kinds apart in_order =
       let before_m : DbKey → Bool = λ x. not (key_below up (key m) (key x)) in
       let after_m : DbKey → Bool = λ x. not (not (key_below up (key m) (key x))) in
       sorted_at up LastAmongEqual kinds apart in_order
-        (ap (has_equal key m) (behind_it (key_eq m) m (filter before_m list) _ (key_eq-refl m) (low_part before_m))
-        ∙ none_from_all _ (filter after_m list) (all-weaker after_m _ (filter after_m list) (λ x l. not_so _ (λ e. key_below-irrefl up (key m) (subst (λ (z : Option Value). key_below up (key m) z ≡ true) (same_option_value (key x) (key m) e) (not-false _ (not-true _ l))))) (all-kept after_m list)))
+      (ap (has_equal key m) (behind_it (key_eq m) m (filter before_m list) _ (key_eq-refl m) (low_part before_m))
+      ∙ none_from_all _ (filter after_m list) (all-weaker after_m _ (filter after_m list) (λ x l. not_so _ (λ e. key_below-irrefl up (key m) (subst (λ (z : Option Value). key_below up (key m) z ≡ true) (same_option_value (key x) (key m) e) (not-false _ (not-true _ l))))) (all-kept after_m list)))
   placing_keeps_order (Sorted up NotAllowed) kinds apart in_order = sorted_at up NotAllowed kinds apart in_order apart

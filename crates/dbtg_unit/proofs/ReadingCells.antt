@@ -77,8 +77,8 @@ held_cell schema capacity db [] c x agree h = absurd (none-some x h)
 held_cell schema capacity db (e ∷ es) c x agree h =
     elim (cases_Bool (name_eq c e.0)) [
       | inl same ↦
-        let is : e.1 ≡ x = same_Some e.1 x (subst (λ b. cond b (Some e.1) (cell_of c es) ≡ Some x) same h) in
-        ap shown (sym is) ∙ agree.0 ∙ ap (cell schema capacity db) (sym (same_name c e.0 same))
+          let is : e.1 ≡ x = same_Some e.1 x (subst (λ b. cond b (Some e.1) (cell_of c es) ≡ Some x) same h) in
+          ap shown (sym is) ∙ agree.0 ∙ ap (cell schema capacity db) (sym (same_name c e.0 same))
       | inr other ↦ held_cell schema capacity db es c x agree.1 (subst (λ b. cond b (Some e.1) (cell_of c es) ≡ Some x) other h)
     ]
 
@@ -145,18 +145,19 @@ module _ (schema : Lists) (capacity : ℕ) (db : Database) (legal : Legal schema
       let is : occurrence ≡ option_map (ring_of schema db s p) (db.lists s p) = ap ring_in h in
       elim (cases_Bool (owner_eq p o)) [
         | inl same ↦
-          let e : p ≡ o = same_owner p o same in
-          ap (db.lists s) (sym e) ∙ here p same (db.lists s p) ∙ ap (λ (r : Option Occurrence). list_in r o) (sym is)
+            let e : p ≡ o = same_owner p o same in
+            ap (db.lists s) (sym e) ∙ here p same (db.lists s p) ∙ ap (λ (r : Option Occurrence). list_in r o) (sym is)
         | inr other ↦
-          none_is (db.lists s o) (legal.pairs s o ∙ false_from_ne_true _ (λ has. absurd (false≢true (sym other ∙ ap (λ (q : Owner). owner_eq q o) (standing s o has) ∙ owner_eq-refl o))))
-          ∙ there p other (db.lists s p) ∙ ap (λ (r : Option Occurrence). list_in r o) (sym is)
+            none_is (db.lists s o) (legal.pairs s o ∙ false_from_ne_true _ (λ has. absurd (false≢true (sym other ∙ ap (λ (q : Owner). owner_eq q o) (standing s o has) ∙ owner_eq-refl o))))
+            ∙ there p other (db.lists s p) ∙ ap (λ (r : Option Occurrence). list_in r o) (sym is)
       ] where
-    here : (p : Owner) → owner_eq p o ≡ true → (l : Option (List DbKey)) → l ≡ list_in (option_map (ring_of schema db s p) l) o
-    here p same None = refl
-    here p same (Some list) = sym (cond-true _ _ _ same ∙ ap Some (firsts-pairs (sort_key schema db s) list))
-    there : (p : Owner) → owner_eq p o ≡ false → (l : Option (List DbKey)) → None ≡ list_in (option_map (ring_of schema db s p) l) o
-    there p other None = refl
-    there p other (Some list) = sym (cond-false _ _ _ other)
+        here : (p : Owner) → owner_eq p o ≡ true → (l : Option (List DbKey)) → l ≡ list_in (option_map (ring_of schema db s p) l) o
+        here p same None = refl
+        here p same (Some list) = sym (cond-true _ _ _ same ∙ ap Some (firsts-pairs (sort_key schema db s) list))
+
+        there : (p : Owner) → owner_eq p o ≡ false → (l : Option (List DbKey)) → None ≡ list_in (option_map (ring_of schema db s p) l) o
+        there p other None = refl
+        there p other (Some list) = sym (cond-false _ _ _ other)
 
   -- the sort keys in a ring
   pub ring_keys_read : (s : ℕ) (o : Owner) (occurrence : Occurrence) → RingValue (Some occurrence) ≡ cell schema capacity db (Ring s (place_of o)) → owner_eq occurrence.owner o ≡ true
@@ -165,12 +166,12 @@ module _ (schema : Lists) (capacity : ℕ) (db : Database) (legal : Legal schema
   ring_keys_read s o occurrence h same =
       let p = owner_at db (place_of o) in
       found_in p (db.lists s p) (ap ring_in h) refl where
-    found_in : (p : Owner) (l : Option (List DbKey)) → Some occurrence ≡ option_map (ring_of schema db s p) l → db.lists s p ≡ l → occurrence.members ≡ map (λ k. (k, sort_key schema db s k)) (members_of db s o)
-    found_in p None h e = absurd (none-some occurrence (sym h))
-    found_in p (Some list) h e =
-        let is : occurrence ≡ ring_of schema db s p list = same_Some occurrence _ h in
-        let owner : p ≡ o = sym (ap (λ (r : Occurrence). r.owner) is) ∙ same_owner occurrence.owner o same in
-        ap (λ (r : Occurrence). r.members) is ∙ ap (λ (l : Option (List DbKey)). map (λ k. (k, sort_key schema db s k)) (unwrap_or l [])) (sym e ∙ ap (db.lists s) owner)
+        found_in : (p : Owner) (l : Option (List DbKey)) → Some occurrence ≡ option_map (ring_of schema db s p) l → db.lists s p ≡ l → occurrence.members ≡ map (λ k. (k, sort_key schema db s k)) (members_of db s o)
+        found_in p None h e = absurd (none-some occurrence (sym h))
+        found_in p (Some list) h e =
+            let is : occurrence ≡ ring_of schema db s p list = same_Some occurrence _ h in
+            let owner : p ≡ o = sym (ap (λ (r : Occurrence). r.owner) is) ∙ same_owner occurrence.owner o same in
+            ap (λ (r : Occurrence). r.members) is ∙ ap (λ (l : Option (List DbKey)). map (λ k. (k, sort_key schema db s k)) (unwrap_or l [])) (sym e ∙ ap (db.lists s) owner)
 
   pub slot_reads : (k : DbKey) (slot : Option Stored) → SlotValue slot ≡ cell schema capacity db (Slot k.rtype k.number) → db.records k ≡ record_at slot k
   unfolding cell
@@ -179,18 +180,19 @@ module _ (schema : Lists) (capacity : ℕ) (db : Database) (legal : Legal schema
       let is : slot ≡ option_map (slot_of schema capacity db x) (db.records x) = ap slot_in h in
       elim (cases_Bool (eqb (db.last k.rtype k.number) k.generation)) [
         | inl same ↦
-          let e : x ≡ k = λ i. record { rtype = k.rtype; number = k.number; generation = eqb-true _ _ same i } in
-          ap db.records (sym e) ∙ here same (db.records x) ∙ ap (λ (r : Option Stored). record_at r k) (sym is)
+            let e : x ≡ k = λ i. record { rtype = k.rtype; number = k.number; generation = eqb-true _ _ same i } in
+            ap db.records (sym e) ∙ here same (db.records x) ∙ ap (λ (r : Option Stored). record_at r k) (sym is)
         | inr other ↦
-          none_is (db.records k) (false_from_ne_true _ (λ live. absurd (false≢true (sym other ∙ eq-eqb _ _ (sym (legal.keys k live).4)))))
-          ∙ there other (db.records x) ∙ ap (λ (r : Option Stored). record_at r k) (sym is)
+            none_is (db.records k) (false_from_ne_true _ (λ live. absurd (false≢true (sym other ∙ eq-eqb _ _ (sym (legal.keys k live).4)))))
+            ∙ there other (db.records x) ∙ ap (λ (r : Option Stored). record_at r k) (sym is)
       ] where
-    here : eqb (db.last k.rtype k.number) k.generation ≡ true → (r : Option Record) → r ≡ record_at (option_map (slot_of schema capacity db (key_at db k.rtype k.number)) r) k
-    here same None = refl
-    here same (Some r) = sym (cond-true _ _ _ same)
-    there : eqb (db.last k.rtype k.number) k.generation ≡ false → (r : Option Record) → None ≡ record_at (option_map (slot_of schema capacity db (key_at db k.rtype k.number)) r) k
-    there other None = refl
-    there other (Some r) = sym (cond-false _ _ _ other)
+        here : eqb (db.last k.rtype k.number) k.generation ≡ true → (r : Option Record) → r ≡ record_at (option_map (slot_of schema capacity db (key_at db k.rtype k.number)) r) k
+        here same None = refl
+        here same (Some r) = sym (cond-true _ _ _ same)
+
+        there : eqb (db.last k.rtype k.number) k.generation ≡ false → (r : Option Record) → None ≡ record_at (option_map (slot_of schema capacity db (key_at db k.rtype k.number)) r) k
+        there other None = refl
+        there other (Some r) = sym (cond-false _ _ _ other)
 
   -- the owners of the record in a slot
   pub slot_owners_read : (k : DbKey) (stored : Stored) → SlotValue (Some stored) ≡ cell schema capacity db (Slot k.rtype k.number) → eqb stored.generation k.generation ≡ true → stored.owners ≡ owners_of schema capacity db k
@@ -233,6 +235,7 @@ module _ (schema : Lists) (capacity : ℕ) (db : Database) (legal : Legal schema
     calc_reads k is_t = by_number k.number refl where
       dead : is_live db k ≡ false → option_map (λ (r : Record). calc_items schema t r.items) (db.records k) ≡ None
       dead not_live = ap (option_map (λ (r : Record). calc_items schema t r.items)) (none_is (db.records k) not_live)
+
       by_number : (n : ℕ) → k.number ≡ n → option_map (λ (r : Record). calc_items schema t r.items) (db.records k) ≡ calc_in numbers n k
       by_number zero e = dead (false_from_ne_true _ (λ live. let low = (legal.keys k live).1 in absurd (omega arith)))
       by_number (suc n) e =
@@ -240,16 +243,16 @@ module _ (schema : Lists) (capacity : ℕ) (db : Database) (legal : Legal schema
           (λ below. within n e below ∙ sym (ap (option_and_then (λ (m : Number). calc_at m k)) (number_reads n below)))
           (λ above. dead (false_from_ne_true _ (λ live. let high = (legal.keys k live).2 in absurd (omega arith))) ∙ sym (ap (option_and_then (λ (m : Number). calc_at m k)) (number_past n above)))
           (cases_lt n capacity) where
-        within : (n : ℕ) → k.number ≡ suc n → n < capacity → option_map (λ (r : Record). calc_items schema t r.items) (db.records k) ≡ calc_at (number_of schema db t (suc n)) k
-        within n e below =
-            elim (cases_Bool (eqb (db.last t (suc n)) k.generation)) [
-              | inl same ↦
-                let x : key_at db t (suc n) ≡ k = λ i. record { rtype = sym is_t i; number = sym e i; generation = eqb-true _ _ same i } in
-                ap (λ (y : DbKey). option_map (λ (r : Record). calc_items schema t r.items) (db.records y)) (sym x) ∙ sym (cond-true _ _ _ same)
-              | inr other ↦
-                dead (false_from_ne_true _ (λ live. absurd (false≢true (sym other ∙ eq-eqb _ _ (sym ((legal.keys k live).4 ∙ (λ i. db.last (is_t i) (e i))))))))
-                ∙ sym (cond-false _ _ _ other)
-            ]
+            within : (n : ℕ) → k.number ≡ suc n → n < capacity → option_map (λ (r : Record). calc_items schema t r.items) (db.records k) ≡ calc_at (number_of schema db t (suc n)) k
+            within n e below =
+                elim (cases_Bool (eqb (db.last t (suc n)) k.generation)) [
+                  | inl same ↦
+                      let x : key_at db t (suc n) ≡ k = λ i. record { rtype = sym is_t i; number = sym e i; generation = eqb-true _ _ same i } in
+                      ap (λ (y : DbKey). option_map (λ (r : Record). calc_items schema t r.items) (db.records y)) (sym x) ∙ sym (cond-true _ _ _ same)
+                  | inr other ↦
+                      dead (false_from_ne_true _ (λ live. absurd (false≢true (sym other ∙ eq-eqb _ _ (sym ((legal.keys k live).4 ∙ (λ i. db.last (is_t i) (e i))))))))
+                      ∙ sym (cond-false _ _ _ other)
+                ]
 
     -- whether a key of the type is live
     pub live_reads : (k : DbKey) → k.rtype ≡ t → is_live db k ≡ is_some (calc_in numbers k.number k)

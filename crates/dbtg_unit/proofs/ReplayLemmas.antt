@@ -104,9 +104,11 @@ other_unit schema capacity state entry number h = by_unit entry.unit number h wh
   by_number : (m number : ℕ) (outcome : Outcome) → (suc m ≡ number → ⊥) → unit_of (after state (suc m) outcome) number ≡ unit_of state number
   by_number m zero outcome h = refl
   by_number m (suc n) outcome h = ap (λ i. slice_get (slice_set state.units i outcome.unit) n) (omega arith) ∙ slice_get-set_other state.units m n outcome.unit (λ e. h (ap suc e))
+
   by_outcome : (m number : ℕ) → (suc m ≡ number → ⊥) → (outcome : Option Outcome) → unit_of (after_outcome state (suc m) outcome) number ≡ unit_of state number
   by_outcome m number h None = refl
   by_outcome m number h (Some outcome) = by_number m number outcome h
+
   by_unit : (m number : ℕ) → (m ≡ number → ⊥) → unit_of (after_outcome state m (outcome_of schema capacity state m entry.statement)) number ≡ unit_of state number
   by_unit zero number h = refl
   by_unit (suc m) number h = by_outcome m number h (outcome_of schema capacity state (suc m) entry.statement)

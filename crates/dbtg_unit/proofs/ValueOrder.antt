@@ -23,13 +23,13 @@ bytes_lt-trans (x ∷ a) (y ∷ b) [] h g = g
 bytes_lt-trans (x ∷ a) (y ∷ b) (z ∷ c) h g =
     ⊎_elim
     (λ l. ⊎_elim
-      (λ m. let low = ltb-true x y l in let high = ltb-true y z m in or_left _ _ (lt-ltb x z (omega arith)))
-      (λ m. let low = ltb-true x y l in let same = eqb-true y z (and_parts _ _ m).0 in or_left _ _ (lt-ltb x z (omega arith)))
-      (or_cases _ _ g))
+    (λ m. let low = ltb-true x y l in let high = ltb-true y z m in or_left _ _ (lt-ltb x z (omega arith)))
+    (λ m. let low = ltb-true x y l in let same = eqb-true y z (and_parts _ _ m).0 in or_left _ _ (lt-ltb x z (omega arith)))
+    (or_cases _ _ g))
     (λ l. let same = eqb-true x y (and_parts _ _ l).0 in ⊎_elim
-      (λ m. let high = ltb-true y z m in or_left _ _ (lt-ltb x z (omega arith)))
-      (λ m. let same' = eqb-true y z (and_parts _ _ m).0 in or_right _ _ (and_from _ _ (eq-eqb x z (same ∙ same')) (bytes_lt-trans a b c (and_parts _ _ l).1 (and_parts _ _ m).1)))
-      (or_cases _ _ g))
+    (λ m. let high = ltb-true y z m in or_left _ _ (lt-ltb x z (omega arith)))
+    (λ m. let same' = eqb-true y z (and_parts _ _ m).0 in or_right _ _ (and_from _ _ (eq-eqb x z (same ∙ same')) (bytes_lt-trans a b c (and_parts _ _ l).1 (and_parts _ _ m).1)))
+    (or_cases _ _ g))
     (or_cases _ _ h)
 
 bytes_lt-irrefl : (a : List ℕ) → bytes_lt a a ≡ true → ⊥
@@ -46,8 +46,8 @@ bytes_lt-either (x ∷ a) (y ∷ b) h g =
     let low = ltb-false x y gs.0 in
     elim (cases_Bool (eqb x y)) [
       | inl e ↦
-        let same = eqb-true x y e in
-        or_right _ _ (and_from _ _ (eq-eqb y x (sym same)) (bytes_lt-either a b (subst (λ t. (t && bytes_same a b) ≡ false) e h) (subst (λ t. (t && bytes_lt a b) ≡ false) e gs.1)))
+          let same = eqb-true x y e in
+          or_right _ _ (and_from _ _ (eq-eqb y x (sym same)) (bytes_lt-either a b (subst (λ t. (t && bytes_same a b) ≡ false) e h) (subst (λ t. (t && bytes_lt a b) ≡ false) e gs.1)))
       | inr e ↦ let apart = eqb-false x y e in or_left _ _ (lt-ltb y x (omega arith))
     ]
 
@@ -131,6 +131,7 @@ key_below-either false (Some a) (Some b) k h g = value_lt-either b a (comparable
     bytes_same-refl : (a : List ℕ) → bytes_same a a ≡ true
     bytes_same-refl [] = refl
     bytes_same-refl (x ∷ a) = and_from _ _ (eq-eqb x x refl) (bytes_same-refl a)
+
     value_eq-refl : (a : Value) → value_eq a a ≡ true
     value_eq-refl (Num a) = eq-eqb a a refl
     value_eq-refl (Text a) = bytes_same-refl a

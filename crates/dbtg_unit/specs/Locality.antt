@@ -1,21 +1,46 @@
 -- A statement changes nothing but what it has in hand, and what it has in hand determines what it does.
 use Rattle.std.specs.Prelude.{◌≡◌, ℕ, true, false}
 use Rattle.dbtg_schema.specs.Lists.{Lists}
+use Rattle.dbtg_schema.specs.WellFormed.{IsSchema}
 use Rattle.dbtg_cells.specs.declared.name.CellName.{CellName}
 use Rattle.dbtg_unit.specs.declared.held.Need.TheVariants.{Ready}
 use Rattle.dbtg_unit.specs.declared.statement.Statement.{Statement}
+use Rattle.dbtg_unit.specs.declared.statement.Statement.TheVariants.{Remove}
 use Rattle.dbtg_unit.specs.declared.unit.Unit.{Unit}
 use Rattle.dbtg_unit.specs.Base.{Database}
 use Rattle.dbtg_unit.specs.Cells.{cell}
-use Rattle.dbtg_unit.specs.Effect.{effect}
+use Rattle.dbtg_unit.specs.Belongs.{IsUnitOf, IsWithin}
+use Rattle.dbtg_unit.specs.Checks.{changes_records}
+use Rattle.dbtg_unit.specs.Effect.{Outcome, effect}
+use Rattle.dbtg_unit.specs.Fits.{fits}
 use Rattle.dbtg_unit.specs.Hands.{Hands}
-use Rattle.dbtg_unit.specs.Legal.{Legal}
 use Rattle.dbtg_unit.specs.Local.{Agrees, holds}
 use Rattle.dbtg_unit.specs.Needs.{need}
 
--- a statement that is ready, and that leaves the database legal, changes no cell that is not in hand
+-- a statement that fits and is ready, of a unit of the schema, changes no cell that is not in hand
 abbrev pub ChangesOnlyItsCells : Type 0
 ChangesOnlyItsCells =
     (schema : Lists) (capacity : ℕ) (db : Database) (hands : Hands) (unit : Unit) (statement : Statement)
-    → Agrees schema capacity db hands unit → need schema capacity db unit hands statement ≡ Ready → Legal schema capacity (effect schema capacity db unit statement).database
+    → IsSchema schema → IsUnitOf schema unit → IsWithin capacity unit → fits schema statement ≡ true
+    → Agrees schema capacity db hands unit → need schema capacity db unit hands statement ≡ Ready
     → (c : CellName) → holds hands.cells c ≡ false → cell schema capacity (effect schema capacity db unit statement).database c ≡ cell schema capacity db c
+
+-- two outcomes have the same answer and the same unit, and show the same in each cell in hand
+pub record DoTheSame (schema : Lists) (capacity : ℕ) (hands : Hands) (o p : Outcome) : Type 0 where
+  pub answer : o.answer ≡ p.answer
+  pub unit : o.unit ≡ p.unit
+  pub cells : (c : CellName) → holds hands.cells c ≡ true → cell schema capacity o.database c ≡ cell schema capacity p.database c
+
+-- what a statement that changes no record has in hand, once it is ready, determines its answer, its unit and the cells in hand
+abbrev pub ReadingIsDetermined : Type 0
+ReadingIsDetermined =
+    (schema : Lists) (capacity : ℕ) (db eb : Database) (hands : Hands) (unit : Unit) (statement : Statement)
+    → IsUnitOf schema unit → Agrees schema capacity db hands unit → Agrees schema capacity eb hands unit → changes_records statement ≡ false
+    → need schema capacity db unit hands statement ≡ Ready → DoTheSame schema capacity hands (effect schema capacity db unit statement) (effect schema capacity eb unit statement)
+
+-- what a REMOVE that fits has in hand, once it is ready, determines the same
+abbrev pub RemoveIsDetermined : Type 0
+RemoveIsDetermined =
+    (schema : Lists) (capacity : ℕ) (db eb : Database) (hands : Hands) (unit : Unit) (s : ℕ)
+    → fits schema (Remove s) ≡ true → Agrees schema capacity db hands unit → Agrees schema capacity eb hands unit
+    → need schema capacity db unit hands (Remove s) ≡ Ready → DoTheSame schema capacity hands (effect schema capacity db unit (Remove s)) (effect schema capacity eb unit (Remove s))
