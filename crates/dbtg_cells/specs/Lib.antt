@@ -9,4 +9,3 @@ pub mod Numbers
 pub mod Numbering
 pub mod Cells
 pub mod Names
-pub mod CellOrder

@@ -11,6 +11,7 @@ use Rattle.dbtg_cells.specs.Shown.{RingView}
 abbrev pub Entry : Type 0
 Entry = DbKey × Option Value
 
+-- the members of an occurrence, in order; none where there is none
 abbrev pub members_in : Option Occurrence → List Entry
 members_in occurrence = unwrap_or (option_map (λ o. o.members) occurrence) []
 
@@ -18,6 +19,7 @@ members_in occurrence = unwrap_or (option_map (λ o. o.members) occurrence) []
 abbrev pub keys_in : Option Occurrence → List DbKey
 keys_in occurrence = map (λ e. e.0) (members_in occurrence)
 
+-- the entry of k
 abbrev pub has_key : DbKey → Entry → Bool
 has_key k e = key_eq k e.0
 
@@ -29,6 +31,7 @@ with_members change = option_map (λ o. record { owner = o.owner; members = chan
 abbrev pub has_room : RingView → DbKey → Bool
 has_room ring k = is_member k ring.reserved
 
+-- the members without k
 abbrev pub without_key : DbKey → List Entry → List Entry
 without_key k = filter (λ e. not (has_key k e))
 

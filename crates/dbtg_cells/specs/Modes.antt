@@ -3,6 +3,7 @@ use Rattle.std.specs.Prelude.{Bool, true, false, ◌&&◌, ◌||◌}
 use Rattle.dbtg_cells.specs.declared.usage.Mode.{Mode}
 use Rattle.dbtg_cells.specs.declared.usage.Mode.TheVariants.{Retrieval, Update, ProtectedRetrieval, ProtectedUpdate, ExclusiveRetrieval, ExclusiveUpdate}
 
+-- the modes in which records may be changed
 abbrev pub is_update : Mode → Bool
 is_update Retrieval = false
 is_update Update = true
@@ -11,11 +12,13 @@ is_update ProtectedUpdate = true
 is_update ExclusiveRetrieval = false
 is_update ExclusiveUpdate = true
 
+-- the modes beside which there is no other
 abbrev pub is_exclusive : Mode → Bool
 is_exclusive ExclusiveRetrieval = true
 is_exclusive ExclusiveUpdate = true
 is_exclusive _ = false
 
+-- the modes beside which there is no update
 abbrev pub is_protected : Mode → Bool
 is_protected ProtectedRetrieval = true
 is_protected ProtectedUpdate = true

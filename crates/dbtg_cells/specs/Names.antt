@@ -3,12 +3,14 @@ use Rattle.std.specs.Prelude.{ℕ, Bool, true, false, ◌&&◌, ◌||◌, ◌==�
 use Rattle.dbtg_cells.specs.declared.name.CellName.{CellName}
 use Rattle.dbtg_cells.specs.declared.name.CellName.TheVariants.{Usage, Extent, Ring, Slot}
 
+-- the same owner's ring
 abbrev pub place_eq : Option (ℕ × ℕ) → Option (ℕ × ℕ) → Bool
 place_eq None None = true
 place_eq (Some p) (Some q) = p.0 == q.0 && p.1 == q.1
 place_eq None (Some q) = false
 place_eq (Some p) None = false
 
+-- the same cell
 abbrev pub name_eq : CellName → CellName → Bool
 name_eq (Usage a) (Usage b) = a == b
 name_eq (Extent t) (Extent u) = t == u

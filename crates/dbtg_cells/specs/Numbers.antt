@@ -10,9 +10,11 @@ abbrev pub numbers_from : ℕ → (Number → Bool) → List Number → List ℕ
 numbers_from n test [] = []
 numbers_from n test (e ∷ es) = cond (test e) (n ∷ numbers_from (suc n) test es) (numbers_from (suc n) test es)
 
+-- the numbers whose entries pass the test, ascending
 abbrev pub numbers_where : (Number → Bool) → List Number → List ℕ
 numbers_where test = numbers_from 1 test
 
+-- a record has the number
 abbrev pub is_used : Number → Bool
 is_used e = is_some e.calc
 
@@ -20,6 +22,7 @@ is_used e = is_some e.calc
 abbrev pub is_free : Number → Bool
 is_free e = is_none e.calc && nat_lt e.last 255
 
+-- the record of the number has these CALC values
 abbrev pub has_values : List Value → Number → Bool
 has_values values e = some_and (λ v. values_eq v values) e.calc
 

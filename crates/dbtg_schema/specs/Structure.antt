@@ -25,6 +25,7 @@ is_system schema s = some_and (λ set. is_none set.owner) (slice_get schema.sets
 abbrev pub owns : Lists → ℕ → ℕ → Bool
 owns schema s t = some_and (λ owner. owner == t) (owner_type schema s)
 
+-- the sets, by number
 abbrev pub set_numbers : Lists → List ℕ
 set_numbers schema = range_with_len 0 (length schema.sets)
 
@@ -32,12 +33,14 @@ set_numbers schema = range_with_len 0 (length schema.sets)
 abbrev pub member_clause : Lists → ℕ → ℕ → Option Member
 member_clause schema s t = option_and_then (λ set. find (λ member. member.rtype == t) set.members) (slice_get schema.sets s)
 
+-- STORE connects
 abbrev pub is_automatic : Class → Bool
 is_automatic MandatoryAutomatic = true
 is_automatic MandatoryManual = false
 is_automatic OptionalAutomatic = true
 is_automatic OptionalManual = false
 
+-- REMOVE is refused
 abbrev pub is_mandatory : Class → Bool
 is_mandatory MandatoryAutomatic = true
 is_mandatory MandatoryManual = true
@@ -61,6 +64,7 @@ abbrev pub first_member : List Member → ℕ
 first_member [] = 0
 first_member (m ∷ ms) = m.rtype
 
+-- the home area of set s: its owner type's area, for SYSTEM its first member type's
 abbrev pub home : Lists → ℕ → ℕ
 home schema s = area_of schema (unwrap_or (option_map (λ set. unwrap_or set.owner (first_member set.members)) (slice_get schema.sets s)) 0)
 
@@ -78,6 +82,7 @@ reachable_types schema t =
 abbrev pub areas_with_homes : Lists → ℕ → List ℕ
 areas_with_homes schema t = area_of schema t ∷ map (home schema) (filter (λ s. is_some (member_clause schema s t)) (set_numbers schema))
 
+-- the areas of a DELETE of a record of type t
 abbrev pub erase_areas : Lists → ℕ → List ℕ
 erase_areas schema t = flatten (map (areas_with_homes schema) (reachable_types schema t))
 
@@ -86,9 +91,11 @@ abbrev pub rekeyed_sets : Lists → ℕ → List ℕ → List ℕ
 rekeyed_sets schema r named =
     filter (λ s. some_and (λ m. some_and (λ i. list_any (λ j. j == i) named) m.key) (member_clause schema s r)) (set_numbers schema)
 
+-- the member types of set s
 abbrev pub set_member_types : Lists → ℕ → List ℕ
 set_member_types schema s = filter (λ t. is_some (member_clause schema s t)) (range_with_len 0 (length schema.types))
 
+-- where a new member goes in set s
 abbrev pub order_of : Lists → ℕ → Order
 order_of schema s = unwrap_or (option_map (λ set. set.order) (slice_get schema.sets s)) Last
 
@@ -96,8 +103,10 @@ order_of schema s = unwrap_or (option_map (λ set. set.order) (slice_get schema.
 abbrev pub item_list : Lists → ℕ → List Item
 item_list schema t = unwrap_or (option_map (λ r. r.items) (slice_get schema.types t)) []
 
+-- the pictures of the items of type t
 abbrev pub pictures : Lists → ℕ → List Picture
 pictures schema t = map (λ i. i.picture) (item_list schema t)
 
+-- the picture of item i of type t
 abbrev pub picture_of : Lists → ℕ → ℕ → Option Picture
 picture_of schema t i = slice_get (pictures schema t) i

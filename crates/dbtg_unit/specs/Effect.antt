@@ -56,6 +56,7 @@ unless_refused db unit None outcome = outcome
 
 -- PLACES IN SETS
 
+-- directly after the position; first where it is the owner
 abbrev pub after_position : Option DbKey → Spot DbKey
 after_position None = Front
 after_position (Some p) = After (key_eq p)

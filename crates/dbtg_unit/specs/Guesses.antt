@@ -1,6 +1,7 @@
 -- The guesses after a statement.
 -- k is a key, s a set, t a record type, db a database.
-use Rattle.std.specs.Prelude.{ℕ, Bool, true, false, cond, List, Option, Some, None, slice_set}
+use Rattle.std.specs.Prelude.{ℕ, Bool, true, false, cond, List, Option, Some, None, slice_set, [], ◌∷◌}
+use Rattle.std.specs.Option.{option_or}
 use Rattle.dbtg_schema.specs.Lists.{Lists}
 use Rattle.dbtg_cells.specs.declared.key.DbKey.{DbKey}
 use Rattle.dbtg_cells.specs.declared.key.Owner.{Owner}
@@ -29,3 +30,9 @@ is_done (Refused cause) = false
 abbrev pub guesses_after : Lists → ℕ → Statement → List (Option Owner) → Outcome → List (Option Owner)
 guesses_after schema capacity statement guesses outcome =
     cond (is_done outcome.answer.status) (noted_guesses schema capacity outcome.database statement guesses outcome.unit.currency.run_unit) guesses
+
+-- the guesses with the owners that a turn back notes: where there is one it is the guess, elsewhere the guess stays
+abbrev pub with_owners : List (Option Owner) → List (Option Owner) → List (Option Owner)
+with_owners [] owners = owners
+with_owners (g ∷ guesses) [] = g ∷ guesses
+with_owners (g ∷ guesses) (o ∷ owners) = option_or o g ∷ with_owners guesses owners

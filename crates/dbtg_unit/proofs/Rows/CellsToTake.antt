@@ -1,7 +1,7 @@
 -- What each statement takes: its areas, ascending, then its cells in their order.
 -- What is expected was worked out by hand: of a FIND the rings or extents that it looks through and the slot of what it finds, of a STORE
 -- its extent, the rings of the current owners and of the new one, and the new slot, of an INSERT, REMOVE or MODIFY the rings and the slot.
-use Rattle.std.specs.Prelude.{◌≡◌, refl, ℕ, false, List, [], ◌∷◌, Option, Some, None, slice_get, unwrap_or}
+use Rattle.std.specs.Prelude.{codes, ◌≡◌, refl, ℕ, false, List, [], ◌∷◌, Option, Some, None, slice_get, unwrap_or}
 use Rattle.dbtg_cells.specs.declared.cell.Cell.{Cell}
 use Rattle.dbtg_cells.specs.declared.key.Owner.{Owner}
 use Rattle.dbtg_cells.specs.declared.key.Owner.TheVariants.{Rec}
@@ -22,7 +22,9 @@ use Rattle.dbtg_unit.specs.Needs.{areas_in_order, cells_of, need}
 use Rattle.dbtg_unit.specs.Replay.{State, opening_state, state_after}
 use Rattle.dbtg_unit.specs.Units.{opening_unit}
 use Rattle.dbtg_unit.proofs.Schemas.{shop, main, side, customers, orders, items, has, lines, watch}
-use Rattle.dbtg_unit.proofs.OwnSchemas.{tree, wood, roots, branches, leaves, sheds, bears}
+use Rattle.dbtg_schema.specs.Lists.{Lists}
+use Rattle.dbtg_schema.specs.declared.shape.Picture.TheVariants.{Number}
+use Rattle.dbtg_unit.proofs.OwnSchemas.{mixed, bins, reds, blues, content, tree, wood, roots, branches, leaves, sheds, bears}
 use Rattle.dbtg_unit.proofs.Rows.Words.{find, find_in_set, find_in_area, store, modify, by, ordr_key, item_key, key, text}
 
 abbrev pub ring : ℕ → ℕ → ℕ → CellName
@@ -88,6 +90,10 @@ find_current_of_set = refl
 find_current_of_system_set : takes at_order no_guess (find (CurrentOfSet watch)) ≡ (side ∷ [], Slot items 1 ∷ [])
 unfolding effect
 find_current_of_system_set = refl
+
+find_current_of_set_at_member : takes at_item no_guess (find (CurrentOfSet lines)) ≡ (side ∷ [], Slot items 1 ∷ [])
+unfolding effect
+find_current_of_set_at_member = refl
 
 find_current_of_area : takes at_order no_guess (find (CurrentOfArea side)) ≡ (side ∷ [], Slot items 1 ∷ [])
 unfolding effect
@@ -273,3 +279,46 @@ unneeded_guess c d = refl
 refused_at_once : needed [] [] no_guess (Insert has) ≡ Ready
 unfolding effect need
 refused_at_once = refl
+
+-- and so does a key above the capacity
+above_capacity : needed [] [] no_guess (find (Key (item_key 11))) ≡ Ready
+unfolding effect need
+above_capacity = refl
+
+-- MEMBERS IN TWO AREAS
+
+-- bins and reds in one area, blues in another; a bin with a red and a blue
+abbrev pub two_yards : Lists
+two_yards =
+    record mixed {
+      areas = record { name = codes "YARD" } ∷ record { name = codes "SHED" } ∷ [];
+      types =
+        record { name = codes "BIN"; area = 0; items = record { name = codes "BNO"; picture = Number 2 } ∷ []; calc = None }
+        ∷ record { name = codes "RED"; area = 0; items = record { name = codes "RNO"; picture = Number 2 } ∷ []; calc = None }
+        ∷ record { name = codes "BLUE"; area = 1; items = record { name = codes "BLNO"; picture = Number 2 } ∷ []; calc = None }
+        ∷ [];
+    }
+
+abbrev pub a_bin : State
+a_bin =
+    state_after two_yards 4 (opening_state two_yards 1) (by 1 (
+      OpenArea 0 Update ∷ OpenArea 1 Update ∷ store bins (Num 1 ∷ []) ∷ store reds (Num 1 ∷ []) ∷ store blues (Num 1 ∷ []) ∷ []))
+
+-- of all member types, or of the named one
+all_members : areas_in_order two_yards (unit_one a_bin) (find_in_set First content) ≡ 0 ∷ 1 ∷ []
+unfolding effect
+all_members = refl
+
+named_members : areas_in_order two_yards (unit_one a_bin) (find (InSet First (Some reds) content)) ≡ 0 ∷ []
+unfolding effect
+named_members = refl
+
+-- a DELETE needs the areas of all that can be reached
+delete_reaches : areas_in_order two_yards (unit_one (state_after two_yards 4 a_bin (by 1 (find (Key (key bins 1)) ∷ [])))) (Delete Plain) ≡ 0 ∷ 1 ∷ []
+unfolding effect
+delete_reaches = refl
+
+-- and of the home of a set in which the record is a member
+delete_needs_home : areas_in_order two_yards (unit_one a_bin) (Delete Plain) ≡ 0 ∷ 1 ∷ []
+unfolding effect
+delete_needs_home = refl

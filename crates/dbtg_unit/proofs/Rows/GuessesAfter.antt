@@ -10,7 +10,7 @@ use Rattle.dbtg_unit.specs.declared.statement.Form.TheVariants.{Key, OwnerOf}
 use Rattle.dbtg_unit.specs.declared.statement.Statement.{Statement}
 use Rattle.dbtg_unit.specs.declared.statement.Statement.TheVariants.{OpenArea, Find, Get, Insert, Remove, Delete, Keep}
 use Rattle.dbtg_unit.specs.Effect.{effect}
-use Rattle.dbtg_unit.specs.Guesses.{guesses_after}
+use Rattle.dbtg_unit.specs.Guesses.{guesses_after, with_owners}
 use Rattle.dbtg_unit.specs.Replay.{State, opening_state, state_after}
 use Rattle.dbtg_unit.specs.Units.{opening_unit}
 use Rattle.dbtg_unit.proofs.Schemas.{shop, main, side, customers, orders, items, lines, watch}
@@ -81,3 +81,8 @@ after_keep = refl
 after_delete : guesses (Delete Plain) ≡ before
 unfolding effect
 after_delete = refl
+
+-- a turn back notes the owners that are named, and leaves the other guesses
+after_turn_back : with_owners (Some (Rec (customer_key 1)) ∷ Some (Rec (ordr_key 2)) ∷ None ∷ []) (None ∷ Some (Rec (ordr_key 1)) ∷ Some System ∷ [])
+    ≡ Some (Rec (customer_key 1)) ∷ Some (Rec (ordr_key 1)) ∷ Some System ∷ []
+after_turn_back = refl

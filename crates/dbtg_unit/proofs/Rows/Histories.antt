@@ -1,4 +1,5 @@
 -- Histories: their replay, whether their answers hold, the entries of a unit.
+use Rattle.std.proofs.Common.{ap, true, false, Bool, Option}
 use Rattle.std.specs.Prelude.{◌≡◌, refl, ℕ, List, [], ◌∷◌, Some, None}
 use Rattle.dbtg_cells.specs.declared.key.Value.TheVariants.{Num}
 use Rattle.dbtg_cells.specs.declared.usage.Mode.TheVariants.{Update}
@@ -9,6 +10,7 @@ use Rattle.dbtg_unit.specs.declared.unit.Cause.TheVariants.{AreaNotOpen}
 use Rattle.dbtg_unit.specs.declared.unit.Entry.{Entry}
 use Rattle.dbtg_unit.specs.declared.unit.Status.TheVariants.{Done, Refused}
 use Rattle.dbtg_unit.specs.Effect.{effect}
+use Rattle.dbtg_unit.specs.Guesses.{is_done}
 use Rattle.dbtg_unit.specs.Image.{image_of}
 use Rattle.dbtg_unit.specs.Replay.{AnswersHold, IsHistoryOf, TicketsInOrder, answer_to, entries_of, opening_state, replay}
 use Rattle.dbtg_unit.proofs.Schemas.{card, main, customers}
@@ -71,3 +73,15 @@ of_no_unit = refl
 of_unit_three : answer_to card 2 (opening_state card 2) (opened 0 3) ≡ None
 unfolding effect
 of_unit_three = refl
+
+abbrev pub is_done_in : Option Answer → Bool
+is_done_in None = false
+is_done_in (Some answer) = is_done answer.status
+
+clash : true ≡ false → ⊥
+clash same = cc
+
+-- another answer than the database's does not hold
+wrong_answer : AnswersHold card 2 (opening_state card 2) (record (opened 0 1) { answer = refusal } ∷ []) → ⊥
+unfolding effect AnswersHold
+wrong_answer h = clash (ap is_done_in h.0)

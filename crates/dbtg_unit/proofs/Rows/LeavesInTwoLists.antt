@@ -8,7 +8,7 @@ use Rattle.dbtg_unit.specs.declared.statement.Erase.TheVariants.{Plain, Only, Se
 use Rattle.dbtg_unit.specs.declared.statement.Form.TheVariants.{Key}
 use Rattle.dbtg_unit.specs.declared.statement.Statement.TheVariants.{OpenArea, Insert, Remove, Delete, Keep}
 use Rattle.dbtg_unit.specs.declared.statement.Statement.{Statement}
-use Rattle.dbtg_unit.specs.declared.unit.Cause.TheVariants.{OwnerHasMembers}
+use Rattle.dbtg_unit.specs.declared.unit.Cause.TheVariants.{Mandatory, OwnerHasMembers}
 use Rattle.dbtg_unit.specs.Effect.{effect}
 use Rattle.dbtg_unit.specs.Image.{image_of}
 use Rattle.dbtg_unit.proofs.Rows.Words.{find, store, by, owner_itself, done, found, no, run, unit, key}
@@ -21,14 +21,15 @@ abbrev pub leaves_in_two_lists : List (ℕ × Statement)
 leaves_in_two_lists =
     by 1 (
     OpenArea wood Update ∷ store roots (Num 1 ∷ []) ∷ store branches (Num 1 ∷ []) ∷ store leaves (Num 1 ∷ [])
-    ∷ store leaves (Num 2 ∷ []) ∷ Insert sheds ∷ store leaves (Num 3 ∷ []) ∷ Insert binds
+    ∷ store leaves (Num 2 ∷ []) ∷ Insert sheds ∷ store leaves (Num 3 ∷ []) ∷ Insert binds ∷ Remove binds
     ∷ store leaves (Num 4 ∷ []) ∷ Remove bears ∷ Insert sheds ∷ Keep ∷ find (Key (key leaves 2)) ∷ Keep
     ∷ find (Key (key leaves 1)) ∷ Keep ∷ find (Key (key branches 1)) ∷ Keep ∷ find (Key (key roots 1)) ∷ Keep ∷ [])
 
 leaves_in_two_lists_answers : (run tree 4 1 leaves_in_two_lists).answers
     ≡ done ∷ found (key roots 1) ∷ found (key branches 1) ∷ found (key leaves 1) ∷ found (key leaves 2) ∷ done
-      ∷ found (key leaves 3) ∷ done ∷ found (key leaves 4) ∷ done ∷ done ∷ done ∷ found (key leaves 2) ∷ done
-      ∷ found (key leaves 1) ∷ done ∷ found (key branches 1) ∷ done ∷ found (key roots 1) ∷ done ∷ []
+      ∷ found (key leaves 3) ∷ done ∷ no Mandatory ∷ found (key leaves 4) ∷ done ∷ done ∷ done
+      ∷ found (key leaves 2) ∷ done ∷ found (key leaves 1) ∷ done ∷ found (key branches 1) ∷ done
+      ∷ found (key roots 1) ∷ done ∷ []
 unfolding effect image_of
 leaves_in_two_lists_answers = refl
 
@@ -61,7 +62,7 @@ plain_is_refused =
     leaves_in_two_lists ++ by 1 (
     Delete Plain ∷ [])
 
-plain_is_refused_answers : drop 20 (run tree 4 1 plain_is_refused).answers
+plain_is_refused_answers : drop 21 (run tree 4 1 plain_is_refused).answers
     ≡ no OwnerHasMembers ∷ []
 unfolding effect image_of
 plain_is_refused_answers = refl
@@ -87,7 +88,7 @@ only_takes_mandatory =
     leaves_in_two_lists ++ by 1 (
     Delete Only ∷ [])
 
-only_takes_mandatory_answers : drop 20 (run tree 4 1 only_takes_mandatory).answers
+only_takes_mandatory_answers : drop 21 (run tree 4 1 only_takes_mandatory).answers
     ≡ done ∷ []
 unfolding effect image_of
 only_takes_mandatory_answers = refl
@@ -130,7 +131,7 @@ selective_spares_the_shared =
     leaves_in_two_lists ++ by 1 (
     Delete Selective ∷ [])
 
-selective_spares_the_shared_answers : drop 20 (run tree 4 1 selective_spares_the_shared).answers
+selective_spares_the_shared_answers : drop 21 (run tree 4 1 selective_spares_the_shared).answers
     ≡ done ∷ []
 unfolding effect image_of
 selective_spares_the_shared_answers = refl
@@ -168,7 +169,7 @@ all_takes_all =
     leaves_in_two_lists ++ by 1 (
     Delete All ∷ [])
 
-all_takes_all_answers : drop 20 (run tree 4 1 all_takes_all).answers
+all_takes_all_answers : drop 21 (run tree 4 1 all_takes_all).answers
     ≡ done ∷ []
 unfolding effect image_of
 all_takes_all_answers = refl
@@ -206,7 +207,7 @@ one_owner_goes =
     leaves_in_two_lists ++ by 1 (
     find (Key (key branches 1)) ∷ Delete Selective ∷ [])
 
-one_owner_goes_answers : drop 20 (run tree 4 1 one_owner_goes).answers
+one_owner_goes_answers : drop 21 (run tree 4 1 one_owner_goes).answers
     ≡ found (key branches 1) ∷ done ∷ []
 unfolding effect image_of
 one_owner_goes_answers = refl

@@ -4,6 +4,7 @@ use Rattle.std.specs.List.{list_all, list_any}
 use Rattle.dbtg_cells.specs.declared.name.CellName.{CellName}
 use Rattle.dbtg_cells.specs.declared.name.CellName.TheVariants.{Usage, Extent, Ring, Slot}
 use Rattle.dbtg_cells.specs.Names.{name_lt}
+use Rattle.dbtg_unit.specs.CellNames.{area_of_cell}
 use Rattle.dbtg_unit.specs.Belongs.{is_cell, is_name_of}
 use Rattle.dbtg_unit.specs.Legal.{pairwise}
 use Rattle.dbtg_unit.proofs.Schemas.{shop, main, side, customers, orders, items, has, lines, watch}
@@ -37,3 +38,9 @@ cells_not_there = refl
 -- whatever the capacity
 names_of_the_schema : map (is_name_of shop) (Slot items 3 ∷ Ring has (Some (customers, 3)) ∷ Ring has (Some (orders, 1)) ∷ Slot 3 1 ∷ []) ≡ true ∷ true ∷ false ∷ false ∷ []
 names_of_the_schema = refl
+
+-- a ring lies in the home of its set: the area of the owner type, for SYSTEM that of the first member type
+areas : map (area_of_cell shop) (
+    Usage side ∷ Extent customers ∷ Extent items ∷ Ring has (Some (customers, 1)) ∷ Ring lines (Some (orders, 1)) ∷ Ring watch None ∷ Slot orders 1 ∷ Slot items 1 ∷ [])
+    ≡ side ∷ main ∷ side ∷ main ∷ main ∷ side ∷ main ∷ side ∷ []
+areas = refl

@@ -55,7 +55,7 @@ what_the_unit_alone_decides =
     ∷ Remove has ∷ Insert lines ∷ Remove watch ∷ Get (Some items) ∷ modify customers 0 (Num 1)
     ∷ store items (text "    " ∷ Num 2 ∷ []) ∷ find_in_set First lines ∷ Delete Plain ∷ OpenArea side Retrieval
     ∷ Delete Plain ∷ find CurrentOfUnit ∷ store items (text "    " ∷ Num 2 ∷ []) ∷ find_in_set First lines
-    ∷ Remove lines ∷ Remove watch ∷ modify items 0 (text "X   ") ∷ Keep ∷ CloseArea side ∷ Get None
+    ∷ Insert watch ∷ Remove lines ∷ Remove watch ∷ modify items 0 (text "X   ") ∷ Keep ∷ CloseArea side ∷ Get None
     ∷ Get (Some orders) ∷ Keep ∷ Free false ∷ Free false ∷ [])
 
 what_the_unit_alone_decides_answers : (run shop 100 2 what_the_unit_alone_decides).answers
@@ -63,8 +63,8 @@ what_the_unit_alone_decides_answers : (run shop 100 2 what_the_unit_alone_decide
       ∷ no MandatoryAutomatic ∷ no Mandatory ∷ no OtherRecordType ∷ no OtherRecordType ∷ no OtherRecordType
       ∷ no OtherRecordType ∷ no NoSuchCurrent ∷ no NoSuchCurrent ∷ no AreaNotOpen ∷ done ∷ no UpdateModeNeeded
       ∷ found (ordr_key 1) ∷ no UpdateModeNeeded ∷ found (item_key 1) ∷ no UpdateModeNeeded ∷ no UpdateModeNeeded
-      ∷ no UpdateModeNeeded ∷ done ∷ done ∷ no AreaNotOpen ∷ no OtherRecordType ∷ no AreaNotOpen ∷ done ∷ no NotKept
-      ∷ []
+      ∷ no UpdateModeNeeded ∷ no UpdateModeNeeded ∷ done ∷ done ∷ no AreaNotOpen ∷ no OtherRecordType
+      ∷ no AreaNotOpen ∷ done ∷ no NotKept ∷ []
 unfolding effect image_of
 what_the_unit_alone_decides_answers = refl
 
