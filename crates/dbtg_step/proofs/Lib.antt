@@ -1,0 +1,11 @@
+mod UnitLists
+mod UnitFacts
+mod Updates
+mod Events
+mod TicketParts
+mod Tickets
+mod Keeps
+mod Opening
+mod Images
+mod Scripts
+mod StepCases

@@ -1,0 +1,5 @@
+pub mod SequentialDatabase
+pub mod Machine
+pub mod Step
+pub mod Lawful
+pub mod NeverStuck
