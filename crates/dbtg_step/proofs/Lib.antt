@@ -9,3 +9,8 @@ mod Opening
 mod Images
 mod Scripts
 mod StepCases
+mod Chains
+mod Waiting
+mod Ordered
+mod Turns
+mod EveryRun
