@@ -14,3 +14,4 @@ mod Waiting
 mod Ordered
 mod Turns
 mod EveryRun
+mod EventCounts

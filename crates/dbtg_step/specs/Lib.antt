@@ -3,3 +3,4 @@ pub mod Machine
 pub mod Step
 pub mod Lawful
 pub mod NeverStuck
+pub mod EventCount

@@ -80,9 +80,6 @@ module _ (D : SequentialDatabase) (below : D.Cell → D.Cell → Bool) where
 
   -- what `need` has to promise
   pub record NeedsInOrder : Type 0 where
-    -- a cell that is needed isn't held
-    pub cell_fresh : (db : D.Db) (unit : D.Unit) (x : D.Statement) (g : D.Guesses) (areas : List ℕ) (cells : List (HeldCell D.Cell D.Value)) (c : D.Cell) →
-      D.need db unit x g areas cells ≡ NeedsCell c → NotAmong D c cells
     -- where all was taken in turn, an area that is needed is above all that are held, and no cell is held
     pub area_above : (db : D.Db) (unit : D.Unit) (x : D.Statement) (g : D.Guesses) (areas : List ℕ) (cells : List (HeldCell D.Cell D.Value)) (a : ℕ) →
       TakenInTurn unit x g areas cells → D.need db unit x g areas cells ≡ NeedsArea a → ((b : ℕ) → In b areas → b < a) × (cells ≡ [])
