@@ -15,3 +15,4 @@ mod Ordered
 mod Turns
 mod EveryRun
 mod EventCounts
+mod Histories

@@ -4,3 +4,5 @@ pub mod Step
 pub mod Lawful
 pub mod NeverStuck
 pub mod EventCount
+pub mod Network
+pub mod Laws

@@ -1,0 +1,56 @@
+-- The laws of the machine over the network database of a schema.
+use Rattle.std.specs.Prelude.{ℕ, ◌≡◌, ◌++◌, List, Some}
+use Rattle.dbtg_schema.specs.Lists.{Lists}
+use Rattle.dbtg_cells.specs.declared.name.CellName.{CellName}
+use Rattle.dbtg_cells.specs.Names.{name_lt}
+use Rattle.dbtg_cells.specs.Shown.{CellValue}
+use Rattle.dbtg_unit.specs.Cells.{cell}
+use Rattle.dbtg_step.specs.declared.moves.Move.{Move}
+use Rattle.dbtg_step.specs.SequentialDatabase.{IsSequentialDatabase, unit_at}
+use Rattle.dbtg_step.specs.Machine.{UnitState, Progress, State, SequentialState, HistoryEntry, replay}
+use Rattle.dbtg_step.specs.Step.{transition, MovedTo, run}
+use Rattle.dbtg_step.specs.Lawful.{Lawful, IsOpening, ImageHas}
+use Rattle.dbtg_step.specs.NeverStuck.{SomeUnitMoves, NeedsInOrder}
+use Rattle.dbtg_step.specs.EventCount.{EventsAreCounted}
+use Rattle.dbtg_step.specs.Network.{network}
+
+-- each event, of a step or a quit, leads from a lawful state to a lawful state
+abbrev pub EachEventKeepsLawful : Lists → ℕ → Type 0
+EachEventKeepsLawful schema capacity =
+    (opening : SequentialState (network schema capacity)) (s t : State (network schema capacity)) (m : Move) →
+    Lawful (network schema capacity) opening s → transition (network schema capacity) opening s m ≡ MovedTo t → Lawful (network schema capacity) opening t
+
+-- every list of moves, with blocked and idle ones and quits in it, leads from an opening state to a lawful state
+abbrev pub EveryRunIsLawful : Lists → ℕ → Type 0
+EveryRunIsLawful schema capacity =
+    (opening : SequentialState (network schema capacity)) (s : State (network schema capacity)) (moves : List Move) →
+    IsOpening (network schema capacity) opening s → Lawful (network schema capacity) opening (run (network schema capacity) opening s moves)
+
+-- the image of a lawful state, also in mid-statement, has for each cell what the database of its history has, and nothing else
+pub record ImageIsOfHistory (schema : Lists) (capacity : ℕ) (opening : SequentialState (network schema capacity)) (s : State (network schema capacity)) : Type 0 where
+  pub has : (c : CellName) → ImageHas (network schema capacity) opening s c (cell schema capacity (replay (network schema capacity) opening s.history).database c)
+  pub only : (c : CellName) (v : CellValue) → ImageHas (network schema capacity) opening s c v → v ≡ cell schema capacity (replay (network schema capacity) opening s.history).database c
+
+abbrev pub EveryImageIsOfItsHistory : Lists → ℕ → Type 0
+EveryImageIsOfItsHistory schema capacity =
+    (opening : SequentialState (network schema capacity)) (s : State (network schema capacity)) →
+    Lawful (network schema capacity) opening s → ImageIsOfHistory schema capacity opening s
+
+-- after every list of moves, where a unit is in mid-statement some unit's next step is an event
+abbrev pub NoRunIsStuck : Lists → ℕ → Type 0
+NoRunIsStuck schema capacity =
+    (opening : SequentialState (network schema capacity)) (s : State (network schema capacity)) (moves : List Move) → IsOpening (network schema capacity) opening s →
+    (u : ℕ) (state : UnitState (network schema capacity)) (w : Progress (network schema capacity)) →
+    unit_at (run (network schema capacity) opening s moves).units u ≡ Some state → state.progress ≡ Some w →
+    SomeUnitMoves (network schema capacity) opening (run (network schema capacity) opening s moves)
+
+-- a statement that meets nobody and never turns back has 2 + 2a + 3c events, for its a areas and c cells
+abbrev pub StatementsHaveTheirEvents : Lists → ℕ → Type 0
+StatementsHaveTheirEvents schema capacity =
+    (opening : SequentialState (network schema capacity)) (s : State (network schema capacity)) → EventsAreCounted (network schema capacity) opening s
+
+-- a history is never rewritten: moves put entries behind those that are there
+abbrev pub EveryRunExtendsHistory : Lists → ℕ → Type 0
+EveryRunExtendsHistory schema capacity =
+    (opening : SequentialState (network schema capacity)) (s : State (network schema capacity)) (moves : List Move) →
+    (more : List (HistoryEntry (network schema capacity))) × ((run (network schema capacity) opening s moves).history ≡ s.history ++ more)
