@@ -1,6 +1,6 @@
 -- A statement that meets nobody and never turns back has 2 + 2a + 3c events.
 use Rattle.std.proofs.Common.{ℕ, zero, suc, ◌+◌, ◌*◌, ◌-◌, ◌≡◌, ◌≢◌, ◌≤◌, ◌<◌, Bool, true, false, ◌||◌, ltb, List, [], ◌∷◌, length, Option, Some, None, slice_get, slice_set, option_and_then, refl, sym, ap, ◌∙◌, subst, arith, lt-ltb, le-ltb, inl, inr}
-use Rattle.dbtg_step.specs.SequentialDatabase.{HeldCell, NextNeed, NeedsArea, NeedsCell, NeedsNothing, SequentialDatabase, IsSequentialDatabase, In, NotAmong, unit_at, with_unit_at}
+use Rattle.dbtg_step.specs.SequentialDatabase.{HeldCell, NextNeed, NeedsArea, NeedsCell, NeedsNothing, SequentialDatabase, NamesCells, In, NotAmong, unit_at, with_unit_at}
 use Rattle.dbtg_step.specs.Machine.{Location, Home, HeldBy, Progress, UnitState, State, SequentialState, replay, relocated, begun, unless_over}
 use Rattle.dbtg_step.specs.Step.{next_need, any_but, any_other, conflicts, updated, with_progress, with_ticket, due_cells, after_ticket, takes_area, takes_cell, follows_need, step, Transition, MovedTo}
 use Rattle.dbtg_step.specs.EventCount.{progress_of, IsOverAfter, HasEvents, TakesAlone, NoneTaken, AreaTaken, CellTaken, EventsAreCounted}
@@ -28,7 +28,7 @@ unfolding any_other with_unit_at
 other_set p zero xs x = refl
 other_set p (suc u) xs x = but_set p u xs x
 
-module _ (D : SequentialDatabase) (laws : IsSequentialDatabase D) (opening : SequentialState D) (u : ℕ) where
+module _ (D : SequentialDatabase) (names : NamesCells D) (opening : SequentialState D) (u : ℕ) where
   progress_here : (s : State D) (state : UnitState D) → unit_at s.units u ≡ Some state → progress_of D s u ≡ state.progress
   progress_here s state at = ap (option_and_then (λ (y : UnitState D). y.progress)) at
 
@@ -113,7 +113,7 @@ module _ (D : SequentialDatabase) (laws : IsSequentialDatabase D) (opening : Seq
     still_home : (c : D.Cell) (cells : List (HeldCell D.Cell D.Value)) → NotAmong D c cells → taken_from cells c ≡ s.location c
     unfolding taken_from
     still_home c [] n = refl
-    still_home c (h ∷ hs) n = relocated_elsewhere D laws (taken_from hs) h.name c (HeldBy u) (λ q. n h (inl refl) (sym q)) ∙ still_home c hs (λ k i. n k (inr i))
+    still_home c (h ∷ hs) n = relocated_elsewhere D names (taken_from hs) h.name c (HeldBy u) (λ q. n h (inl refl) (sym q)) ∙ still_home c hs (λ k i. n k (inr i))
 
     found_having : (areas : List ℕ) (cells : List (HeldCell D.Cell D.Value)) → unit_at (having areas cells).units u ≡ Some (its areas cells)
     unfolding having updated its
@@ -145,7 +145,7 @@ module _ (D : SequentialDatabase) (laws : IsSequentialDatabase D) (opening : Seq
     unfolding follows_need takes_cell taking taken_from having updated its
     takes_a_cell areas cells h e f =
         needs areas cells (NeedsCell h.name) e
-        ∙ (ap (takes_cell D (having areas cells) u (its areas cells) (taking areas cells) h.name) (still_home h.name cells (laws.fresh _ state.unit x state.guesses areas cells h.name e) ∙ f) ∙ ap MovedTo (again areas areas cells (h ∷ cells) _ refl))
+        ∙ (ap (takes_cell D (having areas cells) u (its areas cells) (taking areas cells) h.name) (still_home h.name cells (names.fresh _ state.unit x state.guesses areas cells h.name e) ∙ f) ∙ ap MovedTo (again areas areas cells (h ∷ cells) _ refl))
 
     -- from the last of them back to the first
     to_the_first : (n : ℕ) (areas : List ℕ) (cells : List (HeldCell D.Cell D.Value)) → TakesAlone D opening s u state x areas cells → IsOverAfter D opening u n (having areas cells) → IsOverAfter D opening u (length areas + length cells + n) (having [] [])

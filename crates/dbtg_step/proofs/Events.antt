@@ -115,11 +115,11 @@ module _ (D : SequentialDatabase) (laws : IsSequentialDatabase D) (opening : Seq
       let old = subst (λ o. Holding D opening s.location s.history u o) is (l.each u state at).holding in
       let new : HeldCell D.Cell D.Value = record { name = c; value = v } in
       let apart : (h : HeldCell D.Cell D.Value) → In h w.cells → h.name ≢ c = λ h i q. let e = old.held h i in let f : s.location h.name ≡ Home v = subst (λ x. s.location x ≡ Home v) (sym q) free in absurd (cc) in
-      let elsewhere : (d : D.Cell) (o : ℕ) → s.location d ≡ HeldBy o → relocated D s.location c (HeldBy u) d ≡ HeldBy o = λ d o e. relocated_elsewhere D laws s.location c d (HeldBy u) (λ q. let f : s.location d ≡ Home v = subst (λ x. s.location x ≡ Home v) (sym q) free in absurd (cc)) ∙ e in
+      let elsewhere : (d : D.Cell) (o : ℕ) → s.location d ≡ HeldBy o → relocated D s.location c (HeldBy u) d ≡ HeldBy o = λ d o e. relocated_elsewhere D laws.names s.location c d (HeldBy u) (λ q. let f : s.location d ≡ Home v = subst (λ x. s.location x ≡ Home v) (sym q) free in absurd (cc)) ∙ e in
       record {
         holding = record {
           held = λ h i. elim i [
-              inl q ↦ subst (λ (x : HeldCell D.Cell D.Value). relocated D s.location c (HeldBy u) x.name ≡ HeldBy u) (sym q) (relocated_at D laws s.location c (HeldBy u))
+              inl q ↦ subst (λ (x : HeldCell D.Cell D.Value). relocated D s.location c (HeldBy u) x.name ≡ HeldBy u) (sym q) (relocated_at D laws.names s.location c (HeldBy u))
             | inr j ↦ elsewhere h.name u (old.held h j)
           ];
           values = λ h i. elim i [
@@ -134,15 +134,15 @@ module _ (D : SequentialDatabase) (laws : IsSequentialDatabase D) (opening : Seq
           ticket = λ t e. absurd (cc); due = λ t e. absurd (cc)
         };
         others = λ d o n e. elsewhere d o e;
-        back = λ d o n e. elim (relocated_found D laws s.location c d (HeldBy u) (HeldBy o) e) [
+        back = λ d o n e. elim (relocated_found D laws.names s.location c d (HeldBy u) (HeldBy o) e) [
             inl p ↦ let q : u ≡ o = cc in absurd (n (sym q))
           | inr p ↦ p.1
         ];
-        home = λ d x e. elim (relocated_found D laws s.location c d (HeldBy u) (Home x) e) [
+        home = λ d x e. elim (relocated_found D laws.names s.location c d (HeldBy u) (Home x) e) [
             inl p ↦ absurd (cc)
           | inr p ↦ l.home d x p.1
         ];
-        holder = λ d e. elim (relocated_found D laws s.location c d (HeldBy u) (HeldBy u) e) [
+        holder = λ d e. elim (relocated_found D laws.names s.location c d (HeldBy u) (HeldBy u) e) [
             inl p ↦ record { which = new; is_in = inl refl; name = sym p.0 }
           | inr p ↦ let h = subst (λ y. HoldsCell D y d) is (holder_is D opening s l u state at d p.1) in record { which = h.which; is_in = inr h.is_in; name = h.name }
         ];
@@ -160,22 +160,22 @@ module _ (D : SequentialDatabase) (laws : IsSequentialDatabase D) (opening : Seq
       let distinct : AreDistinct D (h ∷ w.cells) = subst (λ x. AreDistinct D x) cs old.distinct in
       record {
         holding = record {
-          held = λ k i. relocated_elsewhere D laws s.location h.name k.name (Home h.value) (distinct.0 k i) ∙ old.held k (inside k i);
+          held = λ k i. relocated_elsewhere D laws.names s.location h.name k.name (Home h.value) (distinct.0 k i) ∙ old.held k (inside k i);
           values = λ k i. old.values k (inside k i);
           in_area = λ k i. rw as_ (old.in_area k (inside k i));
           distinct = distinct.1;
           ticket = rw ts old.ticket; due = rw ts (λ t e k i. old.due t e k (inside k i))
         };
-        others = λ d o n e. relocated_elsewhere D laws s.location h.name d (Home h.value) (λ q. let f : s.location d ≡ HeldBy u = subst (λ x. s.location x ≡ HeldBy u) (sym q) (old.held h first) in let g : o ≡ u = cc in n g) ∙ e;
-        back = λ d o n e. elim (relocated_found D laws s.location h.name d (Home h.value) (HeldBy o) e) [
+        others = λ d o n e. relocated_elsewhere D laws.names s.location h.name d (Home h.value) (λ q. let f : s.location d ≡ HeldBy u = subst (λ x. s.location x ≡ HeldBy u) (sym q) (old.held h first) in let g : o ≡ u = cc in n g) ∙ e;
+        back = λ d o n e. elim (relocated_found D laws.names s.location h.name d (Home h.value) (HeldBy o) e) [
             inl p ↦ absurd (cc)
           | inr p ↦ p.1
         ];
-        home = λ d x e. elim (relocated_found D laws s.location h.name d (Home h.value) (Home x) e) [
+        home = λ d x e. elim (relocated_found D laws.names s.location h.name d (Home h.value) (Home x) e) [
             inl p ↦ let q : h.value ≡ x = cc in sym q ∙ (old.values h first ∙ ap (D.cell (replay D opening s.history).database) (sym p.0))
           | inr p ↦ l.home d x p.1
         ];
-        holder = λ d e. elim (relocated_found D laws s.location h.name d (Home h.value) (HeldBy u) e) [
+        holder = λ d e. elim (relocated_found D laws.names s.location h.name d (Home h.value) (HeldBy u) e) [
             inl p ↦ absurd (cc)
           | inr p ↦
               let k = subst (λ y. HoldsCell D y d) is (holder_is D opening s l u state at d p.1) in
@@ -226,7 +226,7 @@ module _ (D : SequentialDatabase) (laws : IsSequentialDatabase D) (opening : Seq
   all_home_found location [] c q e = inr ((λ h i. absurd i), e)
   all_home_found location (h ∷ hs) c q e = elim (all_home_found (relocated D location h.name (Home h.value)) hs c q e) [
       inl g ↦ inl (record { which = g.which; is_in = inr g.is_in; name = g.name; value = g.value })
-    | inr g ↦ elim (relocated_found D laws location h.name c (Home h.value) q g.1) [
+    | inr g ↦ elim (relocated_found D laws.names location h.name c (Home h.value) q g.1) [
           inl p ↦ inl (record { which = h; is_in = inl refl; name = p.0; value = p.1 })
         | inr p ↦ inr ((λ k i. elim i [ inl r ↦ (λ t. p.0 (sym t ∙ ap (λ (x : HeldCell D.Cell D.Value). x.name) r)) | inr j ↦ g.0 k j ]), p.1)
       ]
@@ -237,7 +237,7 @@ module _ (D : SequentialDatabase) (laws : IsSequentialDatabase D) (opening : Seq
   all_home_elsewhere location [] c n = refl
   all_home_elsewhere location (h ∷ hs) c n =
     all_home_elsewhere (relocated D location h.name (Home h.value)) hs c (λ k i. n k (inr i))
-    ∙ relocated_elsewhere D laws location h.name c (Home h.value) (λ q. n h (inl refl) (sym q))
+    ∙ relocated_elsewhere D laws.names location h.name c (Home h.value) (λ q. n h (inl refl) (sym q))
 
   pub quit_is_safe : (s : State D) (u : ℕ) (state : UnitState D) (w : Progress D) → Lawful D opening s → unit_at s.units u ≡ Some state → state.progress ≡ Some w → SafeUpdate D opening s u (all_home D s.location w.cells) None
   unfolding held_cells held_areas ticket_of holds_exclusively AreDistinct

@@ -1,5 +1,5 @@
 -- The image of a lawful state shows the sequential database.
-use Rattle.std.proofs.Common.{ℕ, ◌≡◌, Option, Some, None, inl, inr, refl, sym, ap, ◌∙◌, suc, take}
+use Rattle.std.proofs.Common.{ℕ, ◌≡◌, Option, Some, None, inl, inr, refl, subst, sym, ap, ◌∙◌, suc, take}
 use Rattle.dbtg_step.specs.SequentialDatabase.{HeldCell, SequentialDatabase, In, unit_at}
 use Rattle.dbtg_step.specs.Machine.{Location, Home, HeldBy, UnitState, State, SequentialState, replay, held_cells, ticket_of}
 use Rattle.dbtg_step.specs.Lawful.{Lawful, ShownAs, ImageHas}
@@ -30,3 +30,7 @@ module _ (D : SequentialDatabase) (opening : SequentialState D) (s : State D) (l
           let h = l.holder c u e in
           let v = shown_of (ticket_of D h.state.progress) h.holds.which in
           (v.0, inr (record { who = u; state = h.state; found = h.found; holds = h.holds; shown = v.1 }))
+
+  -- and that is the value that the database has
+  pub database_shown : (c : D.Cell) → ImageHas D opening s c (D.cell (replay D opening s.history).database c)
+  database_shown c = let v = image_has c in subst (λ w. ImageHas D opening s c w) (image_is c v.0 v.1) v.1

@@ -1,5 +1,5 @@
 -- The law: each event keeps what is lawful.
-use Rattle.std.proofs.Common.{ℕ, ◌≡◌, Bool, true, false, ltb, List, [], ◌∷◌, length, Option, Some, None, refl}
+use Rattle.std.proofs.Common.{ℕ, ◌≡◌, Bool, true, false, ltb, List, [], ◌∷◌, length, Option, Some, None, refl, subst, ap}
 use Rattle.dbtg_step.specs.SequentialDatabase.{HeldCell, SequentialDatabase, IsSequentialDatabase, NextNeed, NeedsArea, NeedsCell, StaleGuesses, NeedsNothing, In, unit_at}
 use Rattle.dbtg_step.specs.Machine.{Location, Home, HeldBy, Progress, UnitState, State, SequentialState, replay, unless_over}
 use Rattle.dbtg_step.specs.Step.{next_need, conflicts, any_other, Transition, MovedTo, IsBlocked, IsIdle, after_ticket, takes_area, takes_cell, follows_need, before_ticket, in_statement, step_of_unit, step_if_unit, step, quit_unless_ticket, quit_of_unit, quit_if_unit, quit, IfMoved, transition, state_after, run}
@@ -102,3 +102,8 @@ module _ (D : SequentialDatabase) (laws : IsSequentialDatabase D) (opening : Seq
   unfolding run
   run_keeps s [] l = l
   run_keeps s (m ∷ ms) l = run_keeps (state_after D s (transition D opening s m)) ms (move_keeps s m l)
+
+  -- after each event
+  pub event_keeps : (s t : State D) (m : Move) → Lawful D opening s → transition D opening s m ≡ MovedTo t → Lawful D opening t
+  unfolding state_after
+  event_keeps s t m l e = subst (Lawful D opening) (ap (state_after D s) e) (move_keeps s m l)

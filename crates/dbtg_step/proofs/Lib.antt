@@ -16,3 +16,5 @@ mod Turns
 mod EveryRun
 mod EventCounts
 mod Histories
+mod NetworkNeeds
+mod NameOrder

@@ -58,7 +58,7 @@ module _ (D : SequentialDatabase) (laws : IsSequentialDatabase D) (below : D.Cel
       areas = λ a e. let q = open_of (AnArea a) e in let m = steady q in let v = wanted_now m q (AnArea a) e in
         order.area_above db state.unit m.x state.guesses w.areas w.cells a v.taken (wanted_area _ a v.need);
       fresh = λ c e. let q = open_of (ACell c) e in let m = steady q in let v = wanted_now m q (ACell c) e in let n = wanted_cell _ c v.need in
-        (laws.fresh db state.unit m.x state.guesses w.areas w.cells c n,
+        (laws.names.fresh db state.unit m.x state.guesses w.areas w.cells c n,
          laws.in_area db _ u state.unit m.x state.guesses w.areas w.cells c (may_make D opening s l u state at m.x m.xs m.remaining) n);
       cells = λ c e. let q = open_of (ACell c) e in let m = steady q in let v = wanted_now m q (ACell c) e in let n = wanted_cell _ c v.need in above m v.taken c n
     }

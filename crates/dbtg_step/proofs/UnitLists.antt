@@ -1,6 +1,6 @@
 -- Lists of units, numbered from 1, where one is written; and the locations of cells.
 use Rattle.std.proofs.Common.{ℕ, zero, suc, ◌≡◌, ◌≢◌, Bool, true, false, cond, List, [], ◌∷◌, map, Some, slice_get, slice_set, ◌⊎◌, inl, inr, refl, sym, ap, ◌∙◌, subst, arith}
-use Rattle.dbtg_step.specs.SequentialDatabase.{SequentialDatabase, IsSequentialDatabase, unit_at, with_unit_at}
+use Rattle.dbtg_step.specs.SequentialDatabase.{SequentialDatabase, NamesCells, unit_at, with_unit_at}
 use Rattle.dbtg_step.specs.Machine.{Location, relocated}
 
 -- BY INDEX
@@ -84,18 +84,18 @@ false_unless : (b : Bool) → (b ≡ true → ⊥) → b ≡ false
 false_unless true n = absurd (n refl)
 false_unless false n = refl
 
-module _ (D : SequentialDatabase) (laws : IsSequentialDatabase D) where
+module _ (D : SequentialDatabase) (names : NamesCells D) where
   pub relocated_found : (location : D.Cell → Location D.Value) (c d : D.Cell) (p q : Location D.Value) → relocated D location c p d ≡ q → ((d ≡ c) × (p ≡ q)) ⊎ ((d ≢ c) × (location d ≡ q))
   unfolding relocated
   relocated_found location c d p q e = elim (cond_tells (D.same_name d c) p (location d) q e) [
-      inl h ↦ inl (laws.same_is d c h.0, h.1)
-    | inr h ↦ inr ((λ k. let t : D.same_name d c ≡ true = subst (λ x. D.same_name d x ≡ true) k (laws.same_self d) in cc), h.1)
+      inl h ↦ inl (names.same_is d c h.0, h.1)
+    | inr h ↦ inr ((λ k. let t : D.same_name d c ≡ true = subst (λ x. D.same_name d x ≡ true) k (names.same_self d) in cc), h.1)
   ]
 
   pub relocated_at : (location : D.Cell → Location D.Value) (c : D.Cell) (p : Location D.Value) → relocated D location c p c ≡ p
   unfolding relocated
-  relocated_at location c p = rw (laws.same_self c)
+  relocated_at location c p = rw (names.same_self c)
 
   pub relocated_elsewhere : (location : D.Cell → Location D.Value) (c d : D.Cell) (p : Location D.Value) → d ≢ c → relocated D location c p d ≡ location d
   unfolding relocated
-  relocated_elsewhere location c d p n = rw (false_unless (D.same_name d c) (λ t. n (laws.same_is d c t)))
+  relocated_elsewhere location c d p n = rw (false_unless (D.same_name d c) (λ t. n (names.same_is d c t)))

@@ -6,3 +6,4 @@ pub mod NeverStuck
 pub mod EventCount
 pub mod Network
 pub mod Laws
+pub mod Headline

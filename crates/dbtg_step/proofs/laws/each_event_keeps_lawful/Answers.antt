@@ -1,0 +1,6 @@
+use Rattle.dbtg_step.specs.Network.{network}
+use Rattle.dbtg_step.proofs.Keeps.{event_keeps}
+use Rattle.dbtg_step.proofs.laws.each_event_keeps_lawful.Goals as goal
+
+pub returns : goal.returns
+returns c schema capacity facts opening s t m lawful moves = event_keeps (network schema capacity) facts opening s t m lawful moves

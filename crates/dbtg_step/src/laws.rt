@@ -1,0 +1,47 @@
+//! The laws of the machine of events, each the contract of a function that does nothing.
+ghost use Rattle.std.specs.Prelude.{ℕ};
+ghost use Rattle.dbtg_schema.specs.Lists.{Lists};
+ghost use Rattle.dbtg_cells.specs.Names.{name_lt};
+ghost use Rattle.dbtg_step.specs.SequentialDatabase.{IsSequentialDatabase};
+ghost use Rattle.dbtg_step.specs.NeverStuck.{NeedsInOrder};
+ghost use Rattle.dbtg_step.specs.Laws.{EachEventKeepsLawful, EveryRunIsLawful, EveryImageIsOfItsHistory, NoRunIsStuck, StatementsHaveTheirEvents, EveryRunExtendsHistory};
+ghost use Rattle.dbtg_step.specs.Network.{network};
+
+/// Each event, of a step or a quit, leads from a lawful state to a lawful state: its history replays on the sequential
+/// database, whose cells are those at home and those that are held, and whose units are the units.
+pub fn each_event_keeps_lawful()
+    ensures { (schema : Lists) (capacity : ℕ) → IsSequentialDatabase (network schema capacity) → EachEventKeepsLawful schema capacity }
+{
+}
+
+/// Every list of moves, with blocked and idle ones and quits in it, leads from an opening state to a lawful state.
+pub fn every_run_is_lawful()
+    ensures { (schema : Lists) (capacity : ℕ) → IsSequentialDatabase (network schema capacity) → EveryRunIsLawful schema capacity }
+{
+}
+
+/// The image of a lawful state, also in mid-statement, has for each cell what the database of its history has: a cell that
+/// is held with a ticket counts as what it is due to become.
+pub fn every_image_is_of_its_history()
+    ensures { (schema : Lists) (capacity : ℕ) → EveryImageIsOfItsHistory schema capacity }
+{
+}
+
+/// After every list of moves from an opening state, where a unit is in mid-statement some unit's next step is an event.
+pub fn no_run_is_stuck()
+    ensures { (schema : Lists) (capacity : ℕ) → IsSequentialDatabase (network schema capacity) → NeedsInOrder (network schema capacity) name_lt → NoRunIsStuck schema capacity }
+{
+}
+
+/// A statement that meets nobody and never turns back has `2 + 2a + 3c` events, for the `a` areas and `c` cells that it
+/// takes: it is over after so many steps of its unit, and not before.
+pub fn statements_have_their_events()
+    ensures { (schema : Lists) (capacity : ℕ) → StatementsHaveTheirEvents schema capacity }
+{
+}
+
+/// A history is never rewritten: moves put entries behind those that are there.
+pub fn every_run_extends_history()
+    ensures { (schema : Lists) (capacity : ℕ) → EveryRunExtendsHistory schema capacity }
+{
+}
