@@ -1,28 +1,30 @@
--- A history is never rewritten.
-use Rattle.std.proofs.Common.{ℕ, ◌≡◌, Bool, true, false, ltb, List, [], ◌∷◌, ◌++◌, length, Option, Some, None, refl, sym, ap, ◌∙◌, append_assoc, append-nil}
+-- A history is never rewritten, and a script never changed.
+use Rattle.std.proofs.Common.{ℕ, ◌≡◌, Bool, true, false, ltb, List, [], ◌∷◌, ◌++◌, length, map, Option, Some, None, refl, sym, ap, ◌∙◌, append_assoc, append-nil}
 use Rattle.dbtg_step.specs.declared.moves.Move.{Move}
 use Rattle.dbtg_step.specs.declared.moves.Move.TheVariants.{Step, Quit}
 use Rattle.dbtg_step.specs.SequentialDatabase.{HeldCell, NextNeed, NeedsArea, NeedsCell, StaleGuesses, NeedsNothing, SequentialDatabase, unit_at}
 use Rattle.dbtg_step.specs.Machine.{Location, Home, HeldBy, Progress, UnitState, HistoryEntry, State, SequentialState}
+use Rattle.dbtg_step.proofs.UnitLists.{map_set_same}
 use Rattle.dbtg_step.specs.Step.{updated, with_ticket, after_ticket, takes_area, takes_cell, follows_need, before_ticket, in_statement, step_of_unit, step_if_unit, step, quit_unless_ticket, quit_of_unit, quit_if_unit, quit, Transition, MovedTo, IsBlocked, IsIdle, transition, IfMoved, state_after, run, next_need, any_other, conflicts}
 
 module _ (D : SequentialDatabase) (opening : SequentialState D) (s : State D) where
-  -- t has the entries of s, and then perhaps others
-  Extends : State D → Type 0
-  Extends t = (more : List (HistoryEntry D)) × (t.history ≡ s.history ++ more)
+  -- t has the entries of s, and then perhaps others, and the same scripts
+  record Extends (t : State D) : Type 0 where
+    more : List (HistoryEntry D)
+    history : t.history ≡ s.history ++ more
+    scripts : map (λ (x : UnitState D). x.script) t.units ≡ map (λ (x : UnitState D). x.script) s.units
 
   extends_itself : Extends s
-  unfolding Extends
-  extends_itself = ([], sym (append-nil s.history))
+  extends_itself = record { more = []; history = sym (append-nil s.history); scripts = refl }
 
-  module _ (u : ℕ) (state : UnitState D) where
+  module _ (u : ℕ) (state : UnitState D) (at : unit_at s.units u ≡ Some state) where
     updated_extends : (location : D.Cell → Location D.Value) (g : D.Guesses) (p : Option (Progress D)) → Extends (updated D s u state location g p)
-    unfolding Extends updated
-    updated_extends location g p = ([], sym (append-nil s.history))
+    unfolding updated
+    updated_extends location g p = record { more = []; history = sym (append-nil s.history); scripts = map_set_same (λ (x : UnitState D). x.script) s.units u state _ at refl }
 
     ticket_extends : (w : Progress D) (x : D.Statement) (xs : List D.Statement) → Extends (with_ticket D opening s u state w x xs)
-    unfolding Extends with_ticket
-    ticket_extends w x xs = (_, refl)
+    unfolding with_ticket
+    ticket_extends w x xs = record { more = _; history = refl; scripts = map_set_same (λ (x : UnitState D). x.script) s.units u state _ at refl }
 
     after_ticket_extends : (w : Progress D) (b : Bool) (cells : List (HeldCell D.Cell D.Value)) (areas : List ℕ) → Extends (after_ticket D s u state w b cells areas)
     unfolding after_ticket
@@ -75,19 +77,19 @@ module _ (D : SequentialDatabase) (opening : SequentialState D) (s : State D) wh
 
   step_extends : (u : ℕ) → IfMoved D (step D opening s u) Extends
   unfolding step step_if_unit IfMoved
-  step_extends u = go (unit_at s.units u)
+  step_extends u = go (unit_at s.units u) refl
     where
-      go : (o : Option (UnitState D)) → IfMoved D (step_if_unit D opening s u o) Extends
-      go None = tt
-      go (Some state) = step_of_unit_extends u state state.progress state.remaining
+      go : (o : Option (UnitState D)) → unit_at s.units u ≡ o → IfMoved D (step_if_unit D opening s u o) Extends
+      go None at = tt
+      go (Some state) at = step_of_unit_extends u state at state.progress state.remaining
 
   quit_extends : (u : ℕ) → IfMoved D (quit D s u) Extends
   unfolding quit quit_if_unit IfMoved
-  quit_extends u = go (unit_at s.units u)
+  quit_extends u = go (unit_at s.units u) refl
     where
-      go : (o : Option (UnitState D)) → IfMoved D (quit_if_unit D s u o) Extends
-      go None = tt
-      go (Some state) = quit_of_unit_extends u state state.progress
+      go : (o : Option (UnitState D)) → unit_at s.units u ≡ o → IfMoved D (quit_if_unit D s u o) Extends
+      go None at = tt
+      go (Some state) at = quit_of_unit_extends u state at state.progress
 
   after_extends : (r : Transition D) → IfMoved D r Extends → Extends (state_after D s r)
   unfolding state_after IfMoved
@@ -102,9 +104,14 @@ module _ (D : SequentialDatabase) (opening : SequentialState D) (s : State D) wh
 
 module _ (D : SequentialDatabase) (opening : SequentialState D) where
   pub run_extends : (s : State D) (moves : List Move) → (more : List (HistoryEntry D)) × ((run D opening s moves).history ≡ s.history ++ more)
-  unfolding run Extends
-  run_extends s [] = extends_itself D opening s
+  unfolding run
+  run_extends s [] = ([], sym (append-nil s.history))
   run_extends s (m ∷ ms) =
       let first = move_extends D opening s m in
       let rest = run_extends (state_after D s (transition D opening s m)) ms in
-      (first.0 ++ rest.0, rest.1 ∙ (ap (λ h. h ++ rest.0) first.1 ∙ append_assoc s.history first.0 rest.0))
+      (first.more ++ rest.0, rest.1 ∙ (ap (λ h. h ++ rest.0) first.history ∙ append_assoc s.history first.more rest.0))
+
+  pub run_scripts : (s : State D) (moves : List Move) → map (λ (x : UnitState D). x.script) (run D opening s moves).units ≡ map (λ (x : UnitState D). x.script) s.units
+  unfolding run
+  run_scripts s [] = refl
+  run_scripts s (m ∷ ms) = run_scripts (state_after D s (transition D opening s m)) ms ∙ (move_extends D opening s m).scripts

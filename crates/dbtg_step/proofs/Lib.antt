@@ -18,3 +18,5 @@ mod EventCounts
 mod Histories
 mod NetworkNeeds
 mod NameOrder
+mod Headlines
+mod Serials

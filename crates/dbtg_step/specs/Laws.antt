@@ -1,10 +1,16 @@
 -- The laws of the machine over the network database of a schema.
-use Rattle.std.specs.Prelude.{ℕ, ◌≡◌, ◌++◌, List, Some}
+use Rattle.std.specs.Prelude.{ℕ, ◌≡◌, ◌++◌, Bool, true, List, Some, map, length}
+use Rattle.std.specs.List.{list_all}
 use Rattle.dbtg_schema.specs.Lists.{Lists}
 use Rattle.dbtg_cells.specs.declared.name.CellName.{CellName}
 use Rattle.dbtg_cells.specs.Names.{name_lt}
 use Rattle.dbtg_cells.specs.Shown.{CellValue}
+use Rattle.dbtg_unit.specs.declared.statement.Statement.{Statement}
+use Rattle.dbtg_unit.specs.Base.{opening}
 use Rattle.dbtg_unit.specs.Cells.{cell}
+use Rattle.dbtg_unit.specs.Fits.{fits}
+use Rattle.dbtg_unit.specs.Image.{image_of}
+use Rattle.dbtg_unit.specs.LegalWith.{LegalWith}
 use Rattle.dbtg_step.specs.declared.moves.Move.{Move}
 use Rattle.dbtg_step.specs.SequentialDatabase.{IsSequentialDatabase, unit_at}
 use Rattle.dbtg_step.specs.Machine.{UnitState, Progress, State, SequentialState, HistoryEntry, replay}
@@ -13,6 +19,8 @@ use Rattle.dbtg_step.specs.Lawful.{Lawful, IsOpening, ImageHas}
 use Rattle.dbtg_step.specs.NeverStuck.{SomeUnitMoves, NeedsInOrder}
 use Rattle.dbtg_step.specs.EventCount.{EventsAreCounted}
 use Rattle.dbtg_step.specs.Network.{network}
+use Rattle.dbtg_step.specs.Serial.{machine_after_scripts}
+use Rattle.dbtg_step.specs.Headline.{IsSequential, entry_of, machine_after, opening_of}
 
 -- each event, of a step or a quit, leads from a lawful state to a lawful state
 abbrev pub EachEventKeepsLawful : Lists → ℕ → Type 0
@@ -54,3 +62,20 @@ abbrev pub EveryRunExtendsHistory : Lists → ℕ → Type 0
 EveryRunExtendsHistory schema capacity =
     (opening : SequentialState (network schema capacity)) (s : State (network schema capacity)) (moves : List Move) →
     (more : List (HistoryEntry (network schema capacity))) × ((run (network schema capacity) opening s moves).history ≡ s.history ++ more)
+
+-- every statement of every script fits the schema
+abbrev pub scripts_fit : Lists → List (List Statement) → Bool
+scripts_fit schema = list_all (list_all (fits schema))
+
+-- after every list of moves from the opening state the history is the sequential database's, and so are the units
+abbrev pub EveryRunIsSequential : Lists → ℕ → Type 0
+EveryRunIsSequential schema capacity =
+    (scripts : List (List Statement)) (moves : List Move) →
+    LegalWith schema capacity (opening schema) (opening_of schema capacity (length scripts)).units → scripts_fit schema scripts ≡ true →
+    IsSequential schema capacity scripts (map entry_of (machine_after schema capacity scripts moves).history)
+      (image_of schema capacity (replay (network schema capacity) (opening_of schema capacity (length scripts)) (machine_after schema capacity scripts moves).history).database)
+      (map (λ state. state.unit) (machine_after schema capacity scripts moves).units)
+
+-- a serial run is the run of some moves: of steps of one unit after another
+abbrev pub EverySerialRunIsARun : Lists → ℕ → Type 0
+EverySerialRunIsARun schema capacity = (scripts : List (List Statement)) → (moves : List Move) × (machine_after_scripts schema capacity scripts ≡ machine_after schema capacity scripts moves)

@@ -7,3 +7,4 @@ pub mod EventCount
 pub mod Network
 pub mod Laws
 pub mod Headline
+pub mod Serial

@@ -4,7 +4,7 @@ ghost use Rattle.dbtg_schema.specs.Lists.{Lists};
 ghost use Rattle.dbtg_cells.specs.Names.{name_lt};
 ghost use Rattle.dbtg_step.specs.SequentialDatabase.{IsSequentialDatabase};
 ghost use Rattle.dbtg_step.specs.NeverStuck.{NeedsInOrder};
-ghost use Rattle.dbtg_step.specs.Laws.{EachEventKeepsLawful, EveryRunIsLawful, EveryImageIsOfItsHistory, NoRunIsStuck, StatementsHaveTheirEvents, EveryRunExtendsHistory};
+ghost use Rattle.dbtg_step.specs.Laws.{EachEventKeepsLawful, EveryRunIsLawful, EveryImageIsOfItsHistory, NoRunIsStuck, StatementsHaveTheirEvents, EveryRunExtendsHistory, EveryRunIsSequential, EverySerialRunIsARun};
 ghost use Rattle.dbtg_step.specs.Network.{network};
 
 /// Each event, of a step or a quit, leads from a lawful state to a lawful state: its history replays on the sequential
@@ -43,5 +43,19 @@ pub fn statements_have_their_events()
 /// A history is never rewritten: moves put entries behind those that are there.
 pub fn every_run_extends_history()
     ensures { (schema : Lists) (capacity : ℕ) → EveryRunExtendsHistory schema capacity }
+{
+}
+
+/// The headline, of the machine: after every list of moves from the opening state the tickets are 0, 1, 2, .. in order; the
+/// statements of the history, taken whole in this order on the sequential database, have just these answers and lead to
+/// just these units; and the entries of each unit are the beginning of its script.
+pub fn every_run_is_sequential()
+    ensures { (schema : Lists) (capacity : ℕ) → IsSequentialDatabase (network schema capacity) → EveryRunIsSequential schema capacity }
+{
+}
+
+/// Stepping one unit after another, each until its next step is idle, is one of these runs.
+pub fn every_serial_run_is_a_run()
+    ensures { (schema : Lists) (capacity : ℕ) → EverySerialRunIsARun schema capacity }
 {
 }
