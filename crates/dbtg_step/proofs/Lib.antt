@@ -20,3 +20,5 @@ mod NetworkNeeds
 mod NameOrder
 mod Headlines
 mod Serials
+mod FoundKeys
+mod AreasOfCells
