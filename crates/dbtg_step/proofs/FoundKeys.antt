@@ -25,7 +25,7 @@ of_reverse {X} x (y ∷ ys) i = ⊎_elim (λ j. inr (of_reverse x ys j)) (λ j. 
 final_in : {X : Type 0} (xs : List X) (x : X) → final xs ≡ Some x → In x xs
 final_in xs x e = of_reverse x xs (first_in (reverse xs) x e)
 
-slice_in : {X : Type 0} (xs : List X) (i : ℕ) (x : X) → slice_get xs i ≡ Some x → In x xs
+pub slice_in : {X : Type 0} (xs : List X) (i : ℕ) (x : X) → slice_get xs i ≡ Some x → In x xs
 slice_in [] i x e = absurd (cc (e))
 slice_in (y ∷ ys) zero x e = inl (same_Some y x e)
 slice_in (y ∷ ys) (suc i) x e = inr (slice_in ys i x e)

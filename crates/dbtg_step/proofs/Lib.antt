@@ -22,3 +22,5 @@ mod Headlines
 mod Serials
 mod FoundKeys
 mod AreasOfCells
+mod AreasOfDelete
+mod NeededCells

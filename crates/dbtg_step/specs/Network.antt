@@ -1,5 +1,5 @@
 -- The network database of a schema as the sequential database of the machine.
-use Rattle.std.specs.Prelude.{ℕ, ◌≡◌, Bool, true, false, List, [], ◌∷◌, Option, None, map}
+use Rattle.std.specs.Prelude.{ℕ, ◌≡◌, ◌<◌, Bool, true, false, List, [], ◌∷◌, Option, None, length, map}
 use Rattle.std.specs.Option.{option_or}
 use Rattle.dbtg_schema.specs.Lists.{Lists}
 use Rattle.dbtg_schema.specs.Structure.{area_of, home}
@@ -78,3 +78,7 @@ network schema capacity = record {
   Fits = λ statement. fits schema statement ≡ true;
   Legal = LegalWith schema capacity
 }
+
+-- what the machine needs of a schema: each record type lies in one of its areas
+abbrev pub AreasAreKnown : Lists → Type 0
+AreasAreKnown schema = (t : ℕ) → area_of schema t < length schema.areas
