@@ -24,3 +24,5 @@ mod FoundKeys
 mod AreasOfCells
 mod AreasOfDelete
 mod NeededCells
+mod Ascending
+mod TakingOrder
