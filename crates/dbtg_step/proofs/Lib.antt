@@ -26,3 +26,5 @@ mod AreasOfDelete
 mod NeededCells
 mod Ascending
 mod TakingOrder
+mod SameCells
+mod StableCells
