@@ -25,6 +25,7 @@ mod AreasOfCells
 mod AreasOfDelete
 mod NeededCells
 mod Ascending
-mod TakingOrder
 mod SameCells
 mod StableCells
+mod CellsAscend
+mod TakingOrder

@@ -29,19 +29,19 @@ use Rattle.dbtg_unit.specs.Needs.{areas_in_order, cells_of}
 use Rattle.dbtg_unit.specs.Units.{key_of_place, place_in}
 use Rattle.dbtg_unit.proofs.LiveKeys.{In as Element, all_at, any_element, find_element, in_filter, in_range}
 use Rattle.dbtg_step.specs.SequentialDatabase.{HeldCell, NeedsCell, In, MayMake, unit_at}
-use Rattle.dbtg_step.specs.Network.{network, area_of_cell, is_delete, AreasAreKnown}
+use Rattle.dbtg_step.specs.Network.{network, area_of_cell, is_delete, SuitsMachine}
 use Rattle.dbtg_step.proofs.NetworkNeeds.{is_area_left, reads_cell}
 use Rattle.dbtg_step.proofs.AreasOfCells.{all_each, all_join, lies_in, cells_lie}
 use Rattle.dbtg_step.proofs.AreasOfDelete.{delete_cells_lie}
 
 -- THE AREAS OF A STATEMENT ARE THE SCHEMA'S
 
-module _ (schema : Lists) (known : AreasAreKnown schema) where
+module _ (schema : Lists) (suits : SuitsMachine schema) where
   abbrev is_known : ℕ → Bool
   is_known a = nat_lt a (length schema.areas)
 
   type_known : (t : ℕ) → is_known (area_of schema t) ≡ true
-  type_known t = lt-ltb _ _ (known t)
+  type_known t = lt-ltb _ _ (suits.areas t)
 
   mapped_known : {X : Type 0} (f : X → ℕ) (xs : List X) → ((x : X) → is_known (f x) ≡ true) → list_all is_known (map f xs) ≡ true
   mapped_known f [] h = refl
@@ -123,9 +123,9 @@ current_of_type schema capacity unit t changes r k h =
     let passed : some_and (λ u. not (u == t)) (option_map (λ (y : DbKey). y.rtype) unit.currency.run_unit) ≡ false = second_passed (is_none unit.currency.run_unit) (some_and (λ u. not (u == t)) (option_map (λ (y : DbKey). y.rtype) unit.currency.run_unit)) NoCurrentOfRunUnit OtherRecordType (later_checks schema capacity unit (Modify t changes)) r in
     eqb-true k.rtype t (not_false (k.rtype == t) (subst (λ o. some_and (λ u. not (u == t)) (option_map (λ (y : DbKey). y.rtype) o) ≡ false) h passed))
 
-module _ (schema : Lists) (capacity : ℕ) (known : AreasAreKnown schema) where
+module _ (schema : Lists) (capacity : ℕ) where
   -- a unit of a legal database is of the schema
-  unit_of_schema : (db : Database) (units : List Unit) (u : ℕ) (unit : Unit) → LegalWith schema capacity db units → unit_at units u ≡ Some unit → IsUnitOf schema unit
+  pub unit_of_schema : (db : Database) (units : List Unit) (u : ℕ) (unit : Unit) → LegalWith schema capacity db units → unit_at units u ≡ Some unit → IsUnitOf schema unit
   unfolding unit_at
   unit_of_schema db units zero unit legal e = absurd (cc (e))
   unit_of_schema db units (suc i) unit legal e = (legal.each i unit e).of_schema
@@ -150,14 +150,14 @@ module _ (schema : Lists) (capacity : ℕ) (known : AreasAreKnown schema) where
   all_cells_lie db unit g (Free all) legal of f r = cells_lie schema capacity db legal unit of g (Free all) f refl (λ t changes e. absurd (cc (e)))
 
   -- a cell that is needed lies in an area that is held
-  pub needed_in_area : (db : Database) (units : List Unit) (u : ℕ) (unit : Unit) (x : Statement) (g : List (Option Owner)) (areas : List ℕ) (cells : List (HeldCell CellName CellValue)) (c : CellName) →
+  pub needed_in_area : SuitsMachine schema → (db : Database) (units : List Unit) (u : ℕ) (unit : Unit) (x : Statement) (g : List (Option Owner)) (areas : List ℕ) (cells : List (HeldCell CellName CellValue)) (c : CellName) →
     MayMake (network schema capacity) db units u unit x → (network schema capacity).need db unit x g areas cells ≡ NeedsCell c → In (area_of_cell schema c) areas
-  needed_in_area db units u unit x g areas cells c may e =
+  needed_in_area suits db units u unit x g areas cells c may e =
       let r = reads_cell schema capacity db unit x g areas cells c e in
       let a = area_of_cell schema c in
       let here = (find_element _ (cells_of schema capacity db unit g x) c r.2).0 in
       let lies = all_at (lies_in schema (areas_of schema unit x)) c _ (all_cells_lie db unit g x may.legal.legal (unit_of_schema db units u unit may.legal may.found) may.fits r.0) here in
       let b = any_element (λ b. eqb b a) (areas_of schema unit x) lies in
-      let below : a < length schema.areas = ltb-true _ _ (subst (λ d. nat_lt d (length schema.areas) ≡ true) (eqb-true b.0 a b.2) (all_at (λ d. nat_lt d (length schema.areas)) b.0 _ (areas_known schema known unit x may.fits) b.1)) in
+      let below : a < length schema.areas = ltb-true _ _ (subst (λ d. nat_lt d (length schema.areas) ≡ true) (eqb-true b.0 a b.2) (all_at (λ d. nat_lt d (length schema.areas)) b.0 _ (areas_known schema suits unit x may.fits) b.1)) in
       let listed : Element a (areas_in_order schema unit x) = in_filter (λ d. list_any (λ b. b == d) (areas_of schema unit x)) a _ (in_range (length schema.areas) 0 a (omega arith) (omega arith)) lies in
       number_in a areas (not_false _ (find_none_of (is_area_left areas) _ r.1 a listed))

@@ -49,7 +49,7 @@ not_true : (b : Bool) → not b ≡ true → b ≡ false
 not_true true e = absurd (cc (e))
 not_true false e = refl
 
-held_name : (cells : List (HeldCell CellName CellValue)) (h : HeldCell CellName CellValue) (c : CellName) → In h cells → name_eq c h.name ≡ true → list_any (λ (e : CellName × Cell). name_eq c e.0) (holding [] [] cells).cells ≡ true
+pub held_name : (cells : List (HeldCell CellName CellValue)) (h : HeldCell CellName CellValue) (c : CellName) → In h cells → name_eq c h.name ≡ true → list_any (λ (e : CellName × Cell). name_eq c e.0) (holding [] [] cells).cells ≡ true
 held_name [] h c i e = absurd i
 held_name (k ∷ ks) h c (inl q) e = or_left _ _ (subst (λ (x : HeldCell CellName CellValue). name_eq c x.name ≡ true) q e)
 held_name (k ∷ ks) h c (inr i) e = or_right _ _ (held_name ks h c i e)

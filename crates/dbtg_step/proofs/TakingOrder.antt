@@ -6,7 +6,7 @@ use Rattle.std.proofs.lemmas.Bool.{or_cases, or_left, or_right, false≢true, eq
 use Rattle.dbtg_schema.specs.Lists.{Lists}
 use Rattle.dbtg_cells.specs.declared.key.Owner.{Owner}
 use Rattle.dbtg_cells.specs.declared.name.CellName.{CellName}
-use Rattle.dbtg_cells.specs.Names.{name_lt}
+use Rattle.dbtg_cells.specs.Names.{name_eq, name_lt}
 use Rattle.dbtg_cells.specs.Shown.{CellValue}
 use Rattle.dbtg_unit.specs.declared.statement.Statement.{Statement}
 use Rattle.dbtg_unit.specs.declared.unit.Unit.{Unit}
@@ -15,27 +15,18 @@ use Rattle.dbtg_unit.specs.Base.{Database}
 use Rattle.dbtg_unit.specs.Checks.{areas_of, refused_at_once}
 use Rattle.dbtg_unit.specs.Legal.{pairwise}
 use Rattle.dbtg_unit.specs.Needs.{need, next_of, areas_in_order, cells_of, is_stale, stale_owners}
-use Rattle.dbtg_step.specs.SequentialDatabase.{HeldCell, NeedsArea, NeedsCell, In}
-use Rattle.dbtg_step.specs.NeverStuck.{TakenInTurn, NoneYet, AreaNext, CellNext}
-use Rattle.dbtg_step.specs.Network.{network, next_need_of}
+use Rattle.dbtg_step.specs.SequentialDatabase.{HeldCell, NeedsArea, NeedsCell, In, Agrees}
+use Rattle.dbtg_step.specs.NeverStuck.{MayGoOn, NeedsInOrder, TakenInTurn, NoneYet, AreaNext, CellNext}
+use Rattle.dbtg_step.specs.Network.{network, holding, is_delete, next_need_of, SuitsMachine}
 use Rattle.dbtg_step.proofs.Ascending.{IsClosed, above_held, ascending_filter, ascending_range, closed_on}
-use Rattle.dbtg_step.proofs.NetworkNeeds.{is_area_left, is_not_held, reads_area, reads_cell}
-
-number_never : (a : ℕ) → nat_lt a a ≡ true → ⊥
-number_never a e = let i = ltb-true a a e in absurd (omega arith)
-
-number_chain : (a b c : ℕ) → nat_lt a b ≡ true → nat_lt b c ≡ true → nat_lt a c ≡ true
-number_chain a b c p q = let i = ltb-true a b p in let j = ltb-true b c q in lt-ltb a c (omega arith)
-
-number_total : (a b : ℕ) → (nat_lt a b ≡ true) ⊎ ((a ≡ b) ⊎ (nat_lt b a ≡ true))
-number_total zero zero = inr (inl refl)
-number_total zero (suc b) = inl (lt-ltb 0 (suc b) (omega arith))
-number_total (suc a) zero = inr (inr (lt-ltb 0 (suc a) (omega arith)))
-number_total (suc a) (suc b) = elim (number_total a b) [
-    inl h ↦ let i = ltb-true a b h in inl (lt-ltb (suc a) (suc b) (omega arith))
-  | inr (inl e) ↦ inr (inl (ap suc e))
-  | inr (inr h) ↦ let i = ltb-true b a h in inr (inr (lt-ltb (suc b) (suc a) (omega arith)))
-]
+use Rattle.dbtg_step.proofs.NameOrder.{name_chain, name_never, name_total, number_chain, number_never, number_total}
+use Rattle.dbtg_step.proofs.NetworkNeeds.{held_name, is_area_left, is_not_held, reads_area, reads_cell}
+use Rattle.dbtg_step.proofs.NeededCells.{not_false, unit_of_schema}
+use Rattle.dbtg_step.proofs.StableCells.{cells_stable}
+use Rattle.dbtg_step.proofs.CellsAscend.{cells_ascend}
+use Rattle.dbtg_unit.proofs.ReadingCells.{same_name, name_eq-refl}
+use Rattle.dbtg_unit.specs.Cells.{cell}
+use Rattle.dbtg_cells.specs.declared.cell.Cell.{Cell}
 
 -- area b is held
 abbrev has_area : List ℕ → ℕ → Bool
@@ -88,3 +79,48 @@ module _ (schema : Lists) (capacity : ℕ) (unit : Unit) (x : Statement) where
       let r = reads_area schema capacity db unit x g areas [] a e in
       AreaNext db (areas_the_same g g' areas [] taken) (makes_area db g' areas a r.0 r.1)
   areas_the_same g g' _ _ (CellNext {areas} {cells} {h} db taken go e) = areas_the_same g g' areas cells taken
+
+-- THE CELLS
+
+-- cell c is held
+abbrev has_cell : List (HeldCell CellName CellValue) → CellName → Bool
+has_cell cells c = list_any (λ (e : CellName × Cell). name_eq c e.0) (holding [] [] cells).cells
+
+-- of two databases in which the held cells are as they are held, each held cell is alike
+held_alike : (schema : Lists) (capacity : ℕ) (db eb : Database) (cells : List (HeldCell CellName CellValue)) → Agrees (network schema capacity) db cells → Agrees (network schema capacity) eb cells → (c : CellName) → has_cell cells c ≡ true → cell schema capacity db c ≡ cell schema capacity eb c
+held_alike schema capacity db eb [] a b c h = absurd (false≢true h)
+held_alike schema capacity db eb (k ∷ ks) a b c h = elim (or_cases _ _ h) [
+    inl q ↦ let e = same_name c k.name q in ap (cell schema capacity db) e ∙ (sym (a k (inl refl)) ∙ (b k (inl refl) ∙ sym (ap (cell schema capacity eb) e)))
+  | inr q ↦ held_alike schema capacity db eb ks (λ h i. a h (inr i)) (λ h i. b h (inr i)) c q
+]
+
+module _ (schema : Lists) (suits : SuitsMachine schema) (capacity : ℕ) (unit : Unit) (x : Statement) (shared : is_delete x ≡ false) where
+  cells_closed : (g : List (Option Owner)) (areas : List ℕ) (cells : List (HeldCell CellName CellValue)) → TakenInTurn (network schema capacity) name_lt unit x g areas cells → (db : Database) → MayGoOn (network schema capacity) name_lt db unit x cells → IsClosed name_lt (has_cell cells) (cells_of schema capacity db unit g x)
+  cells_closed g _ _ NoneYet db may = λ h d k i b. absurd (false≢true k)
+  cells_closed g _ _ (AreaNext other taken e) db may = λ h d k i b. absurd (false≢true k)
+  cells_closed g _ _ (CellNext {areas} {cells} {h} other taken then_ e) db may =
+      let agrees : Agrees (network schema capacity) db cells = λ k i. may.agrees k (inr i) in
+      let agreed : Agrees (network schema capacity) other cells = λ k i. then_.agrees k (inr i) in
+      let closed = cells_closed g areas cells taken db (record { units = may.units; u = may.u; may = may.may; agrees = agrees }) in
+      let of = unit_of_schema schema capacity db may.units may.u unit may.may.legal may.may.found in
+      let stable = cells_stable schema capacity db other may.may.legal.legal then_.may.legal.legal unit of (is_not_held cells)
+            (λ c n. held_alike schema capacity db other cells agrees agreed c (not_false (has_cell cells c) n)) g x shared in
+      closed_on name_lt name_never name_chain (has_cell cells) (has_cell (h ∷ cells)) (cells_of schema capacity db unit g x) h.name (cells_ascend schema suits capacity db unit g x shared)
+        (stable ∙ (reads_cell schema capacity other unit x g areas cells h.name e).2)
+        (λ d k. elim (or_cases _ _ k) [ inl q ↦ inr (same_name d h.name q) | inr q ↦ inl q ])
+        (λ d k. or_right _ _ k)
+        closed
+
+  pub cell_is_above : (db : Database) (g : List (Option Owner)) (areas : List ℕ) (cells : List (HeldCell CellName CellValue)) (c : CellName) → TakenInTurn (network schema capacity) name_lt unit x g areas cells → MayGoOn (network schema capacity) name_lt db unit x cells →
+    (network schema capacity).need db unit x g areas cells ≡ NeedsCell c → (h : HeldCell CellName CellValue) → In h cells → name_lt h.name c ≡ true
+  cell_is_above db g areas cells c taken may e h i =
+      above_held name_lt name_never name_chain name_total (has_cell cells) (cells_of schema capacity db unit g x) c (reads_cell schema capacity db unit x g areas cells c e).2
+        (cells_closed g areas cells taken db may) h.name (held_name cells h h.name i (name_eq-refl h.name))
+
+-- what a statement needs is in order
+pub network_needs_in_order : (schema : Lists) (capacity : ℕ) → SuitsMachine schema → NeedsInOrder (network schema capacity) name_lt
+network_needs_in_order schema capacity suits = record {
+  area_above = λ db unit x g areas cells a. area_is_above schema capacity unit x db g areas cells a;
+  cell_above = λ db unit x g areas cells c shared. cell_is_above schema suits capacity unit x shared db g areas cells c;
+  areas_stay = λ unit x g g' areas cells. areas_the_same schema capacity unit x g g' areas cells
+}

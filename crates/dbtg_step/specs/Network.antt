@@ -1,8 +1,8 @@
 -- The network database of a schema as the sequential database of the machine.
-use Rattle.std.specs.Prelude.{ℕ, ◌≡◌, ◌<◌, Bool, true, false, List, [], ◌∷◌, Option, None, length, map}
+use Rattle.std.specs.Prelude.{ℕ, ◌≡◌, ◌<◌, Bool, true, false, List, [], ◌∷◌, Option, None, is_some, length, map}
 use Rattle.std.specs.Option.{option_or}
 use Rattle.dbtg_schema.specs.Lists.{Lists}
-use Rattle.dbtg_schema.specs.Structure.{area_of, home}
+use Rattle.dbtg_schema.specs.Structure.{area_of, home, member_clause, owns}
 use Rattle.dbtg_cells.specs.declared.key.Owner.{Owner}
 use Rattle.dbtg_cells.specs.declared.name.CellName.{CellName}
 use Rattle.dbtg_cells.specs.declared.name.CellName.TheVariants.{Usage, Extent, Ring, Slot}
@@ -79,6 +79,8 @@ network schema capacity = record {
   Legal = LegalWith schema capacity
 }
 
--- what the machine needs of a schema: each record type lies in one of its areas
-abbrev pub AreasAreKnown : Lists → Type 0
-AreasAreKnown schema = (t : ℕ) → area_of schema t < length schema.areas
+-- what the machine needs of a schema: each record type lies in one of its areas, and no record type is owner and member of
+-- one set
+pub record SuitsMachine (schema : Lists) : Type 0 where
+  pub areas : (t : ℕ) → area_of schema t < length schema.areas
+  pub owner_is_no_member : (s t : ℕ) → owns schema s t ≡ true → is_some (member_clause schema s t) ≡ false
