@@ -29,3 +29,4 @@ mod SameCells
 mod StableCells
 mod CellsAscend
 mod TakingOrder
+mod NetworkFacts

@@ -1,24 +1,26 @@
 -- The laws of the machine over the network database of a schema.
-use Rattle.std.specs.Prelude.{ℕ, ◌≡◌, ◌++◌, Bool, true, List, Some, map, length}
+use Rattle.std.specs.Prelude.{ℕ, ◌≡◌, ◌++◌, Bool, true, List, Option, Some, map, length}
 use Rattle.std.specs.List.{list_all}
 use Rattle.dbtg_schema.specs.Lists.{Lists}
 use Rattle.dbtg_cells.specs.declared.name.CellName.{CellName}
 use Rattle.dbtg_cells.specs.Names.{name_lt}
 use Rattle.dbtg_cells.specs.Shown.{CellValue}
 use Rattle.dbtg_unit.specs.declared.statement.Statement.{Statement}
-use Rattle.dbtg_unit.specs.Base.{opening}
+use Rattle.dbtg_unit.specs.declared.unit.Unit.{Unit}
+use Rattle.dbtg_cells.specs.declared.key.Owner.{Owner}
+use Rattle.dbtg_unit.specs.Base.{Database, opening}
 use Rattle.dbtg_unit.specs.Cells.{cell}
 use Rattle.dbtg_unit.specs.Fits.{fits}
 use Rattle.dbtg_unit.specs.Image.{image_of}
 use Rattle.dbtg_unit.specs.LegalWith.{LegalWith}
 use Rattle.dbtg_step.specs.declared.moves.Move.{Move}
-use Rattle.dbtg_step.specs.SequentialDatabase.{IsSequentialDatabase, unit_at}
+use Rattle.dbtg_step.specs.SequentialDatabase.{HeldCell, NeedsCell, In, MayMake, NamesCells, unit_at}
 use Rattle.dbtg_step.specs.Machine.{UnitState, Progress, State, SequentialState, HistoryEntry, replay}
 use Rattle.dbtg_step.specs.Step.{transition, MovedTo, run}
 use Rattle.dbtg_step.specs.Lawful.{Lawful, IsOpening, ImageHas}
 use Rattle.dbtg_step.specs.NeverStuck.{SomeUnitMoves, NeedsInOrder}
 use Rattle.dbtg_step.specs.EventCount.{EventsAreCounted}
-use Rattle.dbtg_step.specs.Network.{network}
+use Rattle.dbtg_step.specs.Network.{network, area_of_cell}
 use Rattle.dbtg_step.specs.Serial.{machine_after_scripts}
 use Rattle.dbtg_step.specs.Headline.{IsSequential, entry_of, machine_after, opening_of}
 
@@ -79,3 +81,12 @@ EveryRunIsSequential schema capacity =
 -- a serial run is the run of some moves: of steps of one unit after another
 abbrev pub EverySerialRunIsARun : Lists → ℕ → Type 0
 EverySerialRunIsARun schema capacity = (scripts : List (List Statement)) → (moves : List Move) × (machine_after_scripts schema capacity scripts ≡ machine_after schema capacity scripts moves)
+
+-- A cell that a statement needs isn't held, and lies in an area that is held. Where all that is held was taken in turn, an
+-- area that is needed is above all that are held, and no cell is held; and a cell that is needed is above all that are held,
+-- unless the statement is a DELETE
+pub record NeedsAreInOrder (schema : Lists) (capacity : ℕ) : Type 0 where
+  pub names : NamesCells (network schema capacity)
+  pub in_area : (db : Database) (units : List Unit) (u : ℕ) (unit : Unit) (statement : Statement) (guesses : List (Option Owner)) (areas : List ℕ) (cells : List (HeldCell CellName CellValue)) (c : CellName) →
+    MayMake (network schema capacity) db units u unit statement → (network schema capacity).need db unit statement guesses areas cells ≡ NeedsCell c → In (area_of_cell schema c) areas
+  pub in_order : NeedsInOrder (network schema capacity) name_lt

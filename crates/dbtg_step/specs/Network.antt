@@ -23,7 +23,7 @@ use Rattle.dbtg_unit.specs.Guesses.{guesses_after}
 use Rattle.dbtg_unit.specs.Hands.{Hands}
 use Rattle.dbtg_unit.specs.LegalWith.{LegalWith}
 use Rattle.dbtg_unit.specs.Needs.{need}
-use Rattle.dbtg_step.specs.SequentialDatabase.{HeldCell, NextNeed, NeedsArea, NeedsCell, StaleGuesses, NeedsNothing, Effect, SequentialDatabase}
+use Rattle.dbtg_step.specs.SequentialDatabase.{HeldCell, NextNeed, NeedsArea, NeedsCell, StaleGuesses, NeedsNothing, Effect, SequentialDatabase, Agrees, IsLocal, MayMake}
 
 -- the area of a cell: the area itself, a record type's, a set's home
 abbrev pub area_of_cell : Lists → CellName → ℕ
@@ -84,3 +84,10 @@ network schema capacity = record {
 pub record SuitsMachine (schema : Lists) : Type 0 where
   pub areas : (t : ℕ) → area_of schema t < length schema.areas
   pub owner_is_no_member : (s t : ℕ) → owns schema s t ≡ true → is_some (member_clause schema s t) ≡ false
+
+-- a statement that needs nothing more leaves a database with all its units legal, and changes no cell but those that it holds
+abbrev pub StatementsAreLocal : Lists → ℕ → Type 0
+StatementsAreLocal schema capacity =
+    (db : Database) (units : List Unit) (u : ℕ) (unit : Unit) (statement : Statement) (guesses : List (Option Owner)) (areas : List ℕ) (cells : List (HeldCell CellName CellValue)) →
+    MayMake (network schema capacity) db units u unit statement → Agrees (network schema capacity) db cells → (network schema capacity).need db unit statement guesses areas cells ≡ NeedsNothing →
+    IsLocal (network schema capacity) db units u unit statement cells
