@@ -30,3 +30,4 @@ mod StableCells
 mod CellsAscend
 mod TakingOrder
 mod NetworkFacts
+mod TurnsBack

@@ -8,3 +8,4 @@ pub mod Network
 pub mod Laws
 pub mod Headline
 pub mod Serial
+pub mod TurningBack

@@ -2,6 +2,7 @@
 ghost use Rattle.std.specs.Prelude.{ℕ};
 ghost use Rattle.dbtg_schema.specs.Lists.{Lists};
 ghost use Rattle.dbtg_step.specs.Laws.{EachEventKeepsLawful, EveryRunIsLawful, EveryImageIsOfItsHistory, NoRunIsStuck, StatementsHaveTheirEvents, EveryRunExtendsHistory, EveryRunIsSequential, EverySerialRunIsARun, NeedsAreInOrder};
+ghost use Rattle.dbtg_step.specs.TurningBack.{NeedsComeToAnEnd};
 ghost use Rattle.dbtg_step.specs.Network.{StatementsAreLocal, SuitsMachine};
 
 /// Each event, of a step or a quit, leads from a lawful state to a lawful state: its history replays on the sequential
@@ -61,5 +62,12 @@ pub fn every_serial_run_is_a_run()
 /// then, of every statement but DELETE, cells in theirs, whatever other units do meanwhile to the cells that are not held.
 pub fn needs_are_in_order()
     ensures { (schema : Lists) (capacity : ℕ) → SuitsMachine schema → NeedsAreInOrder schema capacity }
+{
+}
+
+/// On one database the needs of a statement come to an end: with the true owners noted no guess is stale, and a stated number
+/// falls with each area and cell that is taken and with a turn back.
+pub fn needs_come_to_an_end()
+    ensures { (schema : Lists) (capacity : ℕ) → NeedsComeToAnEnd schema capacity }
 {
 }
