@@ -1,0 +1,75 @@
+-- The first element of an ascending list that isn't held: all below it are held.
+use Rattle.std.proofs.Common.{◌≡◌, refl, sym, ◌∙◌, ap, subst, ℕ, zero, suc, ◌+◌, ◌<◌, Bool, true, false, cond, not, List, [], ◌∷◌, ◌++◌, map, Option, Some, None, ◌⊎◌, inl, inr, ⊎_elim, arith}
+use Rattle.std.specs.Prelude.{nat_lt, filter}
+use Rattle.std.specs.List.{list_all, range_with_len, find}
+use Rattle.std.proofs.lemmas.Bool.{and_parts, and_from, cond_both, false≢true, ltb-true, lt-ltb}
+use Rattle.std.proofs.lemmas.List.Folds.{list_all-append}
+use Rattle.dbtg_unit.specs.Legal.{pairwise}
+use Rattle.dbtg_unit.proofs.LiveKeys.{In, all_at, find_element, in_left, in_right, of_append, of_filter}
+
+all_filtered : {X : Type 0} (p test : X → Bool) (xs : List X) → list_all p xs ≡ true → list_all p (filter test xs) ≡ true
+all_filtered p test [] h = refl
+all_filtered p test (x ∷ xs) h = let hs = and_parts _ _ h in cond_both (test x) _ _ (λ ys. list_all p ys ≡ true) (λ e. and_from _ _ hs.0 (all_filtered p test xs hs.1)) (λ e. all_filtered p test xs hs.1)
+
+pub ascending_filter : {X : Type 0} (lt : X → X → Bool) (test : X → Bool) (xs : List X) → pairwise lt xs ≡ true → pairwise lt (filter test xs) ≡ true
+ascending_filter lt test [] h = refl
+ascending_filter lt test (x ∷ xs) h = let hs = and_parts _ _ h in cond_both (test x) _ _ (λ ys. pairwise lt ys ≡ true) (λ e. and_from _ _ (all_filtered (lt x) test xs hs.0) (ascending_filter lt test xs hs.1)) (λ e. ascending_filter lt test xs hs.1)
+
+above_range : (m a n : ℕ) → m < a → list_all (nat_lt m) (range_with_len a n) ≡ true
+above_range m a zero h = refl
+above_range m a (suc n) h = and_from _ _ (lt-ltb m a h) (above_range m (a + 1) n (omega arith))
+
+pub ascending_range : (a n : ℕ) → pairwise nat_lt (range_with_len a n) ≡ true
+ascending_range a zero = refl
+ascending_range a (suc n) = and_from _ _ (above_range a (a + 1) n (omega arith)) (ascending_range (a + 1) n)
+
+-- one ascending list behind another, each element of which is below
+pub ascending_join : {X : Type 0} (lt : X → X → Bool) (xs ys : List X) → pairwise lt xs ≡ true → pairwise lt ys ≡ true → ((x : X) → In x xs → list_all (lt x) ys ≡ true) → pairwise lt (xs ++ ys) ≡ true
+ascending_join lt [] ys h g f = g
+ascending_join lt (x ∷ xs) ys h g f = let hs = and_parts _ _ h in and_from _ _ (list_all-append (lt x) xs ys ∙ and_from _ _ hs.0 (f x (inl refl))) (ascending_join lt xs ys hs.1 g (λ z i. f z (inr i)))
+
+not_false : (b : Bool) → not b ≡ false → b ≡ true
+not_false true h = refl
+not_false false h = absurd (false≢true (sym h))
+
+not_both : (b : Bool) → b ≡ true → not b ≡ true → ⊥
+not_both true h g = false≢true g
+not_both false h g = false≢true h
+
+-- with each element that is held, all of the list that are below it are held
+abbrev pub IsClosed : {X : Type 0} → (X → X → Bool) → (X → Bool) → List X → Type 0
+IsClosed {X} lt held xs = (h d : X) → held h ≡ true → In d xs → lt d h ≡ true → held d ≡ true
+
+module _ {X : Type 0} (lt : X → X → Bool) (never : (x : X) → lt x x ≡ true → ⊥) (chain : (x y z : X) → lt x y ≡ true → lt y z ≡ true → lt x z ≡ true) where
+  -- what is below the first that passes doesn't pass
+  pub below_first : (p : X → Bool) (xs : List X) (c d : X) → pairwise lt xs ≡ true → find p xs ≡ Some c → In d xs → lt d c ≡ true → p d ≡ false
+  below_first p [] c d h e i b = absurd i
+  below_first p (x ∷ xs) c d h e i b = go (λ t j. below_first p xs c d (and_parts _ _ h).1 (later t) j b) (p x) refl i
+    where
+      first : p x ≡ true → x ≡ c
+      first t = cc (e, t)
+      later : p x ≡ false → find p xs ≡ Some c
+      later t = cc (e, t)
+      go : (p x ≡ false → In d xs → p d ≡ false) → (q : Bool) → p x ≡ q → In d (x ∷ xs) → p d ≡ false
+      go behind true t (inl s) = absurd (never c (subst (λ (y : X). lt y c ≡ true) (sym s ∙ first t) b))
+      go behind true t (inr j) = absurd (never c (chain c d c (subst (λ (y : X). lt y d ≡ true) (first t) (all_at (lt x) d xs (and_parts _ _ h).0 j)) b))
+      go behind false t (inl s) = subst (λ (y : X). p y ≡ false) s t
+      go behind false t (inr j) = behind t j
+
+  -- it stays so when the first that isn't held is taken
+  pub closed_on : (held held' : X → Bool) (xs : List X) (c : X) → pairwise lt xs ≡ true → find (λ x. not (held x)) xs ≡ Some c →
+    ((d : X) → held' d ≡ true → (held d ≡ true) ⊎ (d ≡ c)) → ((d : X) → held d ≡ true → held' d ≡ true) → IsClosed lt held xs → IsClosed lt held' xs
+  closed_on held held' xs c asc e less more closed h d k i b = elim (less h k) [
+      inl old ↦ more d (closed h d old i b)
+    | inr new ↦ more d (not_false (held d) (below_first (λ x. not (held x)) xs c d asc e i (subst (λ y. lt d y ≡ true) new b)))
+  ]
+
+  -- and the first that isn't held is above all that are
+  pub above_held : (total : (x y : X) → (lt x y ≡ true) ⊎ ((x ≡ y) ⊎ (lt y x ≡ true))) (held : X → Bool) (xs : List X) (c : X) → find (λ x. not (held x)) xs ≡ Some c → IsClosed lt held xs → (h : X) → held h ≡ true → lt h c ≡ true
+  above_held total held xs c e closed h k =
+      let f = find_element (λ x. not (held x)) xs c e in
+      elim (total h c) [
+          inl below ↦ below
+        | inr (inl same) ↦ absurd (not_both (held c) (subst (λ y. held y ≡ true) same k) f.1)
+        | inr (inr above) ↦ absurd (not_both (held c) (closed h c k f.0 above) f.1)
+      ]

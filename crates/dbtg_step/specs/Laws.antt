@@ -1,0 +1,92 @@
+-- The laws of the machine over the network database of a schema.
+use Rattle.std.specs.Prelude.{ℕ, ◌≡◌, ◌++◌, Bool, true, List, Option, Some, map, length}
+use Rattle.std.specs.List.{list_all}
+use Rattle.dbtg_schema.specs.Lists.{Lists}
+use Rattle.dbtg_cells.specs.declared.name.CellName.{CellName}
+use Rattle.dbtg_cells.specs.Names.{name_lt}
+use Rattle.dbtg_cells.specs.Shown.{CellValue}
+use Rattle.dbtg_unit.specs.declared.statement.Statement.{Statement}
+use Rattle.dbtg_unit.specs.declared.unit.Unit.{Unit}
+use Rattle.dbtg_cells.specs.declared.key.Owner.{Owner}
+use Rattle.dbtg_unit.specs.Base.{Database, opening}
+use Rattle.dbtg_unit.specs.Cells.{cell}
+use Rattle.dbtg_unit.specs.Fits.{fits}
+use Rattle.dbtg_unit.specs.Image.{image_of}
+use Rattle.dbtg_unit.specs.LegalWith.{LegalWith}
+use Rattle.dbtg_step.specs.declared.moves.Move.{Move}
+use Rattle.dbtg_step.specs.SequentialDatabase.{HeldCell, NeedsCell, In, MayMake, NamesCells, unit_at}
+use Rattle.dbtg_step.specs.Machine.{UnitState, Progress, State, SequentialState, HistoryEntry, replay}
+use Rattle.dbtg_step.specs.Step.{transition, MovedTo, run}
+use Rattle.dbtg_step.specs.Lawful.{Lawful, IsOpening, ImageHas}
+use Rattle.dbtg_step.specs.NeverStuck.{SomeUnitMoves, NeedsInOrder}
+use Rattle.dbtg_step.specs.EventCount.{EventsAreCounted}
+use Rattle.dbtg_step.specs.Network.{network, area_of_cell}
+use Rattle.dbtg_step.specs.Serial.{machine_after_scripts}
+use Rattle.dbtg_step.specs.Headline.{IsSequential, entry_of, machine_after, opening_of}
+
+-- each event, of a step or a quit, leads from a lawful state to a lawful state
+abbrev pub EachEventKeepsLawful : Lists → ℕ → Type 0
+EachEventKeepsLawful schema capacity =
+    (opening : SequentialState (network schema capacity)) (s t : State (network schema capacity)) (m : Move) →
+    Lawful (network schema capacity) opening s → transition (network schema capacity) opening s m ≡ MovedTo t → Lawful (network schema capacity) opening t
+
+-- every list of moves, with blocked and idle ones and quits in it, leads from an opening state to a lawful state
+abbrev pub EveryRunIsLawful : Lists → ℕ → Type 0
+EveryRunIsLawful schema capacity =
+    (opening : SequentialState (network schema capacity)) (s : State (network schema capacity)) (moves : List Move) →
+    IsOpening (network schema capacity) opening s → Lawful (network schema capacity) opening (run (network schema capacity) opening s moves)
+
+-- the image of a lawful state, also in mid-statement, has for each cell what the database of its history has, and nothing else
+pub record ImageIsOfHistory (schema : Lists) (capacity : ℕ) (opening : SequentialState (network schema capacity)) (s : State (network schema capacity)) : Type 0 where
+  pub has : (c : CellName) → ImageHas (network schema capacity) opening s c (cell schema capacity (replay (network schema capacity) opening s.history).database c)
+  pub only : (c : CellName) (v : CellValue) → ImageHas (network schema capacity) opening s c v → v ≡ cell schema capacity (replay (network schema capacity) opening s.history).database c
+
+abbrev pub EveryImageIsOfItsHistory : Lists → ℕ → Type 0
+EveryImageIsOfItsHistory schema capacity =
+    (opening : SequentialState (network schema capacity)) (s : State (network schema capacity)) →
+    Lawful (network schema capacity) opening s → ImageIsOfHistory schema capacity opening s
+
+-- after every list of moves, where a unit is in mid-statement some unit's next step is an event
+abbrev pub NoRunIsStuck : Lists → ℕ → Type 0
+NoRunIsStuck schema capacity =
+    (opening : SequentialState (network schema capacity)) (s : State (network schema capacity)) (moves : List Move) → IsOpening (network schema capacity) opening s →
+    (u : ℕ) (state : UnitState (network schema capacity)) (w : Progress (network schema capacity)) →
+    unit_at (run (network schema capacity) opening s moves).units u ≡ Some state → state.progress ≡ Some w →
+    SomeUnitMoves (network schema capacity) opening (run (network schema capacity) opening s moves)
+
+-- a statement that meets nobody and never turns back has 2 + 2a + 3c events, for its a areas and c cells
+abbrev pub StatementsHaveTheirEvents : Lists → ℕ → Type 0
+StatementsHaveTheirEvents schema capacity =
+    (opening : SequentialState (network schema capacity)) (s : State (network schema capacity)) → EventsAreCounted (network schema capacity) opening s
+
+-- a history is never rewritten: moves put entries behind those that are there
+abbrev pub EveryRunExtendsHistory : Lists → ℕ → Type 0
+EveryRunExtendsHistory schema capacity =
+    (opening : SequentialState (network schema capacity)) (s : State (network schema capacity)) (moves : List Move) →
+    (more : List (HistoryEntry (network schema capacity))) × ((run (network schema capacity) opening s moves).history ≡ s.history ++ more)
+
+-- every statement of every script fits the schema
+abbrev pub scripts_fit : Lists → List (List Statement) → Bool
+scripts_fit schema = list_all (list_all (fits schema))
+
+-- after every list of moves from the opening state the history is the sequential database's, and so are the units
+abbrev pub EveryRunIsSequential : Lists → ℕ → Type 0
+EveryRunIsSequential schema capacity =
+    (scripts : List (List Statement)) (moves : List Move) →
+    LegalWith schema capacity (opening schema) (opening_of schema capacity (length scripts)).units → scripts_fit schema scripts ≡ true →
+    IsSequential schema capacity scripts (map entry_of (machine_after schema capacity scripts moves).history)
+      (image_of schema capacity (replay (network schema capacity) (opening_of schema capacity (length scripts)) (machine_after schema capacity scripts moves).history).database)
+      (map (λ state. state.unit) (machine_after schema capacity scripts moves).units)
+
+-- a serial run is the run of some moves: of steps of one unit after another
+abbrev pub EverySerialRunIsARun : Lists → ℕ → Type 0
+EverySerialRunIsARun schema capacity = (scripts : List (List Statement)) → (moves : List Move) × (machine_after_scripts schema capacity scripts ≡ machine_after schema capacity scripts moves)
+
+-- A cell that a statement needs isn't held, and lies in an area that is held. Where all that is held was taken in turn, an
+-- area that is needed is above all that are held, and no cell is held; and a cell that is needed is above all that are held,
+-- unless the statement is a DELETE
+pub record NeedsAreInOrder (schema : Lists) (capacity : ℕ) : Type 0 where
+  pub names : NamesCells (network schema capacity)
+  pub in_area : (db : Database) (units : List Unit) (u : ℕ) (unit : Unit) (statement : Statement) (guesses : List (Option Owner)) (areas : List ℕ) (cells : List (HeldCell CellName CellValue)) (c : CellName) →
+    MayMake (network schema capacity) db units u unit statement → (network schema capacity).need db unit statement guesses areas cells ≡ NeedsCell c → In (area_of_cell schema c) areas
+  pub in_order : NeedsInOrder (network schema capacity) name_lt

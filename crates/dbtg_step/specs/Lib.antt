@@ -1,0 +1,11 @@
+pub mod SequentialDatabase
+pub mod Machine
+pub mod Step
+pub mod Lawful
+pub mod NeverStuck
+pub mod EventCount
+pub mod Network
+pub mod Laws
+pub mod Headline
+pub mod Serial
+pub mod TurningBack
