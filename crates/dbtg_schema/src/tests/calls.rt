@@ -8,7 +8,7 @@ const SHOP: &str = "SCHEMA NAME IS SHOP.\nAREA NAME IS MAIN.\nAREA NAME IS SIDE.
 #[test]
 fn names_and_numbers(rt: HostRuntime) {
     let shop = Schema::read(rt.alloc(), SHOP.as_bytes()).expect(&rt, "a schema");
-    assert_eq!(rt; shop.name(), b"SHOP".as_slice());
+    assert!(rt; shop.name() == b"SHOP".as_slice());
     assert_eq!(rt; shop.area(b"SIDE"), Some(AreaNo::new(1)));
     assert_eq!(rt; shop.area(b"ITEM"), None);
     assert_eq!(rt; shop.rtype(b"ITEM"), Some(RecordNo::new(2)));
@@ -16,11 +16,11 @@ fn names_and_numbers(rt: HostRuntime) {
     assert_eq!(rt; shop.set(b"WATCH"), Some(SetNo::new(2)));
     assert_eq!(rt; shop.item(RecordNo::new(2), b"QTY"), Some(ItemNo::new(1)));
     assert_eq!(rt; shop.item(RecordNo::new(1), b"QTY"), None);
-    assert_eq!(rt; shop.area_name(AreaNo::new(0)), Some(b"MAIN".as_slice()));
-    assert_eq!(rt; shop.area_name(AreaNo::new(2)), None);
-    assert_eq!(rt; shop.rtype_name(RecordNo::new(1)), Some(b"ORDR".as_slice()));
-    assert_eq!(rt; shop.set_name(SetNo::new(1)), Some(b"LINES".as_slice()));
-    assert_eq!(rt; shop.item_name(RecordNo::new(0), ItemNo::new(1)), Some(b"CNAME".as_slice()));
+    assert!(rt; matches!(shop.area_name(AreaNo::new(0)), Some(name) if name == b"MAIN".as_slice()));
+    assert!(rt; shop.area_name(AreaNo::new(2)).is_none());
+    assert!(rt; matches!(shop.rtype_name(RecordNo::new(1)), Some(name) if name == b"ORDR".as_slice()));
+    assert!(rt; matches!(shop.set_name(SetNo::new(1)), Some(name) if name == b"LINES".as_slice()));
+    assert!(rt; matches!(shop.item_name(RecordNo::new(0), ItemNo::new(1)), Some(name) if name == b"CNAME".as_slice()));
 }
 
 #[test]
@@ -61,7 +61,7 @@ fn what_a_schema_says(rt: HostRuntime) {
 fn a_copy(rt: HostRuntime) {
     let shop = Schema::read(rt.alloc(), SHOP.as_bytes()).expect(&rt, "a schema");
     let copy = shop.copy(rt.alloc()).expect(&rt, "memory");
-    assert_eq!(rt; copy.name(), shop.name());
+    assert!(rt; copy.name() == shop.name());
     assert_eq!(rt; copy.sets().len(), 3);
     assert_eq!(rt; copy.item(RecordNo::new(2), b"QTY"), Some(ItemNo::new(1)));
 }
