@@ -4,7 +4,6 @@ ghost use Rattle.std.specs.Prelude.{◌≡◌, ◌==◌, List, [], ◌∷◌, ma
 ghost use Rattle.std.specs.List.{list_any, range_with_len};
 ghost use Rattle.dbtg_schema.specs.Lookups.{flatten, some_and};
 ghost use Rattle.dbtg_schema.specs.Structure.{area_of, areas_with_homes, automatic_sets, erase_areas, home, is_automatic, member_clause, rekeyed_sets, set_member_types, set_numbers};
-ghost use Rattle.dbtg_schema.specs.WellFormed.{IsSchema};
 ghost use Rattle.dbtg_unit.specs.Areas.{asks};
 ghost use Rattle.dbtg_unit.specs.Reach.{is_marked};
 ghost use Rattle.dbtg_unit.specs.Checks.{area_of_current, areas_of, find_areas, is_update};
@@ -66,7 +65,6 @@ pub fn is_automatic_in(schema: &Schema, set: SetNo, rtype: RecordNo) -> bool
 // Of the homes of the sets in which STORE connects a record of this type.
 #[tactic(auto, using(crate::proofs::NumberLemmas::numbers_next, crate::proofs::NumberLemmas::numbers_end))]
 fn ask_of_automatic(schema: &Schema, unit: &Unit, question: &Question, rtype: RecordNo) -> bool
-    requires { IsSchema schema.now }
     ensures { result ≡ list_any (asks unit.now.modes question.now) (map (home schema.now) (automatic_sets schema.now rtype)) }
 {
     for s in 0..set_count(schema) {
@@ -87,7 +85,6 @@ fn ask_of_rekeyed(
     rtype: RecordNo,
     changes: &[Change],
 ) -> bool
-    requires { IsSchema schema.now }
     ensures { result ≡ list_any (asks unit.now.modes question.now) (map (home schema.now) (rekeyed_sets schema.now rtype (map (λ c. c.item) changes.now))) }
 {
     for s in 0..set_count(schema) {
@@ -102,7 +99,6 @@ fn ask_of_rekeyed(
 // Of the areas of the set's member types.
 #[tactic(auto, using(crate::proofs::NumberLemmas::numbers_next, crate::proofs::NumberLemmas::numbers_end))]
 fn ask_of_members(schema: &Schema, unit: &Unit, question: &Question, set: SetNo) -> bool
-    requires { IsSchema schema.now }
     ensures { result ≡ list_any (asks unit.now.modes question.now) (map (area_of schema.now) (set_member_types schema.now set)) }
 {
     for t in 0..type_count(schema) {
@@ -124,7 +120,6 @@ fn ask_of_named(
     set: SetNo,
     rtype: Option<RecordNo>,
 ) -> bool
-    requires { IsSchema schema.now }
     ensures { result ≡ list_any (asks unit.now.modes question.now) (map (area_of schema.now) (unwrap_or (option_map (λ t. t ∷ []) rtype) (set_member_types schema.now set))) }
 {
     match rtype {
@@ -134,7 +129,6 @@ fn ask_of_named(
 }
 
 fn ask_of_find(schema: &Schema, unit: &Unit, question: &Question, form: &Form) -> bool
-    requires { IsSchema schema.now }
     ensures { result ≡ list_any (asks unit.now.modes question.now) (find_areas schema.now unit.now form.now) }
 {
     match form {
@@ -166,7 +160,6 @@ fn ask_of_find(schema: &Schema, unit: &Unit, question: &Question, form: &Form) -
 // Of the homes of the sets in which this record type is a member type.
 #[tactic(auto, using(crate::proofs::NumberLemmas::numbers_next, crate::proofs::NumberLemmas::numbers_end))]
 fn ask_of_homes(schema: &Schema, unit: &Unit, question: &Question, rtype: RecordNo) -> bool
-    requires { IsSchema schema.now }
     ensures { result ≡ list_any (asks unit.now.modes question.now) (map (home schema.now) (filter (λ s. is_some (member_clause schema.now s rtype)) (set_numbers schema.now))) }
 {
     for s in 0..set_count(schema) {
@@ -180,7 +173,6 @@ fn ask_of_homes(schema: &Schema, unit: &Unit, question: &Question, rtype: Record
 
 // Of the area of a record type and those homes.
 fn ask_of_type(schema: &Schema, unit: &Unit, question: &Question, rtype: RecordNo) -> bool
-    requires { IsSchema schema.now }
     ensures { result ≡ list_any (asks unit.now.modes question.now) (areas_with_homes schema.now rtype) }
 {
     ask(unit, question, schema.area_of(rtype)) || ask_of_homes(schema, unit, question, rtype)
@@ -189,7 +181,6 @@ fn ask_of_type(schema: &Schema, unit: &Unit, question: &Question, rtype: RecordN
 // Of the areas and homes of the marked record types.
 #[tactic(auto, using(crate::proofs::NumberLemmas::numbers_next, crate::proofs::NumberLemmas::numbers_end, crate::proofs::AreaLemmas::any_behind, crate::proofs::AreaLemmas::any_within))]
 fn ask_of_marked(schema: &Schema, unit: &Unit, question: &Question, marks: &[bool; 16]) -> bool
-    requires { IsSchema schema.now }
     ensures { result ≡ list_any (asks unit.now.modes question.now) (flatten (map (areas_with_homes schema.now) (filter (is_marked marks.now) (range_with_len 0 (length schema.now.types))))) }
 {
     for t in 0..type_count(schema) {
@@ -202,7 +193,6 @@ fn ask_of_marked(schema: &Schema, unit: &Unit, question: &Question, marks: &[boo
 
 // Of the areas of a DELETE of a record of this type.
 fn ask_of_erased(schema: &Schema, unit: &Unit, question: &Question, rtype: RecordNo) -> bool
-    requires { IsSchema schema.now }
     ensures { result ≡ list_any (asks unit.now.modes question.now) (erase_areas schema.now rtype) }
 {
     let marks = reachable(schema, rtype);
@@ -216,7 +206,6 @@ pub(crate) fn ask_of_areas(
     question: &Question,
     statement: &Statement,
 ) -> bool
-    requires { IsSchema schema.now }
     ensures { result ≡ list_any (asks unit.now.modes question.now) (areas_of schema.now unit.now statement.now) }
 {
     match statement {

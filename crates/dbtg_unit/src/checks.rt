@@ -3,7 +3,6 @@ ghost use Rattle.std.specs.Prelude.{◌≡◌, ◌&&◌, not, is_none, option_ma
 ghost use Rattle.std.specs.List.{list_any};
 ghost use Rattle.dbtg_schema.specs.Lookups.{some_and};
 ghost use Rattle.dbtg_schema.specs.Structure.{automatic_sets};
-ghost use Rattle.dbtg_schema.specs.WellFormed.{IsSchema};
 ghost use Rattle.dbtg_unit.specs.Checks.{accepts_type, changes_records, class_in, current_type, find_lacks_current, frees_what_is_not_kept, is_beyond, is_inserting_mandatory_automatic, is_open_statement, is_opening_again, is_removing_mandatory, lacks_current, needs_current, refused_at_once};
 ghost use Rattle.dbtg_unit.specs.Found.{needs_position};
 ghost use Rattle.dbtg_unit.specs.Units.{place_in};
@@ -142,7 +141,6 @@ fn has_null(schema: &Schema, unit: &Unit, set: SetNo) -> bool
 // Is the current of a set null in which STORE would connect a record of this type?
 #[tactic(auto, using(crate::proofs::NumberLemmas::numbers_next, crate::proofs::NumberLemmas::numbers_end))]
 fn store_wants_null(schema: &Schema, unit: &Unit, rtype: RecordNo) -> bool
-    requires { IsSchema schema.now }
     ensures { result ≡ list_any (λ s. is_none (place_in schema.now unit.now s)) (automatic_sets schema.now rtype) }
 {
     for s in 0..set_count(schema) {
@@ -155,7 +153,6 @@ fn store_wants_null(schema: &Schema, unit: &Unit, rtype: RecordNo) -> bool
 }
 
 fn wants_null(schema: &Schema, unit: &Unit, statement: &Statement) -> bool
-    requires { IsSchema schema.now }
     ensures { result ≡ lacks_current schema.now unit.now statement.now }
 {
     match statement {
@@ -208,7 +205,6 @@ pub fn refused_at_once(
     unit: &Unit,
     statement: &Statement,
 ) -> Option<Cause>
-    requires { IsSchema schema.now }
     ensures { result ≡ refused_at_once schema.now capacity unit.now statement.now }
 {
     if wants_current(statement) & unit.currency.run_unit.is_none() {

@@ -1,26 +1,26 @@
-//! How many areas, record types and sets a schema has, as the numbers that name them.
-ghost use Rattle.std.specs.Prelude.{◌≡◌, length};
-ghost use Rattle.dbtg_schema.specs.WellFormed.{IsSchema};
+//! How many areas, record types and sets a schema has, as the numbers that name them. A schema keeps to its limits.
+ghost use Rattle.std.specs.Prelude.{◌≡◌, ◌≤◌, length};
 
 use dbtg_schema::Schema;
 
 pub(crate) fn area_count(schema: &Schema) -> u8
-    requires { IsSchema schema.now }
     ensures { result ≡ length schema.now.areas }
 {
+    schema.is_well_formed();
     schema.areas().len() as u8
 }
 
 pub(crate) fn type_count(schema: &Schema) -> u8
-    requires { IsSchema schema.now }
-    ensures { result ≡ length schema.now.types }
+    ensures count { result ≡ length schema.now.types }
+    ensures limit { result ≤ 16 }
 {
+    schema.is_well_formed();
     schema.types().len() as u8
 }
 
 pub(crate) fn set_count(schema: &Schema) -> u8
-    requires { IsSchema schema.now }
     ensures { result ≡ length schema.now.sets }
 {
+    schema.is_well_formed();
     schema.sets().len() as u8
 }

@@ -1,7 +1,6 @@
 //! The order in which a statement takes its areas: ascending. Nothing here takes memory.
 ghost use Rattle.std.specs.Prelude.{◌≡◌, ◌==◌, not};
 ghost use Rattle.std.specs.List.{find, list_any};
-ghost use Rattle.dbtg_schema.specs.WellFormed.{IsSchema};
 ghost use Rattle.dbtg_unit.specs.Checks.{areas_of};
 ghost use Rattle.dbtg_unit.specs.Needs.{areas_in_order};
 
@@ -14,7 +13,6 @@ use dbtg_schema::{AreaNo, Schema};
 
 /// Is this one of the areas of a statement?
 pub fn has_area(schema: &Schema, unit: &Unit, statement: &Statement, area: AreaNo) -> bool
-    requires { IsSchema schema.now }
     ensures { result ≡ list_any (λ a. a == area) (areas_of schema.now unit.now statement.now) }
 {
     ask_of_areas(schema, unit, &Question::Is(area), statement)
@@ -22,13 +20,7 @@ pub fn has_area(schema: &Schema, unit: &Unit, statement: &Statement, area: AreaN
 
 /// The first of a statement's areas, ascending, that is not in hand.
 #[tactic(auto, using(crate::proofs::NumberLemmas::numbers_next, crate::proofs::NumberLemmas::numbers_end))]
-pub fn next_area(
-    schema: &Schema,
-    unit: &Unit,
-    statement: &Statement,
-    held: &Held,
-) -> Option<AreaNo>
-    requires { IsSchema schema.now }
+pub fn next_area(schema: &Schema, unit: &Unit, statement: &Statement, held: &Held) -> Option<AreaNo>
     ensures { result ≡ find (λ a. not (list_any (λ b. b == a) held.now.areas)) (areas_in_order schema.now unit.now statement.now) }
 {
     for a in 0..area_count(schema) {

@@ -3,7 +3,6 @@
 ghost use Rattle.std.specs.Prelude.{◌≡◌, ◌<◌, ℕ, ◌&&◌, filter, length, is_some};
 ghost use Rattle.std.specs.List.{list_any, range_with_len};
 ghost use Rattle.dbtg_schema.specs.Structure.{member_clause, owns, reachable_types};
-ghost use Rattle.dbtg_schema.specs.WellFormed.{IsSchema};
 ghost use Rattle.dbtg_unit.specs.Reach.{is_marked, is_next, leads};
 
 use crate::counts::{set_count, type_count};
@@ -12,7 +11,6 @@ use dbtg_schema::{RecordNo, Schema, SetNo};
 // Has a set this owner type and this member type?
 #[tactic(auto, using(crate::proofs::NumberLemmas::numbers_next, crate::proofs::NumberLemmas::numbers_end))]
 fn leads_to(schema: &Schema, owner: RecordNo, member: RecordNo) -> bool
-    requires { IsSchema schema.now }
     ensures { result ≡ leads schema.now owner member }
 {
     for s in 0..set_count(schema) {
@@ -27,7 +25,6 @@ fn leads_to(schema: &Schema, owner: RecordNo, member: RecordNo) -> bool
 // Is it the type itself, or does a marked one lead to it?
 #[tactic(auto, using(crate::proofs::NumberLemmas::numbers_next, crate::proofs::NumberLemmas::numbers_end))]
 fn follows(schema: &Schema, from: RecordNo, marks: &[bool; 16], rtype: RecordNo) -> bool
-    requires { IsSchema schema.now }
     ensures { result ≡ is_next schema.now from marks.now rtype }
 {
     if rtype.index() == from.index() {
@@ -43,7 +40,6 @@ fn follows(schema: &Schema, from: RecordNo, marks: &[bool; 16], rtype: RecordNo)
 
 // One step further from a type.
 fn grow(schema: &Schema, from: RecordNo, marks: &[bool; 16]) -> [bool; 16]
-    requires { IsSchema schema.now }
     ensures { (t : ℕ) → t < length schema.now.types → is_marked result t ≡ is_next schema.now from marks.now t }
 {
     let mut next = [false; 16];
@@ -55,7 +51,6 @@ fn grow(schema: &Schema, from: RecordNo, marks: &[bool; 16]) -> [bool; 16]
 
 /// The record types that can be reached from one, marked by number.
 pub(crate) fn reachable(schema: &Schema, from: RecordNo) -> [bool; 16]
-    requires { IsSchema schema.now }
     ensures { filter (is_marked result) (range_with_len 0 (length schema.now.types)) ≡ reachable_types schema.now from }
 {
     let mut marks = [false; 16];

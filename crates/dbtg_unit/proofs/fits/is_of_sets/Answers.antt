@@ -5,7 +5,7 @@ use Rattle.dbtg_unit.proofs.fits.is_of_sets.Goals as goal
 
 pub returns-then-count-ge16 : goal.returns-then-count-ge16
 returns-then-count-ge16 c =
-    let counted : length c.sets-count.result.now ≡ length c.args.schema.now.sets = ap length c.sets-count.ensures in
+    let counted : length c.sets-count.result.now ≡ length c.args.schema.now.sets = ap length c.sets-count.ensures.sets in
     let many : 16 ≤ length c.args.schema.now.sets = omega arith in
     let power : 65536 ≤ 2 ^ length c.args.schema.now.sets = pow_mono {i = 16} {j = length c.args.schema.now.sets} many in
     let bits : c.args.suppress.now.sets < 65536 = omega arith in

@@ -24,5 +24,5 @@ pub returns : goal.returns
 returns c =
     let count = length c.args.schema.now.types in
     let types = range_with_len 0 count in
-    let all : c.loop-turn._turn ≡ count = omega (arith, c.type_count-turn-end.ensures) in
+    let all : c.loop-turn._turn ≡ count = omega (arith, c.type_count-turn-end.ensures.count) in
     c.loop-turn.invariant ∙ ap (reached_in (leads c.args.schema.now) (λ u. eqb u c.args.from) types) (all ∙ sym (length-range_with_len 0 count))
