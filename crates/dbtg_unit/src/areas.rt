@@ -134,9 +134,7 @@ fn ask_of_find(schema: &Schema, unit: &Unit, question: &Question, form: &Form) -
     match form {
         Form::Key(key) => ask(unit, question, schema.area_of(key.rtype)),
         Form::CurrentOfUnit => ask_of_key(schema, unit, question, unit.currency.run_unit),
-        Form::CurrentOfSet(set) => {
-            ask_of_key(schema, unit, question, unit.key_in(schema, *set))
-        }
+        Form::CurrentOfSet(set) => { ask_of_key(schema, unit, question, unit.key_in(schema, *set)) }
         Form::CurrentOfArea(area) => {
             let current = entry_at(unit.currency.areas.as_slice(), area.index() as usize);
             ask_of_key(schema, unit, question, current)
@@ -151,8 +149,7 @@ fn ask_of_find(schema: &Schema, unit: &Unit, question: &Question, form: &Form) -
             ask(unit, question, schema.area_of(*rtype))
         }
         Form::Sorted { set, .. } => {
-            ask(unit, question, schema.home(*set))
-                || ask_of_members(schema, unit, question, *set)
+            ask(unit, question, schema.home(*set)) || ask_of_members(schema, unit, question, *set)
         }
     }
 }

@@ -172,7 +172,14 @@ fn is_open(statement: &Statement) -> bool
 fn is_update_of_records(statement: &Statement) -> bool
     ensures { result ≡ changes_records statement.now }
 {
-    matches!(statement, Statement::Store { .. } | Statement::Insert(_) | Statement::Remove(_) | Statement::Modify { .. } | Statement::Delete(_))
+    matches!(
+        statement,
+        Statement::Store { .. }
+            | Statement::Insert(_)
+            | Statement::Remove(_)
+            | Statement::Modify { .. }
+            | Statement::Delete(_)
+    )
 }
 
 fn finds_beyond(capacity: u16, statement: &Statement) -> bool

@@ -7,8 +7,8 @@ ghost use Rattle.dbtg_unit.specs.Kept.{noted_again};
 ghost use Rattle.dbtg_unit.specs.Units.{forgotten, kept_version};
 ghost use Rattle.dbtg_cells.specs.Keys.{key_eq};
 
-use crate::kept::Kept;
 use crate::entries::set_entry;
+use crate::kept::Kept;
 use crate::unit::{Place, Unit};
 use dbtg_cells::{DbKey, Mode};
 use dbtg_schema::{AreaNo, SetNo};

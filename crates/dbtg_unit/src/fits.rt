@@ -218,9 +218,7 @@ fn is_in_area_or_none(schema: &Schema, area: AreaNo, rtype: Option<RecordNo>) ->
     ensures { result ≡ if_named (λ t. is_type schema.now t && area_of schema.now t == area) rtype }
 {
     match rtype {
-        Some(rtype) => {
-            has_type(schema, rtype) && schema.area_of(rtype).index() == area.index()
-        }
+        Some(rtype) => { has_type(schema, rtype) && schema.area_of(rtype).index() == area.index() }
         None => true,
     }
 }
@@ -246,9 +244,7 @@ impl Form {
             Form::CurrentOfSet(set) => has_set(schema, *set),
             Form::CurrentOfArea(area) => has_area(schema, *area),
             Form::InSet { which, rtype, set } => {
-                has_set(schema, *set)
-                    & is_within(*which)
-                    & is_member_or_none(schema, *set, *rtype)
+                has_set(schema, *set) & is_within(*which) & is_member_or_none(schema, *set, *rtype)
             }
             Form::InArea { which, rtype, area } => {
                 has_area(schema, *area)

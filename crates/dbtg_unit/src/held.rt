@@ -9,7 +9,6 @@ ghost use Rattle.dbtg_schema.specs.Lookups.{at};
 ghost use Rattle.dbtg_unit.specs.Hands.{cell_of};
 ghost use Rattle.dbtg_unit.specs.Lends.{LendsCell};
 
-
 use crate::entries::{entry_at, set_entry};
 use dbtg_cells::{Cell, CellName, Owner, same_name};
 use dbtg_schema::{AreaNo, Row, SetNo};

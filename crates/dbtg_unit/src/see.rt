@@ -97,12 +97,22 @@ fn see_sets(
 impl Unit {
     /// Makes a record that was found or stored current: of the run-unit, of its record type, of its area, and of each
     /// set that its type owns or in which it has an owner, but for what is suppressed.
-    pub fn see(&mut self, schema: &Schema, key: DbKey, owners: &[Option<Owner>], suppress: &Suppress)
+    pub fn see(
+        &mut self,
+        schema: &Schema,
+        key: DbKey,
+        owners: &[Option<Owner>],
+        suppress: &Suppress,
+    )
         ensures { self.new ≡ seen_with schema.now self.old key owners.now suppress.now }
     {
         self.currency.run_unit = Some(key);
         if !suppress.types {
-            set_entry(&mut self.currency.types, key.rtype.index() as usize, Some(key));
+            set_entry(
+                &mut self.currency.types,
+                key.rtype.index() as usize,
+                Some(key),
+            );
         }
         if !suppress.areas {
             let area = schema.area_of(key.rtype);
