@@ -15,3 +15,4 @@ pub mod Views
 pub mod SchemaLists
 pub mod Erasing
 pub mod Reading
+pub mod Sound

@@ -29,10 +29,10 @@ use Rattle.dbtg_unit.specs.Cells.{cell}
 use Rattle.dbtg_unit.specs.Checks.{lacks_current, refused_at_once}
 use Rattle.dbtg_unit.specs.Edits.{edited_at}
 use Rattle.dbtg_unit.specs.EditsOf.{EffectIsItsEdits, edits_of, is_delete}
-use Rattle.dbtg_unit.specs.Effect.{Outcome, calc_taken, conflict, done, effect, effect_on_cells, free_number, inserted, insert_checks, modified, modify_checks, new_key, noted, own_checks, place_checks, refused, removed, remove_checks, store_checks, stored, version_of}
+use Rattle.dbtg_unit.specs.Effect.{Outcome, calc_taken, conflict, done, effect, effect_on_cells, free_number, inserted, insert_checks, modified, modify_checks, new_key, own_checks, place_checks, refused, removed, remove_checks, store_checks, stored, version_of}
 use Rattle.dbtg_unit.specs.Found.{found}
 use Rattle.dbtg_unit.specs.Legal.{Legal}
-use Rattle.dbtg_unit.specs.Units.{forgotten, place_in, seen}
+use Rattle.dbtg_unit.specs.Units.{forgotten, noted, place_in, seen}
 use Rattle.dbtg_unit.proofs.CheckLemmas.{passes, passes_check, passes-append, passes-each, number_passes, number_within}
 use Rattle.dbtg_unit.proofs.EditLemmas.{has_number}
 use Rattle.dbtg_unit.proofs.InsertCells.{insert_makes}
@@ -142,7 +142,8 @@ module _ (schema : Lists) (capacity : ℕ) (db : Database) (unit : Unit) (legal 
       of_current db unit (Edited (edits_of schema capacity db unit (Modify t changes))) (no_refusal (edits_of schema capacity db unit (Modify t changes)))
         unit.currency.run_unit (modify_checks schema capacity db unit changes) (modified schema capacity db unit changes)
         (λ k is checks is_done lawful c.
-          modify_makes schema capacity db unit changes k legal (alive k _ checks).0 lawful c
+          let first = passes_check (not (is_live db k)) Deleted _ checks in
+          modify_makes schema capacity db unit changes k legal (not-false _ first.0) lawful c
           ∙ ap (λ current. edited_at c (edits_of schema capacity db (record unit { currency = record unit.currency { run_unit = current } }) (Modify t changes)) (cell schema capacity db c)) (sym is))
 
   -- THE WHOLE
@@ -160,7 +161,7 @@ module _ (schema : Lists) (capacity : ℕ) (db : Database) (unit : Unit) (legal 
   on_cells (Delete option) other placed = absurd (false≢true (sym other))
   on_cells Keep other placed =
       of_current db unit (Edited []) (no_refusal []) unit.currency.run_unit (λ k. (not (is_live db k), Deleted) ∷ []) (λ k. done db (record unit { kept = noted k (version_of db k) unit.kept }) None None) (λ k is checks is_done lawful c. refl)
-  on_cells (Free true) other placed is_done lawful c = refl
+  on_cells (Free true) other placed = λ is_done lawful c. refl
   on_cells (Free false) other placed = of_current db unit (Edited []) (no_refusal []) unit.currency.run_unit (λ k. []) (λ k. done db (record unit { kept = forgotten k unit.kept }) None None) (λ k is checks is_done lawful c. refl)
 
 pub effect_is_its_edits : EffectIsItsEdits

@@ -4,7 +4,7 @@ use Rattle.std.specs.Prelude.{is_some, is_none, option_and_then, unwrap_or}
 use Rattle.std.specs.List.{list_any}
 use Rattle.std.proofs.lemmas.Bool.{and_parts, false≢true, true≢false}
 use Rattle.dbtg_schema.specs.Lists.{Lists}
-use Rattle.dbtg_schema.specs.WellFormed.{IsSchema}
+use Rattle.dbtg_schema.specs.Sound.{IsSound}
 use Rattle.dbtg_schema.specs.Lookups.{some_and, first_cause}
 use Rattle.dbtg_schema.specs.Structure.{member_clause, order_of, pictures}
 use Rattle.dbtg_cells.specs.declared.key.DbKey.{DbKey}
@@ -78,7 +78,7 @@ module _ (schema : Lists) (unit : Unit) (sets : List ℕ) (live : Living) (items
   abbrev pub spot_in : ℕ → Spot DbKey
   spot_in = spot_at schema live items lists m joins (λ s. option_and_then (λ place. place.at) (place_in schema unit s))
 
-  pub connected_rings : IsSchema schema → ((x : DbKey) → live x ≡ true → values_fit (pictures schema x.rtype) (items x) ≡ true)
+  pub connected_rings : IsSound schema → ((x : DbKey) → live x ≡ true → values_fit (pictures schema x.rtype) (items x) ≡ true)
       → Rings schema live items lists → live m ≡ true
       → ((s : ℕ) → has_number s sets ≡ true → is_some (member_clause schema s m.rtype) ≡ true)
       → ((s : ℕ) (o : Owner) → has_number s sets ≡ true → is_member m (members_in lists s o) ≡ false)

@@ -4,7 +4,7 @@ use Rattle.std.specs.Prelude.{is_some, is_none, unwrap_or, option_map, option_an
 use Rattle.std.specs.List.{list_any, list_all, range_with_len}
 use Rattle.std.proofs.lemmas.Bool.{and_parts, and_left, or_left, false≢true, true≢false, not-false, not-true, ltb-true, eqb-true, eq-eqb, false_from_ne_true}
 use Rattle.dbtg_schema.specs.Lists.{Lists}
-use Rattle.dbtg_schema.specs.WellFormed.{IsSchema}
+use Rattle.dbtg_schema.specs.Sound.{IsSound}
 use Rattle.dbtg_schema.specs.Lookups.{at, first, first_cause, some_and}
 use Rattle.dbtg_schema.specs.Structure.{automatic_sets, set_numbers, is_automatic, is_mandatory, member_clause, pictures, picture_of}
 use Rattle.dbtg_schema.specs.declared.shape.Member.{Member}
@@ -93,7 +93,7 @@ owner_is : (place : Option Place) → unwrap_or (option_map (λ place. place.own
 owner_is None = refl
 owner_is (Some place) = refl
 
-module _ (schema : Lists) (capacity : ℕ) (db : Database) (unit : Unit) (number : ℕ) (schema_is : IsSchema schema) (legal : Legal schema capacity db) (unit_in : IsUnitIn schema capacity db number unit) where
+module _ (schema : Lists) (capacity : ℕ) (db : Database) (unit : Unit) (number : ℕ) (schema_is : IsSound schema) (legal : Legal schema capacity db) (unit_in : IsUnitIn schema capacity db number unit) where
   good : IsGood schema capacity unit
   good = record { of_schema = unit_in.of_schema; within = unit_in.within }
 

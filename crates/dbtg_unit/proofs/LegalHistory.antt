@@ -4,7 +4,7 @@ use Rattle.std.specs.Prelude.{is_some, option_map, slice_get, slice_set, unwrap_
 use Rattle.std.specs.List.{list_all, range_with_len}
 use Rattle.std.proofs.lemmas.Bool.{and_parts, and_right, false≢true}
 use Rattle.dbtg_schema.specs.Lists.{Lists}
-use Rattle.dbtg_schema.specs.WellFormed.{IsSchema}
+use Rattle.dbtg_schema.specs.Sound.{IsSound}
 use Rattle.dbtg_schema.specs.Structure.{is_system, owns}
 use Rattle.dbtg_cells.specs.declared.key.DbKey.{DbKey}
 use Rattle.dbtg_cells.specs.declared.key.Owner.{Owner}
@@ -81,7 +81,7 @@ opening_is_legal schema capacity units =
 
 -- A HISTORY
 
-module _ (schema : Lists) (capacity : ℕ) (schema_is : IsSchema schema) where
+module _ (schema : Lists) (capacity : ℕ) (schema_is : IsSound schema) where
   after_statement : (state : State) (number : ℕ) (statement : Statement) → IsLegalState schema capacity state → fits schema statement ≡ true → IsLegalState schema capacity (after_outcome state number (outcome_of schema capacity state number statement))
   after_statement state zero statement legal fit = legal
   after_statement state (suc i) statement legal fit = at (slice_get state.units i) refl where

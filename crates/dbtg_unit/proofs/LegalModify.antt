@@ -4,7 +4,7 @@ use Rattle.std.specs.Prelude.{is_some, option_map, option_and_then, unwrap_or, f
 use Rattle.std.specs.List.{list_any, list_all}
 use Rattle.std.proofs.lemmas.Bool.{and_parts, and_from, or_right, or_left, cases_Bool, false≢true, false_from_ne_true, not_from_false, not-true}
 use Rattle.dbtg_schema.specs.Lists.{Lists}
-use Rattle.dbtg_schema.specs.WellFormed.{IsSchema}
+use Rattle.dbtg_schema.specs.Sound.{IsSound}
 use Rattle.dbtg_schema.specs.Lookups.{some_and}
 use Rattle.dbtg_schema.specs.Structure.{order_of, picture_of, owns, pictures, rekeyed_sets}
 use Rattle.dbtg_cells.specs.declared.key.DbKey.{DbKey}
@@ -196,7 +196,7 @@ module _ (schema : Lists) (capacity : ℕ) (db : Database) (unit : Unit) (change
       let list_is : members_in lists_less s o ≡ without k (unwrap_or (option_map (members_of db s) (owner_of schema capacity db s k)) []) = list_again s o h ∙ ap (λ (p : Option Owner). without k (unwrap_or (option_map (members_of db s) p) [])) (sym owner) in
       ap (λ list. refuses_equal (order_of schema s) && list_any (λ x. option_value_eq (sort_key schema after s x) (sort_key schema after s k)) list) list_is ∙ can.key_free s in_sets
 
-  rings_again : CanChange schema capacity db changes k → IsSchema schema → Stock schema capacity (is_live after) (items_of after) db.last → Rings schema (is_live after) (items_of after) lists_again
+  rings_again : CanChange schema capacity db changes k → IsSound schema → Stock schema capacity (is_live after) (items_of after) db.last → Rings schema (is_live after) (items_of after) lists_again
   rings_again can good stock =
       rings_placed schema (is_live after) (items_of after) lists_less k again (λ s. option_and_then (λ place. place.at) (place_in schema unit s)) good stock.typed rings_less (live_after k ∙ live)
       (λ s o h. (legal.members s o k (and_parts _ _ h).1).1)
@@ -230,7 +230,7 @@ module _ (schema : Lists) (capacity : ℕ) (db : Database) (unit : Unit) (change
           | false ↦ refl
         ]
 
-  pub modify_legal : IsSchema schema → CanChange schema capacity db changes k → Legal schema capacity (modified schema capacity db unit changes k).database
+  pub modify_legal : IsSound schema → CanChange schema capacity db changes k → Legal schema capacity (modified schema capacity db unit changes k).database
   modify_legal good can =
       let stock = stock_after can in
       legal_raised schema capacity (key_eq k) (record after { lists = lists_modified })

@@ -4,7 +4,7 @@ use Rattle.std.specs.Prelude.{is_some, option_map, unwrap_or, filter}
 use Rattle.std.specs.List.{list_any}
 use Rattle.std.proofs.lemmas.Bool.{and_parts, or_cases, or_right, false≢true, eqb-true, not_from_false, false_from_ne_true}
 use Rattle.dbtg_schema.specs.Lists.{Lists}
-use Rattle.dbtg_schema.specs.WellFormed.{IsSchema}
+use Rattle.dbtg_schema.specs.Sound.{IsSound}
 use Rattle.dbtg_schema.specs.Structure.{member_clause, order_of}
 use Rattle.dbtg_cells.specs.declared.key.DbKey.{DbKey}
 use Rattle.dbtg_cells.specs.declared.key.Owner.{Owner}
@@ -24,7 +24,7 @@ alone : (s t : ℕ) → has_number t (s ∷ []) ≡ true → s ≡ t
 alone s t h = ⊎_elim (λ e. eqb-true s t e) (λ e. absurd (false≢true e)) (or_cases (eqb s t) false h)
 
 module _ (schema : Lists) (capacity : ℕ) (db : Database) (unit : Unit) (s : ℕ) (k : DbKey) (legal : Legal schema capacity db) where
-  pub insert_legal : IsSchema schema → is_live db k ≡ true → is_some (member_clause schema s k.rtype) ≡ true → is_some (owner_of schema capacity db s k) ≡ false → CanJoin schema db unit s (sort_key schema db s k)
+  pub insert_legal : IsSound schema → is_live db k ≡ true → is_some (member_clause schema s k.rtype) ≡ true → is_some (owner_of schema capacity db s k) ≡ false → CanJoin schema db unit s (sort_key schema db s k)
       → Legal schema capacity (inserted schema db unit s k).database
   insert_legal good live clause free join =
       let sound = sound_of schema capacity db legal in

@@ -5,7 +5,7 @@ use Rattle.std.specs.List.{find, list_any}
 use Rattle.std.proofs.lemmas.Bool.{and_parts, and_from, and_right, or_right, or_left, cases_Bool, cond_both, false≢true, eqb-true, eq-eqb, false_from_ne_true}
 use Rattle.std.proofs.lemmas.Option.{slice_get_within}
 use Rattle.dbtg_schema.specs.Lists.{Lists}
-use Rattle.dbtg_schema.specs.WellFormed.{IsSchema}
+use Rattle.dbtg_schema.specs.Sound.{IsSound}
 use Rattle.dbtg_schema.specs.declared.shape.Member.{Member}
 use Rattle.dbtg_schema.specs.declared.shape.SetType.{SetType}
 use Rattle.dbtg_schema.specs.Lookups.{some_and}
@@ -193,7 +193,7 @@ module _ (schema : Lists) (capacity : ℕ) (db : Database) (t n : ℕ) (its : Li
         at_set None e h = absurd (false≢true h)
         at_set (Some set) e h = let low = slice_get_within schema.sets s set e in number_in s 0 (length schema.sets) (omega arith) (omega arith)
 
-  pub store_legal : (unit : Unit) → IsSchema schema → calc_taken schema capacity db t its (λ x. false) ≡ false
+  pub store_legal : (unit : Unit) → IsSound schema → calc_taken schema capacity db t its (λ x. false) ≡ false
       → ((s : ℕ) → has_number s (automatic_sets schema t) ≡ true → is_none (place_in schema unit s) ≡ false)
       → ((s : ℕ) → has_number s (automatic_sets schema t) ≡ true → CanJoin schema db unit s (key_item schema s t its))
       → Legal schema capacity (connected_in schema after unit (automatic_sets schema t) k)

@@ -27,7 +27,7 @@ use Rattle.dbtg_unit.specs.Hands.{Hands}
 use Rattle.dbtg_unit.specs.Legal.{Legal}
 use Rattle.dbtg_unit.specs.Local.{Agrees, holds}
 use Rattle.dbtg_unit.specs.Needs.{areas_in_order, cells_of, is_stale, need, need_of_cells, next_of, stale_owners}
-use Rattle.dbtg_schema.specs.WellFormed.{IsSchema}
+use Rattle.dbtg_schema.specs.Sound.{IsSound}
 use Rattle.dbtg_unit.specs.Belongs.{IsUnitOf, IsWithin}
 use Rattle.dbtg_unit.specs.Fits.{fits}
 use Rattle.dbtg_unit.proofs.LegalEffect.{effect_step}
@@ -121,7 +121,7 @@ module _ (schema : Lists) (capacity : ℕ) (db : Database) (unit : Unit) (hands 
         stays agrees.legal statement e has.1 l c (not_named hands.cells (cells_of schema capacity db unit hands.guesses statement) has.0 c free)
 
 -- the effect of a statement that fits leaves a legal database
-pub legal_after : (schema : Lists) (capacity : ℕ) (db : Database) (unit : Unit) (hands : Hands) → IsSchema schema → IsUnitOf schema unit → IsWithin capacity unit → (statement : Statement) → fits schema statement ≡ true
+pub legal_after : (schema : Lists) (capacity : ℕ) (db : Database) (unit : Unit) (hands : Hands) → IsSound schema → IsUnitOf schema unit → IsWithin capacity unit → (statement : Statement) → fits schema statement ≡ true
     → Agrees schema capacity db hands unit → Legal schema capacity (effect schema capacity db unit statement).database
 legal_after schema capacity db unit hands schema_is of_schema within statement fit agrees =
     (effect_step schema capacity db unit unit.number schema_is agrees.legal (record { number_is = refl; of_schema = of_schema; within = within; usage = agrees.usage }) statement fit).legal

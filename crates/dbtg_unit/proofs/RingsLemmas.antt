@@ -18,7 +18,7 @@ use Rattle.dbtg_unit.proofs.PlacingOrder.{all_from_none, pairwise-weaker, placin
 use Rattle.dbtg_unit.proofs.SortKeyLemmas.{keys_compare}
 use Rattle.dbtg_unit.specs.Placing.{compares, has_equal}
 use Rattle.dbtg_unit.specs.Fits.{values_fit}
-use Rattle.dbtg_schema.specs.WellFormed.{IsSchema}
+use Rattle.dbtg_schema.specs.Sound.{IsSound}
 use Rattle.dbtg_unit.proofs.KeyLemmas.{same_key, key_eq-refl}
 use Rattle.dbtg_unit.proofs.LegalParts.{Living, Items, Rows, members_in, key_in, ordered, has_list, Rings}
 
@@ -125,7 +125,7 @@ module _ (schema : Lists) (live : Living) (items : Items) (lists : Rows) (m : Db
   abbrev pub spot_at : ℕ → Spot DbKey
   spot_at s = spot (order_of schema s) (positions s) (key_in schema items s) m
 
-  pub rings_placed : IsSchema schema → ((x : DbKey) → live x ≡ true → values_fit (pictures schema x.rtype) (items x) ≡ true)
+  pub rings_placed : IsSound schema → ((x : DbKey) → live x ≡ true → values_fit (pictures schema x.rtype) (items x) ≡ true)
       → Rings schema live items lists → live m ≡ true
       → ((s : ℕ) (o : Owner) → into s o ≡ true → is_some (member_clause schema s m.rtype) ≡ true)
       → ((s : ℕ) (o p : Owner) → into s o ≡ true → is_member m (members_in lists s p) ≡ false)

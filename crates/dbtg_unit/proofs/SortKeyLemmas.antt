@@ -6,7 +6,8 @@ use Rattle.std.proofs.lemmas.Bool.{false≢true, eqb-true}
 use Rattle.std.proofs.lemmas.List.Folds.{find_at}
 use Rattle.std.proofs.lemmas.Option.{slice_get_within, get_or_from_slice_get, slice_get-map, slice_get-get_or}
 use Rattle.dbtg_schema.specs.Lists.{Lists}
-use Rattle.dbtg_schema.specs.WellFormed.{IsSchema, IsSetType, is_sorted, key_picture_of}
+use Rattle.dbtg_schema.specs.Sound.{IsSound, IsSoundSet}
+use Rattle.dbtg_schema.specs.WellFormed.{IsSetType, is_sorted, key_picture_of}
 use Rattle.dbtg_schema.specs.declared.shape.Item.{Item}
 use Rattle.dbtg_schema.specs.declared.shape.Member.{Member}
 use Rattle.dbtg_schema.specs.declared.shape.SetType.{SetType}
@@ -34,7 +35,7 @@ some_of (Some x) h = (x, refl)
 none_some : {X : Type 0} {x : X} → None ≡ Some x → ⊥
 none_some h = cc
 
-module _ (schema : Lists) (good : IsSchema schema) (s : ℕ) (set : SetType) (is : slice_get schema.sets s ≡ Some set) where
+module _ (schema : Lists) (good : IsSound schema) (s : ℕ) (set : SetType) (is : slice_get schema.sets s ≡ Some set) where
   abbrev clause_for : ℕ → Option Member
   clause_for t = find (λ member. eqb member.rtype t) set.members
 
@@ -59,8 +60,9 @@ module _ (schema : Lists) (good : IsSchema schema) (s : ℕ) (set : SetType) (is
 
   has_picture : (t : ℕ) (m : Member) → clause_for t ≡ Some m → is_sorted set.order ≡ true → (p : Picture) × (key_picture_of schema m ≡ Some p)
   has_picture t m h sorted =
-      let its = at_entry (IsSetType schema) schema.sets s set good.sets is in
-      at_key m.key (for_clause (λ c. is_some c.key ≡ is_sorted set.order) t m h its.keys ∙ sorted) (for_clause (λ c. IfSome c.key (λ i. i < length (item_list schema c.rtype))) t m h its.key_items) where
+      let its = at_entry (IsSoundSet schema) schema.sets s set good.sets is in
+      let in_limits = at_entry (IsSetType schema) schema.sets s set good.limits.sets is in
+      at_key m.key (for_clause (λ c. is_some c.key ≡ is_sorted set.order) t m h its.keys ∙ sorted) (for_clause (λ c. IfSome c.key (λ i. i < length (item_list schema c.rtype))) t m h in_limits.key_items) where
         in_list : (xs : List Item) (i : ℕ) → i < length xs → is_some (slice_get xs i) ≡ true
         in_list [] i low = absurd (omega arith)
         in_list (x ∷ xs) i low = ap is_some (slice_get-get_or (x ∷ xs) i x low)
@@ -77,7 +79,7 @@ module _ (schema : Lists) (good : IsSchema schema) (s : ℕ) (set : SetType) (is
       let m = clause_at t ht in
       let n = clause_at u hu in
       let p = has_picture t m.0 m.1 sorted in
-      let its_set = at_entry (IsSetType schema) schema.sets s set good.sets is in
+      let its_set = at_entry (IsSoundSet schema) schema.sets s set good.sets is in
       let same = for_clause (λ c. key_picture_of schema m.0 ≡ key_picture_of schema c) u n.0 n.1 (for_clause (λ c. All (λ d. key_picture_of schema c ≡ key_picture_of schema d) set.members) t m.0 m.1 its_set.key_pictures) in
       comparable_from p.0 (key_item schema s t its) (key_item schema s u jts) (key_of_picture t its m.0 p.0 m.1 p.1 fit) (key_of_picture u jts n.0 p.0 n.1 (sym same ∙ p.1) git)
 
@@ -90,7 +92,7 @@ module _ (schema : Lists) (good : IsSchema schema) (s : ℕ) (set : SetType) (is
   set_compares t u its jts ht hu fit git Prior e = refl
 
 -- the keys of two records that can be members of a set can be compared, where it is sorted
-pub keys_compare : (schema : Lists) → IsSchema schema → (s t u : ℕ) (its jts : List Value) → is_some (member_clause schema s t) ≡ true → is_some (member_clause schema s u) ≡ true
+pub keys_compare : (schema : Lists) → IsSound schema → (s t u : ℕ) (its jts : List Value) → is_some (member_clause schema s t) ≡ true → is_some (member_clause schema s u) ≡ true
     → values_fit (pictures schema t) its ≡ true → values_fit (pictures schema u) jts ≡ true → compares (order_of schema s) (key_item schema s t its) (key_item schema s u jts) ≡ true
 keys_compare schema good s t u its jts ht hu fit git = go (slice_get schema.sets s) refl where
   go : (set : Option SetType) → slice_get schema.sets s ≡ set → compares (order_of schema s) (key_item schema s t its) (key_item schema s u jts) ≡ true

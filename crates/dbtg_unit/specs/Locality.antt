@@ -1,7 +1,7 @@
 -- A statement changes nothing but what it has in hand, and what it has in hand determines what it does.
 use Rattle.std.specs.Prelude.{◌≡◌, ℕ, true, false}
 use Rattle.dbtg_schema.specs.Lists.{Lists}
-use Rattle.dbtg_schema.specs.WellFormed.{IsSchema}
+use Rattle.dbtg_schema.specs.Sound.{IsSound}
 use Rattle.dbtg_cells.specs.declared.name.CellName.{CellName}
 use Rattle.dbtg_unit.specs.declared.held.Need.TheVariants.{Ready}
 use Rattle.dbtg_unit.specs.declared.statement.Statement.{Statement}
@@ -21,7 +21,7 @@ use Rattle.dbtg_unit.specs.Needs.{need}
 abbrev pub ChangesOnlyItsCells : Type 0
 ChangesOnlyItsCells =
     (schema : Lists) (capacity : ℕ) (db : Database) (hands : Hands) (unit : Unit) (statement : Statement)
-    → IsSchema schema → IsUnitOf schema unit → IsWithin capacity unit → fits schema statement ≡ true
+    → IsSound schema → IsUnitOf schema unit → IsWithin capacity unit → fits schema statement ≡ true
     → Agrees schema capacity db hands unit → need schema capacity db unit hands statement ≡ Ready
     → (c : CellName) → holds hands.cells c ≡ false → cell schema capacity (effect schema capacity db unit statement).database c ≡ cell schema capacity db c
 

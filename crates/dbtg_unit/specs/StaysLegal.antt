@@ -2,7 +2,7 @@
 use Rattle.std.specs.Prelude.{◌≡◌, ◌≢◌, ℕ, true, false, List, Some, slice_get, slice_set}
 use Rattle.std.specs.List.{list_all}
 use Rattle.dbtg_schema.specs.Lists.{Lists}
-use Rattle.dbtg_schema.specs.WellFormed.{IsSchema}
+use Rattle.dbtg_schema.specs.Sound.{IsSound}
 use Rattle.dbtg_unit.specs.declared.statement.Statement.{Statement}
 use Rattle.dbtg_unit.specs.declared.unit.Entry.{Entry}
 use Rattle.dbtg_unit.specs.declared.unit.Unit.{Unit}
@@ -22,7 +22,7 @@ LegalAfter schema capacity units i outcome = LegalWith schema capacity outcome.d
 abbrev pub EffectKeepsLegal : Type 0
 EffectKeepsLegal =
     (schema : Lists) (capacity : ℕ) (db : Database) (units : List Unit) (i : ℕ) (unit : Unit) (statement : Statement)
-    → IsSchema schema → LegalWith schema capacity db units → slice_get units i ≡ Some unit → fits schema statement ≡ true
+    → IsSound schema → LegalWith schema capacity db units → slice_get units i ≡ Some unit → fits schema statement ≡ true
     → LegalAfter schema capacity units i (effect schema capacity db unit statement)
 
 -- the database of a state is legal with its units
@@ -37,7 +37,7 @@ OpeningIsLegal = (schema : Lists) (capacity units : ℕ) → IsLegalState schema
 abbrev pub ReplayKeepsLegal : Type 0
 ReplayKeepsLegal =
     (schema : Lists) (capacity : ℕ) (state : State) (history : List Entry)
-    → IsSchema schema → IsLegalState schema capacity state → list_all (λ entry. fits schema entry.statement) history ≡ true
+    → IsSound schema → IsLegalState schema capacity state → list_all (λ entry. fits schema entry.statement) history ≡ true
     → IsLegalState schema capacity (replay schema capacity state history)
 
 -- no two units of a legal database have an area open in modes that conflict
