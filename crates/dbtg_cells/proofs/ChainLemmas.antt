@@ -1,11 +1,9 @@
 -- What writes into nodes do to the links.
-use Rattle.std.proofs.Common.{◌≡◌, ◌≢◌, ◌⊎◌, ℕ, zero, suc, ◌+◌, ◌<◌, Bool, true, false, List, [], ◌∷◌, ◌++◌, map, reverse, length, Option, Some, None, refl, sym, ap, ◌∙◌, arith, inl, inr, get_or, set, zero-add}
-use Rattle.std.proofs.lemmas.Bool.{cases_eq}
-use Rattle.std.proofs.lemmas.List.{append_assoc, reverse-append, get_or-set_same, get_or-set_other, get_or_past}
-use Rattle.std.specs.Option.{option_map, option_map_or}
-use Rattle.dbtg_cells.specs.Members.{Entry}
+use Rattle.std.proofs.Common.{◌≡◌, ◌≢◌, ℕ, zero, suc, ◌+◌, List, [], ◌∷◌, ◌++◌, map, reverse, length, Option, Some, None, refl, sym, ap, ◌∙◌, arith, zero-add}
+use Rattle.std.proofs.lemmas.List.{append_assoc, reverse-append, get_or-set_other}
+use Rattle.std.specs.Option.{option_map}
 use Rattle.dbtg_cells.specs.declared.ring.Node.{Node}
-use Rattle.dbtg_cells.specs.Chain.{Slots, Link, slot, node_of, head_at, last_at, Seg, Avoids, Apart, LiesAt, follow, follow_back}
+use Rattle.dbtg_cells.specs.Chain.{Slots, Link, slot, node_of, head_at, last_at, Seg, Avoids, Apart, follow, follow_back}
 use Rattle.dbtg_cells.specs.Links.{put, put_if, with_next, with_prior, as_linked, as_unlinked, linked_in, linked_out}
 
 -- a write elsewhere leaves the slot
@@ -94,6 +92,7 @@ follow_back-Seg s p (e ∷ es) q m h =
   where
     here : slot s e.at ≡ Some (node_of e p (head_at es q)) → follow_back (suc m) s (Some e.at) ≡ e.member ∷ follow_back m s p
     here read = rw read refl
+
     shift : reverse (map (λ e. e.member) es) ++ (e.member ∷ follow_back m s p) ≡ reverse (map (λ e. e.member) (e ∷ es)) ++ follow_back m s p
     shift = sym (ap (λ ms. ms ++ follow_back m s p) (reverse-append (e.member ∷ []) (map (λ e. e.member) es)) ∙ append_assoc (reverse (map (λ e. e.member) es)) (e.member ∷ []) (follow_back m s p))
 

@@ -1,5 +1,5 @@
 -- The tests of keys, owners, names and values tell whether two are the same.
-use Rattle.std.proofs.Common.{◌≡◌, ◌==◌, sym, ◌&&◌, Bool, true, false, ap, arith, refl, eqb, ℕ, List, [], ◌∷◌, Option, Some, None, true≢false}
+use Rattle.std.proofs.Common.{◌≡◌, ◌==◌, sym, ◌&&◌, Bool, true, false, ap, arith, refl, ℕ, List, [], ◌∷◌, Option, Some, None, true≢false}
 use Rattle.std.proofs.lemmas.Bool.Decides.{nat_tests}
 use Rattle.dbtg_cells.specs.declared.key.DbKey.{DbKey}
 use Rattle.std.proofs.lemmas.Bool.{and_from, and_parts, eqb-true}

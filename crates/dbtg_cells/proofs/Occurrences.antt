@@ -1,5 +1,5 @@
 -- What a ring shows of its owner and its members.
-use Rattle.std.proofs.Common.{◌≡◌, Bool, true, false, List, [], ◌∷◌, map, Option, Some, None, refl, sym, ap, ◌∙◌, option_map, true≢false, subst}
+use Rattle.std.proofs.Common.{◌≡◌, true, List, map, Option, Some, None, refl, sym, ap, ◌∙◌, option_map, true≢false}
 use Rattle.std.specs.List.{list_any}
 use Rattle.dbtg_cells.specs.declared.key.DbKey.{DbKey}
 use Rattle.dbtg_cells.specs.declared.key.Owner.{Owner}

@@ -1,8 +1,8 @@
 -- Laws of the places of new members.
-use Rattle.std.proofs.Common.{◌≡◌, Bool, true, false, not, cond, ◌||◌, ◌&&◌, List, [], ◌∷◌, ◌++◌, map, filter, refl, sym, ap, ◌∙◌, true≢false}
+use Rattle.std.proofs.Common.{◌≡◌, Bool, true, false, not, cond, ◌||◌, List, [], ◌∷◌, ◌++◌, map, filter, refl, sym, ap, ◌∙◌, true≢false}
 use Rattle.std.proofs.lemmas.Bool.{and_parts}
 use Rattle.std.specs.List.{list_any}
-use Rattle.dbtg_cells.specs.Placed.{Spot, Front, Back, After, Before, Among, placed, after, before, stand_first}
+use Rattle.dbtg_cells.specs.Placed.{After, Before, Among, placed, after, before, stand_first}
 
 none-pass : {X : Type 0} (test : X → Bool) (xs : List X) → list_any test xs ≡ false → (filter test xs ≡ []) × (filter (λ x. not (test x)) xs ≡ xs)
 none-pass test [] h = (refl, refl)

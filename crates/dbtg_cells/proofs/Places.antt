@@ -1,5 +1,5 @@
 -- Places in plain lists of members.
-use Rattle.std.proofs.Common.{◌≡◌, ℕ, ◌+◌, Bool, List, [], ◌∷◌, ◌++◌, Option, IsTrue, slice_get}
+use Rattle.std.proofs.Common.{ℕ, ◌+◌, List, Option, IsTrue, slice_get}
 use Rattle.std.specs.List.{list_any, position_or_len, insert, remove}
 use Rattle.dbtg_cells.specs.declared.key.DbKey.{DbKey}
 use Rattle.dbtg_cells.specs.Members.{Entry, has_key}

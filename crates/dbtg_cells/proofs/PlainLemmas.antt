@@ -1,12 +1,9 @@
 -- Lists of members, cut at a key.
-use Rattle.std.proofs.Common.{◌≡◌, ◌≢◌, ℕ, zero, suc, ◌+◌, ◌-◌, ◌<◌, ◌≤◌, Bool, true, false, not, cond, ◌||◌, List, [], ◌∷◌, ◌++◌, map, filter, reverse, length, take, drop, length-drop, refl, sym, ap, ◌∙◌, arith, true≢false, add-one, subst}
+use Rattle.std.proofs.Common.{◌≡◌, ℕ, zero, suc, ◌-◌, ◌<◌, ◌≤◌, Bool, true, false, not, cond, ◌||◌, List, [], ◌∷◌, ◌++◌, map, filter, reverse, length, take, drop, length-drop, refl, sym, ap, ◌∙◌, arith, true≢false}
 use Rattle.std.proofs.lemmas.List.{reverse-append, map-append}
 use Rattle.std.specs.List.{list_any, position_or_len, insert}
 use Rattle.dbtg_schema.specs.Lookups.{behind, in_front}
-use Rattle.dbtg_cells.specs.declared.key.DbKey.{DbKey}
 use Rattle.dbtg_cells.specs.Placed.{after, before}
-use Rattle.dbtg_cells.specs.Keys.{key_eq, is_member}
-use Rattle.dbtg_cells.specs.Members.{Entry, has_key, without_key}
 
 module _ {X : Type 0} (is : X → Bool) where
   pub place-first : (x : X) (xs : List X) → is x ≡ true → position_or_len is (x ∷ xs) ≡ 0

@@ -1,5 +1,5 @@
 -- What the code's steps do to a whole ring.
-use Rattle.std.proofs.Common.{◌≡◌, ◌≢◌, ◌⊎◌, ℕ, zero, suc, ◌+◌, ◌<◌, ◌≤◌, Bool, true, false, not, cond, List, [], ◌∷◌, ◌++◌, map, reverse, length, Option, Some, None, Contains, refl, sym, ap, ◌∙◌, arith, inl, inr, get_or, set, take, drop, IsTrue, true≢false, subst}
+use Rattle.std.proofs.Common.{◌≡◌, ◌≢◌, ℕ, zero, suc, ◌+◌, ◌<◌, ◌≤◌, Bool, true, false, cond, List, [], ◌∷◌, ◌++◌, map, reverse, length, Option, Some, None, Contains, refl, sym, ap, ◌∙◌, arith, inl, inr, true≢false, subst}
 use Rattle.std.proofs.lemmas.Bool.{cases_eq, eqb-true}
 use Rattle.std.proofs.lemmas.List.{append_assoc, map-append, length-map, length-append, take_at, drop_at, append-nil, length_push}
 use Rattle.std.specs.Option.{is_some}
@@ -8,7 +8,7 @@ use Rattle.std.proofs.lemmas.Bool.Decides.{eqb_tells}
 use Rattle.std.specs.List.{IsDistinct, AllByRecursion}
 use Rattle.std.proofs.lemmas.Map.Steps.{length-le_from_distinct_below}
 use Rattle.slab.proofs.SlabLemmas.{Contains-cons, Contains-cons_cases}
-use Rattle.std.specs.List.{list_any, position_or_len, insert, remove}
+use Rattle.std.specs.List.{list_any, insert, remove}
 use Rattle.std.specs.Option.{option_map, option_map_or, IsSome, IfSome}
 use Rattle.std.proofs.Common.{Result, Ok, Err, IsOk, OnOk}
 use Rattle.dbtg_cells.specs.declared.key.DbKey.{DbKey}
@@ -18,10 +18,9 @@ use Rattle.dbtg_cells.specs.Members.{Entry}
 use Rattle.dbtg_cells.specs.declared.ring.Node.{Node}
 use Rattle.dbtg_cells.specs.Chain.{Slots, Link, slot, key_at, linked_at, node_of, head_at, last_at, Seg, Avoids, Apart, LiesAt, follow, follow_back, end_or, unlinked_keys, IsRing}
 use Rattle.dbtg_cells.specs.Links.{put, put_if, with_next, with_prior, as_linked, as_unlinked, linked_in, linked_out}
-use Rattle.std.proofs.Common.{filter}
 use Rattle.dbtg_cells.specs.Members.{has_key}
 use Rattle.dbtg_cells.proofs.Places.{place_of, HasMember, placed_after, placed_before, taken_out, next_key}
-use Rattle.dbtg_cells.proofs.ChainLemmas.{slot-put_other, slot-put_at, slot-put_same, Avoids-right, Seg-left, Seg-right, Seg-append, Seg-linked_in, Seg-linked_out, Apart-with, Apart-without, follow-Seg, follow_back-Seg}
+use Rattle.dbtg_cells.proofs.ChainLemmas.{slot-put_other, slot-put_at, Avoids-right, Seg-left, Seg-right, Seg-linked_in, Seg-linked_out, Apart-with, Apart-without, follow-Seg, follow_back-Seg}
 
 abbrev pub members : List Link → List Entry
 members = map (λ e. e.member)
@@ -47,9 +46,9 @@ split_at k (e ∷ es) h = by (has_key k e.member) refl (λ p. split_at k es (rw 
 -- what a write keeps of a node, it keeps of each slot
 pub kept-put : {A : Type 0} (g : Node → A) (i j : ℕ) (f : Node → Node) (s : Slots) → ((n : Node) → slot s i ≡ Some n → g (f n) ≡ g n) → option_map g (slot (put i f s) j) ≡ option_map g (slot s j)
 kept-put g i j f s same = elim (cases_eq j i) [
-    | inl e ↦ rw e (ap (option_map g) (slot-put_at i f s) ∙ by (slot s i) refl)
-    | inr ne ↦ ap (option_map g) (slot-put_other i j f s ne)
-  ]
+  | inl e ↦ rw e (ap (option_map g) (slot-put_at i f s) ∙ by (slot s i) refl)
+  | inr ne ↦ ap (option_map g) (slot-put_other i j f s ne)
+]
   where
     by : (o : Option Node) → slot s i ≡ o → option_map g (option_map f (slot s i)) ≡ option_map g (slot s i)
     by None p = rw p refl
@@ -76,9 +75,9 @@ some_same a b h = cc
 pub Seg-avoids : (s : Slots) (x : ℕ) (n : Node) → slot s x ≡ Some n → n.linked ≡ false → (p : Option ℕ) (es : List Link) (q : Option ℕ) → Seg s p es q → Avoids x es
 Seg-avoids s x n there off p [] q h = tt
 Seg-avoids s x n there off p (e ∷ es) q h = (
-    λ same. true≢false (sym (ap (λ k. k.linked) (some_same n _ (sym there ∙ ap (slot s) (sym same) ∙ h.0))) ∙ off),
-    Seg-avoids s x n there off (Some e.at) es q h.1,
-  )
+  λ same. true≢false (sym (ap (λ k. k.linked) (some_same n _ (sym there ∙ ap (slot s) (sym same) ∙ h.0))) ∙ off),
+  Seg-avoids s x n there off (Some e.at) es q h.1,
+)
 
 -- where the chain lies
 pub LiesAt-insert : (i : ℕ) (a : List Link) (e : Link) (b : List Link) → LiesAt (a ++ b) i → LiesAt (a ++ e ∷ b) i
@@ -144,29 +143,31 @@ module _ (find : DbKey → Option ℕ) (s : Slots) (first last : Option ℕ) (le
         let apart0 : Apart (a ++ b) = rw split at R.apart in
         let away : Avoids x (a ++ b) = Seg-avoids s x n there off None (a ++ b) None links0 in
         let keys : (i : ℕ) → key_at s3 i ≡ key_at s i = λ i.
-            kept-put_if (λ k. k.member.0) q i (with_prior (Some x)) s2 (λ _. refl)
-            ∙ kept-put_if (λ k. k.member.0) p i (with_next (Some x)) s1 (λ _. refl)
-            ∙ kept-put (λ k. k.member.0) x i (as_linked m p q) s (λ k h. sym key ∙ ap (λ k. k.member.0) (some_same n k (sym there ∙ h))) in
+        kept-put_if (λ k. k.member.0) q i (with_prior (Some x)) s2 (λ _. refl)
+        ∙ kept-put_if (λ k. k.member.0) p i (with_next (Some x)) s1 (λ _. refl)
+        ∙ kept-put (λ k. k.member.0) x i (as_linked m p q) s (λ k h. sym key ∙ ap (λ k. k.member.0) (some_same n k (sym there ∙ h))) in
         let marks : (i : ℕ) → i ≢ x → linked_at s3 i ≡ linked_at s i = λ i ne.
-            linked_at-map s3 i ∙ ap (λ o. option_map_or (λ b. b) o false) (
-              kept-put_if (λ k. k.linked) q i (with_prior (Some x)) s2 (λ _. refl)
-              ∙ kept-put_if (λ k. k.linked) p i (with_next (Some x)) s1 (λ _. refl)
-              ∙ ap (option_map (λ k. k.linked)) (slot-put_other x i (as_linked m p q) s ne)
-            ) ∙ sym (linked_at-map s i) in
-        (record {
-          chain = a ++ e ∷ b;
-          links = Seg-linked_in s a b e n there apart0 away links0;
-          starts = starts_with a e b first (R.starts ∙ ap (λ c. head_at c None) split);
-          ends = ends_with a e b last (R.ends ∙ ap (last_at None) split);
-          counted = omega (arith, R.counted, ap length split, length-append a b, length-append a (e ∷ b));
-          apart = Apart-with a e b apart0 away;
-          marked = λ i on. elim (cases_eq i x) [
-            | inl same ↦ LiesAt-here i a e b (sym same)
-            | inr ne ↦ LiesAt-insert i a e b (rw split at (R.marked i (sym (marks i ne) ∙ on)))
-          ];
-          found = λ k i h. keys i ∙ R.found k i h;
-          keyed = λ k i h. R.keyed k i (sym (keys i) ∙ h);
-        }, refl)
+        linked_at-map s3 i ∙ ap (λ o. option_map_or (λ b. b) o false) (
+        kept-put_if (λ k. k.linked) q i (with_prior (Some x)) s2 (λ _. refl)
+        ∙ kept-put_if (λ k. k.linked) p i (with_next (Some x)) s1 (λ _. refl)
+        ∙ ap (option_map (λ k. k.linked)) (slot-put_other x i (as_linked m p q) s ne)
+        ) ∙ sym (linked_at-map s i) in (
+          record {
+            chain = a ++ e ∷ b;
+            links = Seg-linked_in s a b e n there apart0 away links0;
+            starts = starts_with a e b first (R.starts ∙ ap (λ c. head_at c None) split);
+            ends = ends_with a e b last (R.ends ∙ ap (last_at None) split);
+            counted = omega (arith, R.counted, ap length split, length-append a b, length-append a (e ∷ b));
+            apart = Apart-with a e b apart0 away;
+            marked = λ i on. elim (cases_eq i x) [
+              | inl same ↦ LiesAt-here i a e b (sym same)
+              | inr ne ↦ LiesAt-insert i a e b (rw split at (R.marked i (sym (marks i ne) ∙ on)))
+            ];
+            found = λ k i h. keys i ∙ R.found k i h;
+            keyed = λ k i h. R.keyed k i (sym (keys i) ∙ h);
+          },
+          refl,
+        )
 
   -- a node is taken from between two parts
   module _ (a : List Link) (e : Link) (b : List Link) (split : R.chain ≡ a ++ e ∷ b) where
@@ -181,30 +182,32 @@ module _ (find : DbKey → Option ℕ) (s : Slots) (first last : Option ℕ) (le
         let apart0 : Apart (a ++ e ∷ b) = rw split at R.apart in
         let parts = Apart-without a e b apart0 in
         let keys : (i : ℕ) → key_at s3 i ≡ key_at s i = λ i.
-            kept-put (λ k. k.member.0) e.at i as_unlinked s2 (λ k h. refl)
-            ∙ kept-put_if (λ k. k.member.0) q i (with_prior p) s1 (λ _. refl)
-            ∙ kept-put_if (λ k. k.member.0) p i (with_next q) s (λ _. refl) in
+        kept-put (λ k. k.member.0) e.at i as_unlinked s2 (λ k h. refl)
+        ∙ kept-put_if (λ k. k.member.0) q i (with_prior p) s1 (λ _. refl)
+        ∙ kept-put_if (λ k. k.member.0) p i (with_next q) s (λ _. refl) in
         let marks : (i : ℕ) → i ≢ e.at → linked_at s3 i ≡ linked_at s i = λ i ne.
-            linked_at-map s3 i ∙ ap (λ o. option_map_or (λ b. b) o false) (
-              ap (option_map (λ k. k.linked)) (slot-put_other e.at i as_unlinked s2 ne)
-              ∙ kept-put_if (λ k. k.linked) q i (with_prior p) s1 (λ _. refl)
-              ∙ kept-put_if (λ k. k.linked) p i (with_next q) s (λ _. refl)
-            ) ∙ sym (linked_at-map s i) in
-        let gone : (i : ℕ) → i ≡ e.at → linked_at s3 i ≡ false = λ i same. unlinked_after i s2 same in
-        (record {
-          chain = a ++ b;
-          links = Seg-linked_out s a b e apart0 links0;
-          starts = starts_without a e b first (R.starts ∙ ap (λ c. head_at c None) split);
-          ends = ends_without a e b last (R.ends ∙ ap (last_at None) split);
-          counted = omega (arith, R.counted, fewer, ap length split, length-append a b, length-append a (e ∷ b));
-          apart = parts.0;
-          marked = λ i on. elim (cases_eq i e.at) [
-            | inl same ↦ absurd (true≢false (sym on ∙ gone i same))
-            | inr ne ↦ LiesAt-without i a e b (λ h. ne (sym h)) (rw split at (R.marked i (sym (marks i ne) ∙ on)))
-          ];
-          found = λ k i h. keys i ∙ R.found k i h;
-          keyed = λ k i h. R.keyed k i (sym (keys i) ∙ h);
-        }, refl)
+        linked_at-map s3 i ∙ ap (λ o. option_map_or (λ b. b) o false) (
+        ap (option_map (λ k. k.linked)) (slot-put_other e.at i as_unlinked s2 ne)
+        ∙ kept-put_if (λ k. k.linked) q i (with_prior p) s1 (λ _. refl)
+        ∙ kept-put_if (λ k. k.linked) p i (with_next q) s (λ _. refl)
+        ) ∙ sym (linked_at-map s i) in
+        let gone : (i : ℕ) → i ≡ e.at → linked_at s3 i ≡ false = λ i same. unlinked_after i s2 same in (
+          record {
+            chain = a ++ b;
+            links = Seg-linked_out s a b e apart0 links0;
+            starts = starts_without a e b first (R.starts ∙ ap (λ c. head_at c None) split);
+            ends = ends_without a e b last (R.ends ∙ ap (last_at None) split);
+            counted = omega (arith, R.counted, fewer, ap length split, length-append a b, length-append a (e ∷ b));
+            apart = parts.0;
+            marked = λ i on. elim (cases_eq i e.at) [
+              | inl same ↦ absurd (true≢false (sym on ∙ gone i same))
+              | inr ne ↦ LiesAt-without i a e b (λ h. ne (sym h)) (rw split at (R.marked i (sym (marks i ne) ∙ on)))
+            ];
+            found = λ k i h. keys i ∙ R.found k i h;
+            keyed = λ k i h. R.keyed k i (sym (keys i) ∙ h);
+          },
+          refl,
+        )
       where
         unlinked_after : (i : ℕ) (t : Slots) → i ≡ e.at → linked_at (put e.at as_unlinked t) i ≡ false
         unlinked_after i t same = rw same (rw (slot-put_at e.at as_unlinked t) (by (slot t e.at)))
@@ -233,8 +236,10 @@ module _ (find : DbKey → Option ℕ) (s : Slots) (keyed : (k : DbKey) (i : ℕ
     where
       at_f : find f.member.0 ≡ Some f.at
       at_f = keyed f.member.0 f.at (ap (option_map (λ n. n.member.0)) links.0)
+
       at_e : find e.member.0 ≡ Some e.at
       at_e = keyed e.member.0 e.at (ap (option_map (λ n. n.member.0)) (Seg-key s (Some f.at) a e b q links.1))
+
       by : (c : Bool) → has_key k f.member ≡ c → place_of k (members (a ++ e ∷ b)) ≡ length a → place_of k (members ((f ∷ a) ++ e ∷ b)) ≡ suc (length a)
       by true h rest =
           let keys : f.member.0 ≡ e.member.0 = sym (key_eq-same _ _ h) ∙ sym same in
@@ -269,10 +274,12 @@ reserved_node (Some n ∷ s) k h = by n.linked refl (λ g. reserved_node s k g)
   where
     Later : Type 0
     Later = Contains (unlinked_keys s) k → (at : ℕ) × Reserved s k at
+
     more : (Contains (unlinked_keys s) k → (at : ℕ) × Reserved s k at) → Contains (unlinked_keys s) k → (at : ℕ) × Reserved (Some n ∷ s) k at
     more later g =
         let r = later g in
         (suc r.0, record { node = r.1.node; there = r.1.there; off = r.1.off; key = r.1.key })
+
     by : (b : Bool) → n.linked ≡ b → (Contains (unlinked_keys s) k → (at : ℕ) × Reserved s k at) → (at : ℕ) × Reserved (Some n ∷ s) k at
     by true p later = more later (rw p at h)
     by false p later = elim (Contains-cons_cases _ _ _ (rw p at h)) [
@@ -423,7 +430,12 @@ module _ (find : DbKey → Option ℕ) (s : Slots) (first last : Option ℕ) (le
         let m = member_split in
         let same : at ≡ m.here.at = some_same _ _ (sym h ∙ member_found) in
         record {
-          before = m.before; here = m.here; after = m.after; whole = m.whole; key = m.key; at_is = same;
+          before = m.before;
+          here = m.here;
+          after = m.after;
+          whole = m.whole;
+          key = m.key;
+          at_is = same;
           node_is = ap (slot s) same ∙ node_here find s first last len R m.before m.here m.after m.whole;
         }
 
@@ -479,8 +491,10 @@ module _ (find : DbKey → Option ℕ) (s : Slots) (first last : Option ℕ) (le
       or-true : (b : Bool) → b || true ≡ true
       or-true true = refl
       or-true false = refl
+
       key : key_at s at ≡ Some k
       key = R.found k at found
+
       by : (p : Option ℕ) (es : List Link) → Seg s p es None → LiesAt es at → HasMember (members es) k
       by p [] h there = absurd there
       by p (e ∷ es) h there = elim there [
@@ -500,7 +514,8 @@ reserved_from t x k key off = by (slot t x) refl
         none : Some k ≡ None → ⊥
         none g = cc
     by (Some n) h = record {
-      node = n; there = h;
+      node = n;
+      there = h;
       off = sym (ap (λ o. option_map_or (λ n. n.linked) o false) h) ∙ off;
       key = some_same _ _ (sym (ap (option_map (λ n. n.member.0)) h) ∙ key);
     }
@@ -510,9 +525,9 @@ out_reserved s x p q n k s' is there key =
     let s1 = put_if p (with_next q) s in
     let s2 = put_if q (with_prior p) s1 in
     let keys : key_at (put x as_unlinked s2) x ≡ key_at s x =
-        kept-put (λ k. k.member.0) x x as_unlinked s2 (λ k h. refl)
-        ∙ kept-put_if (λ k. k.member.0) q x (with_prior p) s1 (λ _. refl)
-        ∙ kept-put_if (λ k. k.member.0) p x (with_next q) s (λ _. refl) in
+    kept-put (λ k. k.member.0) x x as_unlinked s2 (λ k h. refl)
+    ∙ kept-put_if (λ k. k.member.0) q x (with_prior p) s1 (λ _. refl)
+    ∙ kept-put_if (λ k. k.member.0) p x (with_next q) s (λ _. refl) in
     rw is (reserved_key _ k x (reserved_from (put x as_unlinked s2) x k (keys ∙ ap (option_map (λ n. n.member.0)) there ∙ ap Some key) (off s2)))
   where
     off : (t : Slots) → linked_at (put x as_unlinked t) x ≡ false

@@ -1,25 +1,25 @@
 -- What is read along the links of a ring.
-use Rattle.std.proofs.Common.{◌≡◌, ◌≢◌, ◌⊎◌, ℕ, zero, suc, ◌+◌, ◌-◌, ◌<◌, ◌≤◌, Bool, true, false, not, cond, ◌||◌, List, [], ◌∷◌, ◌++◌, map, filter, reverse, length, Option, Some, None, Contains, inl, inr, add-one, zero-add, refl, sym, ap, ◌∙◌, arith, true≢false, subst, add-zero, slice_get, drop, take, IsTrue}
-use Rattle.std.proofs.lemmas.List.{append-nil, append_assoc, map-append, length-append, length-map, reverse-append, take_at, drop_at}
+use Rattle.std.proofs.Common.{◌≡◌, ℕ, zero, suc, ◌+◌, ◌-◌, ◌<◌, ◌≤◌, Bool, true, false, not, cond, ◌||◌, List, [], ◌∷◌, ◌++◌, map, filter, reverse, length, Option, Some, None, Contains, inl, inr, add-one, refl, sym, ap, ◌∙◌, arith, true≢false, subst, slice_get, drop, take}
+use Rattle.std.proofs.lemmas.List.{append-nil, append_assoc, length-append, reverse-append, take_at}
 use Rattle.std.proofs.lemmas.List.Elements.{filter-append}
-use Rattle.std.specs.Option.{option_map, option_map_or}
-use Rattle.std.specs.List.{list_any, find, position_or_len, insert}
+use Rattle.std.specs.Option.{option_map}
+use Rattle.std.specs.List.{list_any, find, insert}
 use Rattle.dbtg_schema.specs.Lookups.{first, final, behind, in_front}
 use Rattle.dbtg_cells.specs.declared.key.DbKey.{DbKey}
 use Rattle.dbtg_cells.specs.declared.key.Owner.{Owner}
 use Rattle.dbtg_cells.specs.declared.ring.Node.{Node}
 use Rattle.dbtg_cells.specs.declared.ring.Occurrence.{Occurrence}
 use Rattle.dbtg_cells.specs.Keys.{key_eq}
-use Rattle.dbtg_cells.specs.Members.{Entry, members_in, keys_in, has_key, with_members, without_key}
+use Rattle.dbtg_cells.specs.Members.{Entry, members_in, has_key, with_members, without_key}
 use Rattle.dbtg_cells.specs.Placed.{after, before}
 use Rattle.dbtg_cells.specs.Chain.{Slots, Link, slot, follow, follow_back}
 use Rattle.dbtg_cells.specs.Keys.{is_member}
 use Rattle.dbtg_cells.specs.Chain.{head_at, last_at, Seg, Avoids, Apart, IsRing, unlinked_keys, key_at}
 use Rattle.dbtg_cells.proofs.KeyLemmas.{key_eq-refl, key_eq-same}
-use Rattle.dbtg_cells.proofs.PlainLemmas.{behind-drop, in_front-take, behind-map, in_front-map, any-map, before-insert, after-insert, place-within, map-reverse}
-use Rattle.dbtg_cells.proofs.Places.{place_of, HasMember, placed_after, placed_before}
-use Rattle.dbtg_cells.proofs.ChainLemmas.{Seg-left, Seg-right, follow-Seg, follow_back-Seg, Apart-without, Avoids-left, Avoids-right}
-use Rattle.dbtg_cells.proofs.RingLemmas.{members, listed, listed_back, place_here, whole_members, placed_before-here, placed_after-here, Seg-key, some_same, found_link, Reserved, reserved_at, reserved_key}
+use Rattle.dbtg_cells.proofs.PlainLemmas.{behind-drop, in_front-take, before-insert, after-insert, place-within, map-reverse}
+use Rattle.dbtg_cells.proofs.Places.{place_of}
+use Rattle.dbtg_cells.proofs.ChainLemmas.{Seg-left, Seg-right, follow_back-Seg, Apart-without, Avoids-left, Avoids-right}
+use Rattle.dbtg_cells.proofs.RingLemmas.{members, place_here, whole_members, placed_before-here, placed_after-here, some_same, found_link, reserved_at, reserved_key}
 use Rattle.slab.proofs.SlabLemmas.{Contains-cons, Contains-cons_cases}
 use Rattle.dbtg_cells.proofs.Occurrences.{shown_as}
 
@@ -107,9 +107,9 @@ any-contains k (x ∷ xs) h = by (key_eq k x) refl (λ p. any-contains k xs (rw 
 pub contains-any : (k : DbKey) (xs : List DbKey) → Contains xs k → list_any (key_eq k) xs ≡ true
 contains-any k [] h = absurd (omega (arith, h.1))
 contains-any k (x ∷ xs) h = elim (Contains-cons_cases _ _ _ h) [
-    | inl here ↦ ap (λ y. key_eq k y || list_any (key_eq k) xs) here ∙ ap (λ b. b || list_any (key_eq k) xs) (key_eq-refl k)
-    | inr later ↦ ap (λ b. key_eq k x || b) (contains-any k xs later) ∙ or-true (key_eq k x)
-  ]
+  | inl here ↦ ap (λ y. key_eq k y || list_any (key_eq k) xs) here ∙ ap (λ b. b || list_any (key_eq k) xs) (key_eq-refl k)
+  | inr later ↦ ap (λ b. key_eq k x || b) (contains-any k xs later) ∙ or-true (key_eq k x)
+]
   where
     or-true : (b : Bool) → b || true ≡ true
     or-true true = refl
@@ -223,6 +223,7 @@ found-there test k (x ∷ l) h = by (test x) refl (λ p. found-there test k l (r
     or-true : (b : Bool) → b || true ≡ true
     or-true true = refl
     or-true false = refl
+
     by : (b : Bool) → test x ≡ b → (test x ≡ false → is_member k (map (λ e. e.0) l) ≡ true) → is_member k (map (λ e. e.0) (x ∷ l)) ≡ true
     by true p rest = ap (λ b. b || is_member k (map (λ e. e.0) l)) (ap (key_eq k) (sym (some_same k x.0 (rw p at h))) ∙ key_eq-refl k)
     by false p rest = ap (λ b. key_eq k x.0 || b) (rest p) ∙ or-true (key_eq k x.0)
@@ -296,6 +297,7 @@ module _ (find : DbKey → Option ℕ) (s : Slots) (first last : Option ℕ) (le
               let key : k ≡ e.member.0 = key_eq-same k e.member.0 q in
               let here : find e.member.0 ≡ Some e.at = R.keyed e.member.0 e.at (ap (option_map (λ n. n.member.0)) h.0) in
               absurd (away.0 (some_same _ _ (sym here ∙ sym (ap find key) ∙ at)))
+
       by : (p : Option ℕ) (es : List Link) → Seg s p es None → Apart es → OnceEach (members es)
       by p [] h apart = tt
       by p (e ∷ es) h apart = (none (Some e.at) es e.member.0 e.at (R.keyed e.member.0 e.at (ap (option_map (λ n. n.member.0)) h.0)) apart.0 h.1, by (Some e.at) es h.1 apart.1)

@@ -1,5 +1,5 @@
 -- The cells of a schema and a capacity, numbered in their order.
-use Rattle.std.specs.Prelude.{ℕ, Bool, false, ◌&&◌, nat_lt, nat_le, List, [], ◌∷◌, ◌++◌, Option, Some, None, map, option_map, unwrap_or, length, slice_get, position, cond}
+use Rattle.std.specs.Prelude.{ℕ, Bool, ◌&&◌, nat_lt, nat_le, List, [], ◌∷◌, ◌++◌, Option, Some, None, map, option_map, unwrap_or, length, slice_get, position, cond}
 use Rattle.std.specs.List.{range_with_len, flat_map}
 use Rattle.dbtg_schema.specs.Lists.{Lists}
 use Rattle.dbtg_schema.specs.Structure.{area_of, home, is_system, owner_type, owns, set_numbers}
@@ -11,7 +11,7 @@ use Rattle.dbtg_cells.specs.Names.{name_eq}
 abbrev pub rings_of : Lists → ℕ → ℕ → List CellName
 rings_of schema capacity s =
     cond (is_system schema s) (Ring s None ∷ [])
-      (unwrap_or (option_map (λ t. map (λ n. Ring s (Some (t, n))) (range_with_len 1 capacity)) (owner_type schema s)) [])
+    (unwrap_or (option_map (λ t. map (λ n. Ring s (Some (t, n))) (range_with_len 1 capacity)) (owner_type schema s)) [])
 
 abbrev pub slots_of : ℕ → ℕ → List CellName
 slots_of capacity t = map (Slot t) (range_with_len 1 capacity)

@@ -1,6 +1,5 @@
 -- The members of an occurrence.
-use Rattle.std.specs.Prelude.{ℕ, Bool, false, not, ◌&&◌, List, [], ◌∷◌, map, filter, Option, Some, None, option_map, unwrap_or}
-use Rattle.std.specs.List.{list_any}
+use Rattle.std.specs.Prelude.{Bool, false, not, ◌&&◌, List, [], map, filter, Option, Some, None, option_map, unwrap_or}
 use Rattle.dbtg_cells.specs.declared.key.DbKey.{DbKey}
 use Rattle.dbtg_cells.specs.declared.key.Value.{Value}
 use Rattle.dbtg_cells.specs.declared.ring.Occurrence.{Occurrence}

@@ -1,5 +1,5 @@
 -- The numbers of a record type.
-use Rattle.std.specs.Prelude.{ℕ, zero, suc, Bool, true, false, ◌==◌, not, ◌&&◌, nat_lt, List, [], ◌∷◌, Option, Some, None, is_some, is_none, cond, slice_get, slice_set, option_map, unwrap_or}
+use Rattle.std.specs.Prelude.{ℕ, zero, suc, Bool, false, ◌==◌, ◌&&◌, nat_lt, List, [], ◌∷◌, Option, Some, None, is_some, is_none, cond, slice_get, slice_set, option_map, unwrap_or}
 use Rattle.dbtg_schema.specs.Lookups.{some_and}
 use Rattle.dbtg_cells.specs.declared.key.Value.{Value}
 use Rattle.dbtg_cells.specs.declared.extent.Number.{Number}

@@ -13,8 +13,8 @@ mod value;
 
 pub use cell::Cell;
 pub use extent::{Extent, Number};
-pub use key::{key_below, owner_below, same_key, same_owner, DbKey, Owner, Value};
-pub use name::{name_below, same_name, CellName};
+pub use key::{DbKey, Owner, Value, key_below, owner_below, same_key, same_owner};
+pub use name::{CellName, name_below, same_name};
 pub use plain::PlainRing;
 pub use ring::{Occurrence, Ring};
 pub use slot::{Slot, Stored};

@@ -8,12 +8,11 @@ ghost use Rattle.dbtg_cells.specs.Orders.{comes_before};
 ghost use Rattle.dbtg_cells.specs.Placed.{Spot, Front, Back, After, Before, placed};
 ghost use Rattle.dbtg_cells.specs.Members.{Entry, members_in, keys_in, has_key, with_members, has_room as has_place, without_key, is_left_out, has_sort_key as is_taken_by};
 
+use crate::key::{DbKey, Owner, Value, is_of_type, is_other};
+use crate::value::{same_sort_key, same_value, stands_before};
+use dbtg_schema::{Duplicates, RecordNo};
 use std::alloc::{AllocError, Global};
 use std::marker::Model;
-use dbtg_schema::{Duplicates, RecordNo};
-
-use crate::key::{is_of_type, is_other, DbKey, Owner, Value};
-use crate::value::{same_sort_key, same_value, stands_before};
 
 /// The occurrence of one owner, or none, as a plain vector: what `Ring` is compared with in tests.
 #[derive(Drop)]
@@ -99,7 +98,10 @@ fn place_of(members: &[(DbKey, Option<Value>)], key: &DbKey) -> usize
     members.len()
 }
 
-fn behind_key<'a>(members: &'a [(DbKey, Option<Value>)], key: &DbKey) -> &'a [(DbKey, Option<Value>)]
+fn behind_key<'a>(
+    members: &'a [(DbKey, Option<Value>)],
+    key: &DbKey,
+) -> &'a [(DbKey, Option<Value>)]
     ensures { result.now ≡ behind (has_key key.now) members.now }
 {
     let at = place_of(members, key);
@@ -110,7 +112,10 @@ fn behind_key<'a>(members: &'a [(DbKey, Option<Value>)], key: &DbKey) -> &'a [(D
     }
 }
 
-fn front_of_key<'a>(members: &'a [(DbKey, Option<Value>)], key: &DbKey) -> &'a [(DbKey, Option<Value>)]
+fn front_of_key<'a>(
+    members: &'a [(DbKey, Option<Value>)],
+    key: &DbKey,
+) -> &'a [(DbKey, Option<Value>)]
     ensures { result.now ≡ in_front (has_key key.now) members.now }
 {
     &members[..place_of(members, key)]
@@ -129,7 +134,11 @@ fn first_with(members: &[(DbKey, Option<Value>)], sort: &Value) -> Option<DbKey>
     None
 }
 
-fn is_taken(members: &[(DbKey, Option<Value>)], sort: &Option<Value>, left_out: &Option<DbKey>) -> bool
+fn is_taken(
+    members: &[(DbKey, Option<Value>)],
+    sort: &Option<Value>,
+    left_out: &Option<DbKey>,
+) -> bool
     ensures { result ≡ list_any (is_taken_by left_out.now sort.now) members.now }
 {
     for member in members {
@@ -140,7 +149,12 @@ fn is_taken(members: &[(DbKey, Option<Value>)], sort: &Option<Value>, left_out: 
     false
 }
 
-fn sorted_place(members: &[(DbKey, Option<Value>)], ascending: bool, duplicates: Duplicates, sort: &Option<Value>) -> usize
+fn sorted_place(
+    members: &[(DbKey, Option<Value>)],
+    ascending: bool,
+    duplicates: Duplicates,
+    sort: &Option<Value>,
+) -> usize
     ensures at { result ≡ position_or_len (λ e. not (comes_before ascending duplicates e.1 sort.now)) members.now }
     ensures within { result ≤ length members.now }
 {
@@ -167,7 +181,11 @@ fn keys_back_of(members: &[(DbKey, Option<Value>)], alloc: Global) -> Result<Vec
 }
 
 // The n-th of a type, where n counts from 0.
-fn nth_front(members: &[(DbKey, Option<Value>)], rtype: &Option<RecordNo>, n: usize) -> Option<DbKey>
+fn nth_front(
+    members: &[(DbKey, Option<Value>)],
+    rtype: &Option<RecordNo>,
+    n: usize,
+) -> Option<DbKey>
     ensures { result ≡ slice_get (filter (has_type rtype.now) (map (λ e. e.0) members.now)) n }
 {
     let mut left = n;
@@ -206,7 +224,11 @@ fn nth_end(members: &[(DbKey, Option<Value>)], rtype: &Option<RecordNo>, n: usiz
     }
 }
 
-fn nth_of_type(members: &[(DbKey, Option<Value>)], rtype: &Option<RecordNo>, n: i32) -> Option<DbKey>
+fn nth_of_type(
+    members: &[(DbKey, Option<Value>)],
+    rtype: &Option<RecordNo>,
+    n: i32,
+) -> Option<DbKey>
     requires { n ≢ pos 0 }
     ensures { result ≡ nth_in n (filter (has_type rtype.now) (map (λ e. e.0) members.now)) }
 {
@@ -219,7 +241,13 @@ fn nth_of_type(members: &[(DbKey, Option<Value>)], rtype: &Option<RecordNo>, n: 
 }
 
 // Puts a member for which there is a place at an index.
-fn put_in(members: &mut Vec<(DbKey, Option<Value>)>, reserved: &mut Vec<DbKey>, at: usize, key: DbKey, sort: Option<Value>)
+fn put_in(
+    members: &mut Vec<(DbKey, Option<Value>)>,
+    reserved: &mut Vec<DbKey>,
+    at: usize,
+    key: DbKey,
+    sort: Option<Value>,
+)
     requires room { is_member key reserved.old.items ≡ true }
     requires at { at ≤ length members.old.items }
     requires first { length members.old.items + length reserved.old.items ≤ vec_capacity members.old }
@@ -462,7 +490,13 @@ impl PlainRing {
     }
 
     /// Places a new member by its sort key: before the first member that does not stand before it.
-    pub fn place_sorted(&mut self, ascending: bool, duplicates: Duplicates, key: DbKey, sort: Option<Value>)
+    pub fn place_sorted(
+        &mut self,
+        ascending: bool,
+        duplicates: Duplicates,
+        key: DbKey,
+        sort: Option<Value>,
+    )
         requires present { IsTrue (is_some self.old.occurrence) }
         requires room { IsTrue (has_place self.old key) }
         ensures { self.new.occurrence ≡ with_members (placed (Before (λ e. not (comes_before ascending duplicates e.1 sort))) (key, sort)) self.old.occurrence }

@@ -3,10 +3,9 @@ ghost use Rattle.std.specs.Prelude.{◌≡◌, ℕ, ◌+◌, ◌^◌, ◌<◌, L
 ghost use Rattle.std.specs.Option.{option_copied};
 ghost use Rattle.dbtg_schema.specs.Lookups.{at, some_and};
 
-use std::marker::Model;
-use dbtg_schema::{Row, SetNo};
-
 use crate::key::{Owner, Value};
+use dbtg_schema::{Row, SetNo};
+use std::marker::Model;
 
 /// A stored record: its generation, its version, its items, and for each set the owner in whose list it is.
 #[derive(Drop)]

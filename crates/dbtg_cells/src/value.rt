@@ -3,10 +3,9 @@ ghost use Rattle.std.specs.Prelude.{◌≡◌, List, IfOk, Option};
 ghost use Rattle.dbtg_cells.specs.Keys.{bytes_same, bytes_lt, value_eq, value_lt, values_eq, option_value_eq};
 ghost use Rattle.dbtg_cells.specs.Orders.{key_below, comes_before};
 
-use std::alloc::{AllocError, Global};
-use dbtg_schema::{Duplicates, Row};
-
 use crate::key::Value;
+use dbtg_schema::{Duplicates, Row};
+use std::alloc::{AllocError, Global};
 
 /// The same items.
 pub fn copy_items(items: &Row<Value>, alloc: Global) -> Result<Row<Value>, AllocError>

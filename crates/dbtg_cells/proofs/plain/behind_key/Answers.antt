@@ -1,4 +1,4 @@
-use Rattle.std.proofs.Common.{◌≡◌, sym, ◌∙◌, ap, arith, add-one, drop, take, length, ◌-◌, length-drop, ◌≤◌, suc}
+use Rattle.std.proofs.Common.{sym, ◌∙◌, ap, arith, add-one, drop, suc}
 use Rattle.dbtg_cells.specs.Members.{has_key}
 use Rattle.dbtg_cells.proofs.PlainLemmas.{behind-drop, drop-rest, drop-none}
 use Rattle.dbtg_cells.proofs.plain.behind_key.Goals as goal

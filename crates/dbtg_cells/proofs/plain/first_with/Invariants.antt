@@ -1,9 +1,7 @@
-use Rattle.std.proofs.Common.{◌≡◌, ◌+◌, drop, take, map, filter, length, not, slice_get, option_map}
-use Rattle.std.specs.List.{list_any, find, position_or_len}
+use Rattle.std.proofs.Common.{◌≡◌, drop, option_map}
+use Rattle.std.specs.List.{find}
 use Rattle.dbtg_schema.specs.Lookups.{some_and}
-use Rattle.dbtg_cells.specs.Keys.{key_eq, has_type, is_member, value_eq}
-use Rattle.dbtg_cells.specs.Orders.{comes_before}
-use Rattle.dbtg_cells.specs.Members.{has_key, has_sort_key}
+use Rattle.dbtg_cells.specs.Keys.{value_eq}
 use Rattle.dbtg_cells.proofs.plain.first_with.Given as goal
 
 abbrev pub invariant-loop-member : goal.invariant-loop-member

@@ -1,4 +1,4 @@
-use Rattle.std.proofs.Common.{sym, ◌∙◌, ap, arith, take}
+use Rattle.std.proofs.Common.{sym, ◌∙◌, ap, take}
 use Rattle.dbtg_cells.specs.Members.{has_key}
 use Rattle.dbtg_cells.proofs.PlainLemmas.{in_front-take}
 use Rattle.dbtg_cells.proofs.plain.front_of_key.Goals as goal

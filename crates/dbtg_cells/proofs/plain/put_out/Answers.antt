@@ -1,13 +1,8 @@
-use Rattle.std.proofs.Common.{◌≡◌, sym, ◌∙◌, ap, arith, suc, subst, length, map, filter, not, add-one, IsTrue, ◌≤◌, ◌<◌, ◌+◌, rules, unwrap_or, option_map, is_ok, true}
+use Rattle.std.proofs.Common.{◌≡◌, sym, ◌∙◌, ap, arith, length, ◌+◌}
 use Rattle.std.proofs.lemmas.List.{length_push}
-use Rattle.std.specs.List.{insert, list_any}
-use Rattle.dbtg_schema.specs.Lookups.{first, final, behind, in_front}
-use Rattle.dbtg_cells.specs.Members.{Entry, has_key, without_key, members_in, with_members}
-use Rattle.dbtg_cells.specs.Placed.{after, before}
-use Rattle.dbtg_cells.specs.Orders.{comes_before}
-use Rattle.dbtg_cells.specs.Keys.{key_eq, has_type, is_member}
-use Rattle.dbtg_cells.proofs.PlainLemmas.{behind-map, in_front-map, any-map, place-within, after-insert, before-insert, insert-last, shorter, shorter-by_one, length-insert, length-maybe_insert}
-use Rattle.dbtg_cells.proofs.Occurrences.{changed, keys-shown, members-shown, member-there}
+use Rattle.dbtg_cells.specs.Members.{has_key, without_key}
+use Rattle.dbtg_cells.specs.Keys.{key_eq}
+use Rattle.dbtg_cells.proofs.PlainLemmas.{any-map, shorter-by_one}
 use Rattle.dbtg_cells.proofs.plain.put_out.Goals as goal
 
 pub returns-clause-first : goal.returns-clause-first

@@ -1,11 +1,7 @@
-use Rattle.std.proofs.Common.{◌≡◌, ◌-◌, ◌++◌, map, filter, slice_get, not}
-use Rattle.std.specs.List.{list_any, find}
-use Rattle.std.specs.Option.{option_map}
-use Rattle.dbtg_schema.specs.Lookups.{first, some_and}
-use Rattle.dbtg_cells.specs.Keys.{has_type, value_eq}
-use Rattle.dbtg_cells.specs.Orders.{comes_before}
-use Rattle.dbtg_cells.specs.Members.{has_sort_key}
-use Rattle.dbtg_cells.specs.Chain.{follow, follow_back}
+use Rattle.std.proofs.Common.{◌≡◌, ◌-◌, map, filter}
+use Rattle.dbtg_schema.specs.Lookups.{first}
+use Rattle.dbtg_cells.specs.Keys.{has_type}
+use Rattle.dbtg_cells.specs.Chain.{follow}
 use Rattle.dbtg_cells.proofs.ring.first_along.Given as goal
 
 abbrev pub invariant-loop-turn : goal.invariant-loop-turn

@@ -1,13 +1,7 @@
-use Rattle.std.proofs.Common.{◌≡◌, ◌-◌, ◌+◌, ◌<◌, ◌≤◌, ◌++◌, ◌∷◌, [], suc, sym, ap, ◌∙◌, arith, ℕ, true, false, Some, None, refl, map, filter, slice_get, not, cond, List}
-use Rattle.std.specs.List.{list_any, find}
-use Rattle.std.specs.Option.{option_copied, option_map}
-use Rattle.dbtg_schema.specs.Lookups.{first, some_and}
-use Rattle.dbtg_cells.specs.declared.key.DbKey.{DbKey}
-use Rattle.dbtg_cells.specs.Keys.{has_type, value_eq}
-use Rattle.dbtg_cells.specs.Orders.{comes_before}
-use Rattle.dbtg_cells.specs.Members.{Entry, has_sort_key}
-use Rattle.dbtg_cells.specs.Chain.{slot, follow, follow_back}
-use Rattle.dbtg_cells.proofs.RingReads.{read-next, read-prior, read-end, read_back-end, read-none, read_back-none, read-vacant, read_back-vacant, first-later, nth-here, nth-later, found-later, any-later, keys-later, keys-end}
+use Rattle.std.proofs.Common.{◌≡◌, ◌-◌, ◌+◌, ◌++◌, ◌∷◌, [], suc, sym, ap, ◌∙◌, arith, Some, map}
+use Rattle.std.specs.Option.{option_copied}
+use Rattle.dbtg_cells.specs.Chain.{slot, follow}
+use Rattle.dbtg_cells.proofs.RingReads.{read-next, read-none, read-vacant, keys-later, keys-end}
 use Rattle.dbtg_cells.proofs.ring.keys_along.Goals as goal
 
 pub returns-in-None : goal.returns-in-None

@@ -1,4 +1,4 @@
-use Rattle.std.proofs.Common.{rules, ℕ, not, eqb}
+use Rattle.std.proofs.Common.{rules, not, eqb}
 use Rattle.std.proofs.lemmas.Fn.{filter_same}
 use Rattle.dbtg_cells.proofs.usage.leave_users.Goals as goal
 

@@ -1,4 +1,3 @@
-use Rattle.std.proofs.Common.{sym, ◌∙◌, arith}
 use Rattle.dbtg_cells.proofs.ValueLemmas.{values_eq-unlike}
 use Rattle.dbtg_cells.proofs.value.same_values.Goals as goal
 

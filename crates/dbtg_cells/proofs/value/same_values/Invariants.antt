@@ -1,4 +1,4 @@
-use Rattle.std.proofs.Common.{◌≡◌, drop, length}
+use Rattle.std.proofs.Common.{◌≡◌, drop}
 use Rattle.dbtg_cells.specs.Keys.{values_eq}
 use Rattle.dbtg_cells.proofs.value.same_values.Given as goal
 

@@ -1,16 +1,13 @@
-use Rattle.std.proofs.Common.{◌≡◌, sym, ◌∙◌, ap, arith, suc, subst, length, map, filter, not, add-one, IsTrue, ◌≤◌, ◌<◌, ◌+◌, rules, unwrap_or, option_map, is_ok, true}
-use Rattle.std.specs.List.{insert, list_any, position_or_len}
-use Rattle.dbtg_schema.specs.Lookups.{first, final, behind, in_front}
-use Rattle.dbtg_cells.specs.Members.{Entry, has_key, without_key, members_in, with_members}
-use Rattle.dbtg_cells.specs.Placed.{after, before}
-use Rattle.dbtg_cells.specs.Orders.{comes_before}
-use Rattle.dbtg_cells.specs.Keys.{key_eq, has_type, is_member}
-use Rattle.dbtg_cells.proofs.PlainLemmas.{behind-map, in_front-map, any-map, place-within, after-insert, before-insert, insert-last, shorter, shorter-by_one, length-insert, length-maybe_insert}
-use Rattle.dbtg_cells.proofs.Occurrences.{changed, keys-shown, members-shown, member-there}
+use Rattle.std.proofs.Common.{◌∙◌, ap}
+use Rattle.std.specs.List.{insert, position_or_len}
+use Rattle.dbtg_cells.specs.Members.{has_key}
+use Rattle.dbtg_cells.specs.Placed.{before}
+use Rattle.dbtg_cells.proofs.PlainLemmas.{before-insert}
+use Rattle.dbtg_cells.proofs.Occurrences.{changed}
 use Rattle.dbtg_cells.proofs.plain.PlainRing.place_before.Goals as goal
 
 pub returns : goal.returns
 returns c =
     let at = c.place_of-at.ensures.at ∙ ap (λ ms. position_or_len (has_key c.args.other) ms) c.as_slice.ensures.value in
     changed _ c.self.inside.members.items _ _ (before (has_key c.args.other) (c.args.key, c.args.sort)) (ap (λ v. v.occurrence) c.self.view_is)
-      (c.put_in.ensures.members ∙ ap (λ n. insert c.self.inside.members.items n (c.args.key, c.args.sort)) at ∙ before-insert (has_key c.args.other) (c.args.key, c.args.sort) c.self.inside.members.items)
+    (c.put_in.ensures.members ∙ ap (λ n. insert c.self.inside.members.items n (c.args.key, c.args.sort)) at ∙ before-insert (has_key c.args.other) (c.args.key, c.args.sort) c.self.inside.members.items)
