@@ -3,7 +3,8 @@
 use super::{answer, wrong_case};
 use std::test::*;
 
-const SHOP: &str = "SCHEMA NAME IS SHOP.\nAREA NAME IS MAIN.\nAREA NAME IS SIDE.\nRECORD NAME IS CUSTOMER; LOCATION MODE IS CALC USING CNO DUPLICATES ARE NOT ALLOWED; WITHIN MAIN.\n  02 CNO PICTURE IS 9(4).\n  02 CNAME PICTURE IS X(8).\nRECORD NAME IS ORDR; WITHIN MAIN.\n  02 ONO PICTURE IS 9(4).\nRECORD NAME IS ITEM; LOCATION MODE IS CALC USING PART DUPLICATES ARE ALLOWED; WITHIN SIDE.\n  02 PART PICTURE IS X(4).\n  02 QTY PICTURE IS 9(3).\nSET NAME IS HAS; ORDER IS LAST; OWNER IS CUSTOMER.\n  MEMBER IS ORDR MANDATORY AUTOMATIC.\nSET NAME IS LINES; ORDER IS SORTED ASCENDING DUPLICATES ARE LAST; OWNER IS ORDR.\n  MEMBER IS ITEM OPTIONAL AUTOMATIC; KEY IS QTY.\nSET NAME IS WATCH; ORDER IS NEXT; OWNER IS SYSTEM.\n  MEMBER IS ITEM OPTIONAL MANUAL.\n";
+const SHOP: &str =
+    "SCHEMA NAME IS SHOP.\nAREA NAME IS MAIN.\nAREA NAME IS SIDE.\nRECORD NAME IS CUSTOMER; LOCATION MODE IS CALC USING CNO DUPLICATES ARE NOT ALLOWED; WITHIN MAIN.\n  02 CNO PICTURE IS 9(4).\n  02 CNAME PICTURE IS X(8).\nRECORD NAME IS ORDR; WITHIN MAIN.\n  02 ONO PICTURE IS 9(4).\nRECORD NAME IS ITEM; LOCATION MODE IS CALC USING PART DUPLICATES ARE ALLOWED; WITHIN SIDE.\n  02 PART PICTURE IS X(4).\n  02 QTY PICTURE IS 9(3).\nSET NAME IS HAS; ORDER IS LAST; OWNER IS CUSTOMER.\n  MEMBER IS ORDR MANDATORY AUTOMATIC.\nSET NAME IS LINES; ORDER IS SORTED ASCENDING DUPLICATES ARE LAST; OWNER IS ORDR.\n  MEMBER IS ITEM OPTIONAL AUTOMATIC; KEY IS QTY.\nSET NAME IS WATCH; ORDER IS NEXT; OWNER IS SYSTEM.\n  MEMBER IS ITEM OPTIONAL MANUAL.\n";
 
 const WORKED_SCHEMAS: &str = "\
 row 1: refused|7|3|SCHEMA NAME IS CARD.\nAREA NAME IS MAIN.\nRECORD NAME IS CUSTOMER; LOCATION MODE IS CALC USING CNO DUPLICATES ARE NOT ALLOWED; WITHIN MAYN.\n  02 CNO PICTURE IS 9(4).\n  02 CNAME PICTURE IS X(8).\n~\
@@ -46,7 +47,10 @@ fn every_beginning_of_a_schema(rt: HostRuntime) {
         if cause == 0 {
             read += 1;
         } else {
-            assert!(rt; cause <= 18 && 1 <= line && line <= 18, "{n} bytes: cause {cause}, line {line}");
+            assert!(rt;
+                cause <= 18 && 1 <= line && line <= 18,
+                "{n} bytes: cause {cause}, line {line}"
+            );
         }
     }
     assert_eq!(rt; read, 19);
@@ -81,7 +85,10 @@ fn one_byte_at_random(rt: HostRuntime) {
         let byte = text[i];
         text[i] = (state >> 56) as u8;
         let (cause, line) = answer(&rt, text.as_slice());
-        assert!(rt; cause <= 18 && line <= 19, "byte {i}: cause {cause}, line {line}");
+        assert!(rt;
+            cause <= 18 && line <= 19,
+            "byte {i}: cause {cause}, line {line}"
+        );
         text[i] = byte;
     }
 }
