@@ -29,7 +29,7 @@ end_by : (w : Word) (left : List Word) (end : ℕ) (ws : List Labelled) (f : For
 end_by w left end ws f None rest h = absurd (never _ [] _ h)
 end_by w left end ws f (Some s) rest h =
     subst Ends (append_assoc ws (labelled s.role w ∷ []) (labels fits s.rest left))
-      (rest s (none_rest (at_word ws (labelled s.role w)) (flat_map (λ here. here) (places end (ws ++ labelled s.role w ∷ []) s.rest left)) h))
+    (rest s (none_rest (at_word ws (labelled s.role w)) (flat_map (λ here. here) (places end (ws ++ labelled s.role w ∷ []) s.rest left)) h))
 
 at_the_stop : (b : Bool) (xs ys : List Fault) (y : Fault) → first (cond b (xs ++ ys) (y ∷ [])) ≡ None → xs ≡ []
 at_the_stop true xs ys y h = none_here xs ys h
@@ -64,18 +64,18 @@ closing before w p (l ∷ ls) h none no_set c e =
     let opened = open_last before w p h none no_set in
     elim (cases_Bool (is role.SetEntry l)) [
       | inl t ↦
-        let here = subst (λ (z : List Labelled). record_end z ≡ []) opened (ended_by (before ++ w ∷ p) l role.SetEntry c.0 t) in
-        subst (λ (b : Bool). record_end ((w ∷ p) ++ until role.RecordEntry (cond b [] (l ∷ until role.SetEntry ls))) ≡ []) (sym t) (subst (λ (z : List Labelled). record_end z ≡ []) (sym (append-nil (w ∷ p))) here)
+          let here = subst (λ (z : List Labelled). record_end z ≡ []) opened (ended_by (before ++ w ∷ p) l role.SetEntry c.0 t) in
+          subst (λ (b : Bool). record_end ((w ∷ p) ++ until role.RecordEntry (cond b [] (l ∷ until role.SetEntry ls))) ≡ []) (sym t) (subst (λ (z : List Labelled). record_end z ≡ []) (sym (append-nil (w ∷ p))) here)
       | inr n ↦ subst (λ (b : Bool). record_end ((w ∷ p) ++ until role.RecordEntry (cond b [] (l ∷ until role.SetEntry ls))) ≡ []) (sym n) (elim (cases_Bool (is role.RecordEntry l)) [
         | inl t ↦
-          let here = subst (λ (z : List Labelled). record_end z ≡ []) opened (ended_by (before ++ w ∷ p) l role.RecordEntry c.0 t) in
-          subst (λ (b : Bool). record_end ((w ∷ p) ++ cond b [] (l ∷ until role.RecordEntry (until role.SetEntry ls))) ≡ []) (sym t) (subst (λ (z : List Labelled). record_end z ≡ []) (sym (append-nil (w ∷ p))) here)
+            let here = subst (λ (z : List Labelled). record_end z ≡ []) opened (ended_by (before ++ w ∷ p) l role.RecordEntry c.0 t) in
+            subst (λ (b : Bool). record_end ((w ∷ p) ++ cond b [] (l ∷ until role.RecordEntry (until role.SetEntry ls))) ≡ []) (sym t) (subst (λ (z : List Labelled). record_end z ≡ []) (sym (append-nil (w ∷ p))) here)
         | inr m ↦
-          let c2 = subst (λ (z : List Labelled). EachClean z ls) (append_assoc before (w ∷ p) (l ∷ [])) c.1 in
-          let e2 = subst (λ (z : List Labelled). Ends z) (sym (append_assoc (before ++ w ∷ p) (l ∷ []) ls) ∙ ap (λ (z : List Labelled). z ++ ls) (append_assoc before (w ∷ p) (l ∷ []))) e in
-          let s2 = subst (λ (z : List Labelled). list_any (is role.SetEntry) z ≡ false) (append_assoc before (w ∷ p) (l ∷ [])) (any_snoc role.SetEntry (before ++ w ∷ p) l no_set n) in
-          let more = closing before w (p ++ l ∷ []) ls h (any_snoc role.RecordEntry p l none m) s2 c2 e2 in
-          subst (λ (b : Bool). record_end ((w ∷ p) ++ cond b [] (l ∷ until role.RecordEntry (until role.SetEntry ls))) ≡ []) (sym m)
+            let c2 = subst (λ (z : List Labelled). EachClean z ls) (append_assoc before (w ∷ p) (l ∷ [])) c.1 in
+            let e2 = subst (λ (z : List Labelled). Ends z) (sym (append_assoc (before ++ w ∷ p) (l ∷ []) ls) ∙ ap (λ (z : List Labelled). z ++ ls) (append_assoc before (w ∷ p) (l ∷ []))) e in
+            let s2 = subst (λ (z : List Labelled). list_any (is role.SetEntry) z ≡ false) (append_assoc before (w ∷ p) (l ∷ [])) (any_snoc role.SetEntry (before ++ w ∷ p) l no_set n) in
+            let more = closing before w (p ++ l ∷ []) ls h (any_snoc role.RecordEntry p l none m) s2 c2 e2 in
+            subst (λ (b : Bool). record_end ((w ∷ p) ++ cond b [] (l ∷ until role.RecordEntry (until role.SetEntry ls))) ≡ []) (sym m)
             (subst (λ (z : List Labelled). record_end (w ∷ z) ≡ []) (append_assoc p (l ∷ []) (until role.RecordEntry (until role.SetEntry ls))) more)
       ])
     ]
@@ -91,13 +91,13 @@ each_ends before [] no_set c e = tt
 each_ends before (l ∷ ls) no_set c e = elim (cases_Bool (is role.SetEntry l)) [
   | inl t ↦ subst (λ (b : Bool). AllByRecursion Closed (entries role.RecordEntry (cond b [] (l ∷ until role.SetEntry ls)))) (sym t) tt
   | inr n ↦
-    let s2 = any_snoc role.SetEntry before l no_set n in
-    let rest = each_ends (before ++ l ∷ []) ls s2 c.1 (subst Ends (sym (append_assoc before (l ∷ []) ls)) e) in
-    subst (λ (b : Bool). AllByRecursion Closed (entries role.RecordEntry (cond b [] (l ∷ until role.SetEntry ls)))) (sym n) (elim (cases_Bool (is role.RecordEntry l)) [
-      | inl t ↦
-        let here = closing before l [] ls t refl s2 c.1 (subst Ends (sym (append_assoc before (l ∷ []) ls)) e) in
-        subst (λ (b : Bool). AllByRecursion Closed (cond b ((l ∷ until role.RecordEntry (until role.SetEntry ls)) ∷ entries role.RecordEntry (until role.SetEntry ls)) (entries role.RecordEntry (until role.SetEntry ls)))) (sym t) (here, rest)
-      | inr m ↦
-        subst (λ (b : Bool). AllByRecursion Closed (cond b ((l ∷ until role.RecordEntry (until role.SetEntry ls)) ∷ entries role.RecordEntry (until role.SetEntry ls)) (entries role.RecordEntry (until role.SetEntry ls)))) (sym m) rest
-    ])
+      let s2 = any_snoc role.SetEntry before l no_set n in
+      let rest = each_ends (before ++ l ∷ []) ls s2 c.1 (subst Ends (sym (append_assoc before (l ∷ []) ls)) e) in
+      subst (λ (b : Bool). AllByRecursion Closed (entries role.RecordEntry (cond b [] (l ∷ until role.SetEntry ls)))) (sym n) (elim (cases_Bool (is role.RecordEntry l)) [
+        | inl t ↦
+            let here = closing before l [] ls t refl s2 c.1 (subst Ends (sym (append_assoc before (l ∷ []) ls)) e) in
+            subst (λ (b : Bool). AllByRecursion Closed (cond b ((l ∷ until role.RecordEntry (until role.SetEntry ls)) ∷ entries role.RecordEntry (until role.SetEntry ls)) (entries role.RecordEntry (until role.SetEntry ls)))) (sym t) (here, rest)
+        | inr m ↦
+            subst (λ (b : Bool). AllByRecursion Closed (cond b ((l ∷ until role.RecordEntry (until role.SetEntry ls)) ∷ entries role.RecordEntry (until role.SetEntry ls)) (entries role.RecordEntry (until role.SetEntry ls)))) (sym m) rest
+      ])
 ]

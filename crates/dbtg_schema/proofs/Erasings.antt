@@ -59,7 +59,7 @@ pub next_round : (schema : Lists) (t k : ℕ) (old new : List Bool) → filter (
 unfolding is_next leads_to
 next_round schema t k old new same made =
     let same_next = λ (y : ℕ) (l : y < 0 + length schema.types).
-      made y (omega arith) ∙ ap (λ b. y == t || b) (sym (any_filter (λ x. leads schema x y) (marked old) (types_of schema)) ∙ ap (list_any (λ x. leads schema x y)) same) in
+    made y (omega arith) ∙ ap (λ b. y == t || b) (sym (any_filter (λ x. leads schema x y) (marked old) (types_of schema)) ∙ ap (list_any (λ x. leads schema x y)) same) in
     filter_range (marked new) (λ y. y == t || list_any (λ x. leads schema x y) (reached_in (leads schema) (λ u. u == t) (types_of schema) k)) 0 (length schema.types) same_next
 
 -- no type is marked at first
@@ -70,16 +70,16 @@ touches_is : (schema : Lists) (t a : ℕ) → list_any (λ b. b == a) (areas_wit
 unfolding is_home_of
 touches_is schema t a =
     ap (λ z. area_of schema t == a || z) (any_map (λ b. b == a) (home schema) (filter (λ s. is_some (member_clause schema s t)) (set_numbers schema))
-      ∙ any_filter (λ s. home schema s == a) (λ s. is_some (member_clause schema s t)) (set_numbers schema))
+    ∙ any_filter (λ s. home schema s == a) (λ s. is_some (member_clause schema s t)) (set_numbers schema))
 
 -- what the marked types touch are the areas of a DELETE
 pub touched : (schema : Lists) (t a : ℕ) (marks : List Bool) → filter (marked marks) (types_of schema) ≡ reachable_types schema t → is_touched schema marks a ≡ list_any (λ b. b == a) (erase_areas schema t)
 unfolding is_touched
 touched schema t a marks same =
     sym (any_flatten (λ b. b == a) (areas_with_homes schema) (reachable_types schema t)
-      ∙ ap (list_any (λ x. list_any (λ b. b == a) (areas_with_homes schema x))) (sym same)
-      ∙ any_filter (λ x. list_any (λ b. b == a) (areas_with_homes schema x)) (marked marks) (types_of schema)
-      ∙ any_same (λ x. marked marks x && list_any (λ b. b == a) (areas_with_homes schema x)) (λ x. marked marks x && touches schema x a) (types_of schema) (λ x. ap (λ z. marked marks x && z) (touches_is schema x a)))
+    ∙ ap (list_any (λ x. list_any (λ b. b == a) (areas_with_homes schema x))) (sym same)
+    ∙ any_filter (λ x. list_any (λ b. b == a) (areas_with_homes schema x)) (marked marks) (types_of schema)
+    ∙ any_same (λ x. marked marks x && list_any (λ b. b == a) (areas_with_homes schema x)) (λ x. marked marks x && touches schema x a) (types_of schema) (λ x. ap (λ z. marked marks x && z) (touches_is schema x a)))
 
 pub off : (marks : List Bool) (n : ℕ) → list_all not marks ≡ true → marked marks n ≡ false
 off [] n h = refl

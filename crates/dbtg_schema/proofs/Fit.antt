@@ -14,4 +14,4 @@ pub items_fit : (areas : List Area) (es : List (List Labelled)) → AllByRecursi
 items_fit areas [] h = All-nil (λ r. length r.items ≤ 16)
 items_fit areas (e ∷ es) h =
     All-cons (λ r. length r.items ≤ 16) (record_type_from areas e) (map (record_type_from areas) es)
-      (subst (λ (n : ℕ). n ≤ 16) (sym (length-mapped item_from role.ItemEntry e)) h.0) (items_fit areas es h.1)
+    (subst (λ (n : ℕ). n ≤ 16) (sym (length-mapped item_from role.ItemEntry e)) h.0) (items_fit areas es h.1)

@@ -73,7 +73,7 @@ counted r (one k q) ws d = subst (λ (z : List Labelled). cond (number q == numb
     same false l = omega arith
 counted r (both f g) ws d =
     subst (λ (z : List Labelled). at_least r f + at_least r g ≤ count_of r z) (sym d.2)
-      (let a = counted r f d.0 d.3 in let b = counted r g d.1 d.4 in let c = count_append r d.0 d.1 in omega arith)
+    (let a = counted r f d.0 d.3 in let b = counted r g d.1 d.4 in let c = count_append r d.0 d.1 in omega arith)
 counted r (either f g) ws (inl d) = let a = counted r f ws d in omega arith
 counted r (either f g) ws (inr d) = let a = counted r g ws d in omega arith
 counted r (many f) ws d = omega arith
@@ -90,8 +90,8 @@ until_behind r (x ∷ xs) ys h = step (is r x) (list_any (is r) xs) h (λ g. unt
 behind_first : (r s : Role) (f g : Form) (ws : List Labelled) (d : Derives fits (both f g) ws) → lacks r f ≡ true → at_least s f + count_of s (until r d.1) ≤ count_of s (until r ws)
 behind_first r s f g ws d h =
     subst (λ (z : List Labelled). at_least s f + count_of s (until r d.1) ≤ count_of s (until r z)) (sym d.2)
-      (subst (λ (z : List Labelled). at_least s f + count_of s (until r d.1) ≤ count_of s z) (sym (until_behind r d.0 d.1 (lacking r f d.0 d.3 h)))
-        (let a = counted s f d.0 d.3 in let b = count_append s d.0 (until r d.1) in omega arith))
+    (subst (λ (z : List Labelled). at_least s f + count_of s (until r d.1) ≤ count_of s z) (sym (until_behind r d.0 d.1 (lacking r f d.0 d.3 h)))
+    (let a = counted s f d.0 d.3 in let b = count_append s d.0 (until r d.1) in omega arith))
 
 abbrev left : Form → Form
 left (both f g) = f
@@ -144,9 +144,10 @@ HasMember e = 0 < count_of role.MemberEntry e
 one_set : (l : Labelled) (tail more : List Labelled) → is role.SetEntry l ≡ true → list_any (is role.SetEntry) tail ≡ false → HasMember (l ∷ tail) → AllByRecursion HasMember (entries role.SetEntry more)
     → AllByRecursion HasMember (entries role.SetEntry ((l ∷ tail) ++ more))
 one_set l tail more h none some rest =
-    subst (λ (b : Bool). AllByRecursion HasMember (cond b ((l ∷ until role.SetEntry (tail ++ more)) ∷ entries role.SetEntry (tail ++ more)) (entries role.SetEntry (tail ++ more)))) (sym h)
-      (subst (λ (z : List Labelled). HasMember (l ∷ z)) (sym (until_behind role.SetEntry tail more none)) (let a = count_append role.MemberEntry (l ∷ tail) (until role.SetEntry more) in omega arith),
-       subst (AllByRecursion HasMember) (sym (entries_behind role.SetEntry tail more none)) rest)
+    subst (λ (b : Bool). AllByRecursion HasMember (cond b ((l ∷ until role.SetEntry (tail ++ more)) ∷ entries role.SetEntry (tail ++ more)) (entries role.SetEntry (tail ++ more)))) (sym h) (
+      subst (λ (z : List Labelled). HasMember (l ∷ z)) (sym (until_behind role.SetEntry tail more none)) (let a = count_append role.MemberEntry (l ∷ tail) (until role.SetEntry more) in omega arith),
+      subst (AllByRecursion HasMember) (sym (entries_behind role.SetEntry tail more none)) rest,
+    )
 
 each_set : (parts : List (List Labelled)) → AllByRecursion (Derives fits set) parts → AllByRecursion HasMember (entries role.SetEntry (flat_map (λ part. part) parts))
 each_set [] all = tt
@@ -156,7 +157,7 @@ each_set (p ∷ parts) all =
     let head : p ≡ labelled role.SetEntry d.3.0 ∷ d.1 = d.2 ∙ ap (λ (z : List Labelled). z ++ d.1) d.3.1 in
     let some = subst HasMember head (counted role.MemberEntry set p d) in
     subst (λ (z : List Labelled). AllByRecursion HasMember (entries role.SetEntry (z ++ flat_map (λ part. part) parts))) (sym head)
-      (one_set (labelled role.SetEntry d.3.0) d.1 (flat_map (λ part. part) parts) refl none some (each_set parts all.1))
+    (one_set (labelled role.SetEntry d.3.0) d.1 (flat_map (λ part. part) parts) refl none some (each_set parts all.1))
 
 skip_first : (r : Role) (f g : Form) (ws : List Labelled) (d : Derives fits (both f g) ws) → lacks r f ≡ true → entries r ws ≡ entries r d.1
 skip_first r f g ws d h = ap (entries r) d.2 ∙ entries_behind r d.0 d.1 (lacking r f d.0 d.3 h)
@@ -166,5 +167,5 @@ some_members ws d =
     let sets = d.4.4.4.4.4.4 in
     let all = subst (λ (z : List Labelled). AllByRecursion HasMember (entries role.SetEntry z)) (sym sets.1) (each_set sets.0 sets.2) in
     let same = skip_first role.SetEntry (left schema) (right schema) ws d refl ∙ skip_first role.SetEntry (left behind_1) (right behind_1) d.1 d.4 refl ∙ skip_first role.SetEntry (left behind_2) (right behind_2) d.4.1 d.4.4 refl ∙ skip_first role.SetEntry (left behind_3) (right behind_3) d.4.4.1 d.4.4.4 refl
-        ∙ skip_first role.SetEntry (left behind_4) (right behind_4) d.4.4.4.1 d.4.4.4.4 refl ∙ skip_first role.SetEntry (left behind_5) (right behind_5) d.4.4.4.4.1 d.4.4.4.4.4 refl in
+    ∙ skip_first role.SetEntry (left behind_4) (right behind_4) d.4.4.4.1 d.4.4.4.4 refl ∙ skip_first role.SetEntry (left behind_5) (right behind_5) d.4.4.4.4.1 d.4.4.4.4.4 refl in
     subst (AllByRecursion HasMember) (sym same) all

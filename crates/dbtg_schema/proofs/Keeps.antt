@@ -181,7 +181,7 @@ set_ok s e some items h =
       members_limit = let k = h.0 in omega arith;
       member_types = all_of (λ (m : Member). m.rtype < length s.types) (member_from s.types) (entries role.MemberEntry e) below;
       key_items = all_of (λ (m : Member). IfSome m.key (λ i. i < length (items_at s.types m.rtype))) (member_from s.types) (entries role.MemberEntry e)
-        (λ m. key_ok s.types (type_named s.types role.MemberName m) m (items_some s.types (type_named s.types role.MemberName m) items (below m)));
+          (λ m. key_ok s.types (type_named s.types role.MemberName m) m (items_some s.types (type_named s.types role.MemberName m) items (below m)));
     }
 
 -- the schema of words that are derived, are within the limits, and have record types at whose ends nothing is wrong
@@ -198,9 +198,9 @@ is_schema ws d h closed =
     let areas : 0 < length (areas_from ws) = omega arith in
     let types : 0 < length (types_from (areas_from ws) ws) = omega arith in
     let facts = two (λ e. count_of role.ItemEntry e ≤ 16) (λ e. (count_of role.CalcItem e ≤ 4) × Closed e) (entries role.RecordEntry (until role.SetEntry ws)) h.items
-      (two (λ e. count_of role.CalcItem e ≤ 4) Closed (entries role.RecordEntry (until role.SetEntry ws)) h.calc closed) in
+    (two (λ e. count_of role.CalcItem e ≤ 4) Closed (entries role.RecordEntry (until role.SetEntry ws)) h.calc closed) in
     let items = all_made (λ (r : RecordType). 0 < length r.items) Closed (record_type_from (areas_from ws)) (entries role.RecordEntry (until role.SetEntry ws))
-      (λ e c. let n = length-mapped item_from role.ItemEntry e in let m = some_item e c in omega arith) closed in
+    (λ e c. let n = length-mapped item_from role.ItemEntry e in let m = some_item e c in omega arith) closed in
     record {
       some_area = areas;
       areas_limit = omega arith;
@@ -209,7 +209,7 @@ is_schema ws d h closed =
       sets_limit = omega arith;
       types = all_made (IsRecordType (schema_of ws)) TypeFacts (record_type_from (areas_from ws)) (entries role.RecordEntry (until role.SetEntry ws)) (λ e f. type_ok (schema_of ws) e areas f) facts;
       sets = all_made (IsSetType (schema_of ws)) SetFacts (set_from (types_from (areas_from ws) ws)) (entries role.SetEntry ws) (λ e f. set_ok (schema_of ws) e types items f)
-        (two (λ e. count_of role.MemberEntry e ≤ 4) HasMember (entries role.SetEntry ws) h.members (some_members ws d));
+          (two (λ e. count_of role.MemberEntry e ≤ 4) HasMember (entries role.SetEntry ws) h.members (some_members ws d));
     }
 
 -- the schema of a text without faults

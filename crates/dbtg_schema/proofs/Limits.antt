@@ -63,8 +63,8 @@ count_one s l n = elim (is s l) as (λ b. length (cond b (l ∷ []) []) ≤ suc 
 for_each : (r s : Role) (n : ℕ) → ((ws : List Labelled) → is_surplus ws s ≡ false → count_of s (since r ws) < suc n) → (before ls : List Labelled) → EachClean before ls → AllByRecursion (λ e. count_of s e ≤ suc n) (entries r ls)
 for_each r s n few before ls c =
     each_entry r (λ e. count_of s e ≤ suc n) (λ l t. count_one s l n)
-      (λ ws e l same clean not_r le. count_step s (suc n) e l le (λ t. subst (λ (z : List Labelled). count_of s z < suc n) same (few ws (within s ws l clean t))))
-      before ls c
+    (λ ws e l same clean not_r le. count_step s (suc n) e l le (λ t. subst (λ (z : List Labelled). count_of s z < suc n) same (few ws (within s ws l clean t))))
+    before ls c
 
 pub areas_limit : (ls : List Labelled) → EachClean [] ls → count_of role.AreaEntry ls ≤ 8
 areas_limit ls c = total role.AreaEntry 8 (λ ws h. fewer 8 (count_of role.AreaEntry ws) h) ls c

@@ -75,10 +75,10 @@ module _ (r : Role) (P : List Labelled → Type 0) (start : (l : Labelled) → i
   walk before w p (l ∷ ls) h none c q = elim (cases_Bool (is r l)) [
     | inl t ↦ subst (λ (b : Bool). P ((w ∷ p) ++ cond b [] (l ∷ until r ls))) (sym t) (subst P (sym (append-nil (w ∷ p))) q)
     | inr n ↦
-      let q2 = step (before ++ w ∷ p) (w ∷ p) l (since_last r before w p h none) c.0 n q in
-      let c2 = subst (λ (z : List Labelled). EachClean z ls) (append_assoc before (w ∷ p) (l ∷ [])) c.1 in
-      let more = walk before w (p ++ l ∷ []) ls h (any_snoc r p l none n) c2 q2 in
-      subst (λ (b : Bool). P ((w ∷ p) ++ cond b [] (l ∷ until r ls))) (sym n) (subst (λ (z : List Labelled). P (w ∷ z)) (append_assoc p (l ∷ []) (until r ls)) more)
+        let q2 = step (before ++ w ∷ p) (w ∷ p) l (since_last r before w p h none) c.0 n q in
+        let c2 = subst (λ (z : List Labelled). EachClean z ls) (append_assoc before (w ∷ p) (l ∷ [])) c.1 in
+        let more = walk before w (p ++ l ∷ []) ls h (any_snoc r p l none n) c2 q2 in
+        subst (λ (b : Bool). P ((w ∷ p) ++ cond b [] (l ∷ until r ls))) (sym n) (subst (λ (z : List Labelled). P (w ∷ z)) (append_assoc p (l ∷ []) (until r ls)) more)
   ]
 
   -- what each word of an entry keeps holds of each entry

@@ -81,7 +81,7 @@ types_in schema a = filter (λ t. area_of schema t == a) (range_with_len 0 (leng
 abbrev pub reachable_types : Lists → ℕ → List ℕ
 reachable_types schema t =
     least_closed (λ o m. list_any (λ s. owns schema s o && is_some (member_clause schema s m)) (set_numbers schema)) (λ u. u == t)
-      (range_with_len 0 (length schema.types))
+    (range_with_len 0 (length schema.types))
 
 -- the area of t, and the homes of the sets in which t is a member
 abbrev pub areas_with_homes : Lists → ℕ → List ℕ

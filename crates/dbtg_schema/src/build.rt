@@ -14,7 +14,9 @@ use crate::pictures::spelled_picture;
 use crate::queries::{Labelled, any, first_named, has_role};
 use crate::role::Role;
 use crate::row::Row;
-use crate::shape::{Area, Calc, Class, Duplicates, Item, Member, Order, Picture, RecordType, SetType};
+use crate::shape::{
+    Area, Calc, Class, Duplicates, Item, Member, Order, Picture, RecordType, SetType,
+};
 use std::alloc::{AllocError, Global};
 
 /// The text of the first word with this role, in memory of its own.
@@ -154,7 +156,11 @@ fn class(entry: &[Labelled]) -> Class
 }
 
 /// The record types of a schema, whose words in front of the sets these are.
-pub fn types(alloc: Global, areas: &[Area], words: &[Labelled]) -> Result<Vec<RecordType>, AllocError>
+pub fn types(
+    alloc: Global,
+    areas: &[Area],
+    words: &[Labelled],
+) -> Result<Vec<RecordType>, AllocError>
     requires areas_fit { length areas.now ≤ 16 }
     requires items_fit { AllByRecursion (λ e. count_of role.ItemEntry e ≤ 16) (entries role.RecordEntry (views words.now)) }
     ensures { IfOk result (λ v. v.items ≡ map (record_type_from areas.now) (entries role.RecordEntry (views words.now))) }
@@ -207,7 +213,11 @@ fn member(types: &[RecordType], entry: &[Labelled]) -> Member
     }
 }
 
-fn members(alloc: Global, types: &[RecordType], entry: &[Labelled]) -> Result<Vec<Member>, AllocError>
+fn members(
+    alloc: Global,
+    types: &[RecordType],
+    entry: &[Labelled],
+) -> Result<Vec<Member>, AllocError>
     requires types_fit { length types.now ≤ 16 }
     requires items_fit { All (λ r. length r.items ≤ 16) types.now }
     ensures { IfOk result (λ v. v.items ≡ map (member_from types.now) (entries role.MemberEntry (views entry.now))) }
@@ -251,7 +261,11 @@ fn set(alloc: Global, types: &[RecordType], entry: &[Labelled]) -> Result<SetTyp
 }
 
 /// The sets of a schema.
-pub fn sets(alloc: Global, types: &[RecordType], words: &[Labelled]) -> Result<Vec<SetType>, AllocError>
+pub fn sets(
+    alloc: Global,
+    types: &[RecordType],
+    words: &[Labelled],
+) -> Result<Vec<SetType>, AllocError>
     requires types_fit { length types.now ≤ 16 }
     requires items_fit { All (λ r. length r.items ≤ 16) types.now }
     ensures { IfOk result (λ v. v.items ≡ sets_from types.now (views words.now)) }

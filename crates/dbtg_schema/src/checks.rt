@@ -29,10 +29,16 @@ fn calc_fault(entry: &[Labelled]) -> Option<Fault>
             let text = word.word.text;
             let line = word.word.line;
             if !is_named(entry, Role::ItemName, text) {
-                return Some(Fault { line, cause: Cause::UnknownItem });
+                return Some(Fault {
+                    line,
+                    cause: Cause::UnknownItem,
+                });
             }
             if is_named(&entry[..i], Role::CalcItem, text) {
-                return Some(Fault { line, cause: Cause::CalcItemTwice });
+                return Some(Fault {
+                    line,
+                    cause: Cause::CalcItemTwice,
+                });
             }
         }
     }
@@ -109,16 +115,28 @@ fn member_end(words: &[Labelled]) -> Option<Fault>
 {
     let line = line_of(since(words, Role::MemberEntry));
     if is_owner(words) {
-        return Some(Fault { line, cause: Cause::OwnerIsMember });
+        return Some(Fault {
+            line,
+            cause: Cause::OwnerIsMember,
+        });
     }
     if is_there_twice(words) {
-        return Some(Fault { line, cause: Cause::MemberTwice });
+        return Some(Fault {
+            line,
+            cause: Cause::MemberTwice,
+        });
     }
     if is_key_wrong(words) {
-        return Some(Fault { line, cause: Cause::KeyMisplaced });
+        return Some(Fault {
+            line,
+            cause: Cause::KeyMisplaced,
+        });
     }
     if has_other_key(words) {
-        return Some(Fault { line, cause: Cause::KeyPicturesDiffer });
+        return Some(Fault {
+            line,
+            cause: Cause::KeyPicturesDiffer,
+        });
     }
     None
 }
@@ -164,13 +182,21 @@ fn said(words: &[Labelled], word: &Labelled) -> Option<Fault>
     let text = word.word.text;
     let line = word.word.line;
     match word.role {
-        Role::AreaName | Role::RecordName | Role::SetName => when(is_taken(words, text), line, Cause::NameTaken),
+        Role::AreaName | Role::RecordName | Role::SetName => when(
+            is_taken(words, text),
+            line,
+            Cause::NameTaken,
+        ),
         Role::ItemName => when(
             is_named(since(words, Role::RecordEntry), Role::ItemName, text),
             line,
             Cause::ItemNameTwice,
         ),
-        Role::WithinArea => when(!is_named(words, Role::AreaName, text), line, Cause::UnknownArea),
+        Role::WithinArea => when(
+            !is_named(words, Role::AreaName, text),
+            line,
+            Cause::UnknownArea,
+        ),
         Role::OwnerName | Role::MemberName => when(
             !is_named(words, Role::RecordName, text),
             line,
@@ -251,23 +277,41 @@ pub fn at_other(words: &[Labelled], state: State, word: Word) -> Fault
     let line = word.line;
     let wanted = state.wants();
     if !all_allowed(word.text) {
-        return Fault { line, cause: Cause::ByteNotAllowed };
+        return Fault {
+            line,
+            cause: Cause::ByteNotAllowed,
+        };
     }
     if word.text == b".".as_slice() {
-        return Fault { line, cause: Cause::UnexpectedWord };
+        return Fault {
+            line,
+            cause: Cause::UnexpectedWord,
+        };
     }
     if wants_calc(wanted) {
         if is_surplus(words, Role::CalcItem) {
-            return Fault { line, cause: Cause::OverLimit };
+            return Fault {
+                line,
+                cause: Cause::OverLimit,
+            };
         }
     }
     if wants_name(wanted) {
-        return Fault { line, cause: Cause::NotAName };
+        return Fault {
+            line,
+            cause: Cause::NotAName,
+        };
     }
     if wants_picture(wanted) {
-        return Fault { line, cause: Cause::NotAPicture };
+        return Fault {
+            line,
+            cause: Cause::NotAPicture,
+        };
     }
-    Fault { line, cause: Cause::UnexpectedWord }
+    Fault {
+        line,
+        cause: Cause::UnexpectedWord,
+    }
 }
 
 /// The first set behind VIA that is not there.
@@ -293,7 +337,10 @@ pub fn at_end(line: u64, words: &[Labelled], state: State) -> Option<Fault>
     ensures { result ≡ first (at_end line (views words.now) (rest_of state)) }
 {
     if !state.may_end() {
-        return Some(Fault { line, cause: Cause::UnexpectedWord });
+        return Some(Fault {
+            line,
+            cause: Cause::UnexpectedWord,
+        });
     }
     if let Some(fault) = record_end(open_record(words)) {
         return Some(fault);

@@ -9,9 +9,9 @@ ghost use Rattle.dbtg_schema.specs.declared.role.Role.TheVariants as role;
 ghost use Rattle.dbtg_schema.specs.Views.{views};
 
 use crate::pictures::spelled_picture;
-use crate::shape::Picture;
 use crate::queries::{Labelled, first_named, has_role, since};
 use crate::role::Role;
+use crate::shape::Picture;
 
 /// How many words stand before the next one with this role.
 fn until(words: &[Labelled], role: Role) -> usize

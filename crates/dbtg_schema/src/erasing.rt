@@ -49,7 +49,8 @@ fn leads(schema: &Schema, sets: u8, owner: RecordNo, member: RecordNo) -> bool
     requires { sets ≡ length schema.now.sets }
     ensures { result ≡ leads_to schema.now owner member }
 {
-    (0..sets).any(|s| schema.owns(SetNo::new(s), owner) & schema.member_clause(SetNo::new(s), member).is_some())
+    (0..sets).any(|s| schema.owns(SetNo::new(s), owner)
+        & schema.member_clause(SetNo::new(s), member).is_some())
 }
 
 /// Is this the home of a set in which the type is a member?
@@ -58,7 +59,8 @@ fn is_home(schema: &Schema, sets: u8, rtype: RecordNo, area: AreaNo) -> bool
     requires { sets ≡ length schema.now.sets }
     ensures { result ≡ is_home_of schema.now rtype area }
 {
-    (0..sets).any(|s| schema.member_clause(SetNo::new(s), rtype).is_some() & (schema.home(SetNo::new(s)).index() == area.index()))
+    (0..sets).any(|s| schema.member_clause(SetNo::new(s), rtype).is_some()
+        & (schema.home(SetNo::new(s)).index() == area.index()))
 }
 
 fn is_area_or_home(schema: &Schema, sets: u8, rtype: RecordNo, area: AreaNo) -> bool

@@ -74,7 +74,10 @@ pub fn read(alloc: Global, text: &[u8]) -> Result<Vec<Labelled<'_>>, SchemaFault
     ensures limits { IfOk result (λ v. WithinLimits (views v.items)) }
 {
     if text.len() > 65536 {
-        return Err(SchemaFault::of(Fault { line: 1, cause: Cause::TextTooLong }));
+        return Err(SchemaFault::of(Fault {
+            line: 1,
+            cause: Cause::TextTooLong,
+        }));
     }
     let end = last_line(text);
     let mut words = Vec::new(alloc);

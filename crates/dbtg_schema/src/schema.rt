@@ -14,9 +14,9 @@ ghost use Rattle.std.specs.List.{find};
 ghost use Rattle.dbtg_schema.specs.Structure.{place_of, owner_type, is_system, owns, member_clause, is_automatic, is_mandatory, area_of, calc_of, home, order_of, item_list, picture_of};
 
 use crate::build::{areas, sets, text_of, types};
+use crate::copies::copy_all;
 use crate::entries::front;
 use crate::fault::SchemaFault;
-use crate::copies::copy_all;
 use crate::find::{find_area, find_item, find_set, find_type};
 use crate::numbers::{AreaNo, ItemNo, RecordNo, SetNo};
 use crate::queries::Labelled;

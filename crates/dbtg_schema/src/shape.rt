@@ -49,7 +49,10 @@ pub enum Order {
     Last,
     Next,
     Prior,
-    Sorted { ascending: bool, duplicates: Duplicates },
+    Sorted {
+        ascending: bool,
+        duplicates: Duplicates,
+    },
 }
 
 #[derive(Clone, Copy, Debug, PartialEq, Eq)]

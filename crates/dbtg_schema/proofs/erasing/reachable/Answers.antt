@@ -10,10 +10,10 @@ loop-round-init c =
 pub loop-round-preserved : goal.loop-round-preserved
 loop-round-preserved c =
     rw (add-one c.loop-round.round)
-      (next_round c.args.schema.now c.args.start c.loop-round.round c.loop-round.marks c.one_step-marks.result c.loop-round.invariant
-        (λ y h. c.one_step-marks.ensures y (let e = c.requires.types in omega (arith, e, h))))
+    (next_round c.args.schema.now c.args.start c.loop-round.round c.loop-round.marks c.one_step-marks.result c.loop-round.invariant
+    (λ y h. c.one_step-marks.ensures y (let e = c.requires.types in omega (arith, e, h))))
 
 pub returns : goal.returns
 returns c =
     all_rounds c.args.schema.now c.args.start c.loop-round.round c.loop-round.marks c.loop-round.invariant
-      (let e = c.requires.types in let a = c.loop-round-test.false in let b = c.loop-round.auto.round-end in omega (arith, e, a, b))
+    (let e = c.requires.types in let a = c.loop-round-test.false in let b = c.loop-round.auto.round-end in omega (arith, e, a, b))
