@@ -67,3 +67,4 @@ pub mod AlikeFind
 pub mod AlikeReading
 pub mod AlikeMoves
 pub mod AlikeRemove
+pub mod AlikeInsert

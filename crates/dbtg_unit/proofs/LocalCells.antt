@@ -98,7 +98,7 @@ module _ (schema : Lists) (capacity : ℕ) (db new : Database) where
     same_live_keys : (t : ℕ) → live_keys capacity new t ≡ live_keys capacity db t
     same_live_keys t = λ i. filter (λ x. live x i) (map (λ n. same_key_at t n i) (range_with_len 1 capacity))
 
-    same_owners : (s : ℕ) → owners schema capacity new s ≡ owners schema capacity db s
+    pub same_owners : (s : ℕ) → owners schema capacity new s ≡ owners schema capacity db s
     same_owners s = λ i. cond (is_system schema s) (System ∷ []) (unwrap_or (option_map (λ t. map Rec (same_live_keys t i)) (owner_type schema s)) [])
 
     pub owner_of_same : (s : ℕ) (x : DbKey) → ((o : Owner) → is_member x (members_of new s o) ≡ is_member x (members_of db s o)) → owner_of schema capacity new s x ≡ owner_of schema capacity db s x
