@@ -12,9 +12,9 @@ mod entries;
 mod fits;
 mod held;
 mod kept;
-mod owners;
 mod laws;
 mod legality;
+mod owners;
 mod places;
 mod reach;
 mod see;
@@ -23,9 +23,15 @@ mod unit;
 
 pub use edit::{CellEdit, Edit, UnitEdit};
 pub use held::{Held, Need};
-pub use owners::Owners;
 pub use kept::Kept;
-pub use laws::{cells_determine, delete_stays_in_its_areas, doomed_is_least, doomed_is_least_set, each_statement_goes_forward, each_statement_is_answered, insert_is_determined, placing_keeps_order, reachable_types_are_least, reading_is_determined, ready_statement_changes_only_its_cells, remove_is_determined, replay_goes_forward, replay_takes_one_more, statements_determine_replay, versions_are_bounded};
+pub use laws::{
+    cells_determine, delete_stays_in_its_areas, doomed_is_least, doomed_is_least_set,
+    each_statement_goes_forward, each_statement_is_answered, insert_is_determined,
+    placing_keeps_order, reachable_types_are_least, reading_is_determined,
+    ready_statement_changes_only_its_cells, remove_is_determined, replay_goes_forward,
+    replay_takes_one_more, statements_determine_replay, versions_are_bounded,
+};
 pub use legality::effect_keeps_legal;
+pub use owners::Owners;
 pub use statement::{Change, Erase, Form, Statement, Suppress, Which};
 pub use unit::{Answer, Cause, Currency, Entry, Place, Status, Unit};
