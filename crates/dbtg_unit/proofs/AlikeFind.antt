@@ -1,17 +1,16 @@
 -- What a FIND names determines what it finds.
-use Rattle.std.proofs.Common.{◌≡◌, refl, sym, ◌∙◌, ap, subst, ℕ, Bool, true, false, cond, not, ◌&&◌, ◌||◌, List, [], ◌∷◌, ◌++◌, Option, Some, None, eqb, inl, inr, ◌⊎◌, map}
+use Rattle.std.proofs.Common.{◌≡◌, refl, sym, ◌∙◌, ap, subst, ℕ, Bool, true, false, cond, not, ◌&&◌, List, [], ◌∷◌, ◌++◌, Option, Some, None, eqb, inl, inr, ◌⊎◌, map}
 use Rattle.std.specs.Prelude.{is_some, is_none, option_map, option_and_then, unwrap_or, filter, Result, Ok, Err, if◌then◌else◌}
-use Rattle.std.specs.List.{list_any, find, flat_map}
-use Rattle.std.proofs.lemmas.Bool.{false≢true, false_from_ne_true, cases_Bool, eqb-true, eq-eqb, cond-false}
+use Rattle.std.specs.List.{find, flat_map}
+use Rattle.std.proofs.lemmas.Bool.{cases_Bool, eqb-true, cond-false}
 use Rattle.std.proofs.lemmas.List.Elements.{filter-append}
 use Rattle.dbtg_schema.specs.Lists.{Lists}
 use Rattle.dbtg_schema.specs.Lookups.{at, first, some_and, first_cause}
 use Rattle.dbtg_schema.specs.Structure.{types_in}
 use Rattle.dbtg_cells.specs.declared.key.DbKey.{DbKey}
-use Rattle.dbtg_cells.specs.declared.key.Owner.{Owner}
 use Rattle.dbtg_cells.specs.declared.key.Value.{Value}
 use Rattle.dbtg_cells.specs.declared.name.CellName.{CellName}
-use Rattle.dbtg_cells.specs.declared.name.CellName.TheVariants.{Usage, Extent, Ring, Slot}
+use Rattle.dbtg_cells.specs.declared.name.CellName.TheVariants.{Extent, Ring}
 use Rattle.dbtg_cells.specs.Keys.{key_lt, value_eq}
 use Rattle.dbtg_unit.specs.declared.statement.Which.{Which}
 use Rattle.dbtg_unit.specs.declared.statement.Form.{Form}
@@ -19,8 +18,8 @@ use Rattle.dbtg_unit.specs.declared.statement.Form.TheVariants.{Key, CurrentOfUn
 use Rattle.dbtg_unit.specs.declared.unit.Place.{Place}
 use Rattle.dbtg_unit.specs.declared.unit.Unit.{Unit}
 use Rattle.dbtg_unit.specs.declared.unit.Cause.{Cause}
-use Rattle.dbtg_unit.specs.declared.unit.Cause.TheVariants.{NoSuchCurrent, End, Deleted, PositionLost, NoneSatisfies}
-use Rattle.dbtg_unit.specs.Base.{Database, is_live, items_of, live_keys, members_of, is_member, calc_items, sort_key}
+use Rattle.dbtg_unit.specs.declared.unit.Cause.TheVariants.{End, Deleted, PositionLost, NoneSatisfies}
+use Rattle.dbtg_unit.specs.Base.{Database, is_live, items_of, live_keys, members_of, calc_items, sort_key}
 use Rattle.dbtg_unit.specs.Belongs.{IsUnitOf}
 use Rattle.dbtg_unit.specs.Fits.{if_named}
 use Rattle.dbtg_unit.specs.Units.{place_in, key_of_place}
@@ -29,8 +28,8 @@ use Rattle.dbtg_unit.specs.Cells.{cell}
 use Rattle.dbtg_unit.specs.Found.{found, found_unless, with_current, chosen, chosen_by_key, has_type, is_lost, keys_in_area, needs_position, with_calc}
 use Rattle.dbtg_unit.specs.Needs.{current_owner, find_cells, found_slot, ring_names, slot_names}
 use Rattle.dbtg_unit.specs.Legal.{Legal}
-use Rattle.dbtg_unit.proofs.LiveKeys.{In, in_left, in_right, in_map, of_filter, of_map}
-use Rattle.dbtg_unit.proofs.TwoDatabases.{filter_agrees, find_agrees, flat_map_agrees, list_alike, members_alike, keys_alike, record_alike, live_alike, live_keys_alike, live_key_type, calc_items_alike, with_calc_alike}
+use Rattle.dbtg_unit.proofs.LiveKeys.{In, in_left, in_right, in_map}
+use Rattle.dbtg_unit.proofs.TwoDatabases.{find_agrees, flat_map_agrees, list_alike, members_alike, keys_alike, record_alike, live_alike, live_keys_alike, live_key_type, calc_items_alike, with_calc_alike}
 
 not_found : {X : Type 0} {k : DbKey} {cause : Cause} → Err cause ≡ Ok k → X
 not_found h = cc

@@ -1,8 +1,7 @@
 -- Two databases that show the same change alike.
-use Rattle.std.proofs.Common.{◌≡◌, refl, sym, ◌∙◌, ap, subst, ℕ, Bool, true, false, cond, not, ◌&&◌, ◌||◌, List, [], ◌∷◌, ◌++◌, Option, Some, None, eqb, inl, inr, ◌⊎◌, ⊎_elim, map}
-use Rattle.std.specs.Prelude.{◌==◌, is_some, is_none, option_map, unwrap_or, filter, if◌then◌else◌}
-use Rattle.std.specs.List.{list_any, find}
-use Rattle.std.proofs.lemmas.Bool.{false≢true, false_from_ne_true, cases_Bool, cond-true, cond-false, cond_both, eq-eqb, eqb-true, not_from_false}
+use Rattle.std.proofs.Common.{◌≡◌, refl, sym, ◌∙◌, ap, subst, ℕ, Bool, true, cond, not, List, [], ◌∷◌, ◌++◌, Option, Some, None, inl, inr, ◌⊎◌, ⊎_elim, map}
+use Rattle.std.specs.Prelude.{◌==◌, is_some, option_map, unwrap_or, if◌then◌else◌}
+use Rattle.std.proofs.lemmas.Bool.{cases_Bool, cond-true, cond-false, cond_both, not_from_false}
 use Rattle.std.proofs.lemmas.Option.{none-some, same_Some}
 use Rattle.dbtg_schema.specs.Lists.{Lists}
 use Rattle.dbtg_schema.specs.Lookups.{first_cause, some_and}
@@ -10,7 +9,6 @@ use Rattle.dbtg_schema.specs.Structure.{set_numbers}
 use Rattle.dbtg_cells.specs.declared.key.DbKey.{DbKey}
 use Rattle.dbtg_cells.specs.declared.key.Owner.{Owner}
 use Rattle.dbtg_cells.specs.declared.key.Owner.TheVariants.{Rec}
-use Rattle.dbtg_cells.specs.declared.key.Value.{Value}
 use Rattle.dbtg_cells.specs.declared.name.CellName.{CellName}
 use Rattle.dbtg_cells.specs.declared.name.CellName.TheVariants.{Usage, Extent, Ring, Slot}
 use Rattle.dbtg_cells.specs.declared.ring.Occurrence.{Occurrence}
@@ -20,13 +18,13 @@ use Rattle.dbtg_cells.specs.Shown.{SlotValue}
 use Rattle.dbtg_unit.specs.declared.unit.Unit.{Unit}
 use Rattle.dbtg_unit.specs.declared.unit.Cause.{Cause}
 use Rattle.dbtg_unit.specs.declared.unit.Cause.TheVariants.{Deleted, ChangedByAnother}
-use Rattle.dbtg_unit.specs.Base.{Database, Record, is_live, items_of, key_at, members_of, is_member, owner_of, key_item, sort_key}
-use Rattle.dbtg_unit.specs.Units.{owners_of, kept_version}
+use Rattle.dbtg_unit.specs.Base.{Database, Record, is_live, key_at, members_of, is_member, owner_of, key_item, sort_key}
+use Rattle.dbtg_unit.specs.Units.{kept_version}
 use Rattle.dbtg_unit.specs.CellNames.{place_of}
 use Rattle.dbtg_unit.specs.Cells.{cell, ring_of, slot_of, owner_at}
 use Rattle.dbtg_unit.specs.Effect.{raised, next_version, renoted, own_checks, version_of}
 use Rattle.dbtg_unit.specs.Legal.{Legal}
-use Rattle.dbtg_unit.proofs.KeyLemmas.{same_key, key_eq-refl}
+use Rattle.dbtg_unit.proofs.KeyLemmas.{same_key}
 use Rattle.dbtg_unit.proofs.Determined.{ring_in, slot_in}
 use Rattle.dbtg_unit.proofs.LiveKeys.{In, member_in}
 use Rattle.dbtg_unit.proofs.LocalCells.{place_of_owner_at, extent_same, ring_same, ring_none, option_agree}

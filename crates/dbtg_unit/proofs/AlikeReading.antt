@@ -1,9 +1,8 @@
 -- What a statement has in hand determines what it does: the statements that change no record.
-use Rattle.std.proofs.Common.{◌≡◌, refl, sym, ◌∙◌, ap, subst, ℕ, Bool, true, false, cond, not, ◌&&◌, ◌||◌, List, [], ◌∷◌, ◌++◌, Option, Some, None, eqb, inl, inr, ◌⊎◌, map}
-use Rattle.std.specs.Prelude.{◌==◌, is_some, is_none, option_map, unwrap_or, filter, Result, Ok, Err, slice_set, if◌then◌else◌}
+use Rattle.std.proofs.Common.{◌≡◌, refl, sym, ◌∙◌, ap, subst, ℕ, Bool, true, false, not, List, [], ◌∷◌, ◌++◌, Option, Some, None, inl}
+use Rattle.std.specs.Prelude.{◌==◌, is_some, option_map, unwrap_or, filter, Result, Ok, Err, slice_set, if◌then◌else◌}
 use Rattle.std.specs.List.{list_any}
-use Rattle.std.proofs.lemmas.Bool.{false≢true, cases_Bool, not-false, cond-true, cond-false}
-use Rattle.std.proofs.lemmas.Option.{none-some}
+use Rattle.std.proofs.lemmas.Bool.{false≢true}
 use Rattle.dbtg_schema.specs.Lists.{Lists}
 use Rattle.dbtg_schema.specs.Lookups.{first_cause}
 use Rattle.dbtg_cells.specs.declared.key.DbKey.{DbKey}
@@ -24,7 +23,7 @@ use Rattle.dbtg_unit.specs.declared.unit.Cause.TheVariants.{Deleted, UsageConfli
 use Rattle.dbtg_unit.specs.declared.unit.Status.TheVariants.{Done}
 use Rattle.dbtg_unit.specs.Base.{Database, Record, is_live, items_of}
 use Rattle.dbtg_unit.specs.Belongs.{IsUnitOf}
-use Rattle.dbtg_unit.specs.Units.{seen, seen_with, owners_of, noted, forgotten}
+use Rattle.dbtg_unit.specs.Units.{seen, seen_with, noted, forgotten}
 use Rattle.dbtg_unit.specs.CellNames.{slot_name}
 use Rattle.dbtg_unit.specs.Cells.{cell}
 use Rattle.dbtg_unit.specs.Checks.{refused_at_once, changes_records}

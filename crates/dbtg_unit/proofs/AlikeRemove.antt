@@ -1,7 +1,6 @@
 -- What a REMOVE has in hand determines what it does.
-use Rattle.std.proofs.Common.{◌≡◌, refl, sym, ◌∙◌, ap, subst, ℕ, Bool, true, false, cond, not, ◌&&◌, ◌||◌, List, [], ◌∷◌, ◌++◌, Option, Some, None, eqb, inl, inr, ◌⊎◌}
-use Rattle.std.specs.Prelude.{◌==◌, is_some, is_none, option_map, unwrap_or, if◌then◌else◌}
-use Rattle.std.specs.List.{list_any, find}
+use Rattle.std.proofs.Common.{◌≡◌, refl, sym, ◌∙◌, ap, subst, ℕ, Bool, true, false, cond, not, ◌&&◌, ◌||◌, List, [], ◌∷◌, Option, Some, None, eqb, inl, inr, ◌⊎◌}
+use Rattle.std.specs.Prelude.{◌==◌, is_none, option_map, unwrap_or, if◌then◌else◌}
 use Rattle.std.proofs.lemmas.Bool.{and_parts, false≢true, cases_Bool, cond-true, cond-false, cond_both}
 use Rattle.dbtg_schema.specs.Lists.{Lists}
 use Rattle.dbtg_schema.specs.Lookups.{first_cause}
@@ -13,13 +12,11 @@ use Rattle.dbtg_cells.specs.Keys.{key_eq}
 use Rattle.dbtg_unit.specs.declared.held.Need.TheVariants.{Ready}
 use Rattle.dbtg_unit.specs.declared.statement.Statement.TheVariants.{Remove}
 use Rattle.dbtg_unit.specs.declared.unit.Unit.{Unit}
-use Rattle.dbtg_unit.specs.declared.unit.Cause.{Cause}
 use Rattle.dbtg_unit.specs.declared.unit.Cause.TheVariants.{NotMember}
-use Rattle.dbtg_unit.specs.declared.unit.Status.TheVariants.{Done}
-use Rattle.dbtg_unit.specs.Base.{Database, Record, is_live, members_of, is_member, owners, owner_of, sort_key}
+use Rattle.dbtg_unit.specs.Base.{Database, members_of, is_member, owners, owner_of, sort_key}
 use Rattle.dbtg_unit.specs.CellNames.{slot_name}
 use Rattle.dbtg_unit.specs.Cells.{cell}
-use Rattle.dbtg_unit.specs.Effect.{Outcome, effect, effect_on_cells, raised, remove_checks, removed, renoted, without}
+use Rattle.dbtg_unit.specs.Effect.{effect, effect_on_cells, raised, remove_checks, removed, without}
 use Rattle.dbtg_unit.specs.Fits.{fits}
 use Rattle.dbtg_unit.specs.Hands.{Hands}
 use Rattle.dbtg_unit.specs.Legal.{Legal}
@@ -27,8 +24,8 @@ use Rattle.dbtg_unit.specs.Local.{Agrees, holds}
 use Rattle.dbtg_unit.specs.Locality.{DoTheSame}
 use Rattle.dbtg_unit.specs.Needs.{need, cells_of, slot_names, ring_names}
 use Rattle.dbtg_schema.specs.Lookups.{at}
-use Rattle.dbtg_unit.proofs.KeyLemmas.{same_key, key_eq-refl}
-use Rattle.dbtg_unit.proofs.LiveKeys.{In, in_right, in_member, of_filter, in_range, find_none}
+use Rattle.dbtg_unit.proofs.KeyLemmas.{same_key}
+use Rattle.dbtg_unit.proofs.LiveKeys.{In, in_right, of_filter, in_range, find_none}
 use Rattle.dbtg_unit.proofs.RemoveLocal.{member-without}
 use Rattle.dbtg_unit.proofs.LocalCells.{owner_of_same}
 use Rattle.dbtg_unit.proofs.LocalInsert.{raised_live}
@@ -36,7 +33,7 @@ use Rattle.dbtg_unit.proofs.LocalReady.{ready_has}
 use Rattle.dbtg_unit.proofs.TwoDatabases.{owners_alike}
 use Rattle.dbtg_unit.proofs.AlikeMoves.{map_at, changed_alike, renoted_alike, own_checks_alike}
 use Rattle.dbtg_unit.proofs.AlikeReading.{current_alike, current_slot, effect_alike, held_alike}
-use Rattle.std.proofs.Common.{arith, ◌≤◌, ◌<◌, ◌+◌, length}
+use Rattle.std.proofs.Common.{arith, length}
 use Rattle.std.proofs.lemmas.Bool.{ltb-true}
 
 -- a list without a key has it not

@@ -1,6 +1,6 @@
 -- The cells of a legal database determine it.
-use Rattle.std.proofs.Common.{◌≡◌, refl, sym, ◌∙◌, ap, ℕ, zero, suc, ◌+◌, ◌-◌, ◌<◌, ◌≤◌, Bool, true, false, ◌&&◌, List, [], ◌∷◌, length, Option, Some, None, inl, inr, ⊎_elim, ◌⊎◌, arith, map, get_or}
-use Rattle.std.specs.Prelude.{is_some, option_map, slice_get, option_and_then}
+use Rattle.std.proofs.Common.{◌≡◌, refl, sym, ◌∙◌, ap, ℕ, ◌+◌, ◌-◌, ◌<◌, ◌≤◌, true, false, ◌&&◌, List, [], ◌∷◌, length, Option, Some, None, inl, inr, ⊎_elim, ◌⊎◌, arith, map, get_or}
+use Rattle.std.specs.Prelude.{is_some, option_map}
 use Rattle.std.proofs.lemmas.Bool.{and_parts, and_from, lt-ltb, le-leb, false≢true, cases_Bool, cases_lt}
 use Rattle.std.proofs.lemmas.List.FromFn.{get_or-map-range_with_len}
 use Rattle.dbtg_schema.specs.Lists.{Lists}
@@ -15,7 +15,6 @@ use Rattle.dbtg_cells.specs.declared.extent.Number.{Number}
 use Rattle.dbtg_cells.specs.declared.ring.Occurrence.{Occurrence}
 use Rattle.dbtg_cells.specs.declared.slot.Stored.{Stored}
 use Rattle.dbtg_cells.specs.declared.usage.Mode.{Mode}
-use Rattle.dbtg_schema.specs.Lookups.{some_and}
 use Rattle.dbtg_unit.specs.Base.{Database, Record, is_live, key_at}
 use Rattle.dbtg_unit.specs.Cells.{cell, number_of, ring_of, slot_of, owner_at}
 use Rattle.dbtg_unit.specs.Legal.{Legal, has_occurrence}

@@ -1,12 +1,12 @@
 -- Least sets by their elements; a DELETE stays in its areas.
-use Rattle.std.proofs.Common.{◌≡◌, refl, sym, ◌∙◌, ap, subst, ℕ, ◌<◌, ◌≤◌, Bool, true, false, ◌&&◌, ◌||◌, List, [], ◌∷◌, ◌++◌, length, Option, Some, None, arith, eqb, inl, inr, map}
-use Rattle.std.specs.Prelude.{filter, is_some, slice_get, option_and_then}
-use Rattle.std.specs.List.{list_any, list_all, range_with_len, find}
+use Rattle.std.proofs.Common.{◌≡◌, refl, sym, subst, ℕ, ◌<◌, Bool, true, ◌&&◌, ◌||◌, List, [], ◌∷◌, length, Option, Some, None, arith, eqb, inl, inr, map}
+use Rattle.std.specs.Prelude.{is_some, slice_get, option_and_then}
+use Rattle.std.specs.List.{list_any, range_with_len}
 use Rattle.std.proofs.lemmas.Bool.{and_parts, and_from, or_left, or_right, false≢true, eqb-true, eq-eqb}
 use Rattle.std.proofs.lemmas.Option.{slice_get_within}
 use Rattle.dbtg_schema.specs.Lists.{Lists}
 use Rattle.dbtg_schema.specs.Lookups.{flatten}
-use Rattle.dbtg_schema.specs.Closure.{grown, IsLeastClosed}
+use Rattle.dbtg_schema.specs.Closure.{IsLeastClosed}
 use Rattle.dbtg_schema.specs.Structure.{area_of, areas_with_homes, erase_areas, home, member_clause, owns, reachable_types, set_numbers}
 use Rattle.dbtg_schema.proofs.ClosureLemmas.{least_closed_is_least}
 use Rattle.dbtg_cells.specs.declared.key.DbKey.{DbKey}
@@ -18,7 +18,7 @@ use Rattle.dbtg_unit.specs.Doomed.{all_keys, doomed, drags, takes}
 use Rattle.dbtg_unit.specs.Legal.{Legal}
 use Rattle.dbtg_unit.specs.Erased.{IsLeastSet, IsWithinAreas, has_member_type}
 use Rattle.dbtg_unit.proofs.KeyLemmas.{same_key, key_eq-refl}
-use Rattle.dbtg_unit.proofs.LiveKeys.{In, any_in, any_element, all_at, in_map, in_filter, in_left, in_right, of_filter, in_range, listed, some_is, in_member, live_in_all}
+use Rattle.dbtg_unit.proofs.LiveKeys.{In, any_in, any_element, all_at, in_map, in_filter, in_left, in_right, of_filter, in_range, listed, some_is}
 
 module _ {X : Type 0} (same : X → X → Bool) (sound : (x y : X) → same x y ≡ true → x ≡ y) (self : (x : X) → same x x ≡ true) where
   element : (x : X) (xs : List X) → list_any (same x) xs ≡ true → In x xs

@@ -1,29 +1,22 @@
 -- Versions, generations and deleted keys only go forward.
-use Rattle.std.proofs.Common.{◌≡◌, refl, sym, ◌∙◌, ap, subst, ℕ, zero, suc, ◌+◌, ◌<◌, ◌≤◌, Bool, true, false, cond, not, ◌&&◌, List, [], ◌∷◌, ◌++◌, length, Option, Some, None, arith, eqb, leb, map}
-use Rattle.std.specs.Prelude.{◌==◌, is_some, option_map, unwrap_or, slice_set, if◌then◌else◌, filter}
+use Rattle.std.proofs.Common.{◌≡◌, refl, ◌∙◌, ap, ℕ, ◌+◌, ◌≤◌, Bool, true, false, cond, not, ◌&&◌, List, [], ◌∷◌, ◌++◌, Option, Some, None, arith, eqb}
+use Rattle.std.specs.Prelude.{◌==◌, is_some, option_map, unwrap_or, slice_set, if◌then◌else◌}
 use Rattle.std.specs.List.{list_any}
-use Rattle.std.proofs.lemmas.Bool.{and_parts, and_from, cases_Bool, false≢true, not-true, not_from_false, leb-true, le-leb, eqb-true, false_from_ne_true, cond_both}
+use Rattle.std.proofs.lemmas.Bool.{and_parts, and_from, not-true, not_from_false, leb-true, le-leb, eqb-true, cond_both}
 use Rattle.dbtg_schema.specs.Lists.{Lists}
 use Rattle.dbtg_schema.specs.Lookups.{first_cause}
-use Rattle.dbtg_schema.specs.Structure.{automatic_sets, rekeyed_sets, set_numbers}
 use Rattle.dbtg_cells.specs.declared.key.DbKey.{DbKey}
-use Rattle.dbtg_cells.specs.declared.key.Owner.TheVariants.{Rec}
 use Rattle.dbtg_cells.specs.declared.key.Value.{Value}
 use Rattle.dbtg_cells.specs.Keys.{key_eq}
-use Rattle.dbtg_unit.specs.declared.statement.Change.{Change}
-use Rattle.dbtg_unit.specs.declared.statement.Erase.{Erase}
 use Rattle.dbtg_unit.specs.declared.statement.Statement.{Statement}
 use Rattle.dbtg_unit.specs.declared.statement.Statement.TheVariants.{OpenArea, CloseArea, Find, Get, Store, Insert, Remove, Modify, Delete, Keep, Free}
 use Rattle.dbtg_unit.specs.declared.unit.Unit.{Unit}
-use Rattle.dbtg_unit.specs.declared.unit.Entry.{Entry}
 use Rattle.dbtg_unit.specs.declared.unit.Cause.TheVariants.{UsageConflict}
 use Rattle.dbtg_unit.specs.Base.{Database, Record, is_live, items_of, is_member}
 use Rattle.dbtg_unit.specs.Doomed.{doomed}
 use Rattle.dbtg_unit.specs.Found.{found}
-use Rattle.dbtg_unit.specs.Effect.{Outcome, effect, effect_on_cells, done, raised, next_version, version_of, with_new, with_items, with_its_items, connected_in, inserted, removed, modified, deleted, stored, store_checks, new_key, free_number, conflict, changed_items}
-use Rattle.dbtg_unit.specs.Replay.{State, opening_state, unit_of, outcome_of, after_outcome, after_entry, replay}
-use Rattle.dbtg_unit.specs.Versions.{VersionsUpTo}
-use Rattle.dbtg_unit.specs.Forward.{is_spent, GoesForward, ReplayGoesForward}
+use Rattle.dbtg_unit.specs.Effect.{Outcome, effect, effect_on_cells, done, raised, next_version, version_of, with_new, with_items, with_its_items, connected_in, stored, store_checks, new_key, free_number, conflict, changed_items}
+use Rattle.dbtg_unit.specs.Forward.{is_spent, GoesForward}
 use Rattle.dbtg_unit.proofs.KeyLemmas.{same_key}
 use Rattle.dbtg_unit.proofs.Outcomes.{of_unless, of_current, of_finding, of_effect}
 

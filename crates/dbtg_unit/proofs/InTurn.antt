@@ -1,9 +1,9 @@
 -- The doomed records in turn are all of the doomed.
-use Rattle.std.proofs.Common.{◌≡◌, refl, sym, ◌∙◌, ap, subst, ℕ, zero, suc, ◌+◌, ◌<◌, ◌≤◌, Bool, true, false, cond, not, ◌&&◌, ◌||◌, List, [], ◌∷◌, ◌++◌, length, Option, Some, None, eqb, inl, inr, ⊎_elim, arith, append_assoc, zero-add}
-use Rattle.std.specs.Prelude.{is_some, filter, slice_get}
-use Rattle.std.specs.List.{list_any, list_all, flat_map}
-use Rattle.std.proofs.lemmas.Bool.{and_parts, and_from, or_left, or_right, or_cases, false≢true, false_from_ne_true, cases_Bool, cases_lt, cases_eq, cond-true, cond-false, not_from_false}
-use Rattle.std.proofs.lemmas.Option.{none-some, same_Some, slice_get_within, slice_get_past}
+use Rattle.std.proofs.Common.{◌≡◌, refl, sym, ◌∙◌, ap, subst, ℕ, zero, suc, ◌+◌, ◌<◌, ◌≤◌, Bool, true, false, cond, not, ◌&&◌, ◌||◌, List, [], ◌∷◌, ◌++◌, length, Option, Some, None, inl, inr, arith, append_assoc, zero-add}
+use Rattle.std.specs.Prelude.{filter, slice_get}
+use Rattle.std.specs.List.{list_all}
+use Rattle.std.proofs.lemmas.Bool.{and_parts, and_from, or_left, or_right, false≢true, cases_Bool, cases_eq}
+use Rattle.std.proofs.lemmas.Option.{none-some, same_Some, slice_get_within}
 use Rattle.std.proofs.lemmas.List.Folds.{list_any-append, list_all-append}
 use Rattle.std.proofs.lemmas.List.Filters.{length-filter_both}
 use Rattle.dbtg_schema.specs.Lists.{Lists}
@@ -21,7 +21,7 @@ use Rattle.dbtg_unit.proofs.Listing.{pairwise-push}
 use Rattle.dbtg_unit.proofs.RingsLemmas.{differ-swap, keeps_member}
 use Rattle.dbtg_unit.proofs.PlacedLemmas.{all-weaker, all-both}
 use Rattle.dbtg_unit.proofs.PlacingOrder.{all_from_none}
-use Rattle.dbtg_unit.proofs.LiveKeys.{In, any_element, in_member, member_in, all_at, in_filter, of_filter, in_flat_map, of_flat_map, live_in_all}
+use Rattle.dbtg_unit.proofs.LiveKeys.{In, any_element, in_member, member_in, in_filter, of_filter, in_flat_map, of_flat_map, live_in_all}
 use Rattle.dbtg_unit.proofs.ErasedLemmas.{doomed_is_least_set}
 
 append-nil : {X : Type 0} (xs : List X) → xs ++ [] ≡ xs

@@ -72,3 +72,4 @@ pub mod AlikeFind
 pub mod AlikeReading
 pub mod AlikeMoves
 pub mod AlikeRemove
+pub mod AlikeInsert

@@ -1,22 +1,21 @@
 -- Live keys, owners, and whose list has a record.
-use Rattle.std.proofs.Common.{◌≡◌, refl, sym, ◌∙◌, ap, subst, ℕ, zero, suc, ◌+◌, ◌<◌, ◌≤◌, Bool, true, false, cond, not, ◌&&◌, ◌||◌, List, [], ◌∷◌, ◌++◌, length, Option, Some, None, arith, eqb, inl, inr, ⊎_elim, ◌⊎◌, map}
+use Rattle.std.proofs.Common.{◌≡◌, refl, sym, ◌∙◌, ap, subst, ℕ, zero, suc, ◌+◌, ◌<◌, ◌≤◌, Bool, true, false, cond, List, [], ◌∷◌, ◌++◌, length, Option, Some, None, arith, eqb, inl, inr, ⊎_elim, ◌⊎◌, map}
 use Rattle.std.specs.Prelude.{filter, is_some, is_none, option_map, option_and_then, unwrap_or, slice_get}
 use Rattle.std.specs.List.{list_any, list_all, find, range_with_len, flat_map}
-use Rattle.std.proofs.lemmas.Bool.{and_parts, and_from, or_cases, or_left, or_right, or_parts, cases_Bool, false≢true, eqb-true, eq-eqb, cases_lt, false_from_ne_true, cases_eq}
+use Rattle.std.proofs.lemmas.Bool.{and_parts, or_cases, or_left, or_right, cases_Bool, false≢true, eqb-true, false_from_ne_true, cases_eq}
 use Rattle.std.proofs.lemmas.Option.{none-some, same_Some}
-use Rattle.std.proofs.lemmas.List.Folds.{list_any-append}
 use Rattle.dbtg_schema.specs.Lists.{Lists}
 use Rattle.dbtg_schema.specs.Lookups.{some_and}
 use Rattle.dbtg_schema.specs.declared.shape.SetType.{SetType}
-use Rattle.dbtg_schema.specs.Structure.{is_system, owner_type, owns}
+use Rattle.dbtg_schema.specs.Structure.{owner_type}
 use Rattle.dbtg_cells.specs.declared.key.DbKey.{DbKey}
 use Rattle.dbtg_cells.specs.declared.key.Owner.{Owner}
 use Rattle.dbtg_cells.specs.declared.key.Owner.TheVariants.{System, Rec}
-use Rattle.dbtg_cells.specs.Keys.{key_eq, owner_eq}
-use Rattle.dbtg_unit.specs.Base.{Database, Record, is_live, key_at, live_keys, owners, owner_of, members_of, is_member}
+use Rattle.dbtg_cells.specs.Keys.{key_eq}
+use Rattle.dbtg_unit.specs.Base.{Database, is_live, key_at, live_keys, owners, owner_of, members_of, is_member}
 use Rattle.dbtg_unit.specs.Doomed.{all_keys}
 use Rattle.dbtg_unit.specs.Legal.{Legal, has_occurrence}
-use Rattle.dbtg_unit.proofs.KeyLemmas.{same_key, key_eq-refl, same_owner, owner_eq-refl}
+use Rattle.dbtg_unit.proofs.KeyLemmas.{same_key, key_eq-refl}
 
 -- SOME ELEMENT
 

@@ -1,26 +1,20 @@
 -- When a cell of a changed database is as it was.
-use Rattle.std.proofs.Common.{◌≡◌, refl, sym, ◌∙◌, ap, subst, ℕ, suc, ◌+◌, ◌<◌, ◌≤◌, Bool, true, false, cond, not, ◌&&◌, ◌||◌, List, [], ◌∷◌, length, Option, Some, None, eqb, inl, inr, map}
+use Rattle.std.proofs.Common.{◌≡◌, refl, sym, ◌∙◌, ap, ℕ, true, cond, List, [], ◌∷◌, Option, Some, None, map}
 use Rattle.std.specs.Prelude.{is_some, option_map, unwrap_or, filter}
-use Rattle.std.specs.List.{list_any, find, range_with_len}
-use Rattle.std.proofs.lemmas.Bool.{and_parts, or_left, or_right, false≢true, eq-eqb}
-use Rattle.std.proofs.lemmas.Option.{none-some}
+use Rattle.std.specs.List.{find, range_with_len}
+use Rattle.std.proofs.lemmas.Bool.{or_left, or_right, false≢true}
 use Rattle.dbtg_schema.specs.Lists.{Lists}
 use Rattle.dbtg_schema.specs.Structure.{is_system, owner_type, set_numbers}
 use Rattle.dbtg_cells.specs.declared.key.DbKey.{DbKey}
 use Rattle.dbtg_cells.specs.declared.key.Owner.{Owner}
 use Rattle.dbtg_cells.specs.declared.key.Owner.TheVariants.{System, Rec}
-use Rattle.dbtg_cells.specs.declared.key.Value.{Value}
-use Rattle.dbtg_cells.specs.declared.name.CellName.{CellName}
 use Rattle.dbtg_cells.specs.declared.name.CellName.TheVariants.{Usage, Extent, Ring, Slot}
-use Rattle.dbtg_cells.specs.declared.slot.Stored.{Stored}
-use Rattle.dbtg_cells.specs.Shown.{CellValue, UsageValue, ExtentValue, RingValue, SlotValue}
-use Rattle.dbtg_cells.specs.Keys.{key_eq}
-use Rattle.dbtg_unit.specs.Base.{Database, Record, is_live, items_of, key_at, live_keys, owners, owner_of, members_of, is_member, calc_items, key_item, sort_key}
-use Rattle.dbtg_unit.specs.Units.{owners_of}
+use Rattle.dbtg_cells.specs.Shown.{UsageValue, ExtentValue, RingValue, SlotValue}
+use Rattle.dbtg_unit.specs.Base.{Database, Record, is_live, key_at, live_keys, owners, owner_of, members_of, is_member, calc_items, sort_key}
 use Rattle.dbtg_unit.specs.CellNames.{place_of}
-use Rattle.dbtg_unit.specs.Cells.{cell, number_of, ring_of, slot_of, owner_at}
+use Rattle.dbtg_unit.specs.Cells.{cell, ring_of, slot_of, owner_at}
 use Rattle.dbtg_unit.specs.Legal.{Legal}
-use Rattle.dbtg_unit.proofs.LiveKeys.{In, in_member, owner_is, no_owner, member_of_owner, member_nowhere}
+use Rattle.dbtg_unit.proofs.LiveKeys.{owner_is, no_owner, member_of_owner, member_nowhere}
 use Rattle.dbtg_unit.proofs.KeyLemmas.{key_eq-refl}
 
 -- functions that agree on the members of a list
@@ -98,7 +92,7 @@ module _ (schema : Lists) (capacity : ℕ) (db new : Database) where
     same_live_keys : (t : ℕ) → live_keys capacity new t ≡ live_keys capacity db t
     same_live_keys t = λ i. filter (λ x. live x i) (map (λ n. same_key_at t n i) (range_with_len 1 capacity))
 
-    same_owners : (s : ℕ) → owners schema capacity new s ≡ owners schema capacity db s
+    pub same_owners : (s : ℕ) → owners schema capacity new s ≡ owners schema capacity db s
     same_owners s = λ i. cond (is_system schema s) (System ∷ []) (unwrap_or (option_map (λ t. map Rec (same_live_keys t i)) (owner_type schema s)) [])
 
     pub owner_of_same : (s : ℕ) (x : DbKey) → ((o : Owner) → is_member x (members_of new s o) ≡ is_member x (members_of db s o)) → owner_of schema capacity new s x ≡ owner_of schema capacity db s x

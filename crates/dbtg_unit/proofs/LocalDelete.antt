@@ -1,8 +1,8 @@
 -- DELETE changes the cells of what it takes, of the members of its lists and of the lists that it is in, and no other cell.
-use Rattle.std.proofs.Common.{◌≡◌, refl, sym, ◌∙◌, ap, subst, ℕ, Bool, true, false, cond, not, ◌&&◌, ◌||◌, List, [], ◌∷◌, Option, Some, None, eqb, inl, inr}
-use Rattle.std.specs.Prelude.{is_some, option_map, unwrap_or, filter}
-use Rattle.std.specs.List.{list_any, list_all}
-use Rattle.std.proofs.lemmas.Bool.{and_parts, and_from, or_left, or_right, or_parts, false≢true, false_from_ne_true, not_from_false, cond-true, cond-false, cond_both, cases_Bool}
+use Rattle.std.proofs.Common.{◌≡◌, refl, sym, ◌∙◌, ap, ℕ, Bool, true, false, cond, not, ◌&&◌, ◌||◌, List, [], ◌∷◌, Option, Some, None, inl, inr}
+use Rattle.std.specs.Prelude.{option_map, unwrap_or, filter}
+use Rattle.std.specs.List.{list_any}
+use Rattle.std.proofs.lemmas.Bool.{and_parts, or_left, or_right, false≢true, false_from_ne_true, not_from_false, cond-true, cond-false, cond_both, cases_Bool}
 use Rattle.dbtg_schema.specs.Lists.{Lists}
 use Rattle.dbtg_schema.specs.Structure.{owns, set_numbers}
 use Rattle.dbtg_cells.specs.declared.key.DbKey.{DbKey}
@@ -11,19 +11,19 @@ use Rattle.dbtg_cells.specs.declared.key.Owner.TheVariants.{System, Rec}
 use Rattle.dbtg_cells.specs.declared.key.Value.{Value}
 use Rattle.dbtg_cells.specs.declared.name.CellName.{CellName}
 use Rattle.dbtg_cells.specs.declared.name.CellName.TheVariants.{Usage, Extent, Ring, Slot}
-use Rattle.dbtg_cells.specs.Keys.{key_eq, owner_eq}
+use Rattle.dbtg_cells.specs.Keys.{key_eq}
 use Rattle.dbtg_unit.specs.declared.statement.Erase.{Erase}
 use Rattle.dbtg_unit.specs.declared.unit.Unit.{Unit}
-use Rattle.dbtg_unit.specs.Base.{Database, Record, is_live, items_of, key_at, members_of, is_member, calc_items, key_item, sort_key}
+use Rattle.dbtg_unit.specs.Base.{Database, Record, is_live, key_at, members_of, is_member, calc_items, key_item}
 use Rattle.dbtg_unit.specs.CellNames.{place_of, slot_name}
 use Rattle.dbtg_unit.specs.Cells.{cell, owner_at}
 use Rattle.dbtg_unit.specs.Doomed.{doomed}
-use Rattle.dbtg_unit.specs.Effect.{raised, next_version, deleted, is_gone}
+use Rattle.dbtg_unit.specs.Effect.{next_version, deleted, is_gone}
 use Rattle.dbtg_unit.specs.Legal.{Legal}
 use Rattle.dbtg_unit.proofs.KeyLemmas.{same_key, key_eq-refl}
 use Rattle.dbtg_unit.proofs.LiveKeys.{none_is, any_element, in_member}
 use Rattle.dbtg_unit.proofs.LocalCells.{place_of_owner_at, usage_same, extent_same, ring_same, ring_none, slot_same, owner_of_legal}
-use Rattle.dbtg_unit.proofs.LocalInsert.{raised_live, raised_of_items, raised_items}
+use Rattle.dbtg_unit.proofs.LocalInsert.{raised_of_items}
 
 -- the members that stay
 abbrev pub staying : List DbKey → List DbKey → List DbKey

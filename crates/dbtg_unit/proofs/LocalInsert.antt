@@ -1,7 +1,6 @@
 -- INSERT changes the ring of the current owner and the slot of the record, and no other cell.
-use Rattle.std.proofs.Common.{◌≡◌, refl, sym, ◌∙◌, ap, subst, ℕ, Bool, true, false, cond, ◌&&◌, ◌||◌, List, [], ◌∷◌, Option, Some, None, eqb, inl, inr}
+use Rattle.std.proofs.Common.{◌≡◌, refl, sym, ◌∙◌, ap, subst, ℕ, Bool, true, false, ◌&&◌, ◌||◌, List, [], ◌∷◌, Option, Some, None, eqb, inl, inr}
 use Rattle.std.specs.Prelude.{is_some, option_map, unwrap_or}
-use Rattle.std.specs.List.{list_any}
 use Rattle.std.proofs.lemmas.Bool.{and_parts, and_right, or_cases, false≢true, false_from_ne_true, eqb-true, cond-false, cond_both}
 use Rattle.dbtg_schema.specs.Lists.{Lists}
 use Rattle.dbtg_cells.specs.declared.key.DbKey.{DbKey}
@@ -12,7 +11,7 @@ use Rattle.dbtg_cells.specs.declared.name.CellName.TheVariants.{Usage, Extent, R
 use Rattle.dbtg_cells.specs.Keys.{key_eq, owner_eq}
 use Rattle.dbtg_unit.specs.declared.unit.Unit.{Unit}
 use Rattle.dbtg_unit.specs.declared.unit.Place.{Place}
-use Rattle.dbtg_unit.specs.Base.{Database, Record, is_live, items_of, key_at, members_of, is_member, key_item, sort_key}
+use Rattle.dbtg_unit.specs.Base.{Database, Record, is_live, items_of, key_at, members_of, is_member, key_item}
 use Rattle.dbtg_unit.specs.Units.{place_in}
 use Rattle.dbtg_unit.specs.CellNames.{place_of}
 use Rattle.dbtg_unit.specs.Cells.{cell, owner_at}

@@ -1,8 +1,8 @@
 -- MODIFY changes the slot of the record, the extent where a CALC item is named, and the rings that are sorted by a named item, and no other cell.
-use Rattle.std.proofs.Common.{◌≡◌, refl, sym, ◌∙◌, ap, subst, ℕ, Bool, true, false, cond, ◌&&◌, ◌||◌, List, [], ◌∷◌, Option, Some, None, eqb, map, inl, inr}
+use Rattle.std.proofs.Common.{◌≡◌, refl, sym, ◌∙◌, ap, subst, ℕ, Bool, true, false, ◌&&◌, ◌||◌, List, [], Option, Some, None, eqb, map, inl, inr}
 use Rattle.std.specs.Prelude.{is_some, option_map, unwrap_or}
 use Rattle.std.specs.List.{list_any}
-use Rattle.std.proofs.lemmas.Bool.{and_parts, and_from, false≢true, false_from_ne_true, cond-true, cond-false, cond_both, cases_Bool}
+use Rattle.std.proofs.lemmas.Bool.{and_parts, false≢true, false_from_ne_true, cond-true, cond-false, cond_both, cases_Bool}
 use Rattle.dbtg_schema.specs.Lists.{Lists}
 use Rattle.dbtg_schema.specs.Structure.{rekeyed_sets}
 use Rattle.dbtg_cells.specs.declared.key.DbKey.{DbKey}
@@ -10,20 +10,19 @@ use Rattle.dbtg_cells.specs.declared.key.Owner.{Owner}
 use Rattle.dbtg_cells.specs.declared.key.Value.{Value}
 use Rattle.dbtg_cells.specs.declared.name.CellName.{CellName}
 use Rattle.dbtg_cells.specs.declared.name.CellName.TheVariants.{Usage, Extent, Ring, Slot}
-use Rattle.dbtg_cells.specs.Keys.{key_eq, owner_eq}
+use Rattle.dbtg_cells.specs.Keys.{key_eq}
 use Rattle.dbtg_unit.specs.declared.statement.Change.{Change}
 use Rattle.dbtg_unit.specs.declared.unit.Unit.{Unit}
 use Rattle.dbtg_unit.specs.Base.{Database, Record, is_live, items_of, key_at, members_of, is_member, calc_items, key_item, sort_key}
 use Rattle.dbtg_unit.specs.CellNames.{place_of}
 use Rattle.dbtg_unit.specs.Cells.{cell, owner_at}
-use Rattle.dbtg_unit.specs.Effect.{raised, next_version, with_items, with_its_items, changed_items, joined, without, modified, names_calc}
-use Rattle.dbtg_unit.specs.Legal.{Legal}
+use Rattle.dbtg_unit.specs.Effect.{next_version, with_items, with_its_items, changed_items, joined, without, modified, names_calc}
 use Rattle.dbtg_unit.proofs.KeyLemmas.{same_key, key_eq-refl}
 use Rattle.dbtg_unit.proofs.Listing.{any-placed}
 use Rattle.dbtg_unit.proofs.ItemLemmas.{same_calc_items, same_key_item}
 use Rattle.dbtg_unit.proofs.RemoveLocal.{member-without}
 use Rattle.dbtg_unit.proofs.LocalCells.{place_of_owner_at, usage_same, extent_same, ring_same, slot_same, owner_of_same, owner_at_same}
-use Rattle.dbtg_unit.proofs.LocalInsert.{raised_live, raised_of_items, raised_items, other_key, other_key'}
+use Rattle.dbtg_unit.proofs.LocalInsert.{raised_live, raised_of_items, other_key, other_key'}
 
 -- s is among these
 abbrev pub among : ℕ → List ℕ → Bool

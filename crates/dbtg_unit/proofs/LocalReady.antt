@@ -1,18 +1,18 @@
 -- What a statement that is ready has in hand, and that it changes no other cell.
-use Rattle.std.proofs.Common.{◌≡◌, refl, sym, ◌∙◌, ap, subst, ℕ, Bool, true, false, cond, not, ◌&&◌, ◌||◌, List, [], ◌∷◌, Option, Some, None, eqb, inl, inr}
-use Rattle.std.specs.Prelude.{is_some, is_none, option_map, filter, if◌then◌else◌, slice_set, ◌==◌}
+use Rattle.std.proofs.Common.{◌≡◌, refl, sym, ◌∙◌, ap, subst, ℕ, Bool, true, false, cond, not, ◌||◌, List, [], ◌∷◌, Option, Some, None, eqb, inl, inr}
+use Rattle.std.specs.Prelude.{is_some, option_map, ◌==◌}
 use Rattle.std.specs.List.{list_any, find}
-use Rattle.std.proofs.lemmas.Bool.{false≢true, false_from_ne_true, true_from_ne_false, eqb-true, cases_Bool, not-false}
+use Rattle.std.proofs.lemmas.Bool.{false≢true, false_from_ne_true, eqb-true, cases_Bool, not-false}
 use Rattle.std.proofs.lemmas.Option.{none-some}
 use Rattle.dbtg_schema.specs.Lists.{Lists}
-use Rattle.dbtg_schema.specs.Lookups.{some_and, first_cause}
+use Rattle.dbtg_schema.specs.Lookups.{some_and}
 use Rattle.dbtg_cells.specs.declared.key.DbKey.{DbKey}
 use Rattle.dbtg_cells.specs.declared.key.Owner.{Owner}
 use Rattle.dbtg_cells.specs.declared.name.CellName.{CellName}
 use Rattle.dbtg_cells.specs.declared.cell.Cell.{Cell}
 use Rattle.dbtg_cells.specs.Names.{name_eq}
 use Rattle.dbtg_unit.specs.declared.held.Need.{Need}
-use Rattle.dbtg_unit.specs.declared.held.Need.TheVariants.{Area, Take, Stale, Ready}
+use Rattle.dbtg_unit.specs.declared.held.Need.TheVariants.{Ready}
 use Rattle.dbtg_unit.specs.declared.statement.Change.{Change}
 use Rattle.dbtg_unit.specs.declared.statement.Statement.{Statement}
 use Rattle.dbtg_unit.specs.declared.statement.Statement.TheVariants.{OpenArea, CloseArea, Find, Get, Store, Insert, Remove, Modify, Delete, Keep, Free}
@@ -21,7 +21,7 @@ use Rattle.dbtg_unit.specs.declared.unit.Cause.{Cause}
 use Rattle.dbtg_unit.specs.Base.{Database}
 use Rattle.dbtg_unit.specs.Cells.{cell}
 use Rattle.dbtg_unit.specs.Checks.{refused_at_once}
-use Rattle.dbtg_unit.specs.Effect.{Outcome, effect, effect_on_cells, refused, unless_refused}
+use Rattle.dbtg_unit.specs.Effect.{effect, effect_on_cells, unless_refused}
 use Rattle.dbtg_unit.specs.Found.{found}
 use Rattle.dbtg_unit.specs.Hands.{Hands}
 use Rattle.dbtg_unit.specs.Legal.{Legal}
@@ -33,7 +33,7 @@ use Rattle.dbtg_unit.specs.Fits.{fits}
 use Rattle.dbtg_unit.proofs.LegalEffect.{effect_step}
 use Rattle.dbtg_unit.proofs.Outcomes.{of_current, of_finding}
 use Rattle.dbtg_unit.proofs.LiveKeys.{In, any_element}
-use Rattle.dbtg_unit.proofs.ReadingCells.{same_name, name_eq-refl}
+use Rattle.dbtg_unit.proofs.ReadingCells.{same_name}
 use Rattle.dbtg_unit.proofs.LocalStatements.{Stays, of_open, of_close, of_store, of_insert, of_remove, of_modify, of_delete}
 
 not_ready : {X : Type 0} (n : Need) → (Ready ≡ n → ⊥) → n ≡ Ready → X

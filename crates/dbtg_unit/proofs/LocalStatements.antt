@@ -1,8 +1,8 @@
 -- A statement whose guesses are right changes no cell that it does not name.
-use Rattle.std.proofs.Common.{◌≡◌, refl, sym, ◌∙◌, ap, subst, ℕ, ◌+◌, ◌<◌, ◌≤◌, Bool, true, false, cond, not, ◌&&◌, ◌||◌, List, [], ◌∷◌, ◌++◌, length, Option, Some, None, eqb, inl, inr, ⊎_elim, ◌⊎◌, arith, map}
+use Rattle.std.proofs.Common.{◌≡◌, refl, sym, ◌∙◌, ap, subst, ℕ, Bool, true, false, cond, not, ◌&&◌, List, [], ◌∷◌, ◌++◌, length, Option, Some, None, eqb, inl, inr, ⊎_elim, ◌⊎◌, arith, map}
 use Rattle.std.specs.Prelude.{◌==◌, is_some, is_none, filter, option_map, option_and_then, unwrap_or, slice_set, slice_get, if◌then◌else◌}
 use Rattle.std.specs.List.{list_any, flat_map, range_with_len}
-use Rattle.std.proofs.lemmas.Bool.{and_parts, and_from, or_left, or_right, or_cases, or_parts, false≢true, false_from_ne_true, eqb-true, eq-eqb, cond-true, cond-false, cases_Bool, not-false, not_from_false}
+use Rattle.std.proofs.lemmas.Bool.{and_from, or_left, or_right, or_cases, or_parts, false≢true, false_from_ne_true, eqb-true, eq-eqb, cond-false, cases_Bool, not-false}
 use Rattle.std.proofs.lemmas.Option.{none-some, slice_get_within}
 use Rattle.dbtg_schema.specs.Lists.{Lists}
 use Rattle.dbtg_schema.specs.Lookups.{at, some_and, first_cause}
@@ -10,38 +10,35 @@ use Rattle.dbtg_schema.specs.Structure.{automatic_sets, is_automatic, member_cla
 use Rattle.dbtg_schema.specs.declared.shape.SetType.{SetType}
 use Rattle.dbtg_cells.specs.declared.key.DbKey.{DbKey}
 use Rattle.dbtg_cells.specs.declared.key.Owner.{Owner}
-use Rattle.dbtg_cells.specs.declared.key.Owner.TheVariants.{System, Rec}
+use Rattle.dbtg_cells.specs.declared.key.Owner.TheVariants.{Rec}
 use Rattle.dbtg_cells.specs.declared.name.CellName.{CellName}
 use Rattle.dbtg_cells.specs.declared.name.CellName.TheVariants.{Usage, Extent, Ring, Slot}
 use Rattle.dbtg_cells.specs.declared.usage.Mode.{Mode}
 use Rattle.dbtg_cells.specs.declared.key.Value.{Value}
-use Rattle.dbtg_cells.specs.Keys.{key_eq, owner_eq}
+use Rattle.dbtg_cells.specs.Keys.{owner_eq}
 use Rattle.dbtg_cells.specs.Shown.{UsageValue}
 use Rattle.dbtg_cells.specs.Names.{name_eq}
 use Rattle.dbtg_unit.specs.declared.statement.Change.{Change}
 use Rattle.dbtg_unit.specs.declared.statement.Erase.{Erase}
 use Rattle.dbtg_unit.specs.declared.statement.Statement.{Statement}
-use Rattle.dbtg_unit.specs.declared.statement.Statement.TheVariants.{OpenArea, CloseArea, Find, Get, Store, Insert, Remove, Modify, Delete, Keep, Free}
+use Rattle.dbtg_unit.specs.declared.statement.Statement.TheVariants.{OpenArea, CloseArea, Store, Insert, Remove, Modify, Delete}
 use Rattle.dbtg_unit.specs.declared.statement.Suppress.{Suppress}
 use Rattle.dbtg_unit.specs.declared.unit.Place.{Place}
 use Rattle.dbtg_unit.specs.declared.unit.Unit.{Unit}
 use Rattle.dbtg_unit.specs.declared.unit.Cause.{Cause}
 use Rattle.dbtg_unit.specs.declared.unit.Cause.TheVariants.{UsageConflict, Deleted, NotMember, NoRoom, DuplicatesNotAllowed, OwnerHasMembers}
 use Rattle.dbtg_unit.specs.Base.{Database, is_live, owner_of, owners, members_of, is_member, key_item}
-use Rattle.dbtg_unit.specs.Units.{place_in}
-use Rattle.dbtg_unit.specs.Found.{found}
 use Rattle.dbtg_unit.specs.Doomed.{all_keys, doomed}
-use Rattle.dbtg_unit.specs.Checks.{refused_at_once}
-use Rattle.dbtg_unit.specs.Effect.{Outcome, effect, effect_on_cells, done, store_checks, stored, new_key, free_number, conflict, own_checks, remove_checks, modify_checks, delete_checks, is_plain, has_members, names_calc, calc_taken, place_checks}
+use Rattle.dbtg_unit.specs.Effect.{Outcome, effect_on_cells, done, store_checks, stored, new_key, free_number, conflict, own_checks, is_plain, has_members, names_calc, calc_taken, place_checks}
 use Rattle.dbtg_unit.specs.CellNames.{slot_name, place_of}
 use Rattle.dbtg_unit.specs.Cells.{cell}
-use Rattle.dbtg_unit.specs.Erasing.{names_once, doomed_in_turn, own_rings, cells_of_doomed, outer_cells, delete_cells, delete_cells_of}
+use Rattle.dbtg_unit.specs.Erasing.{names_once, doomed_in_turn, own_rings, cells_of_doomed, outer_cells, delete_cells_of}
 use Rattle.dbtg_unit.specs.Needs.{cells_of, current_owner, guessed_sets, is_stale, is_wrong_guess, ring_names, slot_names, store_cells, store_rings}
 use Rattle.dbtg_unit.specs.Legal.{Legal}
 use Rattle.dbtg_unit.proofs.KeyLemmas.{same_owner}
 use Rattle.dbtg_unit.proofs.CheckLemmas.{passes, passes-append}
-use Rattle.dbtg_unit.proofs.Outcomes.{of_unless, of_current, of_finding}
-use Rattle.dbtg_unit.proofs.LiveKeys.{In, all_are_live, of_filter, any_in, any_element, in_map, in_filter, in_left, in_right, in_flat_map, in_range, in_member, member_in, some_is, some_and_is, owner_in, listed, owner_is, member_of_owner}
+use Rattle.dbtg_unit.proofs.Outcomes.{of_unless, of_current}
+use Rattle.dbtg_unit.proofs.LiveKeys.{In, all_are_live, of_filter, any_in, any_element, in_map, in_filter, in_left, in_right, in_flat_map, in_range, member_in, some_is, some_and_is, owner_in, listed, owner_is, member_of_owner}
 use Rattle.dbtg_unit.proofs.ErasedLemmas.{set_of_member, doomed_is_least_set}
 use Rattle.dbtg_unit.proofs.ReadingCells.{name_eq-refl}
 use Rattle.dbtg_unit.proofs.InTurn.{doomed_is_met}

@@ -1,8 +1,8 @@
 -- Placing keeps a list in its order.
-use Rattle.std.proofs.Common.{◌≡◌, refl, sym, ◌∙◌, ap, subst, ℕ, Bool, true, false, cond, not, ◌&&◌, ◌||◌, List, [], ◌∷◌, ◌++◌, Option, Some, None, inl, inr, ⊎_elim}
+use Rattle.std.proofs.Common.{◌≡◌, refl, sym, ◌∙◌, ap, subst, Bool, true, false, cond, not, ◌&&◌, ◌||◌, List, [], ◌∷◌, ◌++◌, Option, Some, None, inl, inr}
 use Rattle.std.specs.Prelude.{filter}
 use Rattle.std.specs.List.{list_any, list_all}
-use Rattle.std.proofs.lemmas.Bool.{and_parts, and_from, and_cases, or_parts, or_from, or_left, or_right, cases_Bool, false≢true, false_from_ne_true, not_from_true, not_from_false, not-true, not-false}
+use Rattle.std.proofs.lemmas.Bool.{and_parts, and_from, or_parts, or_from, or_left, or_right, cases_Bool, false≢true, false_from_ne_true, not_from_false, not-true, not-false}
 use Rattle.dbtg_schema.specs.declared.shape.Order.{Order}
 use Rattle.dbtg_schema.specs.declared.shape.Order.TheVariants.{First, Last, Next, Prior, Sorted}
 use Rattle.dbtg_schema.specs.declared.shape.Duplicates.{Duplicates}
@@ -11,14 +11,14 @@ use Rattle.dbtg_schema.specs.Lookups.{behind, in_front}
 use Rattle.dbtg_cells.specs.declared.key.DbKey.{DbKey}
 use Rattle.dbtg_cells.specs.declared.key.Value.{Value}
 use Rattle.dbtg_cells.specs.Keys.{key_eq}
-use Rattle.dbtg_cells.specs.Placed.{Spot, Front, Back, After, Before, Among, placed}
+use Rattle.dbtg_cells.specs.Placed.{After, Before, placed}
 use Rattle.dbtg_unit.specs.Base.{is_member}
-use Rattle.dbtg_unit.specs.Effect.{spot, without, refuses_equal, option_value_eq, comes_before, key_below, after_position, before_position}
+use Rattle.dbtg_unit.specs.Effect.{spot, refuses_equal, option_value_eq, comes_before, key_below, after_position, before_position}
 use Rattle.dbtg_unit.specs.Legal.{pairwise, keys_in_order}
 use Rattle.dbtg_unit.specs.Placing.{comparable, compares, has_equal, stand_in_order, StandsRight, IsPlaced}
 use Rattle.dbtg_unit.proofs.Listing.{any-placed, any-parts}
 use Rattle.dbtg_unit.proofs.KeyLemmas.{key_eq-refl}
-use Rattle.dbtg_unit.proofs.PlacedLemmas.{all-kept, all-weaker, all-both, length-placed, less_placed, divides, on_its_side, pairwise-among, placed_after, placed_before}
+use Rattle.dbtg_unit.proofs.PlacedLemmas.{all-kept, all-weaker, all-both, length-placed, less_placed, divides, pairwise-among, placed_after, placed_before}
 use Rattle.dbtg_unit.proofs.ValueOrder.{key_below-trans, key_below-irrefl, key_below-asym, key_below-either, same_option_value}
 
 -- what holds of each pair of elements that pass a test

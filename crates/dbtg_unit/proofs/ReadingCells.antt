@@ -1,13 +1,11 @@
 -- What a cell in hand says of every legal database that has it so.
-use Rattle.std.proofs.Common.{◌≡◌, refl, sym, ◌∙◌, ap, subst, ℕ, zero, suc, ◌+◌, ◌-◌, ◌<◌, ◌≤◌, Bool, true, false, cond, not, ◌&&◌, List, [], ◌∷◌, length, Option, Some, None, arith, eqb, ltb, inl, inr, ⊎_elim, map}
-use Rattle.std.specs.Prelude.{◌==◌, filter, is_some, option_map, option_and_then, unwrap_or, slice_get, if◌then◌else◌}
-use Rattle.std.specs.List.{list_any, range_with_len, find}
-use Rattle.std.proofs.lemmas.Bool.{and_parts, and_from, and_right, cases_Bool, false≢true, eqb-true, eq-eqb, cases_lt, false_from_ne_true, cond-true, cond-false}
+use Rattle.std.proofs.Common.{◌≡◌, refl, sym, ◌∙◌, ap, subst, ℕ, zero, suc, ◌+◌, ◌<◌, ◌≤◌, true, false, cond, List, [], ◌∷◌, length, Option, Some, None, arith, eqb, inl, inr, ⊎_elim, map}
+use Rattle.std.specs.Prelude.{◌==◌, is_some, option_map, option_and_then, unwrap_or, slice_get, if◌then◌else◌}
+use Rattle.std.specs.List.{range_with_len}
+use Rattle.std.proofs.lemmas.Bool.{and_parts, and_from, cases_Bool, false≢true, eqb-true, eq-eqb, cases_lt, false_from_ne_true, cond-true, cond-false}
 use Rattle.std.proofs.lemmas.Option.{none-some, same_Some, slice_get-map, slice_get_past}
-use Rattle.std.proofs.lemmas.List.FromFn.{length-range_with_len, length-map-range_with_len}
+use Rattle.std.proofs.lemmas.List.FromFn.{length-map-range_with_len}
 use Rattle.dbtg_schema.specs.Lists.{Lists}
-use Rattle.dbtg_schema.specs.Lookups.{at, first}
-use Rattle.dbtg_schema.specs.Structure.{owns, set_numbers}
 use Rattle.dbtg_cells.specs.declared.key.DbKey.{DbKey}
 use Rattle.dbtg_cells.specs.declared.key.Owner.{Owner}
 use Rattle.dbtg_cells.specs.declared.key.Owner.TheVariants.{System, Rec}
@@ -20,18 +18,17 @@ use Rattle.dbtg_cells.specs.declared.ring.Occurrence.{Occurrence}
 use Rattle.dbtg_cells.specs.declared.slot.Stored.{Stored}
 use Rattle.dbtg_cells.specs.declared.usage.Mode.{Mode}
 use Rattle.dbtg_cells.specs.Cells.{shown}
-use Rattle.dbtg_cells.specs.Keys.{key_eq, owner_eq}
+use Rattle.dbtg_cells.specs.Keys.{owner_eq}
 use Rattle.dbtg_cells.specs.Names.{name_eq, place_eq}
-use Rattle.dbtg_cells.specs.Shown.{CellValue, UsageValue, ExtentValue, RingValue, SlotValue}
-use Rattle.dbtg_unit.specs.Base.{Database, Record, is_live, items_of, key_at, live_keys, members_of, is_member, owner_of, calc_items, sort_key}
+use Rattle.dbtg_cells.specs.Shown.{UsageValue, ExtentValue, RingValue, SlotValue}
+use Rattle.dbtg_unit.specs.Base.{Database, Record, is_live, key_at, members_of, calc_items, sort_key}
 use Rattle.dbtg_unit.specs.Units.{owners_of}
 use Rattle.dbtg_unit.specs.CellNames.{place_of}
 use Rattle.dbtg_unit.specs.Cells.{cell, number_of, ring_of, slot_of, owner_at}
-use Rattle.dbtg_unit.specs.Effect.{free_number}
 use Rattle.dbtg_unit.specs.Hands.{cell_of}
 use Rattle.dbtg_unit.specs.Legal.{Legal, has_occurrence}
 use Rattle.dbtg_unit.specs.Local.{AllAgree, holds}
-use Rattle.dbtg_unit.proofs.KeyLemmas.{same_key, key_eq-refl, same_owner, owner_eq-refl}
+use Rattle.dbtg_unit.proofs.KeyLemmas.{same_owner, owner_eq-refl}
 use Rattle.dbtg_unit.proofs.Determined.{usage_in, extent_in, ring_in, slot_in, record_in}
 use Rattle.dbtg_unit.proofs.LiveKeys.{latest, none_is}
 

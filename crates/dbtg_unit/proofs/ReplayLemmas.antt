@@ -1,18 +1,15 @@
 -- The replay of one more entry, and of statements.
-use Rattle.std.proofs.Common.{◌≡◌, refl, sym, ◌∙◌, ap, subst, ℕ, zero, suc, ◌+◌, ◌-◌, ◌<◌, ◌≤◌, Bool, true, false, cond, List, [], ◌∷◌, ◌++◌, length, Option, Some, None, arith, eqb, map, inl, inr, ⊎_elim, length-append}
-use Rattle.std.specs.Prelude.{◌==◌, ⊤, ◌≢◌, filter, option_map, slice_get, slice_set, if◌then◌else◌}
+use Rattle.std.proofs.Common.{◌≡◌, refl, sym, ◌∙◌, ap, ℕ, zero, suc, ◌+◌, List, [], ◌∷◌, ◌++◌, length, Option, Some, None, arith, eqb, map, length-append}
+use Rattle.std.specs.Prelude.{option_map, slice_get, slice_set}
 use Rattle.std.specs.List.{range_with_len}
-use Rattle.std.proofs.lemmas.Bool.{cases_lt}
 use Rattle.std.proofs.lemmas.List.Elements.{filter-append}
-use Rattle.std.proofs.lemmas.List.FromFn.{length-range_with_len}
 use Rattle.dbtg_schema.specs.Lists.{Lists}
 use Rattle.dbtg_unit.specs.declared.unit.Unit.{Unit}
 use Rattle.dbtg_unit.specs.declared.unit.Entry.{Entry}
-use Rattle.dbtg_unit.specs.Base.{Database, opening}
-use Rattle.dbtg_unit.specs.Effect.{Outcome, effect, version_of}
-use Rattle.dbtg_unit.specs.Replay.{State, AnswersHold, TicketsInOrder, after, after_entry, after_outcome, answer_to, answers, entries_of, opening_state, outcome_of, replay, state_after, unit_of}
-use Rattle.dbtg_unit.specs.Replaying.{ReplaysOneMore, IsDetermined, statements_of}
-use Rattle.dbtg_unit.specs.Forward.{is_spent, GoesForward, ReplayGoesForward}
+use Rattle.dbtg_unit.specs.Effect.{Outcome, effect}
+use Rattle.dbtg_unit.specs.Replay.{State, AnswersHold, TicketsInOrder, after, after_entry, after_outcome, opening_state, outcome_of, replay, unit_of}
+use Rattle.dbtg_unit.specs.Replaying.{ReplaysOneMore, IsDetermined}
+use Rattle.dbtg_unit.specs.Forward.{GoesForward, ReplayGoesForward}
 use Rattle.dbtg_unit.specs.Versions.{VersionsUpTo}
 use Rattle.dbtg_unit.proofs.ForwardLemmas.{each_goes_forward, same_forward}
 

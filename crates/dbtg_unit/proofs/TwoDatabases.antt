@@ -1,33 +1,27 @@
 -- What two legal databases have in common where a cell shows the same in both.
-use Rattle.std.proofs.Common.{◌≡◌, refl, sym, ◌∙◌, ap, subst, ℕ, zero, suc, ◌+◌, ◌<◌, ◌≤◌, Bool, true, false, cond, not, ◌&&◌, ◌||◌, List, [], ◌∷◌, ◌++◌, length, Option, Some, None, eqb, inl, inr, map}
-use Rattle.std.specs.Prelude.{is_some, is_none, option_map, unwrap_or, filter}
+use Rattle.std.proofs.Common.{◌≡◌, refl, sym, ◌∙◌, ap, subst, ℕ, Bool, true, cond, ◌||◌, List, [], ◌∷◌, ◌++◌, Option, Some, None, eqb, inl, inr, map}
+use Rattle.std.specs.Prelude.{is_some, option_map, unwrap_or, filter}
 use Rattle.std.specs.List.{list_any, find, range_with_len, flat_map}
-use Rattle.std.proofs.lemmas.Bool.{and_parts, or_left, or_right, false≢true, false_from_ne_true, cases_Bool, eq-eqb, eqb-true, cond-true, cond-false, cond_both}
-use Rattle.std.proofs.lemmas.Option.{none-some, same_Some}
-use Rattle.std.proofs.lemmas.List.Elements.{filter-append}
+use Rattle.std.proofs.lemmas.Bool.{false≢true, cases_Bool, cond-false}
 use Rattle.dbtg_schema.specs.Lists.{Lists}
-use Rattle.dbtg_schema.specs.Structure.{set_numbers}
 use Rattle.dbtg_cells.specs.declared.key.DbKey.{DbKey}
 use Rattle.dbtg_cells.specs.declared.key.Owner.{Owner}
 use Rattle.dbtg_cells.specs.declared.key.Value.{Value}
-use Rattle.dbtg_cells.specs.declared.name.CellName.{CellName}
 use Rattle.dbtg_cells.specs.declared.name.CellName.TheVariants.{Usage, Extent, Ring, Slot}
 use Rattle.dbtg_cells.specs.declared.extent.Number.{Number}
 use Rattle.dbtg_cells.specs.declared.ring.Occurrence.{Occurrence}
 use Rattle.dbtg_cells.specs.declared.slot.Stored.{Stored}
-use Rattle.dbtg_cells.specs.Keys.{key_eq, owner_eq, values_eq}
-use Rattle.dbtg_cells.specs.Shown.{CellValue, UsageValue, ExtentValue, RingValue, SlotValue}
-use Rattle.dbtg_unit.specs.Base.{Database, Record, is_live, items_of, key_at, live_keys, members_of, is_member, owner_of, calc_items, sort_key}
+use Rattle.dbtg_cells.specs.Keys.{owner_eq, values_eq}
+use Rattle.dbtg_cells.specs.Shown.{ExtentValue, RingValue, SlotValue}
+use Rattle.dbtg_unit.specs.Base.{Database, Record, is_live, items_of, key_at, live_keys, members_of, calc_items, sort_key}
 use Rattle.dbtg_unit.specs.Units.{owners_of}
 use Rattle.dbtg_unit.specs.CellNames.{place_of}
 use Rattle.dbtg_unit.specs.Cells.{cell, number_of, ring_of, slot_of, owner_at}
-use Rattle.dbtg_unit.specs.Effect.{version_of}
-use Rattle.dbtg_unit.specs.Found.{with_calc, has_type}
+use Rattle.dbtg_unit.specs.Found.{with_calc}
 use Rattle.dbtg_unit.specs.Legal.{Legal}
-use Rattle.dbtg_unit.proofs.KeyLemmas.{owner_eq-refl}
 use Rattle.dbtg_unit.proofs.Determined.{usage_in}
-use Rattle.dbtg_unit.proofs.LiveKeys.{In, of_filter, of_map, in_member, latest, some_is}
-use Rattle.dbtg_unit.proofs.ReadingCells.{list_in, record_at, last_in, calc_in, ring_reads, ring_keys_read, slot_reads, slot_owners_read, last_reads, calc_reads, live_reads}
+use Rattle.dbtg_unit.proofs.LiveKeys.{In, of_filter, of_map}
+use Rattle.dbtg_unit.proofs.ReadingCells.{ring_reads, ring_keys_read, slot_reads, slot_owners_read, last_reads, calc_reads, live_reads}
 
 -- tests that agree on the elements of a list
 pub filter_agrees : {X : Type 0} (p q : X → Bool) (xs : List X) → ((x : X) → In x xs → p x ≡ q x) → filter p xs ≡ filter q xs

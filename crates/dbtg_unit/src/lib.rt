@@ -24,21 +24,23 @@ mod see;
 mod statement;
 mod unit;
 
+pub use apply::apply;
 pub use areas::is_automatic_in;
 pub use changes::{is_rekeyed_in, names_calc, names_item};
 pub use checks::refused_at_once;
 pub use edit::{CellEdit, Edit, UnitEdit};
 pub use held::{Held, Need};
-pub use owners::Owners;
 pub use kept::Kept;
 pub use laws::{
     cells_determine, delete_stays_in_its_areas, doomed_is_least, doomed_is_least_set,
-    each_statement_goes_forward, each_statement_is_answered, placing_keeps_order,
-    reachable_types_are_least, reading_is_determined, ready_statement_changes_only_its_cells,
-    remove_is_determined, replay_goes_forward, replay_takes_one_more, statements_determine_replay,
-    versions_are_bounded,
+    each_statement_goes_forward, each_statement_is_answered, effect_is_its_edits,
+    insert_is_determined,
+    placing_keeps_order, reachable_types_are_least, reading_is_determined,
+    ready_statement_changes_only_its_cells, remove_is_determined, replay_goes_forward,
+    replay_takes_one_more, statements_determine_replay, versions_are_bounded,
 };
 pub use legality::{effect_keeps_legal, opening_is_legal, replay_keeps_legal, units_never_conflict};
 pub use order::{has_area, next_area};
+pub use owners::Owners;
 pub use statement::{Change, Erase, Form, Statement, Suppress, Which};
 pub use unit::{Answer, Cause, Currency, Entry, Place, Status, Unit};

@@ -1,0 +1,5 @@
+use Rattle.dbtg_unit.proofs.EffectEdits.{effect_is_its_edits}
+use Rattle.dbtg_unit.proofs.laws.effect_is_its_edits.Goals as goal
+
+pub returns : goal.returns
+returns c = effect_is_its_edits
