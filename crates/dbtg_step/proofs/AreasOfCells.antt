@@ -1,19 +1,19 @@
 -- Each cell of a statement lies in one of its areas: all statements but DELETE.
-use Rattle.std.proofs.Common.{◌≡◌, refl, sym, ◌∙◌, ap, subst, ℕ, ◌+◌, ◌<◌, ◌≤◌, Bool, true, false, cond, not, eqb, ◌&&◌, ◌||◌, List, [], ◌∷◌, ◌++◌, length, map, Option, Some, None, inl, inr, arith}
-use Rattle.std.specs.Prelude.{Result, Ok, Err, filter, is_some, is_none, nat_lt, slice_get, option_map, option_and_then, unwrap_or, if◌then◌else◌, ◌==◌}
-use Rattle.std.specs.List.{list_any, list_all, range_with_len, find, flat_map}
+use Rattle.std.proofs.Common.{◌≡◌, refl, sym, ◌∙◌, ap, subst, ℕ, Bool, true, false, eqb, ◌&&◌, List, [], ◌∷◌, ◌++◌, length, map, Option, Some, None, inl, inr, arith}
+use Rattle.std.specs.Prelude.{Result, Ok, Err, is_some, nat_lt, slice_get, option_map, option_and_then, unwrap_or, if◌then◌else◌, ◌==◌}
+use Rattle.std.specs.List.{list_any, list_all, flat_map}
 use Rattle.std.specs.Option.{option_or}
 use Rattle.std.proofs.lemmas.Bool.{and_parts, and_from, or_left, or_right, cond_both, false≢true, eqb-true, eq-eqb}
 use Rattle.std.proofs.lemmas.List.Folds.{list_all-append}
 use Rattle.dbtg_schema.specs.Lists.{Lists}
-use Rattle.dbtg_schema.specs.Lookups.{at, first_cause, some_and}
-use Rattle.dbtg_schema.specs.Structure.{area_of, automatic_sets, first_member, home, is_system, member_clause, owner_type, owns, rekeyed_sets, set_member_types, set_numbers, types_in}
+use Rattle.dbtg_schema.specs.Lookups.{at, some_and}
+use Rattle.dbtg_schema.specs.Structure.{area_of, automatic_sets, first_member, home, is_system, member_clause, owns, rekeyed_sets, set_member_types, set_numbers, types_in}
 use Rattle.dbtg_schema.specs.declared.shape.SetType.{SetType}
 use Rattle.dbtg_cells.specs.declared.key.DbKey.{DbKey}
 use Rattle.dbtg_cells.specs.declared.key.Owner.{Owner}
 use Rattle.dbtg_cells.specs.declared.key.Owner.TheVariants.{System, Rec}
 use Rattle.dbtg_cells.specs.declared.name.CellName.{CellName}
-use Rattle.dbtg_cells.specs.declared.name.CellName.TheVariants.{Usage, Extent, Ring, Slot}
+use Rattle.dbtg_cells.specs.declared.name.CellName.TheVariants.{Usage, Extent, Ring}
 use Rattle.dbtg_cells.specs.Keys.{key_lt, value_eq}
 use Rattle.dbtg_unit.specs.declared.statement.Form.{Form}
 use Rattle.dbtg_unit.specs.declared.statement.Form.TheVariants.{Key, CurrentOfUnit, CurrentOfType, CurrentOfSet, CurrentOfArea, InSet, InArea, OwnerOf, Calc, NextDuplicate, Sorted}
@@ -24,9 +24,9 @@ use Rattle.dbtg_unit.specs.declared.unit.Place.{Place}
 use Rattle.dbtg_unit.specs.declared.unit.Unit.{Unit}
 use Rattle.dbtg_unit.specs.declared.unit.Cause.{Cause}
 use Rattle.dbtg_unit.specs.declared.unit.Cause.TheVariants.{End, NoneSatisfies}
-use Rattle.dbtg_unit.specs.Base.{Database, is_live, live_keys, members_of, items_of, calc_items, sort_key}
+use Rattle.dbtg_unit.specs.Base.{Database, live_keys, members_of, sort_key}
 use Rattle.dbtg_unit.specs.Belongs.{IsUnitOf, is_owner_in, is_place_in}
-use Rattle.dbtg_unit.specs.CellNames.{slot_name, place_of}
+use Rattle.dbtg_unit.specs.CellNames.{slot_name}
 use Rattle.dbtg_unit.specs.Checks.{area_of_current, areas_of, find_areas}
 use Rattle.dbtg_unit.specs.Effect.{new_key}
 use Rattle.dbtg_unit.specs.Fits.{fits, form_fits, if_named}
@@ -65,6 +65,7 @@ home_owned schema s t e = go (slice_get schema.sets s) e
     of_owner : (set : SetType) (o : Option ℕ) → some_and (λ owner. eqb owner t) o ≡ true → area_of schema (unwrap_or o (first_member set.members)) ≡ area_of schema t
     of_owner set None e = absurd (false≢true e)
     of_owner set (Some o) e = ap (area_of schema) (eqb-true o t e)
+
     go : (o : Option SetType) → some_and (λ owner. eqb owner t) (option_and_then (λ set. set.owner) o) ≡ true → area_of schema (unwrap_or (option_map (λ set. unwrap_or set.owner (first_member set.members)) o) 0) ≡ area_of schema t
     go None e = absurd (false≢true e)
     go (Some set) e = of_owner set set.owner e
@@ -108,6 +109,7 @@ module _ (schema : Lists) where
       system : (b : Bool) → is_system schema s ≡ b → (if b then Some (record { owner = System; at = None }) else None) ≡ Some place → is_owner_in schema s place.owner ≡ true
       system true h e = let q : record { owner = System; at = None } ≡ place = cc in subst (λ (p : Place). is_owner_in schema s p.owner ≡ true) q h
       system false h e = absurd (cc (e))
+
       go : (o : Option Place) → if_named (is_place_in schema s) o ≡ true → option_or o (if is_system schema s then Some (record { owner = System; at = None }) else None) ≡ Some place → is_owner_in schema s place.owner ≡ true
       go None h e = system (is_system schema s) refl e
       go (Some p) h e = let q : p ≡ place = cc in subst (λ (p : Place). is_owner_in schema s p.owner ≡ true) q (and_parts _ _ h).0
@@ -146,12 +148,12 @@ module _ (schema : Lists) (capacity : ℕ) (db : Database) (legal : Legal schema
   in_area_lies : (unit : Unit) (which : Which) (r : Option ℕ) (a : ℕ) → form_fits schema (InArea which r a) ≡ true → list_all (lies_in schema (a ∷ [])) (find_cells schema capacity db unit (InArea which r a)) ≡ true
   in_area_lies unit which r a f =
       all_join (lies_in schema (a ∷ [])) (map Extent types) _
-        (all_each _ (map Extent types) (λ c i. let m = of_map Extent c types i in subst (λ d. lies_in schema (a ∷ []) d ≡ true) m.2 (or_left _ _ (type_area a r (and_parts _ _ f).1 m.0 m.1))))
-        (found_lies schema (a ∷ []) _ (λ k e.
-          let i = chosen_by_key_in which (at unit.currency.areas a) (keys_in_area schema capacity db r a) k (found_is None _ End k e) in
-          let m = of_flat_map (live_keys capacity db) k (types_in schema a) (of_filter (has_type r) k _ i).0 in
-          let t = (live_of schema capacity db legal k m.0 m.2).1 in
-          or_left _ _ (eq-eqb _ _ (sym (ap (area_of schema) t ∙ eqb-true _ _ (of_filter (λ t. area_of schema t == a) m.0 _ m.1).1)))))
+      (all_each _ (map Extent types) (λ c i. let m = of_map Extent c types i in subst (λ d. lies_in schema (a ∷ []) d ≡ true) m.2 (or_left _ _ (type_area a r (and_parts _ _ f).1 m.0 m.1))))
+      (found_lies schema (a ∷ []) _ (λ k e.
+      let i = chosen_by_key_in which (at unit.currency.areas a) (keys_in_area schema capacity db r a) k (found_is None _ End k e) in
+      let m = of_flat_map (live_keys capacity db) k (types_in schema a) (of_filter (has_type r) k _ i).0 in
+      let t = (live_of schema capacity db legal k m.0 m.2).1 in
+      or_left _ _ (eq-eqb _ _ (sym (ap (area_of schema) t ∙ eqb-true _ _ (of_filter (λ t. area_of schema t == a) m.0 _ m.1).1)))))
     where
       types : List ℕ
       types = unwrap_or (option_map (λ t. t ∷ []) r) (types_in schema a)
@@ -176,14 +178,15 @@ module _ (schema : Lists) (capacity : ℕ) (db : Database) (legal : Legal schema
       owner : (o : Owner) → is_owner_in schema s o ≡ true → list_all (lies_in schema (home schema s ∷ [])) (slot_names (key_of_owner o)) ≡ true
       owner System h = refl
       owner (Rec k) h = and_from _ _ (or_left _ _ (eq-eqb _ _ (home_owned schema s k.rtype h))) refl
+
       go : (o : Option Place) → ((place : Place) → o ≡ Some place → is_owner_in schema s place.owner ≡ true) → list_all (lies_in schema (home schema s ∷ [])) (slot_names (option_and_then (λ place. key_of_place (record place { at = None })) o)) ≡ true
       go None h = refl
       go (Some place) h = owner place.owner (h place refl)
   find_cells_lie unit of (Calc r values) f = and_from _ _ (lies_first schema (Extent r) []) (found_lies schema (area_of schema r ∷ []) _ (λ k e. calc_lies r values k (first_is_in _ k (found_is None _ NoneSatisfies k e))))
   find_cells_lie unit of (NextDuplicate r) f =
       and_from _ _ (lies_first schema (Extent r) []) (found_lies schema (area_of schema r ∷ []) _ (λ k e.
-        let c = current_is (at unit.currency.types r) _ k e in
-        calc_lies r _ k (first_of_filter (key_lt c.0) _ k (found_is _ _ _ k c.2)).0))
+      let c = current_is (at unit.currency.types r) _ k e in
+      calc_lies r _ k (first_of_filter (key_lt c.0) _ k (found_is _ _ _ k c.2)).0))
   find_cells_lie unit of (Sorted v s) f =
       all_join _ (ring_names s (current_owner schema unit s)) _ (rings_lie schema (find_areas schema unit (Sorted v s)) s _ (home_first s _)) (found_lies schema (find_areas schema unit (Sorted v s)) _ (sorted_lies unit v s))
 
@@ -194,16 +197,20 @@ module _ (schema : Lists) (capacity : ℕ) (db : Database) (legal : Legal schema
     where
       areas : List ℕ
       areas = area_of schema k.rtype ∷ map (home schema) (automatic_sets schema k.rtype)
+
       current : ℕ → List CellName
       current s = if list_any (λ s'. s' == s) (automatic_sets schema k.rtype) then ring_names s (current_owner schema unit s) else []
+
       own : ℕ → List CellName
       own s = if owns schema s k.rtype then Ring s (Some (k.rtype, k.number)) ∷ [] else []
+
       current_lie : (s : ℕ) → list_all (lies_in schema areas) (current s) ≡ true
       current_lie s = cond_both (list_any (λ s'. s' == s) (automatic_sets schema k.rtype)) _ _ (λ cs. list_all (lies_in schema areas) cs ≡ true)
-        (λ e.
+          (λ e.
           let a = any_element (λ s'. s' == s) (automatic_sets schema k.rtype) e in
           rings_lie schema areas s _ (or_right _ _ (subst (λ s'. is_among (map (home schema) (automatic_sets schema k.rtype)) (home schema s') ≡ true) (eqb-true a.0 s a.2) (among_mapped (home schema) a.0 _ a.1))))
-        (λ e. refl)
+          (λ e. refl)
+
       own_lie : (s : ℕ) → list_all (lies_in schema areas) (own s) ≡ true
       own_lie s = cond_both (owns schema s k.rtype) _ _ (λ cs. list_all (lies_in schema areas) cs ≡ true) (λ e. and_from _ _ (or_left _ _ (eq-eqb _ _ (sym (home_owned schema s k.rtype e)))) refl) (λ e. refl)
 
@@ -214,13 +221,13 @@ module _ (schema : Lists) (capacity : ℕ) (db : Database) (legal : Legal schema
 
   -- a MODIFY of type t is of a current of that type
   modify_cells_lie : (unit : Unit) (g : List (Option Owner)) (t : ℕ) (named : List ℕ) (calc : Bool) → ((k : DbKey) → unit.currency.run_unit ≡ Some k → k.rtype ≡ t) →
-    list_all (lies_in schema (area_of schema t ∷ map (home schema) (rekeyed_sets schema t named))) ((if calc then Extent t ∷ [] else []) ++ flat_map (λ s. ring_names s (at g s)) (rekeyed_sets schema t named) ++ slot_names unit.currency.run_unit) ≡ true
+      list_all (lies_in schema (area_of schema t ∷ map (home schema) (rekeyed_sets schema t named))) ((if calc then Extent t ∷ [] else []) ++ flat_map (λ s. ring_names s (at g s)) (rekeyed_sets schema t named) ++ slot_names unit.currency.run_unit) ≡ true
   modify_cells_lie unit g t named calc typed =
       all_join (lies_in schema areas) ((if calc then Extent t ∷ [] else []) ++ flat_map (λ s. ring_names s (at g s)) (rekeyed_sets schema t named)) _
-        (all_join (lies_in schema areas) (if calc then Extent t ∷ [] else []) _
-          (cond_both calc _ _ (λ cs. list_all (lies_in schema areas) cs ≡ true) (λ e. and_from _ _ (lies_first schema (Extent t) _) refl) (λ e. refl))
-          (all_flat (lies_in schema areas) (λ s. ring_names s (at g s)) (rekeyed_sets schema t named) (λ s i. rings_lie schema areas s (at g s) (or_right _ _ (among_mapped (home schema) s _ i)))))
-        (slots_lie schema areas unit.currency.run_unit (λ k e. or_left _ _ (eq-eqb _ _ (ap (area_of schema) (sym (typed k e))))))
+      (all_join (lies_in schema areas) (if calc then Extent t ∷ [] else []) _
+      (cond_both calc _ _ (λ cs. list_all (lies_in schema areas) cs ≡ true) (λ e. and_from _ _ (lies_first schema (Extent t) _) refl) (λ e. refl))
+      (all_flat (lies_in schema areas) (λ s. ring_names s (at g s)) (rekeyed_sets schema t named) (λ s i. rings_lie schema areas s (at g s) (or_right _ _ (among_mapped (home schema) s _ i)))))
+      (slots_lie schema areas unit.currency.run_unit (λ k e. or_left _ _ (eq-eqb _ _ (ap (area_of schema) (sym (typed k e))))))
     where
       areas : List ℕ
       areas = area_of schema t ∷ map (home schema) (rekeyed_sets schema t named)
@@ -230,8 +237,8 @@ module _ (schema : Lists) (capacity : ℕ) (db : Database) (legal : Legal schema
 
   -- of all statements but DELETE
   pub cells_lie : (unit : Unit) → IsUnitOf schema unit → (g : List (Option Owner)) (x : Statement) → fits schema x ≡ true → is_delete x ≡ false →
-    ((t : ℕ) (changes : _) → x ≡ Modify t changes → (k : DbKey) → unit.currency.run_unit ≡ Some k → k.rtype ≡ t) →
-    list_all (lies_in schema (areas_of schema unit x)) (cells_of schema capacity db unit g x) ≡ true
+      ((t : ℕ) (changes : _) → x ≡ Modify t changes → (k : DbKey) → unit.currency.run_unit ≡ Some k → k.rtype ≡ t) →
+      list_all (lies_in schema (areas_of schema unit x)) (cells_of schema capacity db unit g x) ≡ true
   cells_lie unit of g (OpenArea a mode) f d m = and_from _ _ (lies_first schema (Usage a) []) refl
   cells_lie unit of g (CloseArea a) f d m = and_from _ _ (lies_first schema (Usage a) []) refl
   cells_lie unit of g (Find form suppress) f d m = find_cells_lie unit of form (and_parts _ _ f).0

@@ -1,30 +1,28 @@
 -- Each cell of a DELETE lies in one of its areas.
-use Rattle.std.proofs.Common.{◌≡◌, refl, sym, ◌∙◌, ap, subst, ℕ, zero, suc, ◌+◌, ◌<◌, ◌≤◌, Bool, true, false, cond, not, eqb, ◌&&◌, ◌||◌, List, [], ◌∷◌, ◌++◌, length, map, Option, Some, None, inl, inr, arith}
+use Rattle.std.proofs.Common.{◌≡◌, refl, sym, subst, ℕ, zero, suc, ◌<◌, Bool, true, eqb, ◌&&◌, List, [], ◌∷◌, ◌++◌, length, map, Option, Some, None, inl, inr, arith}
 use Rattle.std.specs.Prelude.{filter, is_some, nat_lt, slice_get, if◌then◌else◌, ◌==◌}
 use Rattle.std.specs.List.{list_any, list_all, range_with_len, flat_map}
-use Rattle.std.proofs.lemmas.Bool.{and_parts, and_from, or_left, or_right, cond_both, eqb-true, eq-eqb, ltb-true}
+use Rattle.std.proofs.lemmas.Bool.{and_parts, and_from, cond_both, eqb-true, eq-eqb}
 use Rattle.dbtg_schema.specs.Lists.{Lists}
 use Rattle.dbtg_schema.specs.Lookups.{first_cause, flatten}
 use Rattle.dbtg_schema.specs.Structure.{area_of, areas_with_homes, erase_areas, home, member_clause, owns, reachable_types, set_numbers}
 use Rattle.dbtg_cells.specs.declared.key.DbKey.{DbKey}
-use Rattle.dbtg_cells.specs.declared.key.Owner.{Owner}
 use Rattle.dbtg_cells.specs.declared.key.Owner.TheVariants.{Rec}
 use Rattle.dbtg_cells.specs.declared.name.CellName.{CellName}
 use Rattle.dbtg_cells.specs.declared.name.CellName.TheVariants.{Extent, Ring}
 use Rattle.dbtg_cells.specs.Names.{name_eq}
 use Rattle.dbtg_unit.specs.declared.statement.Erase.{Erase}
 use Rattle.dbtg_unit.specs.declared.unit.Unit.{Unit}
-use Rattle.dbtg_unit.specs.Base.{Database, is_live, is_member, members_of, owners}
+use Rattle.dbtg_unit.specs.Base.{Database, is_member, members_of}
 use Rattle.dbtg_unit.specs.CellNames.{slot_name, place_of}
 use Rattle.dbtg_unit.specs.Doomed.{all_keys, takes}
 use Rattle.dbtg_unit.specs.Effect.{own_checks, is_plain, has_members}
-use Rattle.dbtg_unit.specs.Erased.{has_member_type}
 use Rattle.dbtg_unit.specs.Erasing.{cells_of_doomed, delete_cells, doomed_in_turn, names_once, outer_cells, own_rings, rings_to_member, spread, spread_from, taken_with, with_those}
 use Rattle.dbtg_unit.specs.Legal.{Legal}
 use Rattle.dbtg_unit.proofs.ErasedLemmas.{reachable_is_least, set_of_member}
-use Rattle.dbtg_unit.proofs.LiveKeys.{In, any_in, any_element, all_at, in_filter, in_left, in_map, in_member, in_range, in_right, listed, member_in, of_filter, of_flat_map, of_map}
+use Rattle.dbtg_unit.proofs.LiveKeys.{In, any_in, any_element, all_at, in_filter, in_left, in_map, in_member, in_range, in_right, listed, of_filter, of_flat_map, of_map}
 use Rattle.dbtg_step.proofs.FoundKeys.{slice_in}
-use Rattle.dbtg_step.proofs.AreasOfCells.{all_each, all_flat, all_join, home_owned, is_among, lies_in, lies_first}
+use Rattle.dbtg_step.proofs.AreasOfCells.{all_each, all_flat, all_join, home_owned, is_among, lies_in}
 
 in_flattened : {X Y : Type 0} (f : X → List Y) (x : X) (y : Y) (xs : List X) → In x xs → In y (f x) → In y (flatten (map f xs))
 in_flattened f x y [] i j = absurd i
@@ -59,8 +57,8 @@ module _ (schema : Lists) (capacity : ℕ) (db : Database) (legal : Legal schema
       let facts = legal.members s (Rec d) m member in
       let owner = and_parts _ _ (listed schema capacity db legal s (Rec d) m member) in
       (reachable_is_least schema root).closed d.rtype m.rtype h
-        (any_in (λ s'. owns schema s' d.rtype && is_some (member_clause schema s' m.rtype)) s (set_numbers schema) (set_of_member schema s m.rtype facts.1) (and_from _ _ owner.0 facts.1))
-        (type_in m.rtype (legal.keys m facts.0).0)
+      (any_in (λ s'. owns schema s' d.rtype && is_some (member_clause schema s' m.rtype)) s (set_numbers schema) (set_of_member schema s m.rtype facts.1) (and_from _ _ owner.0 facts.1))
+      (type_in m.rtype (legal.keys m facts.0).0)
 
   within : (t a : ℕ) → reached t ≡ true → In a (areas_with_homes schema t) → is_among areas a ≡ true
   within t a h i =
@@ -112,44 +110,49 @@ module _ (schema : Lists) (capacity : ℕ) (db : Database) (legal : Legal schema
   doomed_lie : (d : DbKey) → reached d.rtype ≡ true → list_all (lies_in schema areas) (cells_of_doomed schema db d) ≡ true
   doomed_lie d h =
       and_from _ _ (type_lies d.rtype h)
-        (all_join (lies_in schema areas) (own_rings schema d) _ (rings_lie d h)
-          (all_each (lies_in schema areas) _ (λ c i.
-            let m = of_map slot_name c _ i in
-            let s = of_flat_map (λ s. members_of db s (Rec d)) m.0 (set_numbers schema) m.1 in
-            subst (λ e. lies_in schema areas e ≡ true) m.2 (type_lies m.0.rtype (members_reached s.0 d m.0 h s.2)))))
+      (all_join (lies_in schema areas) (own_rings schema d) _ (rings_lie d h)
+      (all_each (lies_in schema areas) _ (λ c i.
+      let m = of_map slot_name c _ i in
+      let s = of_flat_map (λ s. members_of db s (Rec d)) m.0 (set_numbers schema) m.1 in
+      subst (λ e. lies_in schema areas e ≡ true) m.2 (type_lies m.0.rtype (members_reached s.0 d m.0 h s.2)))))
 
   outer_lie : (gone : List DbKey) → list_all reached_key gone ≡ true → list_all (lies_in schema areas) (outer_cells schema capacity db gone) ≡ true
   outer_lie gone h =
       all_join (lies_in schema areas) (map Extent (filter (λ t. list_any (λ d. d.rtype == t) gone) (range_with_len 0 (length schema.types)))) _
-        (all_each (lies_in schema areas) _ (λ c i.
-          let m = of_map Extent c _ i in
-          let d = any_element (λ (x : DbKey). x.rtype == m.0) gone (of_filter (λ t. list_any (λ d. d.rtype == t) gone) m.0 _ m.1).1 in
-          subst (λ e. lies_in schema areas e ≡ true) m.2 (subst (λ t. is_among areas (area_of schema t) ≡ true) (eqb-true _ _ d.2) (type_lies d.0.rtype (all_at reached_key d.0 gone h d.1)))))
-        (all_flat (lies_in schema areas) _ (set_numbers schema) (λ s j. all_each (lies_in schema areas) _ (λ c i.
-          let m = of_map (λ o. Ring s (place_of o)) c _ i in
-          let d = any_element (λ (x : DbKey). is_member x (members_of db s m.0)) gone (of_filter (λ o. list_any (λ d. is_member d (members_of db s o)) gone) m.0 _ m.1).1 in
-          subst (λ e. lies_in schema areas e ≡ true) m.2 (home_lies s d.0.rtype (all_at reached_key d.0 gone h d.1) (legal.members s m.0 d.0 d.2).1))))
+      (all_each (lies_in schema areas) _ (λ c i.
+      let m = of_map Extent c _ i in
+      let d = any_element (λ (x : DbKey). x.rtype == m.0) gone (of_filter (λ t. list_any (λ d. d.rtype == t) gone) m.0 _ m.1).1 in
+      subst (λ e. lies_in schema areas e ≡ true) m.2 (subst (λ t. is_among areas (area_of schema t) ≡ true) (eqb-true _ _ d.2) (type_lies d.0.rtype (all_at reached_key d.0 gone h d.1)))))
+      (all_flat (lies_in schema areas) _ (set_numbers schema) (λ s j. all_each (lies_in schema areas) _ (λ c i.
+      let m = of_map (λ o. Ring s (place_of o)) c _ i in
+      let d = any_element (λ (x : DbKey). is_member x (members_of db s m.0)) gone (of_filter (λ o. list_any (λ d. is_member d (members_of db s o)) gone) m.0 _ m.1).1 in
+      subst (λ e. lies_in schema areas e ≡ true) m.2 (home_lies s d.0.rtype (all_at reached_key d.0 gone h d.1) (legal.members s m.0 d.0 d.2).1))))
 
   pub delete_cells_lie : (unit : Unit) (option : Erase) (k : DbKey) → k.rtype ≡ root → list_all (lies_in schema areas) (delete_cells schema capacity db unit option k) ≡ true
   delete_cells_lie unit option k e =
       cond_both (is_some (first_cause (own_checks db unit k))) _ _ (λ cs. list_all (lies_in schema areas) cs ≡ true) (λ f. slot_lies)
-        (λ f. cond_both (is_plain option && has_members schema db k) _ _ (λ cs. list_all (lies_in schema areas) cs ≡ true)
-          (λ g. and_from _ _ slot_here (to_member_lie k here _ (all_each (λ s. owns schema s k.rtype) _ (λ s i. (of_filter (λ s. owns schema s k.rtype) s _ i).1))))
-          (λ g. once_all (lies_in schema areas) [] (slot_name k ∷ own_rings schema k ++ flat_map (cells_of_doomed schema db) gone ++ outer_cells schema capacity db gone) all_lie))
+      (λ f. cond_both (is_plain option && has_members schema db k) _ _ (λ cs. list_all (lies_in schema areas) cs ≡ true)
+      (λ g. and_from _ _ slot_here (to_member_lie k here _ (all_each (λ s. owns schema s k.rtype) _ (λ s i. (of_filter (λ s. owns schema s k.rtype) s _ i).1))))
+      (λ g. once_all (lies_in schema areas) [] (slot_name k ∷ own_rings schema k ++ flat_map (cells_of_doomed schema db) gone ++ outer_cells schema capacity db gone) all_lie))
     where
       here : reached k.rtype ≡ true
       here = subst (λ t. reached t ≡ true) (sym e) root_reached
+
       slot_here : lies_in schema areas (slot_name k) ≡ true
       slot_here = type_lies k.rtype here
+
       slot_lies : list_all (lies_in schema areas) (slot_name k ∷ []) ≡ true
       slot_lies = and_from _ _ slot_here refl
+
       gone : List DbKey
       gone = doomed_in_turn schema capacity db option k
+
       gone_reached : list_all reached_key gone ≡ true
       gone_reached = spread_reached option (length (all_keys schema capacity db)) 0 (k ∷ []) (and_from _ _ here refl)
+
       all_lie : list_all (lies_in schema areas) (slot_name k ∷ own_rings schema k ++ flat_map (cells_of_doomed schema db) gone ++ outer_cells schema capacity db gone) ≡ true
       all_lie =
           all_join (lies_in schema areas) (slot_name k ∷ own_rings schema k ++ flat_map (cells_of_doomed schema db) gone) _
-            (all_join (lies_in schema areas) (slot_name k ∷ own_rings schema k) _ (and_from _ _ slot_here (rings_lie k here))
-              (all_flat (lies_in schema areas) (cells_of_doomed schema db) gone (λ d i. doomed_lie d (all_at reached_key d gone gone_reached i))))
-            (outer_lie gone gone_reached)
+          (all_join (lies_in schema areas) (slot_name k ∷ own_rings schema k) _ (and_from _ _ slot_here (rings_lie k here))
+          (all_flat (lies_in schema areas) (cells_of_doomed schema db) gone (λ d i. doomed_lie d (all_at reached_key d gone gone_reached i))))
+          (outer_lie gone gone_reached)

@@ -1,11 +1,11 @@
 -- The first element of an ascending list that isn't held: all below it are held.
-use Rattle.std.proofs.Common.{◌≡◌, refl, sym, ◌∙◌, ap, subst, ℕ, zero, suc, ◌+◌, ◌<◌, Bool, true, false, cond, not, List, [], ◌∷◌, ◌++◌, map, Option, Some, None, ◌⊎◌, inl, inr, ⊎_elim, arith}
+use Rattle.std.proofs.Common.{◌≡◌, refl, sym, ◌∙◌, subst, ℕ, zero, suc, ◌+◌, ◌<◌, Bool, true, false, not, List, [], ◌∷◌, ◌++◌, Some, ◌⊎◌, inl, inr, arith}
 use Rattle.std.specs.Prelude.{nat_lt, filter}
 use Rattle.std.specs.List.{list_all, range_with_len, find}
-use Rattle.std.proofs.lemmas.Bool.{and_parts, and_from, cond_both, false≢true, ltb-true, lt-ltb}
+use Rattle.std.proofs.lemmas.Bool.{and_parts, and_from, cond_both, false≢true, lt-ltb}
 use Rattle.std.proofs.lemmas.List.Folds.{list_all-append}
 use Rattle.dbtg_unit.specs.Legal.{pairwise}
-use Rattle.dbtg_unit.proofs.LiveKeys.{In, all_at, find_element, in_left, in_right, of_append, of_filter}
+use Rattle.dbtg_unit.proofs.LiveKeys.{In, all_at, find_element}
 
 all_filtered : {X : Type 0} (p test : X → Bool) (xs : List X) → list_all p xs ≡ true → list_all p (filter test xs) ≡ true
 all_filtered p test [] h = refl
@@ -48,8 +48,10 @@ module _ {X : Type 0} (lt : X → X → Bool) (never : (x : X) → lt x x ≡ tr
     where
       first : p x ≡ true → x ≡ c
       first t = cc (e, t)
+
       later : p x ≡ false → find p xs ≡ Some c
       later t = cc (e, t)
+
       go : (p x ≡ false → In d xs → p d ≡ false) → (q : Bool) → p x ≡ q → In d (x ∷ xs) → p d ≡ false
       go behind true t (inl s) = absurd (never c (subst (λ (y : X). lt y c ≡ true) (sym s ∙ first t) b))
       go behind true t (inr j) = absurd (never c (chain c d c (subst (λ (y : X). lt y d ≡ true) (first t) (all_at (lt x) d xs (and_parts _ _ h).0 j)) b))
@@ -58,9 +60,9 @@ module _ {X : Type 0} (lt : X → X → Bool) (never : (x : X) → lt x x ≡ tr
 
   -- it stays so when the first that isn't held is taken
   pub closed_on : (held held' : X → Bool) (xs : List X) (c : X) → pairwise lt xs ≡ true → find (λ x. not (held x)) xs ≡ Some c →
-    ((d : X) → held' d ≡ true → (held d ≡ true) ⊎ (d ≡ c)) → ((d : X) → held d ≡ true → held' d ≡ true) → IsClosed lt held xs → IsClosed lt held' xs
+      ((d : X) → held' d ≡ true → (held d ≡ true) ⊎ (d ≡ c)) → ((d : X) → held d ≡ true → held' d ≡ true) → IsClosed lt held xs → IsClosed lt held' xs
   closed_on held held' xs c asc e less more closed h d k i b = elim (less h k) [
-      inl old ↦ more d (closed h d old i b)
+    | inl old ↦ more d (closed h d old i b)
     | inr new ↦ more d (not_false (held d) (below_first (λ x. not (held x)) xs c d asc e i (subst (λ y. lt d y ≡ true) new b)))
   ]
 
@@ -69,7 +71,7 @@ module _ {X : Type 0} (lt : X → X → Bool) (never : (x : X) → lt x x ≡ tr
   above_held total held xs c e closed h k =
       let f = find_element (λ x. not (held x)) xs c e in
       elim (total h c) [
-          inl below ↦ below
+        | inl below ↦ below
         | inr (inl same) ↦ absurd (not_both (held c) (subst (λ y. held y ≡ true) same k) f.1)
         | inr (inr above) ↦ absurd (not_both (held c) (closed h c k f.0 above) f.1)
       ]

@@ -1,6 +1,6 @@
 -- The cells of a statement ascend, in all statements but DELETE.
-use Rattle.std.proofs.Common.{◌≡◌, refl, sym, ◌∙◌, ap, subst, ℕ, Bool, true, false, cond, eqb, ◌&&◌, ◌||◌, List, [], ◌∷◌, ◌++◌, length, map, Option, Some, None, inl, inr}
-use Rattle.std.specs.Prelude.{Result, Ok, Err, filter, is_some, nat_lt, option_map, option_and_then, unwrap_or, if◌then◌else◌, ◌==◌}
+use Rattle.std.proofs.Common.{◌≡◌, refl, sym, ◌∙◌, subst, ℕ, Bool, true, false, eqb, ◌||◌, List, [], ◌∷◌, ◌++◌, length, map, Option, Some, None, inl, inr}
+use Rattle.std.specs.Prelude.{Result, Ok, Err, is_some, nat_lt, option_map, option_and_then, unwrap_or, if◌then◌else◌, ◌==◌}
 use Rattle.std.specs.List.{list_any, list_all, range_with_len, flat_map}
 use Rattle.std.proofs.lemmas.Bool.{and_parts, and_from, or_left, cases_Bool, cond_both, false≢true, eqb-true, eq-eqb}
 use Rattle.dbtg_schema.specs.Lists.{Lists}
@@ -19,13 +19,13 @@ use Rattle.dbtg_unit.specs.declared.statement.Statement.TheVariants.{OpenArea, C
 use Rattle.dbtg_unit.specs.declared.unit.Cause.{Cause}
 use Rattle.dbtg_unit.specs.declared.unit.Unit.{Unit}
 use Rattle.dbtg_unit.specs.Base.{Database}
-use Rattle.dbtg_unit.specs.CellNames.{slot_name, place_of}
+use Rattle.dbtg_unit.specs.CellNames.{slot_name}
 use Rattle.dbtg_unit.specs.Effect.{new_key}
 use Rattle.dbtg_unit.specs.Found.{found}
 use Rattle.dbtg_unit.specs.Legal.{pairwise}
 use Rattle.dbtg_unit.specs.Needs.{cells_of, current_owner, find_cells, found_slot, ring_names, slot_names, store_cells, store_rings}
 use Rattle.dbtg_unit.specs.Units.{key_of_place, place_in}
-use Rattle.dbtg_unit.proofs.LiveKeys.{In, all_at, any_element, of_filter, of_map}
+use Rattle.dbtg_unit.proofs.LiveKeys.{In, all_at, any_element, of_filter}
 use Rattle.dbtg_step.specs.Network.{SuitsMachine, is_delete}
 use Rattle.dbtg_step.proofs.AreasOfCells.{all_each, all_flat, all_join}
 use Rattle.dbtg_step.proofs.Ascending.{ascending_filter, ascending_join, ascending_range}
@@ -87,7 +87,7 @@ rings_ascend f [] h rings each = refl
 rings_ascend f (s ∷ sets) h rings each =
     let hs = and_parts _ _ h in
     ascending_join name_lt (f s) (flat_map f sets) (each s) (rings_ascend f sets hs.1 rings each)
-      (λ c i. all_flat (name_lt c) f sets (λ t j. all_each (name_lt c) (f t) (λ d k. ring_before s t c d (all_at (is_ring_of s) c (f s) (rings s) i) (all_at (is_ring_of t) d (f t) (rings t) k) (all_at (nat_lt s) t sets hs.0 j))))
+    (λ c i. all_flat (name_lt c) f sets (λ t j. all_each (name_lt c) (f t) (λ d k. ring_before s t c d (all_at (is_ring_of s) c (f s) (rings s) i) (all_at (is_ring_of t) d (f t) (rings t) k) (all_at (nat_lt s) t sets hs.0 j))))
 
 slots_alone : (o : Option DbKey) → pairwise name_lt (slot_names o) ≡ true
 slots_alone None = refl
@@ -200,10 +200,10 @@ module _ (schema : Lists) (suits : SuitsMachine schema) (capacity : ℕ) (db : D
     store_one : (s : ℕ) → pairwise name_lt (current s ++ own s) ≡ true
     unfolding current own
     store_one s = elim (cases_Bool (owns schema s k.rtype)) [
-        inl e ↦ elim (cases_Bool (list_any (λ s'. s' == s) (automatic_sets schema k.rtype))) [
-            inl a ↦ absurd (false≢true (sym (suits.owner_is_no_member s k.rtype e) ∙ is_member_of s a))
-          | inr a ↦ rw (a, e) refl
-        ]
+      | inl e ↦ elim (cases_Bool (list_any (λ s'. s' == s) (automatic_sets schema k.rtype))) [
+        | inl a ↦ absurd (false≢true (sym (suits.owner_is_no_member s k.rtype e) ∙ is_member_of s a))
+        | inr a ↦ rw (a, e) refl
+      ]
       | inr e ↦ rw e (cond_both (list_any (λ s'. s' == s) (automatic_sets schema k.rtype)) (ring_names s (current_owner schema unit s)) [] (λ cs. pairwise name_lt (cs ++ []) ≡ true) (λ a. alone (current_owner schema unit s)) (λ a. refl))
     ]
       where
@@ -215,8 +215,8 @@ module _ (schema : Lists) (suits : SuitsMachine schema) (capacity : ℕ) (db : D
     unfolding current own
     store_of s =
         all_join (is_ring_of s) (current s) (own s)
-          (cond_both (list_any (λ s'. s' == s) (automatic_sets schema k.rtype)) _ _ (λ cs. list_all (is_ring_of s) cs ≡ true) (λ e. all_rings s (current_owner schema unit s)) (λ e. refl))
-          (cond_both (owns schema s k.rtype) _ _ (λ cs. list_all (is_ring_of s) cs ≡ true) (λ e. and_from _ _ (eq-eqb s s refl) refl) (λ e. refl))
+        (cond_both (list_any (λ s'. s' == s) (automatic_sets schema k.rtype)) _ _ (λ cs. list_all (is_ring_of s) cs ≡ true) (λ e. all_rings s (current_owner schema unit s)) (λ e. refl))
+        (cond_both (owns schema s k.rtype) _ _ (λ cs. list_all (is_ring_of s) cs ≡ true) (λ e. and_from _ _ (eq-eqb s s refl) refl) (λ e. refl))
 
     store_rings_ascend : pairwise name_lt (store_rings schema unit k) ≡ true
     unfolding current own
@@ -230,9 +230,9 @@ module _ (schema : Lists) (suits : SuitsMachine schema) (capacity : ℕ) (db : D
   in_kinds : (es rings slots : List CellName) → pairwise name_lt es ≡ true → ((c : CellName) → In c es → (t : ℕ) × (c ≡ Extent t)) → pairwise name_lt rings ≡ true → list_all is_ring rings ≡ true → pairwise name_lt slots ≡ true → list_all is_slot slots ≡ true → pairwise name_lt (es ++ rings ++ slots) ≡ true
   in_kinds es rings slots he ke hr kr hs ks =
       then_slots (es ++ rings) slots
-        (ascending_join name_lt es rings he hr (λ c i. let e = ke c i in subst (λ d. list_all (name_lt d) rings ≡ true) (sym e.1) (weaker is_ring (name_lt (Extent e.0)) rings (λ d h. extent_first e.0 d (ring_then d h)) kr)))
-        (all_join _ es rings (all_each _ es (λ c i. let e = ke c i in subst (λ d. (is_extent d || is_ring d) ≡ true) (sym e.1) refl)) (weaker is_ring _ rings ring_counts kr))
-        hs ks
+      (ascending_join name_lt es rings he hr (λ c i. let e = ke c i in subst (λ d. list_all (name_lt d) rings ≡ true) (sym e.1) (weaker is_ring (name_lt (Extent e.0)) rings (λ d h. extent_first e.0 d (ring_then d h)) kr)))
+      (all_join _ es rings (all_each _ es (λ c i. let e = ke c i in subst (λ d. (is_extent d || is_ring d) ≡ true) (sym e.1) refl)) (weaker is_ring _ rings ring_counts kr))
+      hs ks
 
   one_extent : (t : ℕ) (c : CellName) → In c (Extent t ∷ []) → (u : ℕ) × (c ≡ Extent u)
   one_extent t c (inl e) = (t, sym e)
@@ -246,11 +246,11 @@ module _ (schema : Lists) (suits : SuitsMachine schema) (capacity : ℕ) (db : D
   modify_ascends : (g : List (Option Owner)) (t : ℕ) (named : List ℕ) (calc : Bool) → pairwise name_lt ((if calc then Extent t ∷ [] else []) ++ flat_map (λ s. ring_names s (at g s)) (rekeyed_sets schema t named) ++ slot_names unit.currency.run_unit) ≡ true
   modify_ascends g t named calc =
       in_kinds (if calc then Extent t ∷ [] else []) (flat_map (λ s. ring_names s (at g s)) (rekeyed_sets schema t named)) (slot_names unit.currency.run_unit)
-        (cond_both calc _ _ (λ cs. pairwise name_lt cs ≡ true) (λ e. refl) (λ e. refl))
-        (λ c. cond_both calc _ _ (λ cs. In c cs → (u : ℕ) × (c ≡ Extent u)) (λ e. one_extent t c) (λ e i. absurd i))
-        (rings_ascend (λ s. ring_names s (at g s)) (rekeyed_sets schema t named) (ascending_filter nat_lt _ (set_numbers schema) sets_ascend) (λ s. all_rings s (at g s)) (λ s. rings_alone s (at g s)))
-        (all_flat is_ring (λ s. ring_names s (at g s)) (rekeyed_sets schema t named) (λ s i. weaker (is_ring_of s) is_ring (ring_names s (at g s)) (ring_of_some s) (all_rings s (at g s))))
-        (slots_alone unit.currency.run_unit) (all_slots unit.currency.run_unit)
+      (cond_both calc _ _ (λ cs. pairwise name_lt cs ≡ true) (λ e. refl) (λ e. refl))
+      (λ c. cond_both calc _ _ (λ cs. In c cs → (u : ℕ) × (c ≡ Extent u)) (λ e. one_extent t c) (λ e i. absurd i))
+      (rings_ascend (λ s. ring_names s (at g s)) (rekeyed_sets schema t named) (ascending_filter nat_lt _ (set_numbers schema) sets_ascend) (λ s. all_rings s (at g s)) (λ s. rings_alone s (at g s)))
+      (all_flat is_ring (λ s. ring_names s (at g s)) (rekeyed_sets schema t named) (λ s i. weaker (is_ring_of s) is_ring (ring_names s (at g s)) (ring_of_some s) (all_rings s (at g s))))
+      (slots_alone unit.currency.run_unit) (all_slots unit.currency.run_unit)
 
   pub cells_ascend : (g : List (Option Owner)) (x : Statement) → is_delete x ≡ false → pairwise name_lt (cells_of schema capacity db unit g x) ≡ true
   cells_ascend g (OpenArea a mode) d = refl

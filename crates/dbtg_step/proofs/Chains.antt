@@ -1,6 +1,6 @@
 -- Who waits for a thing waits below what its holder waits for: among finitely many somebody doesn't wait.
 use Rattle.dbtg_step.specs.SequentialDatabase.{unit_at}
-use Rattle.std.proofs.Common.{ℕ, zero, suc, ◌+◌, ◌≡◌, ◌<◌, ◌≤◌, Bool, true, false, cond, List, [], ◌∷◌, Option, Some, None, map, slice_get, ◌⊎◌, inl, inr, refl, sym, ap, ◌∙◌, subst, arith}
+use Rattle.std.proofs.Common.{ℕ, zero, suc, ◌+◌, ◌≡◌, ◌<◌, ◌≤◌, Bool, true, false, List, [], ◌∷◌, Option, Some, None, slice_get, ◌⊎◌, inl, inr, refl, arith}
 
 unfoldable number : Bool → ℕ
 number true = 1
@@ -60,7 +60,7 @@ module _ (R : Type 0) (lt : R → R → Bool) (never : (r : R) → lt r r ≡ fa
   unfolding above
   go_up zero ws next u r e l = absurd (omega arith)
   go_up (suc n) ws next u r e l = elim (next u r e) [
-      inl f ↦ f
+    | inl f ↦ f
     | inr h ↦
         let k = count_less (above h.what) (above r) ws h.who (Some h.what) (above_chain r h.what h.higher) h.at (never h.what) h.higher in
         let m : count (above h.what) ws < n = omega (arith, k, l) in

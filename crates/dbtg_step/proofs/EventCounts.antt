@@ -1,11 +1,11 @@
--- A statement that meets nobody and never turns back has 2 + 2a + 3c events.
-use Rattle.std.proofs.Common.{ℕ, zero, suc, ◌+◌, ◌*◌, ◌-◌, ◌≡◌, ◌≢◌, ◌≤◌, ◌<◌, Bool, true, false, ◌||◌, ltb, List, [], ◌∷◌, length, Option, Some, None, slice_get, slice_set, option_and_then, refl, sym, ap, ◌∙◌, subst, arith, lt-ltb, le-ltb, inl, inr}
-use Rattle.dbtg_step.specs.SequentialDatabase.{HeldCell, NextNeed, NeedsArea, NeedsCell, NeedsNothing, SequentialDatabase, NamesCells, In, NotAmong, unit_at, with_unit_at}
+-- A statement that is never blocked and never turns back has 2 + 2a + 3c events.
+use Rattle.std.proofs.Common.{ℕ, zero, suc, ◌+◌, ◌*◌, ◌≡◌, ◌≤◌, Bool, true, false, ◌||◌, List, [], ◌∷◌, length, Some, None, slice_set, option_and_then, refl, sym, ap, ◌∙◌, subst, arith, lt-ltb, le-ltb, inl, inr}
+use Rattle.dbtg_step.specs.SequentialDatabase.{HeldCell, NextNeed, NeedsArea, NeedsCell, NeedsNothing, SequentialDatabase, NamesCells, NotAmong, unit_at, with_unit_at}
 use Rattle.dbtg_step.specs.Machine.{Location, Home, HeldBy, Progress, UnitState, State, SequentialState, replay, relocated, begun, unless_over}
-use Rattle.dbtg_step.specs.Step.{next_need, any_but, any_other, conflicts, updated, with_progress, with_ticket, due_cells, after_ticket, takes_area, takes_cell, follows_need, step, Transition, MovedTo}
-use Rattle.dbtg_step.specs.EventCount.{progress_of, IsOverAfter, HasEvents, TakesAlone, NoneTaken, AreaTaken, CellTaken, EventsAreCounted}
+use Rattle.dbtg_step.specs.Step.{next_need, any_but, any_other, conflicts, updated, with_progress, with_ticket, due_cells, after_ticket, takes_area, takes_cell, follows_need, step, MovedTo}
+use Rattle.dbtg_step.specs.EventCount.{progress_of, IsOverAfter, HasEvents, TakesAlone, NoneTaken, AreaTaken, CellTaken}
 use Rattle.dbtg_step.proofs.UnitLists.{set_at, relocated_elsewhere}
-use Rattle.dbtg_step.proofs.StepCases.{step_begins, step_after_ticket, step_follows, follows_area, follows_cell}
+use Rattle.dbtg_step.proofs.StepCases.{step_begins, step_after_ticket, step_follows}
 
 set_twice : {X : Type 0} (xs : List X) (i : ℕ) (x y : X) → slice_set (slice_set xs i x) i y ≡ slice_set xs i y
 set_twice [] i x y = refl
@@ -50,12 +50,12 @@ module _ (D : SequentialDatabase) (names : NamesCells D) (opening : SequentialSt
   gives_back [] [] s state w t at is ticket cs as_ l = progress_here s state at ∙ is
   gives_back [] (a ∷ areas) s state w t at is ticket cs as_ l =
       goes_on _ _ (omega arith) s _ state w at is
-        (step_after_ticket D opening s u state at w is t ticket ∙ ap MovedTo (after_is s state w _ false _ [] _ (a ∷ areas) (le-ltb w.linked (length w.cells) (rw cs (omega arith))) cs as_))
-        (gives_back [] areas _ _ (record w { areas = areas }) t (set_at s.units u state _ at) refl ticket cs refl l)
+      (step_after_ticket D opening s u state at w is t ticket ∙ ap MovedTo (after_is s state w _ false _ [] _ (a ∷ areas) (le-ltb w.linked (length w.cells) (rw cs (omega arith))) cs as_))
+      (gives_back [] areas _ _ (record w { areas = areas }) t (set_at s.units u state _ at) refl ticket cs refl l)
   gives_back (h ∷ hs) areas s state w t at is ticket cs as_ l =
       goes_on _ _ (omega arith) s _ state w at (is ∙ some areas)
-        (step_after_ticket D opening s u state at w (is ∙ some areas) t ticket ∙ ap MovedTo (after_is s state w _ false _ (h ∷ hs) _ areas (le-ltb w.linked (length w.cells) (rw cs l)) cs as_))
-        (gives_back hs areas _ _ (record w { cells = hs }) t (set_at s.units u state _ at) refl ticket refl as_ (omega arith))
+      (step_after_ticket D opening s u state at w (is ∙ some areas) t ticket ∙ ap MovedTo (after_is s state w _ false _ (h ∷ hs) _ areas (le-ltb w.linked (length w.cells) (rw cs l)) cs as_))
+      (gives_back hs areas _ _ (record w { cells = hs }) t (set_at s.units u state _ at) refl ticket refl as_ (omega arith))
     where
       some : (xs : List ℕ) → unless_over D w xs (h ∷ hs) ≡ Some w
       some [] = refl
@@ -68,8 +68,8 @@ module _ (D : SequentialDatabase) (names : NamesCells D) (opening : SequentialSt
   links (suc k) s state w t at is ticket more l =
       let next = record w { linked = suc w.linked } in
       goes_on _ _ (omega arith) s _ state w at is
-        (step_after_ticket D opening s u state at w is t ticket ∙ ap MovedTo (after_is s state w _ true _ w.cells _ w.areas (lt-ltb w.linked (length w.cells) (omega (arith, l))) refl refl))
-        (links k _ _ next t (set_at s.units u state _ at) refl ticket (holds_on w next w.areas w.cells more) (omega (arith, l)))
+      (step_after_ticket D opening s u state at w is t ticket ∙ ap MovedTo (after_is s state w _ true _ w.cells _ w.areas (lt-ltb w.linked (length w.cells) (omega (arith, l))) refl refl))
+      (links k _ _ next t (set_at s.units u state _ at) refl ticket (holds_on w next w.areas w.cells more) (omega (arith, l)))
     where
       holds_on : (w v : Progress D) (areas : List ℕ) (cells : List (HeldCell D.Cell D.Value)) → unless_over D w areas cells ≡ Some w → unless_over D v areas cells ≡ Some v
       holds_on w v [] [] e = absurd (cc (e))
@@ -83,6 +83,7 @@ module _ (D : SequentialDatabase) (names : NamesCells D) (opening : SequentialSt
     where
       linking : unless_over D w w.areas w.cells ≡ Some w → IsOverAfter D opening u (length w.cells + (length w.cells + length w.areas)) s
       linking more = links (length w.cells) s state w t at (is ∙ more) ticket more (omega (arith, l))
+
       go : (areas : List ℕ) (cells : List (HeldCell D.Cell D.Value)) → w.areas ≡ areas → w.cells ≡ cells → IsOverAfter D opening u (length w.cells + (length w.cells + length w.areas)) s
       go [] [] as_ cs = in_all 0 _ s (rw (as_, cs) refl) (progress_here s state at ∙ (is ∙ λ i. unless_over D w (as_ i) (cs i)))
       go [] (h ∷ hs) as_ cs = linking (λ i. unless_over D w (as_ i) (cs i))
@@ -120,18 +121,18 @@ module _ (D : SequentialDatabase) (names : NamesCells D) (opening : SequentialSt
     found_having areas cells = set_at s.units u state _ at
 
     needs : (areas : List ℕ) (cells : List (HeldCell D.Cell D.Value)) (n : NextNeed D.Cell D.Guesses) → D.need (replay D opening s.history).database state.unit x state.guesses areas cells ≡ n →
-      step D opening (having areas cells) u ≡ follows_need D opening (having areas cells) u (its areas cells) (taking areas cells) x xs n
+        step D opening (having areas cells) u ≡ follows_need D opening (having areas cells) u (its areas cells) (taking areas cells) x xs n
     unfolding having updated its taking next_need
     needs areas cells n e = step_follows D opening (having areas cells) u (its areas cells) (found_having areas cells) (taking areas cells) refl x xs refl rest (λ q. absurd (cc (q))) n e
 
     -- an update after an update
     again : (areas areas' : List ℕ) (cells cells' : List (HeldCell D.Cell D.Value)) (location : D.Cell → Location D.Value) → location ≡ taken_from cells' →
-      updated D (having areas cells) u (its areas cells) location state.guesses (Some (taking areas' cells')) ≡ having areas' cells'
+        updated D (having areas cells) u (its areas cells) location state.guesses (Some (taking areas' cells')) ≡ having areas' cells'
     unfolding having updated its
     again areas areas' cells cells' location e = λ i. record { location = e i; history = s.history; counter = s.counter; units = unit_twice s.units u (its areas cells) (its areas' cells') i }
 
     takes_an_area : (areas : List ℕ) (cells : List (HeldCell D.Cell D.Value)) (a : ℕ) → D.need (replay D opening s.history).database state.unit x state.guesses areas cells ≡ NeedsArea a → any_other (conflicts D (D.is_exclusive x) a) u s.units ≡ false →
-      step D opening (having areas cells) u ≡ MovedTo (having (a ∷ areas) cells)
+        step D opening (having areas cells) u ≡ MovedTo (having (a ∷ areas) cells)
     unfolding follows_need takes_area taking having updated its
     takes_an_area areas cells a e f =
         needs areas cells (NeedsArea a) e
@@ -141,7 +142,7 @@ module _ (D : SequentialDatabase) (names : NamesCells D) (opening : SequentialSt
         free = other_set (conflicts D (D.is_exclusive x) a) u s.units (its areas cells)
 
     takes_a_cell : (areas : List ℕ) (cells : List (HeldCell D.Cell D.Value)) (h : HeldCell D.Cell D.Value) → D.need (replay D opening s.history).database state.unit x state.guesses areas cells ≡ NeedsCell h.name → s.location h.name ≡ Home h.value →
-      step D opening (having areas cells) u ≡ MovedTo (having areas (h ∷ cells))
+        step D opening (having areas cells) u ≡ MovedTo (having areas (h ∷ cells))
     unfolding follows_need takes_cell taking taken_from having updated its
     takes_a_cell areas cells h e f =
         needs areas cells (NeedsCell h.name) e
@@ -153,20 +154,20 @@ module _ (D : SequentialDatabase) (names : NamesCells D) (opening : SequentialSt
     to_the_first n _ _ NoneTaken over = in_all n _ _ (omega arith) over
     to_the_first n _ _ (AreaTaken {areas} {cells} {a} taken e f) over =
         in_all (length areas + length cells + suc n) _ _ (omega arith)
-          (to_the_first (suc n) areas cells taken (goes_on _ _ refl _ _ _ _ (found_having areas cells) refl (takes_an_area areas cells a e f) over))
+        (to_the_first (suc n) areas cells taken (goes_on _ _ refl _ _ _ _ (found_having areas cells) refl (takes_an_area areas cells a e f) over))
     to_the_first n _ _ (CellTaken {areas} {cells} {h} taken e f) over =
         in_all (length areas + length cells + suc n) _ _ (omega arith)
-          (to_the_first (suc n) areas cells taken (goes_on _ _ refl _ _ _ _ (found_having areas cells) refl (takes_a_cell areas cells h e f) over))
+        (to_the_first (suc n) areas cells taken (goes_on _ _ refl _ _ _ _ (found_having areas cells) refl (takes_a_cell areas cells h e f) over))
 
     ticket_drawn : (areas : List ℕ) (cells : List (HeldCell D.Cell D.Value)) → D.need (replay D opening s.history).database state.unit x state.guesses areas cells ≡ NeedsNothing →
-      IsOverAfter D opening u (suc (length cells + (length cells + length areas))) (having areas cells)
+        IsOverAfter D opening u (suc (length cells + (length cells + length areas))) (having areas cells)
     unfolding its follows_need with_ticket taking
     ticket_drawn areas cells e =
         let drawn = with_ticket D opening (having areas cells) u (its areas cells) (taking areas cells) x xs in
         let db = (D.effect (replay D opening (having areas cells).history).database state.unit x).database in
         let same = due_length db cells in
         goes_on _ _ refl _ drawn _ _ (found_having areas cells) refl (needs areas cells NeedsNothing e)
-          (in_all _ _ drawn (rw same refl) (from_ticket drawn _ _ (having areas cells).counter (set_at (having areas cells).units u _ _ (found_having areas cells)) refl refl refl))
+        (in_all _ _ drawn (rw same refl) (from_ticket drawn _ _ (having areas cells).counter (set_at (having areas cells).units u _ _ (found_having areas cells)) refl refl refl))
 
   pub events_are_counted : (s : State D) → (state : UnitState D) (x : D.Statement) (xs : List D.Statement) (areas : List ℕ) (cells : List (HeldCell D.Cell D.Value)) →
       unit_at s.units u ≡ Some state → state.progress ≡ None → state.remaining ≡ x ∷ xs → TakesAlone D opening s u state x areas cells →

@@ -1,12 +1,12 @@
 -- In every state that is reached from the start by steps and quits, where a unit is in mid-statement some unit's next step is an event.
-use Rattle.std.proofs.Common.{ℕ, ◌≡◌, Bool, List, [], ◌∷◌, Option, Some, None, refl, sym, subst}
+use Rattle.std.proofs.Common.{ℕ, ◌≡◌, Bool, List, [], ◌∷◌, Some}
 use Rattle.dbtg_step.specs.SequentialDatabase.{SequentialDatabase, IsSequentialDatabase, unit_at}
 use Rattle.dbtg_step.specs.Machine.{Progress, UnitState, State, SequentialState}
 use Rattle.dbtg_step.specs.Step.{Transition, MovedTo, IsBlocked, IsIdle, IfMoved, transition, state_after, run}
 use Rattle.dbtg_step.specs.declared.moves.Move.{Move}
 use Rattle.dbtg_step.specs.declared.moves.Move.TheVariants.{Step, Quit}
 use Rattle.dbtg_step.specs.Lawful.{Lawful, IsOpening}
-use Rattle.dbtg_step.specs.NeverStuck.{SomeUnitMoves, NeedsInOrder, InTurn, AllInTurn, IsStrictOrder}
+use Rattle.dbtg_step.specs.NeverStuck.{SomeUnitMoves, NeedsInOrder, AllInTurn, IsStrictOrder}
 use Rattle.dbtg_step.proofs.Keeps.{move_keeps, run_keeps}
 use Rattle.dbtg_step.proofs.Opening.{opening_is_lawful}
 use Rattle.dbtg_step.proofs.Turns.{step_in_turn, quit_in_turn}
@@ -34,7 +34,7 @@ module _ (D : SequentialDatabase) (laws : IsSequentialDatabase D) (opening : Seq
   start_in_turn s b = record { each = λ u state w at is t. let i = b.idle u state at in let e = i.0 in absurd (cc (e, is)) }
 
   pub every_run_never_stuck : (s : State D) (ms : List (Move)) → (b : IsOpening D opening s) → (u : ℕ) (state : UnitState D) (w : Progress D) → unit_at (run D opening s ms).units u ≡ Some state → state.progress ≡ Some w →
-    SomeUnitMoves D opening (run D opening s ms)
+      SomeUnitMoves D opening (run D opening s ms)
   every_run_never_stuck s ms b u state w at is =
       let first = opening_is_lawful D laws opening s b in
       let last = run_keeps D laws opening s ms first in

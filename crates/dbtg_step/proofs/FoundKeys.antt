@@ -1,7 +1,6 @@
 -- What a FIND finds is among the keys that it goes over.
-use Rattle.std.proofs.Common.{◌≡◌, refl, sym, ◌∙◌, ap, subst, ℕ, zero, suc, Bool, true, false, cond, List, [], ◌∷◌, ◌++◌, reverse, Option, Some, None, inl, inr, ⊎_elim}
-use Rattle.std.specs.Prelude.{ℤ, pos, negsuc, pred, Result, Ok, Err, filter, slice_get}
-use Rattle.std.proofs.lemmas.Bool.{cond_both}
+use Rattle.std.proofs.Common.{◌≡◌, refl, ap, subst, ℕ, zero, suc, Bool, true, false, cond, List, [], ◌∷◌, reverse, Option, Some, None, inl, inr, ⊎_elim}
+use Rattle.std.specs.Prelude.{ℤ, pos, negsuc, pred, Result, Ok, filter, slice_get}
 use Rattle.std.proofs.lemmas.Option.{same_Some}
 use Rattle.std.proofs.lemmas.List.{reverse-append}
 use Rattle.dbtg_schema.specs.Lookups.{first, final, behind, in_front, nth, some_and}

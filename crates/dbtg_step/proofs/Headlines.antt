@@ -1,6 +1,6 @@
 -- A lawful state of the machine over the network database is what the headline says.
-use Rattle.std.proofs.Common.{ℕ, zero, suc, ◌+◌, ◌-◌, ◌≡◌, ◌≢◌, ◌<◌, Bool, true, false, cond, eqb, List, [], ◌∷◌, ◌++◌, length, map, Option, Some, None, slice_get, slice_set, refl, sym, ap, ◌∙◌, subst, inl, inr, arith}
-use Rattle.std.specs.Prelude.{option_map, filter, replicate, ◌==◌}
+use Rattle.std.proofs.Common.{ℕ, zero, suc, ◌+◌, ◌-◌, ◌≡◌, Bool, true, false, cond, eqb, List, [], ◌∷◌, ◌++◌, length, map, Option, Some, None, slice_get, slice_set, refl, sym, ap, ◌∙◌, subst, inl, inr, arith}
+use Rattle.std.specs.Prelude.{option_map, replicate}
 use Rattle.std.specs.List.{range_with_len, list_all}
 use Rattle.std.proofs.lemmas.Bool.{and_parts}
 use Rattle.std.proofs.lemmas.Option.{same_Some}
@@ -15,11 +15,11 @@ use Rattle.dbtg_unit.specs.Fits.{fits}
 use Rattle.dbtg_unit.specs.Image.{image_of}
 use Rattle.dbtg_unit.specs.LegalWith.{LegalWith}
 use Rattle.dbtg_unit.specs.Units.{opening_unit}
-use Rattle.dbtg_unit.specs.Replay.{State as DatabaseState, after_entry as after_one, answer_to, entries_of, replay as replay_entries, AnswersHold as AnswersAre, TicketsInOrder, unit_of, outcome_of, after_outcome}
+use Rattle.dbtg_unit.specs.Replay.{State as DatabaseState, after_entry as after_one, entries_of, replay as replay_entries, AnswersHold as AnswersAre, TicketsInOrder, outcome_of, after_outcome}
 use Rattle.dbtg_step.specs.SequentialDatabase.{In, IsSequentialDatabase, unit_at, with_unit_at}
 use Rattle.dbtg_step.specs.Machine.{UnitState, HistoryEntry, State, SequentialState, with_effect, after_entry, replay, AnswersHold, statements_of}
 use Rattle.dbtg_step.specs.Lawful.{Lawful, IsOpening}
-use Rattle.dbtg_step.specs.Network.{network, effect_of}
+use Rattle.dbtg_step.specs.Network.{network}
 use Rattle.dbtg_step.specs.Headline.{IsSequential, entry_of, machine_after, machine_of, opening_of, units_from}
 use Rattle.dbtg_step.specs.Laws.{scripts_fit}
 use Rattle.dbtg_step.specs.declared.moves.Move.{Move}
@@ -59,9 +59,10 @@ module _ (schema : Lists) (capacity : ℕ) where
   pub answers_same : (q : SequentialState (network schema capacity)) (es : List (HistoryEntry (network schema capacity))) → AnswersHold (network schema capacity) q es → AnswersAre schema capacity (state_of q) (map entry_of es)
   unfolding AnswersHold AnswersAre
   answers_same q [] h = tt
-  answers_same q (e ∷ es) h =
-      (ap (option_map (λ o. o.answer)) (answer_found q e.unit e.statement h.0 h.1) ∙ ap Some h.2,
-       subst (λ s. AnswersAre schema capacity s (map entry_of es)) (after_same q e) (answers_same (after_entry (network schema capacity) q e) es h.3))
+  answers_same q (e ∷ es) h = (
+    ap (option_map (λ o. o.answer)) (answer_found q e.unit e.statement h.0 h.1) ∙ ap Some h.2,
+    subst (λ s. AnswersAre schema capacity s (map entry_of es)) (after_same q e) (answers_same (after_entry (network schema capacity) q e) es h.3),
+  )
 
   statements_filtered : (b : Bool) (e : HistoryEntry (network schema capacity)) (es : List Entry) (xs : List Statement) → map (λ (f : Entry). f.statement) es ≡ xs → map (λ (f : Entry). f.statement) (cond b (entry_of e ∷ es) es) ≡ cond b (e.statement ∷ xs) xs
   statements_filtered true e es xs h = ap (λ ys. e.statement ∷ ys) h
@@ -121,11 +122,13 @@ module _ (schema : Lists) (capacity : ℕ) (scripts : List (List Statement)) (le
 
   pub machine_is_opening : IsOpening (network schema capacity) (opening_of schema capacity (length scripts)) (machine_of schema capacity scripts)
   machine_is_opening = record {
-    location = λ c. refl; history = refl; counter = refl;
+    location = λ c. refl;
+    history = refl;
+    counter = refl;
     units = units_opening schema capacity 1 scripts;
     legal = legal;
     idle = λ u state at. let b = before u state at in (b.idle, b.whole);
-    fits = λ u state x at i. fits_in schema state.script x (before u state at).fit i
+    fits = λ u state x at i. fits_in schema state.script x (before u state at).fit i;
   }
 
   module _ (facts : IsSequentialDatabase (network schema capacity)) (moves : List Move) where
@@ -154,5 +157,5 @@ module _ (schema : Lists) (capacity : ℕ) (scripts : List (List Statement)) (le
       answers = answers_same schema capacity first last.history lawful.answers;
       image_is = ap (λ (q : DatabaseState). image_of schema capacity q.database) (replays_same schema capacity first last.history);
       units_are = lawful.units ∙ ap (λ (q : DatabaseState). q.units) (replays_same schema capacity first last.history);
-      scripts_begin = begins
+      scripts_begin = begins;
     }

@@ -1,11 +1,11 @@
 -- A history is never rewritten, and a script never changed.
-use Rattle.std.proofs.Common.{ℕ, ◌≡◌, Bool, true, false, ltb, List, [], ◌∷◌, ◌++◌, length, map, Option, Some, None, refl, sym, ap, ◌∙◌, append_assoc, append-nil}
+use Rattle.std.proofs.Common.{ℕ, ◌≡◌, Bool, true, false, List, [], ◌∷◌, ◌++◌, map, Option, Some, None, refl, sym, ap, ◌∙◌, append_assoc, append-nil}
 use Rattle.dbtg_step.specs.declared.moves.Move.{Move}
 use Rattle.dbtg_step.specs.declared.moves.Move.TheVariants.{Step, Quit}
 use Rattle.dbtg_step.specs.SequentialDatabase.{HeldCell, NextNeed, NeedsArea, NeedsCell, StaleGuesses, NeedsNothing, SequentialDatabase, unit_at}
 use Rattle.dbtg_step.specs.Machine.{Location, Home, HeldBy, Progress, UnitState, HistoryEntry, State, SequentialState}
 use Rattle.dbtg_step.proofs.UnitLists.{map_set_same}
-use Rattle.dbtg_step.specs.Step.{updated, with_ticket, after_ticket, takes_area, takes_cell, follows_need, before_ticket, in_statement, step_of_unit, step_if_unit, step, quit_unless_ticket, quit_of_unit, quit_if_unit, quit, Transition, MovedTo, IsBlocked, IsIdle, transition, IfMoved, state_after, run, next_need, any_other, conflicts}
+use Rattle.dbtg_step.specs.Step.{updated, with_ticket, after_ticket, takes_area, takes_cell, follows_need, before_ticket, in_statement, step_of_unit, step_if_unit, step, quit_unless_ticket, quit_of_unit, quit_if_unit, quit, Transition, MovedTo, IsBlocked, IsIdle, transition, IfMoved, state_after, run, any_other, conflicts}
 
 module _ (D : SequentialDatabase) (opening : SequentialState D) (s : State D) where
   -- t has the entries of s, and then perhaps others, and the same scripts

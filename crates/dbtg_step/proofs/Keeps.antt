@@ -24,26 +24,27 @@ module _ (D : SequentialDatabase) (laws : IsSequentialDatabase D) (opening : Seq
 
   follows_need_keeps : (state : UnitState D) (w : Progress D) (x : D.Statement) (xs : List D.Statement) → unit_at s.units u ≡ Some state → state.progress ≡ Some w → w.ticket ≡ None → state.remaining ≡ x ∷ xs → (n : NextNeed D.Cell D.Guesses) → next_need D opening s state w x ≡ n → IfMoved D (follows_need D opening s u state w x xs n) (Lawful D opening)
   unfolding follows_need next_need IfMoved takes_area takes_cell
-  follows_need_keeps state w x xs at is untold remaining (NeedsArea a) e = area (any_other (conflicts D w.exclusive a) u s.units) refl
+  follows_need_keeps state w x xs at is no_ticket remaining (NeedsArea a) e = area (any_other (conflicts D w.exclusive a) u s.units) refl
     where
       area : (b : Bool) → any_other (conflicts D w.exclusive a) u s.units ≡ b → IfMoved D (takes_area D s u state w a b) (Lawful D opening)
       area true q = tt
       area false q = safe_update_keeps D opening s u state s.location state.guesses _ l at (area_is_safe D laws opening s u state w a l at is q)
-  follows_need_keeps state w x xs at is untold remaining (NeedsCell c) e = cell (s.location c) refl
+  follows_need_keeps state w x xs at is no_ticket remaining (NeedsCell c) e = cell (s.location c) refl
     where
       within : In (D.area c) w.areas
       within = laws.in_area (replay D opening s.history).database _ u state.unit x state.guesses w.areas w.cells c (may_make D opening s l u state at x xs remaining) e
+
       cell : (p : Location D.Value) → s.location c ≡ p → IfMoved D (takes_cell D s u state w c p) (Lawful D opening)
       cell (HeldBy o) q = tt
-      cell (Home v) q = safe_update_keeps D opening s u state _ state.guesses _ l at (take_is_safe D laws opening s u state w c v l at is untold within q)
-  follows_need_keeps state w x xs at is untold remaining (StaleGuesses g) e = safe_update_keeps D opening s u state s.location g _ l at (same_is_safe D laws opening s u state w _ l at is refl refl refl refl)
-  follows_need_keeps state w x xs at is untold remaining NeedsNothing e = ticket_keeps D laws opening s u state w x xs l at is remaining e
+      cell (Home v) q = safe_update_keeps D opening s u state _ state.guesses _ l at (take_is_safe D laws opening s u state w c v l at is no_ticket within q)
+  follows_need_keeps state w x xs at is no_ticket remaining (StaleGuesses g) e = safe_update_keeps D opening s u state s.location g _ l at (same_is_safe D laws opening s u state w _ l at is refl refl refl refl)
+  follows_need_keeps state w x xs at is no_ticket remaining NeedsNothing e = ticket_keeps D laws opening s u state w x xs l at is remaining e
 
   before_ticket_keeps : (state : UnitState D) (w : Progress D) (x : D.Statement) (xs : List D.Statement) → unit_at s.units u ≡ Some state → state.progress ≡ Some w → w.ticket ≡ None → state.remaining ≡ x ∷ xs → (turning_back : Bool) (cells : List (HeldCell D.Cell D.Value)) → w.cells ≡ cells → IfMoved D (before_ticket D opening s u state w x xs turning_back cells) (Lawful D opening)
   unfolding before_ticket IfMoved
-  before_ticket_keeps state w x xs at is untold remaining true (h ∷ hs) cs = safe_update_keeps D opening s u state _ state.guesses _ l at (back_is_safe D laws opening s u state w _ h l at is cs refl refl refl)
-  before_ticket_keeps state w x xs at is untold remaining true [] cs = follows_need_keeps state w x xs at is untold remaining _ refl
-  before_ticket_keeps state w x xs at is untold remaining false cells cs = follows_need_keeps state w x xs at is untold remaining _ refl
+  before_ticket_keeps state w x xs at is no_ticket remaining true (h ∷ hs) cs = safe_update_keeps D opening s u state _ state.guesses _ l at (back_is_safe D laws opening s u state w _ h l at is cs refl refl refl)
+  before_ticket_keeps state w x xs at is no_ticket remaining true [] cs = follows_need_keeps state w x xs at is no_ticket remaining _ refl
+  before_ticket_keeps state w x xs at is no_ticket remaining false cells cs = follows_need_keeps state w x xs at is no_ticket remaining _ refl
 
   in_statement_keeps : (state : UnitState D) (w : Progress D) → unit_at s.units u ≡ Some state → state.progress ≡ Some w → (t : Option ℕ) (remaining : List D.Statement) → w.ticket ≡ t → state.remaining ≡ remaining → IfMoved D (in_statement D opening s u state w t remaining) (Lawful D opening)
   unfolding in_statement IfMoved

@@ -1,7 +1,7 @@
 -- The order of cells is strict.
-use Rattle.std.proofs.Common.{ℕ, zero, suc, ◌⊎◌, ◌≡◌, ◌<◌, Bool, true, false, ◌&&◌, ◌||◌, Option, Some, None, refl, sym, ap, ◌∙◌, subst, inl, inr, ⊎_elim, arith}
+use Rattle.std.proofs.Common.{ℕ, zero, suc, ◌⊎◌, ◌≡◌, Bool, true, ◌&&◌, ◌||◌, Option, Some, None, refl, sym, ap, ◌∙◌, inl, inr, arith}
 use Rattle.std.specs.Prelude.{nat_lt, ◌==◌}
-use Rattle.std.proofs.lemmas.Bool.{and_parts, and_from, or_cases, or_left, or_right, false≢true, false_from_ne_true, ltb-true, lt-ltb, eqb-true, eq-eqb}
+use Rattle.std.proofs.lemmas.Bool.{and_parts, and_from, or_cases, or_left, or_right, false_from_ne_true, ltb-true, lt-ltb, eqb-true, eq-eqb}
 use Rattle.dbtg_cells.specs.declared.name.CellName.{CellName}
 use Rattle.dbtg_cells.specs.declared.name.CellName.TheVariants.{Usage, Extent, Ring, Slot}
 use Rattle.dbtg_cells.specs.Names.{place_lt, name_lt}
@@ -12,14 +12,14 @@ use Rattle.dbtg_schema.specs.Lists.{Lists}
 -- by a number first, and by something else where that is the same
 chain_of : (a b c : ℕ) (x y z : Bool) → (x ≡ true → y ≡ true → z ≡ true) → (nat_lt a b || (a == b && x)) ≡ true → (nat_lt b c || (b == c && y)) ≡ true → (nat_lt a c || (a == c && z)) ≡ true
 chain_of a b c x y z f p q = elim (or_cases _ _ p) [
-    inl s ↦ elim (or_cases _ _ q) [
-        inl t ↦ let i = ltb-true a b s in let j = ltb-true b c t in or_left _ _ (lt-ltb a c (omega arith))
-      | inr t ↦ let i = ltb-true a b s in let j = eqb-true b c (and_parts _ _ t).0 in or_left _ _ (lt-ltb a c (omega arith))
-    ]
+  | inl s ↦ elim (or_cases _ _ q) [
+    | inl t ↦ let i = ltb-true a b s in let j = ltb-true b c t in or_left _ _ (lt-ltb a c (omega arith))
+    | inr t ↦ let i = ltb-true a b s in let j = eqb-true b c (and_parts _ _ t).0 in or_left _ _ (lt-ltb a c (omega arith))
+  ]
   | inr s ↦ elim (or_cases _ _ q) [
-        inl t ↦ let i = eqb-true a b (and_parts _ _ s).0 in let j = ltb-true b c t in or_left _ _ (lt-ltb a c (omega arith))
-      | inr t ↦ or_right _ _ (and_from _ _ (eq-eqb a c (eqb-true a b (and_parts _ _ s).0 ∙ eqb-true b c (and_parts _ _ t).0)) (f (and_parts _ _ s).1 (and_parts _ _ t).1))
-    ]
+    | inl t ↦ let i = eqb-true a b (and_parts _ _ s).0 in let j = ltb-true b c t in or_left _ _ (lt-ltb a c (omega arith))
+    | inr t ↦ or_right _ _ (and_from _ _ (eq-eqb a c (eqb-true a b (and_parts _ _ s).0 ∙ eqb-true b c (and_parts _ _ t).0)) (f (and_parts _ _ s).1 (and_parts _ _ t).1))
+  ]
 ]
 
 pub number_total : (a b : ℕ) → (nat_lt a b ≡ true) ⊎ ((a ≡ b) ⊎ (nat_lt b a ≡ true))
@@ -27,19 +27,19 @@ number_total zero zero = inr (inl refl)
 number_total zero (suc b) = inl (lt-ltb 0 (suc b) (omega arith))
 number_total (suc a) zero = inr (inr (lt-ltb 0 (suc a) (omega arith)))
 number_total (suc a) (suc b) = elim (number_total a b) [
-    inl h ↦ let i = ltb-true a b h in inl (lt-ltb (suc a) (suc b) (omega arith))
+  | inl h ↦ let i = ltb-true a b h in inl (lt-ltb (suc a) (suc b) (omega arith))
   | inr (inl e) ↦ inr (inl (ap suc e))
   | inr (inr h) ↦ let i = ltb-true b a h in inr (inr (lt-ltb (suc b) (suc a) (omega arith)))
 ]
 
 total_of : (a b : ℕ) (x : Bool) (S : Type 0) (y : Bool) → (x ≡ true) ⊎ (S ⊎ (y ≡ true)) → ((nat_lt a b || (a == b && x)) ≡ true) ⊎ (((a ≡ b) × S) ⊎ ((nat_lt b a || (b == a && y)) ≡ true))
 total_of a b x S y t = elim (number_total a b) [
-    inl h ↦ inl (or_left _ _ h)
+  | inl h ↦ inl (or_left _ _ h)
   | inr (inl e) ↦ elim t [
-        inl h ↦ inl (or_right _ _ (and_from _ _ (eq-eqb a b e) h))
-      | inr (inl s) ↦ inr (inl (e, s))
-      | inr (inr h) ↦ inr (inr (or_right _ _ (and_from _ _ (eq-eqb b a (sym e)) h)))
-    ]
+    | inl h ↦ inl (or_right _ _ (and_from _ _ (eq-eqb a b e) h))
+    | inr (inl s) ↦ inr (inl (e, s))
+    | inr (inr h) ↦ inr (inr (or_right _ _ (and_from _ _ (eq-eqb b a (sym e)) h)))
+  ]
   | inr (inr h) ↦ inr (inr (or_left _ _ h))
 ]
 
@@ -69,7 +69,7 @@ place_total None None = inr (inl refl)
 place_total None (Some q) = inl refl
 place_total (Some p) None = inr (inr refl)
 place_total (Some p) (Some q) = elim (total_of p.0 q.0 (nat_lt p.1 q.1) (p.1 ≡ q.1) (nat_lt q.1 p.1) (number_total p.1 q.1)) [
-    inl h ↦ inl h
+  | inl h ↦ inl h
   | inr (inl e) ↦ inr (inl (λ i. Some (e.0 i, e.1 i)))
   | inr (inr h) ↦ inr (inr h)
 ]

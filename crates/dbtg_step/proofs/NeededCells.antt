@@ -1,16 +1,15 @@
 -- A cell that a statement needs lies in an area that it holds.
-use Rattle.std.proofs.Common.{◌≡◌, refl, sym, ◌∙◌, ap, subst, ℕ, zero, suc, ◌+◌, ◌<◌, ◌≤◌, Bool, true, false, not, eqb, ◌&&◌, ◌||◌, List, [], ◌∷◌, ◌++◌, length, map, Option, Some, None, inl, inr, arith}
-use Rattle.std.specs.Prelude.{is_some, is_none, nat_lt, filter, option_map, option_and_then, unwrap_or, slice_get, ◌==◌}
-use Rattle.std.specs.List.{list_any, list_all, range_with_len, find}
-use Rattle.std.proofs.lemmas.Bool.{and_parts, and_from, or_cases, false≢true, eqb-true, eq-eqb, ltb-true, lt-ltb}
+use Rattle.std.proofs.Common.{◌≡◌, refl, sym, ◌∙◌, subst, ℕ, zero, suc, ◌<◌, Bool, true, false, not, eqb, ◌&&◌, List, [], ◌∷◌, length, map, Option, Some, None, inl, inr, arith}
+use Rattle.std.specs.Prelude.{is_some, is_none, nat_lt, option_map, option_and_then, unwrap_or, ◌==◌}
+use Rattle.std.specs.List.{list_any, list_all, find}
+use Rattle.std.proofs.lemmas.Bool.{and_parts, and_from, or_cases, false≢true, eqb-true, ltb-true, lt-ltb}
 use Rattle.dbtg_schema.specs.Lists.{Lists}
 use Rattle.dbtg_schema.specs.Lookups.{at, first_cause, flatten, some_and}
-use Rattle.dbtg_schema.specs.Structure.{area_of, areas_with_homes, automatic_sets, erase_areas, home, member_clause, reachable_types, rekeyed_sets, set_member_types, set_numbers}
+use Rattle.dbtg_schema.specs.Structure.{area_of, areas_with_homes, erase_areas, home, reachable_types}
 use Rattle.dbtg_cells.specs.declared.key.DbKey.{DbKey}
 use Rattle.dbtg_cells.specs.declared.key.Owner.{Owner}
 use Rattle.dbtg_cells.specs.declared.name.CellName.{CellName}
 use Rattle.dbtg_cells.specs.Shown.{CellValue}
-use Rattle.dbtg_unit.specs.declared.statement.Erase.{Erase}
 use Rattle.dbtg_unit.specs.declared.statement.Form.{Form}
 use Rattle.dbtg_unit.specs.declared.statement.Form.TheVariants.{Key, CurrentOfUnit, CurrentOfType, CurrentOfSet, CurrentOfArea, InSet, InArea, OwnerOf, Calc, NextDuplicate, Sorted}
 use Rattle.dbtg_unit.specs.declared.statement.Statement.{Statement}
@@ -29,9 +28,9 @@ use Rattle.dbtg_unit.specs.Needs.{areas_in_order, cells_of}
 use Rattle.dbtg_unit.specs.Units.{key_of_place, place_in}
 use Rattle.dbtg_unit.proofs.LiveKeys.{In as Element, all_at, any_element, find_element, in_filter, in_range}
 use Rattle.dbtg_step.specs.SequentialDatabase.{HeldCell, NeedsCell, In, MayMake, unit_at}
-use Rattle.dbtg_step.specs.Network.{network, area_of_cell, is_delete, SuitsMachine}
+use Rattle.dbtg_step.specs.Network.{network, area_of_cell, SuitsMachine}
 use Rattle.dbtg_step.proofs.NetworkNeeds.{is_area_left, reads_cell}
-use Rattle.dbtg_step.proofs.AreasOfCells.{all_each, all_join, lies_in, cells_lie}
+use Rattle.dbtg_step.proofs.AreasOfCells.{all_join, lies_in, cells_lie}
 use Rattle.dbtg_step.proofs.AreasOfDelete.{delete_cells_lie}
 
 -- THE AREAS OF A STATEMENT ARE THE SCHEMA'S
@@ -131,7 +130,7 @@ module _ (schema : Lists) (capacity : ℕ) where
   unit_of_schema db units (suc i) unit legal e = (legal.each i unit e).of_schema
 
   all_cells_lie : (db : Database) (unit : Unit) (g : List (Option Owner)) (x : Statement) → Legal schema capacity db → IsUnitOf schema unit → fits schema x ≡ true → is_some (refused_at_once schema capacity unit x) ≡ false →
-    list_all (lies_in schema (areas_of schema unit x)) (cells_of schema capacity db unit g x) ≡ true
+      list_all (lies_in schema (areas_of schema unit x)) (cells_of schema capacity db unit g x) ≡ true
   all_cells_lie db unit g (Delete option) legal of f r = go unit.currency.run_unit of.run_unit
     where
       go : (o : Option DbKey) → if_named (is_key_of schema) o ≡ true → list_all (lies_in schema (unwrap_or (option_map (erase_areas schema) (option_map (λ k. k.rtype) o)) [])) (delete_cells_of schema capacity db unit option o) ≡ true
@@ -151,7 +150,7 @@ module _ (schema : Lists) (capacity : ℕ) where
 
   -- a cell that is needed lies in an area that is held
   pub needed_in_area : SuitsMachine schema → (db : Database) (units : List Unit) (u : ℕ) (unit : Unit) (x : Statement) (g : List (Option Owner)) (areas : List ℕ) (cells : List (HeldCell CellName CellValue)) (c : CellName) →
-    MayMake (network schema capacity) db units u unit x → (network schema capacity).need db unit x g areas cells ≡ NeedsCell c → In (area_of_cell schema c) areas
+      MayMake (network schema capacity) db units u unit x → (network schema capacity).need db unit x g areas cells ≡ NeedsCell c → In (area_of_cell schema c) areas
   needed_in_area suits db units u unit x g areas cells c may e =
       let r = reads_cell schema capacity db unit x g areas cells c e in
       let a = area_of_cell schema c in

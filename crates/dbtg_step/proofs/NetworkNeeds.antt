@@ -1,5 +1,5 @@
 -- What the need of a statement says: of the areas and cells of the statement it is the first that isn't held.
-use Rattle.std.proofs.Common.{ℕ, ◌≡◌, ◌≢◌, Bool, true, false, not, eqb, List, [], ◌∷◌, map, Option, Some, None, refl, sym, ap, ◌∙◌, subst, inl, inr}
+use Rattle.std.proofs.Common.{ℕ, ◌≡◌, Bool, true, false, not, eqb, List, [], ◌∷◌, Option, Some, None, refl, sym, ap, ◌∙◌, subst, inl, inr}
 use Rattle.std.specs.Prelude.{is_some, if◌then◌else◌}
 use Rattle.std.specs.List.{list_any, find}
 use Rattle.std.proofs.lemmas.Bool.{or_left, or_right, false≢true}
@@ -11,14 +11,13 @@ use Rattle.dbtg_cells.specs.Names.{name_eq}
 use Rattle.dbtg_cells.specs.Shown.{CellValue}
 use Rattle.dbtg_unit.specs.declared.statement.Statement.{Statement}
 use Rattle.dbtg_unit.specs.declared.unit.Unit.{Unit}
-use Rattle.dbtg_unit.specs.declared.held.Need.{Need}
-use Rattle.dbtg_unit.specs.declared.held.Need.TheVariants.{Area, Take, Stale, Ready}
+use Rattle.dbtg_unit.specs.declared.held.Need.TheVariants.{Ready}
 use Rattle.dbtg_unit.specs.Base.{Database}
 use Rattle.dbtg_unit.specs.Checks.{refused_at_once}
-use Rattle.dbtg_unit.specs.Needs.{need, next_of, need_of_cells, areas_in_order, cells_of, is_stale, stale_owners}
+use Rattle.dbtg_unit.specs.Needs.{need, next_of, areas_in_order, cells_of, is_stale, stale_owners}
 use Rattle.dbtg_unit.proofs.LiveKeys.{find_element}
 use Rattle.dbtg_unit.proofs.ReadingCells.{same_name, name_eq-refl}
-use Rattle.dbtg_step.specs.SequentialDatabase.{HeldCell, NextNeed, NeedsArea, NeedsCell, StaleGuesses, NeedsNothing, In, NotAmong, NamesCells}
+use Rattle.dbtg_step.specs.SequentialDatabase.{HeldCell, NeedsArea, NeedsCell, In, NotAmong, NamesCells}
 use Rattle.dbtg_step.specs.Network.{network, holding, next_need_of}
 
 -- the cell is none of these
@@ -30,7 +29,7 @@ is_area_left areas a = not (list_any (λ b. eqb b a) areas)
 
 -- of a choice that was made, what decided it
 pub chose_cell : (g : List (Option Owner)) (r : Bool) (oa : Option ℕ) (oc : Option CellName) (stale : Bool) (owners : List (Option Owner)) (c : CellName) →
-  next_need_of g (if r then Ready else next_of oa oc stale owners) ≡ NeedsCell c → (r ≡ false) × (oa ≡ None) × (oc ≡ Some c)
+    next_need_of g (if r then Ready else next_of oa oc stale owners) ≡ NeedsCell c → (r ≡ false) × (oa ≡ None) × (oc ≡ Some c)
 chose_cell g true oa oc stale owners c e = absurd (cc (e))
 chose_cell g false (Some a) oc stale owners c e = absurd (cc (e))
 chose_cell g false None (Some d) stale owners c e = (refl, refl, (let q : d ≡ c = cc in ap Some q))
@@ -38,7 +37,7 @@ chose_cell g false None None true owners c e = absurd (cc (e))
 chose_cell g false None None false owners c e = absurd (cc (e))
 
 pub chose_area : (g : List (Option Owner)) (r : Bool) (oa : Option ℕ) (oc : Option CellName) (stale : Bool) (owners : List (Option Owner)) (a : ℕ) →
-  next_need_of g (if r then Ready else next_of oa oc stale owners) ≡ NeedsArea a → (r ≡ false) × (oa ≡ Some a)
+    next_need_of g (if r then Ready else next_of oa oc stale owners) ≡ NeedsArea a → (r ≡ false) × (oa ≡ Some a)
 chose_area g true oa oc stale owners a e = absurd (cc (e))
 chose_area g false (Some b) oc stale owners a e = (refl, (let q : b ≡ a = cc in ap Some q))
 chose_area g false None (Some d) stale owners a e = absurd (cc (e))
@@ -56,12 +55,12 @@ held_name (k ∷ ks) h c (inr i) e = or_right _ _ (held_name ks h c i e)
 
 module _ (schema : Lists) (capacity : ℕ) (db : Database) (unit : Unit) (x : Statement) (g : List (Option Owner)) (areas : List ℕ) (cells : List (HeldCell CellName CellValue)) where
   pub reads_cell : (c : CellName) → (network schema capacity).need db unit x g areas cells ≡ NeedsCell c →
-    (is_some (refused_at_once schema capacity unit x) ≡ false) × (find (is_area_left areas) (areas_in_order schema unit x) ≡ None) × (find (is_not_held cells) (cells_of schema capacity db unit g x) ≡ Some c)
+      (is_some (refused_at_once schema capacity unit x) ≡ false) × (find (is_area_left areas) (areas_in_order schema unit x) ≡ None) × (find (is_not_held cells) (cells_of schema capacity db unit g x) ≡ Some c)
   unfolding need
   reads_cell c e = chose_cell g (is_some (refused_at_once schema capacity unit x)) (find (is_area_left areas) (areas_in_order schema unit x)) (find (is_not_held cells) (cells_of schema capacity db unit g x)) (is_stale schema capacity db unit g x) (stale_owners schema capacity db unit g x) c e
 
   pub reads_area : (a : ℕ) → (network schema capacity).need db unit x g areas cells ≡ NeedsArea a →
-    (is_some (refused_at_once schema capacity unit x) ≡ false) × (find (is_area_left areas) (areas_in_order schema unit x) ≡ Some a)
+      (is_some (refused_at_once schema capacity unit x) ≡ false) × (find (is_area_left areas) (areas_in_order schema unit x) ≡ Some a)
   unfolding need
   reads_area a e = chose_area g (is_some (refused_at_once schema capacity unit x)) (find (is_area_left areas) (areas_in_order schema unit x)) (find (is_not_held cells) (cells_of schema capacity db unit g x)) (is_stale schema capacity db unit g x) (stale_owners schema capacity db unit g x) a e
 

@@ -16,9 +16,9 @@ module _ (D : SequentialDatabase) (laws : IsSequentialDatabase D) (opening : Seq
       let i = b.idle u state at in
       record { script = i.1; fits = λ x j. b.fits u state x at j; holding = subst (λ w. Holding D opening s.location [] u w) (sym i.0) (holds_nothing D laws opening s.location [] u) }
 
-  opening_lawful_of : (location : D.Cell → Location D.Value) (seats : List (UnitState D)) → IsOpening D opening (record { location = location; history = []; counter = 0; units = seats }) → Lawful D opening (record { location = location; history = []; counter = 0; units = seats })
+  opening_lawful_of : (location : D.Cell → Location D.Value) (units : List (UnitState D)) → IsOpening D opening (record { location = location; history = []; counter = 0; units = units }) → Lawful D opening (record { location = location; history = []; counter = 0; units = units })
   unfolding replay AnswersHold
-  opening_lawful_of location seats b = record {
+  opening_lawful_of location units b = record {
     counter = refl;
     tickets = λ k e g. absurd (cc (g));
     answers = tt;
@@ -27,7 +27,7 @@ module _ (D : SequentialDatabase) (laws : IsSequentialDatabase D) (opening : Seq
     each = λ u state at. opening_unit_lawful _ b u state at;
     apart = λ u w x y n ex ey. shared_none x.progress y.progress (b.idle u x ex).0;
     home = λ c v e. let h = b.location c in cc;
-    holder = λ c u e. let h = b.location c in absurd (cc)
+    holder = λ c u e. let h = b.location c in absurd (cc);
   }
 
   -- nothing has happened yet, so all is lawful

@@ -1,6 +1,6 @@
 -- Where all that is held was taken in turn, what is wanted is above it.
-use Rattle.std.proofs.Common.{ℕ, ◌≡◌, ◌≢◌, ◌<◌, Bool, true, false, List, [], ◌∷◌, Option, Some, None, ◌⊎◌, inl, inr, refl, sym, ap, ◌∙◌, subst}
-use Rattle.dbtg_step.specs.SequentialDatabase.{HeldCell, NextNeed, NeedsArea, NeedsCell, StaleGuesses, NeedsNothing, SequentialDatabase, IsSequentialDatabase, In, NotAmong, Agrees, unit_at}
+use Rattle.std.proofs.Common.{ℕ, ◌≡◌, Bool, true, false, List, [], ◌∷◌, Option, Some, None, ◌⊎◌, inl, inr, refl, sym, ap, ◌∙◌, subst}
+use Rattle.dbtg_step.specs.SequentialDatabase.{HeldCell, NextNeed, NeedsArea, NeedsCell, StaleGuesses, NeedsNothing, SequentialDatabase, IsSequentialDatabase, In, Agrees, unit_at}
 use Rattle.dbtg_step.specs.Machine.{Progress, UnitState, State, SequentialState, replay, held_cells}
 use Rattle.dbtg_step.specs.Step.{next_need}
 use Rattle.dbtg_step.specs.Lawful.{Lawful}
@@ -46,6 +46,7 @@ module _ (D : SequentialDatabase) (laws : IsSequentialDatabase D) (below : D.Cel
       where
         here : wanted_unless_turning D below opening s state w m.x w.turning_back w.cells ≡ Some r
         here = sym (wanted_is ∙ (ap (λ t. wanted_before_ticket D below opening s state w t state.remaining) q ∙ ap (λ y. wanted_before_ticket D below opening s state w None y) m.remaining)) ∙ e
+
         go : (b : Bool) (cs : List (HeldCell D.Cell D.Value)) → w.turning_back ≡ b → w.cells ≡ cs → wanted_unless_turning D below opening s state w m.x b cs ≡ Some r → NeededNext m.x r
         go true (h ∷ hs) t c f = absurd (cc (f))
         go true [] t c f = record { taken = subst (λ cs. TakenInTurn D below state.unit m.x state.guesses w.areas cs) (sym c) (m.back t); need = f }
@@ -56,17 +57,20 @@ module _ (D : SequentialDatabase) (laws : IsSequentialDatabase D) (below : D.Cel
     unit_in_order = record {
       busy = λ q. let m = steady q in (m.x, m.xs, m.remaining);
       areas = λ a e. let q = open_of (AnArea a) e in let m = steady q in let v = wanted_now m q (AnArea a) e in
-        order.area_above db state.unit m.x state.guesses w.areas w.cells a v.taken (wanted_area _ a v.need);
-      fresh = λ c e. let q = open_of (ACell c) e in let m = steady q in let v = wanted_now m q (ACell c) e in let n = wanted_cell _ c v.need in
-        (laws.names.fresh db state.unit m.x state.guesses w.areas w.cells c n,
-         laws.in_area db _ u state.unit m.x state.guesses w.areas w.cells c (may_make D opening s l u state at m.x m.xs m.remaining) n);
-      cells = λ c e. let q = open_of (ACell c) e in let m = steady q in let v = wanted_now m q (ACell c) e in let n = wanted_cell _ c v.need in above m v.taken c n
+          order.area_above db state.unit m.x state.guesses w.areas w.cells a v.taken (wanted_area _ a v.need);
+      fresh = λ c e. let q = open_of (ACell c) e in let m = steady q in let v = wanted_now m q (ACell c) e in let n = wanted_cell _ c v.need in (
+        laws.names.fresh db state.unit m.x state.guesses w.areas w.cells c n,
+        laws.in_area db _ u state.unit m.x state.guesses w.areas w.cells c (may_make D opening s l u state at m.x m.xs m.remaining) n,
+      );
+      cells = λ c e. let q = open_of (ACell c) e in let m = steady q in let v = wanted_now m q (ACell c) e in let n = wanted_cell _ c v.need in above m v.taken c n;
     }
       where
         db : D.Db
         db = (replay D opening s.history).database
+
         may_go_on : (m : InTurn D below state w) → MayGoOn D below db state.unit m.x w.cells
         may_go_on m = record { units = _; u = u; may = may_make D opening s l u state at m.x m.xs m.remaining; agrees = subst (λ o. Agrees D db (held_cells D o)) is (l.each u state at).holding.values }
+
         above : (m : InTurn D below state w) → TakenInTurn D below state.unit m.x state.guesses w.areas w.cells → (c : D.Cell) → D.need db state.unit m.x state.guesses w.areas w.cells ≡ NeedsCell c → (w.exclusive ≡ true) ⊎ ((h : HeldCell D.Cell D.Value) → In h w.cells → below h.name c ≡ true)
         above m taken c n = go (D.is_exclusive m.x) refl
           where

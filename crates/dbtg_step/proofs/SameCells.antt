@@ -1,8 +1,8 @@
 -- What two legal databases have alike where a cell of both is alike.
-use Rattle.std.proofs.Common.{◌≡◌, refl, sym, ◌∙◌, ap, subst, ℕ, zero, suc, ◌+◌, ◌<◌, Bool, true, false, cond, not, eqb, ◌&&◌, ◌||◌, List, [], ◌∷◌, ◌++◌, length, map, Option, Some, None, inl, inr}
-use Rattle.std.specs.Prelude.{filter, is_some, is_none, nat_lt, option_map, option_and_then, unwrap_or, slice_get, if◌then◌else◌, ◌==◌}
-use Rattle.std.specs.List.{list_any, list_all, range_with_len, find, flat_map}
-use Rattle.std.proofs.lemmas.Bool.{and_parts, and_from, cases_Bool, false≢true, eqb-true, eq-eqb}
+use Rattle.std.proofs.Common.{◌≡◌, refl, sym, ◌∙◌, ap, ℕ, ◌+◌, Bool, true, false, cond, not, eqb, ◌&&◌, List, [], ◌∷◌, ◌++◌, map, Option, Some, None, inl, inr}
+use Rattle.std.specs.Prelude.{filter, is_some, nat_lt, option_map, unwrap_or, if◌then◌else◌}
+use Rattle.std.specs.List.{list_any, range_with_len, flat_map}
+use Rattle.std.proofs.lemmas.Bool.{cases_Bool, false≢true, eqb-true}
 use Rattle.std.proofs.lemmas.Option.{none-some, same_Some}
 use Rattle.std.proofs.lemmas.List.Elements.{filter-append}
 use Rattle.dbtg_schema.specs.Lists.{Lists}
@@ -11,12 +11,11 @@ use Rattle.dbtg_schema.specs.Structure.{calc_of}
 use Rattle.dbtg_cells.specs.declared.key.DbKey.{DbKey}
 use Rattle.dbtg_cells.specs.declared.key.Owner.{Owner}
 use Rattle.dbtg_cells.specs.declared.key.Value.{Value}
-use Rattle.dbtg_cells.specs.declared.name.CellName.{CellName}
 use Rattle.dbtg_cells.specs.declared.name.CellName.TheVariants.{Extent, Ring}
 use Rattle.dbtg_cells.specs.declared.extent.Number.{Number}
 use Rattle.dbtg_cells.specs.declared.ring.Occurrence.{Occurrence}
-use Rattle.dbtg_cells.specs.Keys.{owner_eq, value_eq, values_eq}
-use Rattle.dbtg_cells.specs.Shown.{CellValue, ExtentValue, RingValue}
+use Rattle.dbtg_cells.specs.Keys.{owner_eq, values_eq}
+use Rattle.dbtg_cells.specs.Shown.{ExtentValue, RingValue}
 use Rattle.dbtg_unit.specs.Base.{Database, Record, is_live, items_of, key_at, live_keys, members_of, calc_items, sort_key}
 use Rattle.dbtg_unit.specs.CellNames.{place_of}
 use Rattle.dbtg_unit.specs.Cells.{cell}
@@ -24,7 +23,7 @@ use Rattle.dbtg_unit.specs.Effect.{free_number, new_key, calc_taken}
 use Rattle.dbtg_unit.specs.Found.{has_type, with_calc}
 use Rattle.dbtg_unit.specs.Legal.{Legal}
 use Rattle.dbtg_unit.proofs.Determined.{extent_in, ring_in}
-use Rattle.dbtg_unit.proofs.LiveKeys.{In, live_of, of_filter, of_map}
+use Rattle.dbtg_unit.proofs.LiveKeys.{In, live_of, of_map}
 use Rattle.dbtg_unit.proofs.ReadingCells.{calc_reads, last_reads, list_in, live_reads, ring_keys_read, ring_reads}
 
 filter_same : {X : Type 0} (p q : X → Bool) (xs : List X) → ((x : X) → In x xs → p x ≡ q x) → filter p xs ≡ filter q xs
@@ -73,7 +72,7 @@ module _ (schema : Lists) (capacity : ℕ) (db eb : Database) (ldb : Legal schem
     items_same k e live = go (db.records k) (eb.records k) (calc_same k e) live
       where
         go : (a b : Option Record) → option_map (λ (r : Record). calc_items schema t r.items) a ≡ option_map (λ (r : Record). calc_items schema t r.items) b → is_some a ≡ true →
-          calc_items schema t (unwrap_or (option_map (λ (r : Record). r.items) a) []) ≡ calc_items schema t (unwrap_or (option_map (λ (r : Record). r.items) b) [])
+            calc_items schema t (unwrap_or (option_map (λ (r : Record). r.items) a) []) ≡ calc_items schema t (unwrap_or (option_map (λ (r : Record). r.items) b) [])
         go None b h l = absurd (false≢true l)
         go (Some r) None h l = absurd (none-some _ (sym h))
         go (Some r) (Some q) h l = same_Some _ _ h
@@ -86,7 +85,7 @@ module _ (schema : Lists) (capacity : ℕ) (db eb : Database) (ldb : Legal schem
     pub with_calc_same : (values : List Value) → with_calc schema capacity db t values ≡ with_calc schema capacity eb t values
     with_calc_same values =
         filter_same (λ k. values_eq (calc_items schema t (items_of db k)) values) (λ k. values_eq (calc_items schema t (items_of eb k)) values) (live_keys capacity db t)
-          (λ k i. let m = live_of schema capacity db ldb k t i in ap (λ v. values_eq v values) (items_same k m.1 m.0))
+        (λ k i. let m = live_of schema capacity db ldb k t i in ap (λ v. values_eq v values) (items_same k m.1 m.0))
         ∙ ap (filter (λ k. values_eq (calc_items schema t (items_of eb k)) values)) keys_same
 
     pub free_same : free_number capacity db t ≡ free_number capacity eb t
@@ -104,7 +103,7 @@ module _ (schema : Lists) (capacity : ℕ) (db eb : Database) (ldb : Legal schem
   -- keys of another type pass no test of this one
   typed_same : (r t : ℕ) → (t ≡ r → live_keys capacity db t ≡ live_keys capacity eb t) → filter (has_type (Some r)) (live_keys capacity db t) ≡ filter (has_type (Some r)) (live_keys capacity eb t)
   typed_same r t h = elim (cases_Bool (eqb t r)) [
-      inl e ↦ ap (filter (has_type (Some r))) (h (eqb-true t r e))
+    | inl e ↦ ap (filter (has_type (Some r))) (h (eqb-true t r e))
     | inr n ↦
         filter_none (has_type (Some r)) (live_keys capacity db t) (λ k i. ap (λ u. eqb u r) (live_of schema capacity db ldb k t i).1 ∙ n)
         ∙ sym (filter_none (has_type (Some r)) (live_keys capacity eb t) (λ k i. ap (λ u. eqb u r) (live_of schema capacity eb leb k t i).1 ∙ n))
@@ -120,7 +119,7 @@ module _ (schema : Lists) (capacity : ℕ) (db eb : Database) (ldb : Legal schem
 
   -- the keys of some types, where the extents of those that count are alike
   pub area_keys_same : (r : Option ℕ) (ts : List ℕ) → ((t : ℕ) → In t (unwrap_or (option_map (λ u. u ∷ []) r) ts) → cell schema capacity db (Extent t) ≡ cell schema capacity eb (Extent t)) →
-    filter (has_type r) (flat_map (live_keys capacity db) ts) ≡ filter (has_type r) (flat_map (live_keys capacity eb) ts)
+      filter (has_type r) (flat_map (live_keys capacity db) ts) ≡ filter (has_type r) (flat_map (live_keys capacity eb) ts)
   area_keys_same None ts h = flat_same (has_type None) ts (λ t i. ap (filter (has_type None)) (keys_same t (h t i)))
   area_keys_same (Some r) ts h = flat_same (has_type (Some r)) ts (λ t i. typed_same r t (λ e. keys_same t (h t (inl (sym e)))))
 
@@ -146,10 +145,11 @@ module _ (schema : Lists) (capacity : ℕ) (db eb : Database) (ldb : Legal schem
       where
         none : db.lists s o ≡ None → eb.lists s o ≡ None → map (with_key schema db s) (members_of db s o) ≡ map (with_key schema eb s) (members_of eb s o)
         none a b = ap (λ l. map (with_key schema db s) (unwrap_or l [])) a ∙ sym (ap (λ l. map (with_key schema eb s) (unwrap_or l [])) b)
+
         go : (c : Option Occurrence) → RingValue c ≡ cell schema capacity db (Ring s (place_of o)) → RingValue c ≡ cell schema capacity eb (Ring s (place_of o)) → db.lists s o ≡ list_in c o → eb.lists s o ≡ list_in c o →
-          map (with_key schema db s) (members_of db s o) ≡ map (with_key schema eb s) (members_of eb s o)
+            map (with_key schema db s) (members_of db s o) ≡ map (with_key schema eb s) (members_of eb s o)
         go None h g a b = none a b
         go (Some c) h g a b = elim (cases_Bool (owner_eq c.owner o)) [
-            inl e ↦ sym (ring_keys_read schema capacity db ldb s o c h e) ∙ ring_keys_read schema capacity eb leb s o c g e
+          | inl e ↦ sym (ring_keys_read schema capacity db ldb s o c h e) ∙ ring_keys_read schema capacity eb leb s o c g e
           | inr n ↦ none (a ∙ ap (λ b. if b then Some (map (λ (m : DbKey × Option Value). m.0) c.members) else None) n) (b ∙ ap (λ b. if b then Some (map (λ (m : DbKey × Option Value). m.0) c.members) else None) n)
         ]

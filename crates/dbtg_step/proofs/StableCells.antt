@@ -1,6 +1,6 @@
 -- What a statement holds settles which of its cells it takes next, whatever else the database has: all statements but DELETE.
-use Rattle.std.proofs.Common.{◌≡◌, refl, sym, ◌∙◌, ap, subst, ℕ, Bool, true, false, cond, not, eqb, ◌&&◌, List, [], ◌∷◌, ◌++◌, map, Option, Some, None, ◌⊎◌, inl, inr}
-use Rattle.std.specs.Prelude.{Result, Ok, Err, filter, is_none, option_map, unwrap_or, ◌==◌}
+use Rattle.std.proofs.Common.{◌≡◌, refl, sym, ◌∙◌, ap, subst, ℕ, Bool, true, false, not, ◌&&◌, List, [], ◌∷◌, ◌++◌, map, Option, Some, None, ◌⊎◌, inl, inr}
+use Rattle.std.specs.Prelude.{Result, Err, filter, is_none, option_map, unwrap_or, ◌==◌}
 use Rattle.std.specs.List.{find}
 use Rattle.std.proofs.lemmas.Bool.{cases_Bool, false≢true, eqb-true}
 use Rattle.dbtg_schema.specs.Lists.{Lists}
@@ -25,11 +25,11 @@ use Rattle.dbtg_unit.specs.Base.{Database, is_live, items_of, calc_items, member
 use Rattle.dbtg_unit.specs.Belongs.{IsUnitOf}
 use Rattle.dbtg_unit.specs.CellNames.{slot_name, place_of}
 use Rattle.dbtg_unit.specs.Cells.{cell}
-use Rattle.dbtg_unit.specs.Effect.{free_number, new_key, calc_taken}
+use Rattle.dbtg_unit.specs.Effect.{free_number, calc_taken}
 use Rattle.dbtg_unit.specs.Fits.{if_named}
-use Rattle.dbtg_unit.specs.Found.{chosen, chosen_by_key, found, found_unless, has_type, is_lost, keys_in_area, needs_position, with_calc, with_current}
+use Rattle.dbtg_unit.specs.Found.{chosen, chosen_by_key, found_unless, has_type, is_lost, needs_position, with_calc}
 use Rattle.dbtg_unit.specs.Legal.{Legal}
-use Rattle.dbtg_unit.specs.Needs.{cells_of, current_owner, find_cells, found_slot, ring_names, store_cells, store_rings}
+use Rattle.dbtg_unit.specs.Needs.{cells_of, find_cells, found_slot, store_cells, store_rings}
 use Rattle.dbtg_unit.specs.Units.{place_in}
 use Rattle.dbtg_unit.proofs.LiveKeys.{In, in_map}
 use Rattle.dbtg_step.specs.Network.{is_delete}
@@ -75,17 +75,17 @@ module _ (schema : Lists) (capacity : ℕ) (db eb : Database) (ldb : Legal schem
   sorted v s None e = rw e refl
   sorted v s (Some place) e =
       rw e (found_stable (Ring s (place_of place.owner) ∷ []) _ _ (λ n.
-        let ring = alike_one (Ring s (place_of place.owner)) n in
-        let lists = lists_same schema capacity db eb ldb leb s place.owner ring in
-        let keyed = keyed_same schema capacity db eb ldb leb s place.owner ring in
-        let key : find (λ k. some_and (value_eq v) (sort_key schema db s k)) (members_of db s place.owner) ≡ find (λ k. some_and (value_eq v) (sort_key schema eb s k)) (members_of eb s place.owner)
-            = find_keyed schema db s (some_and (value_eq v)) _ ∙ (ap (λ ps. option_map (λ (q : DbKey × Option Value). q.0) (find (λ (q : DbKey × Option Value). some_and (value_eq v) q.1) ps)) keyed ∙ sym (find_keyed schema eb s (some_and (value_eq v)) _)) in
-        λ i. found_unless (first_cause ((is_none (lists i), Deleted) ∷ [])) (key i) NoneSatisfies))
+      let ring = alike_one (Ring s (place_of place.owner)) n in
+      let lists = lists_same schema capacity db eb ldb leb s place.owner ring in
+      let keyed = keyed_same schema capacity db eb ldb leb s place.owner ring in
+      let key : find (λ k. some_and (value_eq v) (sort_key schema db s k)) (members_of db s place.owner) ≡ find (λ k. some_and (value_eq v) (sort_key schema eb s k)) (members_of eb s place.owner)
+      = find_keyed schema db s (some_and (value_eq v)) _ ∙ (ap (λ ps. option_map (λ (q : DbKey × Option Value). q.0) (find (λ (q : DbKey × Option Value). some_and (value_eq v) q.1) ps)) keyed ∙ sym (find_keyed schema eb s (some_and (value_eq v)) _)) in
+      λ i. found_unless (first_cause ((is_none (lists i), Deleted) ∷ [])) (key i) NoneSatisfies))
 
   in_area : (which : Which) (r : Option ℕ) (a : ℕ) → find p (find_cells schema capacity db unit (InArea which r a)) ≡ find p (find_cells schema capacity eb unit (InArea which r a))
   in_area which r a =
       found_stable (map Extent types) _ _ (λ n. ap (λ ks. found_unless None (chosen_by_key which (at unit.currency.areas a) ks) End)
-        (area_keys_same schema capacity db eb ldb leb r (types_in schema a) (λ t i. alike (map Extent types) n (Extent t) (in_map Extent t types i))))
+      (area_keys_same schema capacity db eb ldb leb r (types_in schema a) (λ t i. alike (map Extent types) n (Extent t) (in_map Extent t types i))))
     where
       types : List ℕ
       types = unwrap_or (option_map (λ t. t ∷ []) r) (types_in schema a)
@@ -96,8 +96,10 @@ module _ (schema : Lists) (capacity : ℕ) (db eb : Database) (ldb : Legal schem
     where
       typed : k.rtype ≡ r
       typed = eqb-true _ _ (subst (λ o. if_named (λ x. x.rtype == r) o ≡ true) e (of.of_types r))
+
       next_in : Database → Result DbKey Cause
       next_in d = found_unless (first_cause ((not (is_live d k), Deleted) ∷ [])) (first (filter (key_lt k) (with_calc schema capacity d r (calc_items schema r (items_of d k))))) End
+
       go : (c : cell schema capacity db (Extent r) ≡ cell schema capacity eb (Extent r)) → (is_live db k ≡ true) ⊎ (is_live db k ≡ false) → next_in db ≡ next_in eb
       go c (inl live) =
           let alive = live_same schema capacity db eb ldb leb r c k typed in

@@ -27,10 +27,10 @@ module _ (D : SequentialDatabase) (opening : SequentialState D) (s : State D) (u
       unfolding in_statement
       step_after_ticket t e = at_this ∙ ap (λ o. in_statement D opening s u state w o state.remaining) e
 
-      module _ (x : D.Statement) (xs : List D.Statement) (untold : w.ticket ≡ None) (remaining : state.remaining ≡ x ∷ xs) where
+      module _ (x : D.Statement) (xs : List D.Statement) (no_ticket : w.ticket ≡ None) (remaining : state.remaining ≡ x ∷ xs) where
         before_ticket_here : step D opening s u ≡ before_ticket D opening s u state w x xs w.turning_back w.cells
         unfolding in_statement
-        before_ticket_here = at_this ∙ (ap (λ o. in_statement D opening s u state w o state.remaining) untold ∙ ap (λ r. in_statement D opening s u state w None r) remaining)
+        before_ticket_here = at_this ∙ (ap (λ o. in_statement D opening s u state w o state.remaining) no_ticket ∙ ap (λ r. in_statement D opening s u state w None r) remaining)
 
         pub step_turns_back : (h : HeldCell D.Cell D.Value) (hs : List (HeldCell D.Cell D.Value)) → w.turning_back ≡ true → w.cells ≡ h ∷ hs → step D opening s u ≡ MovedTo (updated D s u state (relocated D s.location h.name (Home h.value)) state.guesses (Some (record w { cells = hs; turning_back = is_nonempty hs })))
         unfolding before_ticket

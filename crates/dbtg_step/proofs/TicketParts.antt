@@ -1,4 +1,4 @@
--- The ticket keeps what is lawful.
+-- What one more entry of the history changes, and what it leaves.
 use Rattle.std.proofs.Common.{ℕ, zero, suc, ◌≡◌, ◌≢◌, ◌≤◌, Bool, true, false, cond, eqb, eq-eqb, ne_eqb, List, [], ◌∷◌, ◌++◌, length, take, Option, Some, slice_get, ◌⊎◌, inl, inr, refl, sym, ap, ◌∙◌, subst, arith, length-append}
 use Rattle.std.proofs.lemmas.List.{take-append-le}
 use Rattle.dbtg_step.specs.SequentialDatabase.{HeldCell, SequentialDatabase, In, unit_at, with_unit_at}
@@ -69,12 +69,16 @@ module _ (D : SequentialDatabase) where
   due_apart db [] a = tt
   due_apart db (k ∷ ks) a = ((λ h i q. let d = due_found db ks h i in a.0 d.from d.is_in (sym d.name ∙ q)), due_apart db ks a.1)
 
-  -- the same of a statement that is over with nothing in hand
+  -- the same of a statement that is over, with nothing held
   pub holding_over : (opening : SequentialState D) (location : D.Cell → Location D.Value) (past : List (HistoryEntry D)) (u : ℕ) (w : Progress D) (areas : List ℕ) (cells : List (HeldCell D.Cell D.Value)) → Holding D opening location past u (Some w) → Holding D opening location past u (unless_over D w areas cells)
   unfolding unless_over held_cells held_areas ticket_of AreDistinct
   holding_over opening location past u w [] [] h = record {
-    held = λ h i. absurd i; values = λ h i. absurd i; in_area = λ h i. absurd i; distinct = tt;
-    ticket = λ t e. absurd (cc); due = λ t e h i. absurd i
+    held = λ h i. absurd i;
+    values = λ h i. absurd i;
+    in_area = λ h i. absurd i;
+    distinct = tt;
+    ticket = λ t e. absurd (cc);
+    due = λ t e h i. absurd i;
   }
   holding_over opening location past u w [] (x ∷ xs) h = h
   holding_over opening location past u w (a ∷ areas) cells h = h
@@ -96,17 +100,18 @@ module _ (D : SequentialDatabase) where
 
   -- the world after one more entry
   pub state_next : (opening : SequentialState D) (past : List (HistoryEntry D)) (e : HistoryEntry D) (unit : D.Unit) → unit_at (replay D opening past).units e.unit ≡ Some unit →
-    replay D opening (past ++ e ∷ []) ≡ record { database = (D.effect (replay D opening past).database unit e.statement).database; units = with_unit_at (replay D opening past).units e.unit (D.effect (replay D opening past).database unit e.statement).unit }
+      replay D opening (past ++ e ∷ []) ≡ record { database = (D.effect (replay D opening past).database unit e.statement).database; units = with_unit_at (replay D opening past).units e.unit (D.effect (replay D opening past).database unit e.statement).unit }
   state_next opening past e unit g = replay_next opening past e ∙ after_found (replay D opening past) e unit g
 
-  -- what another unit has in hand stands, where the entry leaves these cells as they were
+  -- what another unit holds stands, where the entry leaves these cells as they were
   pub holding_stays : (opening : SequentialState D) (location : D.Cell → Location D.Value) (past : List (HistoryEntry D)) (e : HistoryEntry D) (u : ℕ) (progress : Option (Progress D)) →
-    ((c : D.Cell) → location c ≡ HeldBy u → D.cell (replay D opening (past ++ e ∷ [])).database c ≡ D.cell (replay D opening past).database c) →
-    Holding D opening location past u progress → Holding D opening location (past ++ e ∷ []) u progress
+      ((c : D.Cell) → location c ≡ HeldBy u → D.cell (replay D opening (past ++ e ∷ [])).database c ≡ D.cell (replay D opening past).database c) →
+      Holding D opening location past u progress → Holding D opening location (past ++ e ∷ []) u progress
   holding_stays opening location past e u progress same h = record {
     held = h.held;
     values = λ k i. h.values k i ∙ sym (same k.name (h.held k i));
-    in_area = h.in_area; distinct = h.distinct;
+    in_area = h.in_area;
+    distinct = h.distinct;
     ticket = λ t q. let lt = h.ticket t q in omega (arith, length-append past (e ∷ []));
-    due = λ t q. let lt : suc t ≤ length past = h.ticket t q in rw (take-append-le (suc t) past (e ∷ []) lt) (h.due t q)
+    due = λ t q. let lt : suc t ≤ length past = h.ticket t q in rw (take-append-le (suc t) past (e ∷ []) lt) (h.due t q);
   }

@@ -1,4 +1,4 @@
--- The ticket keeps what is lawful.
+-- A ticket keeps a state lawful.
 use Rattle.std.proofs.Common.{ℕ, suc, ◌≡◌, ◌≢◌, false, List, [], ◌∷◌, ◌++◌, length, Some, inl, inr, refl, sym, ap, ◌∙◌, subst, arith, length-append, append_assoc}
 use Rattle.std.proofs.lemmas.Bool.Decides.{eqb_tells}
 use Rattle.dbtg_step.specs.SequentialDatabase.{SequentialDatabase, IsSequentialDatabase, In, NotAmong, NeedsNothing, unit_at, with_unit_at}
@@ -35,51 +35,51 @@ module _ (D : SequentialDatabase) (laws : IsSequentialDatabase D) (opening : Seq
         distinct = due_apart D e.database w.cells old.distinct;
         ticket = λ t q. let k : s.counter ≡ t = cc in omega (arith, k, l.counter, length-append past (entry ∷ []));
         due = λ t q h i.
-          let k : s.counter ≡ t = cc in
-          let m : suc t ≡ suc (length past) = ap suc (sym k ∙ l.counter) in
-          let d = due_found D e.database w.cells h i in
-          rw (m, take_all_more past entry, next_db) d.value
+            let k : s.counter ≡ t = cc in
+            let m : suc t ≡ suc (length past) = ap suc (sym k ∙ l.counter) in
+            let d = due_found D e.database w.cells h i in
+            rw (m, take_all_more past entry, next_db) d.value;
       } in
       record {
         counter = ap suc l.counter ∙ sym (length-append past (entry ∷ []) ∙ omega arith);
         tickets = λ k f g. elim (append_found past entry f k g) [
-            inl p ↦ l.tickets k f p
+          | inl p ↦ l.tickets k f p
           | inr p ↦ subst (λ (y : HistoryEntry D). y.ticket ≡ k) p.1 (l.counter ∙ sym p.0)
         ];
         answers = answers_next D opening past entry state.unit l.answers may.found refl;
         units = map_set (λ (y : UnitState D). y.unit) s.units u new ∙ (ap (λ us. with_unit_at us u e.unit) l.units ∙ sym (ap (λ (y : SequentialState D). y.units) next));
         legal = rw next local.legal;
         each = λ o b g. elim (set_found s.units u o new b g) [
-            inl p ↦ subst (λ (y : UnitState D). UnitLawful D opening s.location (past ++ entry ∷ []) o y) p.1
+          | inl p ↦ subst (λ (y : UnitState D). UnitLawful D opening s.location (past ++ entry ∷ []) o y) p.1
               (subst (λ v. UnitLawful D opening s.location (past ++ entry ∷ []) v new) (sym p.0) (record {
                 script = rw (statements_of_it D u past entry refl) (append_assoc (statements_of D u past) (x ∷ []) xs ∙ (ap (λ ys. statements_of D u past ++ ys) (sym remaining) ∙ (l.each u state at).script));
                 fits = (l.each u state at).fits;
-                holding = holding_over D opening s.location (past ++ entry ∷ []) u progress w.areas (due_cells D e.database w.cells) holding
+                holding = holding_over D opening s.location (past ++ entry ∷ []) u progress w.areas (due_cells D e.database w.cells) holding;
               }))
           | inr p ↦ record {
-              script = rw (statements_of_other D o past entry (λ q. p.0 (sym q))) (l.each o b p.1).script;
-              fits = (l.each o b p.1).fits;
-              holding = holding_stays D opening s.location past entry o b.progress (λ c q. untouched c (elsewhere c o p.0 q)) (l.each o b p.1).holding
-            }
+            script = rw (statements_of_other D o past entry (λ q. p.0 (sym q))) (l.each o b p.1).script;
+            fits = (l.each o b p.1).fits;
+            holding = holding_stays D opening s.location past entry o b.progress (λ c q. untouched c (elsewhere c o p.0 q)) (l.each o b p.1).holding;
+          }
         ];
         apart = λ v o a b n ea eb. elim (set_found s.units u v new a ea) [
-            inl p ↦ elim (set_found s.units u o new b eb) [
-                inl r ↦ absurd (n (p.0 ∙ sym r.0))
-              | inr r ↦ subst (λ (y : UnitState D). AreasShared D y.progress b.progress) p.1 (shared_over D progress w.areas (due_cells D e.database w.cells) b.progress (shared o b r.0 r.1))
-            ]
+          | inl p ↦ elim (set_found s.units u o new b eb) [
+            | inl r ↦ absurd (n (p.0 ∙ sym r.0))
+            | inr r ↦ subst (λ (y : UnitState D). AreasShared D y.progress b.progress) p.1 (shared_over D progress w.areas (due_cells D e.database w.cells) b.progress (shared o b r.0 r.1))
+          ]
           | inr p ↦ elim (set_found s.units u o new b eb) [
-                inl r ↦ subst (λ (y : UnitState D). AreasShared D a.progress y.progress) r.1 (shared_back D over a.progress (shared_over D progress w.areas (due_cells D e.database w.cells) a.progress (shared v a p.0 p.1)))
-              | inr r ↦ l.apart v o a b n p.1 r.1
-            ]
+            | inl r ↦ subst (λ (y : UnitState D). AreasShared D a.progress y.progress) r.1 (shared_back D over a.progress (shared_over D progress w.areas (due_cells D e.database w.cells) a.progress (shared v a p.0 p.1)))
+            | inr r ↦ l.apart v o a b n p.1 r.1
+          ]
         ];
         home = λ c v p. l.home c v p ∙ sym (untouched c (λ h i q. let f : s.location c ≡ HeldBy u = subst (λ d. s.location d ≡ HeldBy u) q (old.held h i) in absurd (cc)));
         holder = λ c o p. elim (eqb_tells o u) [
-            inl q ↦
+          | inl q ↦
               let h = subst (λ y. HoldsCell D y c) is (holder_is D opening s l u state at c (subst (λ v. s.location c ≡ HeldBy v) q.1 p)) in
               let has : HoldsCell D (Some progress) c = record { which = record { name = h.which.name; value = D.cell e.database h.which.name }; is_in = due_of D e.database w.cells h.which h.is_in; name = h.name } in
               subst (λ v. IsHolder D (with_unit_at s.units u new) v c) (sym q.1) (record { state = new; found = set_at s.units u state new at; holds = holds_over D progress w.areas (due_cells D e.database w.cells) c refl has })
           | inr q ↦
               let h = l.holder c o p in
               record { state = h.state; found = set_elsewhere s.units u o new q.1 ∙ h.found; holds = h.holds }
-        ]
+        ];
       }

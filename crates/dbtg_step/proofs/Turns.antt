@@ -1,8 +1,8 @@
 -- Each event keeps the order in which areas and cells were taken.
-use Rattle.std.proofs.Common.{ℕ, ◌≡◌, ◌≢◌, Bool, true, false, ltb, List, [], ◌∷◌, ◌++◌, length, Option, Some, None, ◌⊎◌, inl, inr, refl, sym, ap, ◌∙◌, subst}
+use Rattle.std.proofs.Common.{ℕ, ◌≡◌, Bool, true, false, List, [], ◌∷◌, Option, Some, None, inl, inr, refl, sym, ap, ◌∙◌, subst}
 use Rattle.dbtg_step.specs.SequentialDatabase.{HeldCell, NextNeed, NeedsArea, NeedsCell, StaleGuesses, NeedsNothing, SequentialDatabase, Agrees, unit_at, with_unit_at}
 use Rattle.dbtg_step.specs.Machine.{Location, Home, HeldBy, Progress, UnitState, State, SequentialState, replay, held_cells, begun, unless_over}
-use Rattle.dbtg_step.specs.Step.{next_need, with_progress, updated, conflicts, any_other, is_nonempty, Transition, MovedTo, IsBlocked, IsIdle, due_cells, with_ticket, after_ticket, takes_area, takes_cell, follows_need, before_ticket, in_statement, step_of_unit, step_if_unit, step, quit_unless_ticket, quit_of_unit, quit_if_unit, quit, IfMoved}
+use Rattle.dbtg_step.specs.Step.{next_need, with_progress, updated, conflicts, any_other, is_nonempty, with_ticket, after_ticket, takes_area, takes_cell, follows_need, before_ticket, in_statement, step_of_unit, step_if_unit, step, quit_unless_ticket, quit_of_unit, quit_if_unit, quit, IfMoved}
 use Rattle.dbtg_step.specs.NeverStuck.{MayGoOn, TakenInTurn, NoneYet, AreaNext, CellNext, NeedsInOrder, InTurn, AllInTurn}
 use Rattle.dbtg_step.specs.Lawful.{Lawful}
 use Rattle.dbtg_step.proofs.UnitFacts.{may_make}
@@ -15,10 +15,12 @@ module _ (D : SequentialDatabase) (below : D.Cell → D.Cell → Bool) (order : 
 
   unit_in_turn : (location : D.Cell → Location D.Value) (history : List (_)) (counter : ℕ) (new : UnitState D) → MeetsTurn new new.progress → AllInTurn D below (record { location = location; history = history; counter = counter; units = with_unit_at s.units u new })
   unfolding MeetsTurn
-  unit_in_turn location history counter new f = record { each = λ v b w e i t. elim (set_found s.units u v new b e) [
-      inl p ↦ subst (λ (y : UnitState D). InTurn D below y w) p.1 (f w (ap (λ (y : UnitState D). y.progress) p.1 ∙ i) t)
-    | inr p ↦ o.each v b w p.1 i t
-  ] }
+  unit_in_turn location history counter new f = record {
+    each = λ v b w e i t. elim (set_found s.units u v new b e) [
+      | inl p ↦ subst (λ (y : UnitState D). InTurn D below y w) p.1 (f w (ap (λ (y : UnitState D). y.progress) p.1 ∙ i) t)
+      | inr p ↦ o.each v b w p.1 i t
+    ];
+  }
 
   update_in_turn : (state : UnitState D) (location : D.Cell → Location D.Value) (g : D.Guesses) (progress : Option (Progress D)) → MeetsTurn (with_progress D state g progress) progress → AllInTurn D below (updated D s u state location g progress)
   unfolding updated
@@ -54,7 +56,6 @@ module _ (D : SequentialDatabase) (below : D.Cell → D.Cell → Bool) (order : 
   begin_in_turn state x xs r = update_in_turn state _ _ _ (some_meets _ _ (λ n. record { x = x; xs = xs; remaining = r; exclusive = refl; going = λ _. NoneYet; back = λ _. NoneYet }))
 
   module _ (state : UnitState D) (at : unit_at s.units u ≡ Some state) (w : Progress D) (is : state.progress ≡ Some w) (mid : InTurn D below state w) where
-
     -- it doesn't turn back, or has turned back: what is held was taken in turn
     taken : (w.turning_back ≡ true → w.cells ≡ []) → TakenInTurn D below state.unit mid.x state.guesses w.areas w.cells
     taken f = go w.turning_back refl
@@ -70,11 +71,13 @@ module _ (D : SequentialDatabase) (below : D.Cell → D.Cell → Bool) (order : 
     may_go_on : (c : D.Cell) (v : D.Value) → s.location c ≡ Home v → MayGoOn D below db state.unit mid.x (record { name = c; value = v } ∷ w.cells)
     unfolding held_cells
     may_go_on c v h = record {
-      units = _; u = u; may = may_make D opening s l u state at mid.x mid.xs mid.remaining;
+      units = _;
+      u = u;
+      may = may_make D opening s l u state at mid.x mid.xs mid.remaining;
       agrees = λ k i. elim i [
-          inl q ↦ subst (λ (y : HeldCell D.Cell D.Value). y.value ≡ D.cell db y.name) (sym q) (l.home c v h)
+        | inl q ↦ subst (λ (y : HeldCell D.Cell D.Value). y.value ≡ D.cell db y.name) (sym q) (l.home c v h)
         | inr j ↦ subst (λ p. Agrees D db (held_cells D p)) is (l.each u state at).holding.values k j
-      ]
+      ];
     }
 
     area_in_turn : (a : ℕ) → (w.turning_back ≡ true → w.cells ≡ []) → D.need db state.unit mid.x state.guesses w.areas w.cells ≡ NeedsArea a → AllInTurn D below (updated D s u state s.location state.guesses (Some (record w { areas = a ∷ w.areas })))

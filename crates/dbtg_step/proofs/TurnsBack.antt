@@ -1,18 +1,17 @@
 -- With the true owners noted no guess is stale, and what is needed falls with each need that is met.
-use Rattle.std.proofs.Common.{◌≡◌, refl, sym, ◌∙◌, ap, subst, ℕ, zero, suc, ◌+◌, ◌<◌, ◌≤◌, Bool, true, false, cond, not, eqb, ◌&&◌, ◌||◌, List, [], ◌∷◌, length, map, Option, Some, None, get_or, inl, inr, arith}
-use Rattle.std.specs.Prelude.{is_some, nat_lt, option_map, unwrap_or, if◌then◌else◌, ◌==◌}
-use Rattle.std.specs.List.{list_any, range_with_len, find}
+use Rattle.std.proofs.Common.{◌≡◌, refl, sym, ◌∙◌, ap, subst, ℕ, zero, suc, ◌+◌, ◌<◌, ◌≤◌, Bool, true, false, cond, not, eqb, ◌&&◌, ◌||◌, List, [], ◌∷◌, length, map, Option, Some, None, inl, inr, arith}
+use Rattle.std.specs.Prelude.{is_some, option_map, unwrap_or, if◌then◌else◌, ◌==◌}
+use Rattle.std.specs.List.{list_any, find}
 use Rattle.std.specs.Option.{option_or}
-use Rattle.std.proofs.lemmas.Bool.{and_parts, and_from, and_right, or_cases, or_left, or_right, cases_Bool, false≢true, false_from_ne_true, eqb-true, eq-eqb, ltb-true}
+use Rattle.std.proofs.lemmas.Bool.{and_parts, cases_Bool, false≢true, false_from_ne_true, eq-eqb, ltb-true}
 use Rattle.std.proofs.lemmas.List.FromFn.{get_or-map-range_with_len}
 use Rattle.dbtg_schema.specs.Lists.{Lists}
 use Rattle.dbtg_schema.specs.Lookups.{at, some_and}
-use Rattle.dbtg_schema.specs.Structure.{member_clause, rekeyed_sets, set_numbers}
+use Rattle.dbtg_schema.specs.Structure.{set_numbers}
 use Rattle.dbtg_cells.specs.declared.key.DbKey.{DbKey}
 use Rattle.dbtg_cells.specs.declared.key.Owner.{Owner}
 use Rattle.dbtg_cells.specs.declared.name.CellName.{CellName}
 use Rattle.dbtg_cells.specs.declared.cell.Cell.{Cell}
-use Rattle.dbtg_cells.specs.Keys.{owner_eq}
 use Rattle.dbtg_cells.specs.Names.{name_eq}
 use Rattle.dbtg_cells.specs.Shown.{CellValue}
 use Rattle.dbtg_unit.specs.declared.statement.Statement.{Statement}
@@ -29,7 +28,6 @@ use Rattle.dbtg_unit.proofs.ReadingCells.{name_eq-refl}
 use Rattle.dbtg_step.specs.SequentialDatabase.{HeldCell, NeedsArea, NeedsCell, StaleGuesses}
 use Rattle.dbtg_step.specs.Network.{network, holding, next_need_of, with_owners}
 use Rattle.dbtg_step.specs.TurningBack.{NeedsComeToAnEnd, count, holds_area, holds_cell, needs_left}
-use Rattle.dbtg_step.proofs.NeededCells.{find_none_of}
 use Rattle.dbtg_step.proofs.NetworkNeeds.{is_area_left, is_not_held, reads_area, reads_cell}
 
 -- THE TRUE OWNERS
@@ -48,7 +46,7 @@ noted_at (g ∷ gs) (o ∷ os) (suc s) = noted_at gs os s
 right_owner : (truth guess : Option Owner) → is_wrong_guess truth (option_or (cond (is_wrong_guess truth guess) truth None) guess) ≡ false
 right_owner None guess = refl
 right_owner (Some o) guess = elim (cases_Bool (is_wrong_guess (Some o) guess)) [
-    inl wrong ↦ ap (λ b. is_wrong_guess (Some o) (option_or (cond b (Some o) None) guess)) wrong ∙ ap not (owner_eq-refl o)
+  | inl wrong ↦ ap (λ b. is_wrong_guess (Some o) (option_or (cond b (Some o) None) guess)) wrong ∙ ap not (owner_eq-refl o)
   | inr right ↦ ap (λ b. is_wrong_guess (Some o) (option_or (cond b (Some o) None) guess)) right ∙ right
 ]
 
@@ -93,7 +91,7 @@ module _ (schema : Lists) (capacity : ℕ) (db : Database) (unit : Unit) (x : St
   not_stale_again = go unit.currency.run_unit
     where
       go : (o : Option DbKey) →
-        some_and (λ k. is_live db k && list_any (λ s. is_wrong_guess (owner_of schema capacity db s k) (at (with_owners g (unwrap_or (option_map (λ k. map (wrong_owner schema capacity db g (guessed_sets schema unit x) k) (set_numbers schema)) o) [])) s)) (guessed_sets schema unit x)) o ≡ false
+          some_and (λ k. is_live db k && list_any (λ s. is_wrong_guess (owner_of schema capacity db s k) (at (with_owners g (unwrap_or (option_map (λ k. map (wrong_owner schema capacity db g (guessed_sets schema unit x) k) (set_numbers schema)) o) [])) s)) (guessed_sets schema unit x)) o ≡ false
       go None = refl
       go (Some k) = false_from_ne_true _ (λ e. false≢true (sym (none_wrong k) ∙ (and_parts _ _ e).1))
 
@@ -104,7 +102,7 @@ count_up_to p q [] f = omega arith
 count_up_to p q (x ∷ xs) f =
     let rest = count_up_to p q xs f in
     elim (cases_Bool (q x)) [
-        inl e ↦ let h = f x e in rw (e, h) (omega (arith, rest))
+      | inl e ↦ let h = f x e in rw (e, h) (omega (arith, rest))
       | inr e ↦ rw e (omega (arith, rest))
     ]
 
@@ -119,7 +117,7 @@ count_falls {X} p q c (x ∷ xs) f (inl e) h n =
 count_falls p q c (x ∷ xs) f (inr i) h n =
     let rest = count_falls p q c xs f i h n in
     elim (cases_Bool (q x)) [
-        inl e ↦ let k = f x e in rw (e, k) (omega (arith, rest))
+      | inl e ↦ let k = f x e in rw (e, k) (omega (arith, rest))
       | inr e ↦ rw e (omega (arith, rest))
     ]
 
@@ -169,10 +167,10 @@ module _ (schema : Lists) (capacity : ℕ) (db : Database) (unit : Unit) (x : St
       let r = reads_stale others e in
       let noted = with_owners g (stale_owners schema capacity db unit g x) in
       subst (λ o. needs_left schema capacity db unit x o areas [] < needs_left schema capacity db unit x g areas cells) r.1
-        (falls noted (not_stale_again schema capacity db unit x fit g) r.0)
+      (falls noted (not_stale_again schema capacity db unit x fit g) r.0)
     where
       falls : (noted : List (Option Owner)) → is_stale schema capacity db unit noted x ≡ false → is_stale schema capacity db unit g x ≡ true →
-        needs_left schema capacity db unit x noted areas [] < count (λ a. not (holds_area areas a)) (areas_in_order schema unit x) + count (λ c. not (holds_cell cells c)) (cells_of schema capacity db unit g x) + cond (is_stale schema capacity db unit g x) (suc (length (cells_of schema capacity db unit noted x))) 0
+          needs_left schema capacity db unit x noted areas [] < count (λ a. not (holds_area areas a)) (areas_in_order schema unit x) + count (λ c. not (holds_cell cells c)) (cells_of schema capacity db unit g x) + cond (is_stale schema capacity db unit g x) (suc (length (cells_of schema capacity db unit noted x))) 0
       falls noted fresh stale =
           let most = count_length (λ c. not (holds_cell [] c)) (cells_of schema capacity db unit noted x) in
           rw (fresh, stale) (omega (arith, most))
@@ -182,5 +180,5 @@ needs_come_to_an_end schema capacity = record {
   not_stale_again = λ db unit x g fit. not_stale_again schema capacity db unit x fit g;
   area_taken = λ db unit x g areas cells. area_falls schema capacity db unit x g areas cells;
   cell_taken = λ db unit x g areas cells. cell_falls schema capacity db unit x g areas cells;
-  turned_back = λ db unit x g others areas cells fit. turn_falls schema capacity db unit x g areas cells others fit
+  turned_back = λ db unit x g others areas cells fit. turn_falls schema capacity db unit x g areas cells others fit;
 }

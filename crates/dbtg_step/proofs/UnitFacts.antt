@@ -23,6 +23,7 @@ module _ (D : SequentialDatabase) (opening : SequentialState D) (s : State D) (l
   -- the unit may make its next statement on the database of the history
   pub may_make : (x : D.Statement) (xs : List D.Statement) → state.remaining ≡ x ∷ xs → MayMake D (replay D opening s.history).database (replay D opening s.history).units u state.unit x
   may_make x xs e = record {
-    legal = l.legal; found = unit_found;
-    fits = (l.each u state at).fits x (subst (λ ys. In x ys) (l.each u state at).script (in_behind (statements_of D u s.history) state.remaining x (subst (λ ys. In x ys) (sym e) (inl refl))))
+    legal = l.legal;
+    found = unit_found;
+    fits = (l.each u state at).fits x (subst (λ ys. In x ys) (l.each u state at).script (in_behind (statements_of D u s.history) state.remaining x (subst (λ ys. In x ys) (sym e) (inl refl))));
   }

@@ -88,7 +88,7 @@ module _ (D : SequentialDatabase) (names : NamesCells D) where
   pub relocated_found : (location : D.Cell → Location D.Value) (c d : D.Cell) (p q : Location D.Value) → relocated D location c p d ≡ q → ((d ≡ c) × (p ≡ q)) ⊎ ((d ≢ c) × (location d ≡ q))
   unfolding relocated
   relocated_found location c d p q e = elim (cond_tells (D.same_name d c) p (location d) q e) [
-      inl h ↦ inl (names.same_is d c h.0, h.1)
+    | inl h ↦ inl (names.same_is d c h.0, h.1)
     | inr h ↦ inr ((λ k. let t : D.same_name d c ≡ true = subst (λ x. D.same_name d x ≡ true) k (names.same_self d) in cc), h.1)
   ]
 

@@ -1,12 +1,12 @@
 -- Never stuck: where a unit is in mid-statement, some unit's next step is an event.
-use Rattle.std.proofs.Common.{ℕ, zero, suc, ◌≡◌, ◌≢◌, ◌<◌, Bool, true, false, ◌&&◌, ◌||◌, eqb, ltb, List, [], ◌∷◌, map, Option, Some, None, slice_get, ◌⊎◌, inl, inr, refl, sym, ap, ◌∙◌, subst, arith, lt-ltb, ltb-true, le-ltb}
+use Rattle.std.proofs.Common.{ℕ, zero, suc, ◌≡◌, ◌≢◌, Bool, true, false, ◌&&◌, ◌||◌, eqb, List, [], ◌∷◌, map, Option, Some, None, slice_get, ◌⊎◌, inl, inr, refl, sym, ap, ◌∙◌, subst, arith, lt-ltb, ltb-true, le-ltb}
 use Rattle.std.specs.List.{list_any}
 use Rattle.std.proofs.lemmas.Bool.Decides.{eqb_tells}
-use Rattle.dbtg_step.specs.SequentialDatabase.{HeldCell, NextNeed, NeedsArea, NeedsCell, StaleGuesses, NeedsNothing, SequentialDatabase, IsSequentialDatabase, In, NotAmong, unit_at}
+use Rattle.dbtg_step.specs.SequentialDatabase.{HeldCell, NextNeed, NeedsArea, NeedsCell, StaleGuesses, NeedsNothing, SequentialDatabase, IsSequentialDatabase, In, unit_at}
 use Rattle.dbtg_step.specs.Machine.{Location, Home, HeldBy, Progress, UnitState, State, SequentialState, held_cells, held_areas, holds_exclusively}
-use Rattle.dbtg_step.specs.Step.{next_need, MovedTo, conflicts, any_but, any_other, takes_area, takes_cell, follows_need, step}
-use Rattle.dbtg_step.specs.Lawful.{Holding, AreasShared, HoldsCell, IsHolder, Lawful}
-use Rattle.dbtg_step.specs.NeverStuck.{SomeUnitMoves, Wanted, AnArea, ACell, is_below, wanted_by_need, wanted_unless_turning, wanted_before_ticket, wanted_in_progress, wanted, UnitInOrder, UnitsInOrder, IsStrictOrder}
+use Rattle.dbtg_step.specs.Step.{next_need, conflicts, any_but, any_other, takes_area, takes_cell, follows_need}
+use Rattle.dbtg_step.specs.Lawful.{AreasShared, HoldsCell, Lawful}
+use Rattle.dbtg_step.specs.NeverStuck.{SomeUnitMoves, Wanted, AnArea, ACell, is_below, wanted_by_need, wanted_unless_turning, wanted_before_ticket, wanted_in_progress, wanted, UnitsInOrder, IsStrictOrder}
 use Rattle.dbtg_step.proofs.UnitLists.{map_found}
 use Rattle.dbtg_step.proofs.UnitFacts.{holder_is}
 use Rattle.dbtg_step.proofs.StepCases.{step_after_ticket, step_turns_back, step_follows, follows_area, follows_cell}
@@ -50,7 +50,7 @@ any_found p (x ∷ xs) e = elim (or_cases (p x) (list_any p xs) e) [ inl h ↦ (
 any_in : (a : ℕ) (xs : List ℕ) → list_any (eqb a) xs ≡ true → In a xs
 any_in a [] e = absurd (cc)
 any_in a (x ∷ xs) e = elim (or_cases (eqb a x) (list_any (eqb a) xs) e) [
-    inl h ↦ elim (eqb_tells a x) [ inl p ↦ inl p.1 | inr p ↦ absurd (cc (h, p.0)) ]
+  | inl h ↦ elim (eqb_tells a x) [ inl p ↦ inl p.1 | inr p ↦ absurd (cc (h, p.0)) ]
   | inr h ↦ inr (any_in a xs h)
 ]
 
@@ -59,7 +59,7 @@ unfolding any_but
 but_found p i [] e = absurd (cc)
 but_found p zero (x ∷ xs) e = let r = any_found p xs e in (suc r.0, r.1, r.2, omega arith, r.3)
 but_found p (suc i) (x ∷ xs) e = elim (or_cases (p x) (any_but p i xs) e) [
-    inl h ↦ (0, x, refl, omega arith, h)
+  | inl h ↦ (0, x, refl, omega arith, h)
   | inr h ↦ let r = but_found p i xs h in (suc r.0, r.1, r.2, (λ q. r.3 (cc (q))), r.4)
 ]
 
@@ -103,6 +103,7 @@ module _ (D : SequentialDatabase) (laws : IsSequentialDatabase D) (opening : Seq
       where
         wanted_a : wanted D below opening s state ≡ Some (AnArea a)
         wanted_a = wanted_here x xs q r ∙ (wanted_turned x w.turning_back w.cells f ∙ ap (wanted_by_need D below) e)
+
         go : (b : Bool) → any_other (conflicts D w.exclusive a) u s.units ≡ b → SomeUnitMoves D opening s ⊎ (WaitsForArea u state ⊎ WaitsForCell u state)
         go true t =
             let h = other_found (conflicts D w.exclusive a) u s.units t in
@@ -112,6 +113,7 @@ module _ (D : SequentialDatabase) (laws : IsSequentialDatabase D) (opening : Seq
       where
         wanted_c : wanted D below opening s state ≡ Some (ACell c)
         wanted_c = wanted_here x xs q r ∙ (wanted_turned x w.turning_back w.cells f ∙ ap (wanted_by_need D below) e)
+
         go : (p : Location D.Value) → s.location c ≡ p → SomeUnitMoves D opening s ⊎ (WaitsForArea u state ⊎ WaitsForCell u state)
         go (HeldBy v) p = inr (inr (record { c = c; wanted_is = wanted_c; who = v; location = p }))
         go (Home v) p = inl (record { who = u; after = _; moves = step_follows D opening s u state at w is x xs q r f _ e ∙ follows_cell D opening s u state at w is x xs q r c (Home v) p })
@@ -144,7 +146,7 @@ module _ (D : SequentialDatabase) (laws : IsSequentialDatabase D) (opening : Seq
   past_area : (a : ℕ) (v : ℕ) (state : UnitState D) (w : Progress D) → unit_at s.units v ≡ Some state → state.progress ≡ Some w → In a w.areas → SomeUnitMoves D opening s ⊎ Higher (Wanted D.Cell) (is_below D below) AllWanted (AnArea a)
   unfolding is_below
   past_area a v state w at is i = elim (moves_or_waits v state w at is) [
-      inl m ↦ inl m
+    | inl m ↦ inl m
     | inr (inl b) ↦ inr (higher_area v state (AnArea a) b.a at b.wanted_is (lt-ltb a b.a (((o.each v state w at is).areas b.a b.wanted_is).0 a i)))
     | inr (inr b) ↦ inr (higher_cell v state (AnArea a) b.c at b.wanted_is refl)
   ]
@@ -156,7 +158,7 @@ module _ (D : SequentialDatabase) (laws : IsSequentialDatabase D) (opening : Seq
       let begun = (o.each v state w at is).fresh b.c b.wanted_is in
       let h = l.holder b.c b.who b.location in
       elim (eqb_tells b.who v) [
-          inl p ↦
+        | inl p ↦
             let k = subst (λ y. HoldsCell D y b.c) is (holder_is D opening s l v state at b.c (subst (λ n. s.location b.c ≡ HeldBy n) p.1 b.location)) in
             begun.0 k.which k.is_in k.name
         | inr p ↦
@@ -170,12 +172,12 @@ module _ (D : SequentialDatabase) (laws : IsSequentialDatabase D) (opening : Seq
   past_cell : (c : D.Cell) (v : ℕ) (state : UnitState D) (w : Progress D) → unit_at s.units v ≡ Some state → state.progress ≡ Some w → (h : HeldCell D.Cell D.Value) → In h w.cells → h.name ≡ c → SomeUnitMoves D opening s ⊎ Higher (Wanted D.Cell) (is_below D below) AllWanted (ACell c)
   unfolding is_below
   past_cell c v state w at is h i n = elim (moves_or_waits v state w at is) [
-      inl m ↦ inl m
+    | inl m ↦ inl m
     | inr (inl b) ↦ let e = ((o.each v state w at is).areas b.a b.wanted_is).1 in absurd (subst (λ cs. In h cs) e i)
     | inr (inr b) ↦ elim ((o.each v state w at is).cells b.c b.wanted_is) [
-          inl x ↦ absurd (not_exclusive v state w at is b x)
-        | inr f ↦ inr (higher_cell v state (ACell c) b.c at b.wanted_is (subst (λ d. below d b.c ≡ true) n (f h i)))
-      ]
+      | inl x ↦ absurd (not_exclusive v state w at is b x)
+      | inr f ↦ inr (higher_cell v state (ACell c) b.c at b.wanted_is (subst (λ d. below d b.c ≡ true) n (f h i)))
+    ]
   ]
 
   wanted_nothing : (u : ℕ) (state : UnitState D) (r : Wanted D.Cell) → state.progress ≡ None → wanted D below opening s state ≡ Some r → ⊥
@@ -211,7 +213,7 @@ module _ (D : SequentialDatabase) (laws : IsSequentialDatabase D) (opening : Seq
   next_unit : (u : ℕ) (state : UnitState D) (r : Wanted D.Cell) → unit_at s.units u ≡ Some state → wanted D below opening s state ≡ Some r → (x : Option (Progress D)) → state.progress ≡ x → SomeUnitMoves D opening s ⊎ Higher (Wanted D.Cell) (is_below D below) AllWanted r
   next_unit u state r at e None is = absurd (wanted_nothing u state r is e)
   next_unit u state r at e (Some w) is = elim (moves_or_waits u state w at is) [
-      inl m ↦ inl m
+    | inl m ↦ inl m
     | inr (inl b) ↦
         let q : AnArea b.a ≡ r = cc (b.wanted_is, e) in
         subst (λ y. SomeUnitMoves D opening s ⊎ Higher (Wanted D.Cell) (is_below D below) AllWanted y) q (past_area_of b.a b.who b.holder b.at b.holder.progress refl b.holds)
@@ -229,7 +231,7 @@ module _ (D : SequentialDatabase) (laws : IsSequentialDatabase D) (opening : Seq
   pub never_stuck : (u : ℕ) (state : UnitState D) (w : Progress D) → unit_at s.units u ≡ Some state → state.progress ≡ Some w → SomeUnitMoves D opening s
   unfolding AllWanted
   never_stuck u state w at is = elim (moves_or_waits u state w at is) [
-      inl m ↦ m
+    | inl m ↦ m
     | inr (inl b) ↦ climb (Wanted D.Cell) (is_below D below) never chain (SomeUnitMoves D opening s) AllWanted next u (AnArea b.a) (map_found (wanted D below opening s) s.units u state at ∙ ap Some b.wanted_is)
     | inr (inr b) ↦ climb (Wanted D.Cell) (is_below D below) never chain (SomeUnitMoves D opening s) AllWanted next u (ACell b.c) (map_found (wanted D below opening s) s.units u state at ∙ ap Some b.wanted_is)
   ]

@@ -1,5 +1,5 @@
 -- How many events a statement has.
-use Rattle.std.specs.Prelude.{ℕ, zero, suc, ◌+◌, ◌*◌, ◌≡◌, Bool, false, List, [], ◌∷◌, length, Option, Some, None, option_and_then}
+use Rattle.std.specs.Prelude.{ℕ, zero, suc, ◌+◌, ◌*◌, ◌≡◌, false, List, [], ◌∷◌, length, Option, Some, None, option_and_then}
 use Rattle.dbtg_step.specs.SequentialDatabase.{HeldCell, NeedsArea, NeedsCell, NeedsNothing, SequentialDatabase, unit_at}
 use Rattle.dbtg_step.specs.Machine.{Home, Progress, UnitState, State, SequentialState, replay}
 use Rattle.dbtg_step.specs.Step.{any_other, conflicts, step, MovedTo}
@@ -24,7 +24,7 @@ module _ (D : SequentialDatabase) where
     AreaTaken : {areas : List ℕ} {cells : List (HeldCell D.Cell D.Value)} {a : ℕ} → TakesAlone opening s u state x areas cells → D.need (replay D opening s.history).database state.unit x state.guesses areas cells ≡ NeedsArea a → any_other (conflicts D (D.is_exclusive x) a) u s.units ≡ false → TakesAlone opening s u state x (a ∷ areas) cells
     CellTaken : {areas : List ℕ} {cells : List (HeldCell D.Cell D.Value)} {h : HeldCell D.Cell D.Value} → TakesAlone opening s u state x areas cells → D.need (replay D opening s.history).database state.unit x state.guesses areas cells ≡ NeedsCell h.name → s.location h.name ≡ Home h.value → TakesAlone opening s u state x areas (h ∷ cells)
 
-  -- where unit u is between statements and meets nobody, its next statement with a areas and c cells has 2 + 2a + 3c events
+  -- where unit u is between statements and is never blocked, its next statement with a areas and c cells has 2 + 2a + 3c events
   abbrev pub EventsAreCounted : SequentialState D → State D → Type 0
   EventsAreCounted opening s =
       (u : ℕ) (state : UnitState D) (x : D.Statement) (xs : List D.Statement) (areas : List ℕ) (cells : List (HeldCell D.Cell D.Value)) →

@@ -1,5 +1,5 @@
 -- What a run of moves gives: the history is the sequential database's, and so is all that a run shows.
-use Rattle.std.specs.Prelude.{ℕ, suc, ◌≡◌, ◌++◌, List, [], ◌∷◌, map, replicate, length, Option, Some, None}
+use Rattle.std.specs.Prelude.{ℕ, suc, ◌≡◌, ◌++◌, List, [], ◌∷◌, map, replicate, length, Some, None}
 use Rattle.std.specs.List.{range_with_len}
 use Rattle.dbtg_schema.specs.Lists.{Lists}
 use Rattle.dbtg_unit.specs.declared.statement.Statement.{Statement}
@@ -10,6 +10,7 @@ use Rattle.dbtg_unit.specs.Cells.{cell}
 use Rattle.dbtg_unit.specs.Image.{Image, image_of}
 use Rattle.dbtg_unit.specs.Replay.{AnswersHold, TicketsInOrder, entries_of, opening_state, replay}
 use Rattle.dbtg_unit.specs.Units.{opening_unit}
+use Rattle.dbtg_step.specs.declared.image.Run.{Run}
 use Rattle.dbtg_step.specs.declared.moves.Move.{Move}
 use Rattle.dbtg_step.specs.declared.moves.Stepped.{Stepped}
 use Rattle.dbtg_step.specs.SequentialDatabase.{unit_at}
@@ -34,7 +35,7 @@ machine_of schema capacity scripts = record {
   location = λ c. Home (cell schema capacity (opening schema) c);
   history = [];
   counter = 0;
-  units = units_from schema capacity 1 scripts
+  units = units_from schema capacity 1 scripts;
 }
 
 -- an entry of the machine's history
@@ -64,3 +65,7 @@ pub record IsRun (schema : Lists) (capacity : ℕ) (scripts : List (List Stateme
   pub results_are : steps ≡ machine_results schema capacity scripts moves
   pub history_is : history ≡ map entry_of (machine_after schema capacity scripts moves).history
   pub sequential : IsSequential schema capacity scripts history image units
+
+-- the same of a run as it is handed out
+abbrev pub RunIs : Lists → ℕ → List (List Statement) → List Move → Run → Type 0
+RunIs schema capacity scripts moves given = IsRun schema capacity scripts moves given.results given.history given.image given.units

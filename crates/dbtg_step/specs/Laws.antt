@@ -54,7 +54,7 @@ NoRunIsStuck schema capacity =
     unit_at (run (network schema capacity) opening s moves).units u ≡ Some state → state.progress ≡ Some w →
     SomeUnitMoves (network schema capacity) opening (run (network schema capacity) opening s moves)
 
--- a statement that meets nobody and never turns back has 2 + 2a + 3c events, for its a areas and c cells
+-- a statement that is never blocked and never turns back has 2 + 2a + 3c events, for its a areas and c cells
 abbrev pub StatementsHaveTheirEvents : Lists → ℕ → Type 0
 StatementsHaveTheirEvents schema capacity =
     (opening : SequentialState (network schema capacity)) (s : State (network schema capacity)) → EventsAreCounted (network schema capacity) opening s
@@ -75,8 +75,8 @@ EveryRunIsSequential schema capacity =
     (scripts : List (List Statement)) (moves : List Move) →
     LegalWith schema capacity (opening schema) (opening_of schema capacity (length scripts)).units → scripts_fit schema scripts ≡ true →
     IsSequential schema capacity scripts (map entry_of (machine_after schema capacity scripts moves).history)
-      (image_of schema capacity (replay (network schema capacity) (opening_of schema capacity (length scripts)) (machine_after schema capacity scripts moves).history).database)
-      (map (λ state. state.unit) (machine_after schema capacity scripts moves).units)
+    (image_of schema capacity (replay (network schema capacity) (opening_of schema capacity (length scripts)) (machine_after schema capacity scripts moves).history).database)
+    (map (λ state. state.unit) (machine_after schema capacity scripts moves).units)
 
 -- a serial run is the run of some moves: of steps of one unit after another
 abbrev pub EverySerialRunIsARun : Lists → ℕ → Type 0
@@ -88,5 +88,5 @@ EverySerialRunIsARun schema capacity = (scripts : List (List Statement)) → (mo
 pub record NeedsAreInOrder (schema : Lists) (capacity : ℕ) : Type 0 where
   pub names : NamesCells (network schema capacity)
   pub in_area : (db : Database) (units : List Unit) (u : ℕ) (unit : Unit) (statement : Statement) (guesses : List (Option Owner)) (areas : List ℕ) (cells : List (HeldCell CellName CellValue)) (c : CellName) →
-    MayMake (network schema capacity) db units u unit statement → (network schema capacity).need db unit statement guesses areas cells ≡ NeedsCell c → In (area_of_cell schema c) areas
+      MayMake (network schema capacity) db units u unit statement → (network schema capacity).need db unit statement guesses areas cells ≡ NeedsCell c → In (area_of_cell schema c) areas
   pub in_order : NeedsInOrder (network schema capacity) name_lt

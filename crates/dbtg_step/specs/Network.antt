@@ -76,7 +76,7 @@ network schema capacity = record {
   need = λ db unit statement guesses areas cells. next_need_of guesses (need schema capacity db unit (holding guesses areas cells) statement);
   is_exclusive = is_delete;
   Fits = λ statement. fits schema statement ≡ true;
-  Legal = LegalWith schema capacity
+  Legal = LegalWith schema capacity;
 }
 
 -- what the machine needs of a schema: each record type lies in one of its areas, and no record type is owner and member of

@@ -82,10 +82,10 @@ module _ (D : SequentialDatabase) (below : D.Cell → D.Cell → Bool) where
   pub record NeedsInOrder : Type 0 where
     -- where all was taken in turn, an area that is needed is above all that are held, and no cell is held
     pub area_above : (db : D.Db) (unit : D.Unit) (x : D.Statement) (g : D.Guesses) (areas : List ℕ) (cells : List (HeldCell D.Cell D.Value)) (a : ℕ) →
-      TakenInTurn unit x g areas cells → D.need db unit x g areas cells ≡ NeedsArea a → ((b : ℕ) → In b areas → b < a) × (cells ≡ [])
+        TakenInTurn unit x g areas cells → D.need db unit x g areas cells ≡ NeedsArea a → ((b : ℕ) → In b areas → b < a) × (cells ≡ [])
     -- and a cell that is needed is above all that are held, unless the areas are held exclusively
     pub cell_above : (db : D.Db) (unit : D.Unit) (x : D.Statement) (g : D.Guesses) (areas : List ℕ) (cells : List (HeldCell D.Cell D.Value)) (c : D.Cell) →
-      D.is_exclusive x ≡ false → TakenInTurn unit x g areas cells → MayGoOn db unit x cells → D.need db unit x g areas cells ≡ NeedsCell c → (h : HeldCell D.Cell D.Value) → In h cells → below h.name c ≡ true
+        D.is_exclusive x ≡ false → TakenInTurn unit x g areas cells → MayGoOn db unit x cells → D.need db unit x g areas cells ≡ NeedsCell c → (h : HeldCell D.Cell D.Value) → In h cells → below h.name c ≡ true
     -- the areas don't depend on the guesses
     pub areas_stay : (unit : D.Unit) (x : D.Statement) (g g' : D.Guesses) (areas : List ℕ) (cells : List (HeldCell D.Cell D.Value)) → TakenInTurn unit x g areas cells → TakenInTurn unit x g' areas []
 

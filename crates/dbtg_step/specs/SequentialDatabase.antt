@@ -86,14 +86,14 @@ pub record NamesCells (D : SequentialDatabase) : Type 0 where
   pub same_is : (c d : D.Cell) → D.same_name c d ≡ true → c ≡ d
   pub same_self : (c : D.Cell) → D.same_name c c ≡ true
   pub fresh : (db : D.Db) (unit : D.Unit) (x : D.Statement) (g : D.Guesses) (areas : List ℕ) (cells : List (HeldCell D.Cell D.Value)) (c : D.Cell) →
-    D.need db unit x g areas cells ≡ NeedsCell c → NotAmong D c cells
+      D.need db unit x g areas cells ≡ NeedsCell c → NotAmong D c cells
 
 -- what has to be proved of a database, so that each event of the machine keeps every state lawful
 pub record IsSequentialDatabase (D : SequentialDatabase) : Type 0 where
   pub names : NamesCells D
   -- a cell that is needed lies in an area that is held
   pub in_area : (db : D.Db) (units : List D.Unit) (u : ℕ) (unit : D.Unit) (x : D.Statement) (g : D.Guesses) (areas : List ℕ) (cells : List (HeldCell D.Cell D.Value)) (c : D.Cell) →
-    MayMake D db units u unit x → D.need db unit x g areas cells ≡ NeedsCell c → In (D.area c) areas
+      MayMake D db units u unit x → D.need db unit x g areas cells ≡ NeedsCell c → In (D.area c) areas
   -- a statement that needs nothing more is local
   pub local : (db : D.Db) (units : List D.Unit) (u : ℕ) (unit : D.Unit) (x : D.Statement) (g : D.Guesses) (areas : List ℕ) (cells : List (HeldCell D.Cell D.Value)) →
-    MayMake D db units u unit x → Agrees D db cells → D.need db unit x g areas cells ≡ NeedsNothing → IsLocal D db units u unit x cells
+      MayMake D db units u unit x → Agrees D db cells → D.need db unit x g areas cells ≡ NeedsNothing → IsLocal D db units u unit x cells

@@ -1,10 +1,11 @@
 -- One unit after another, each stepped until its next step is idle.
-use Rattle.std.specs.Prelude.{ℕ, zero, suc, ◌≡◌, List, map, length}
+use Rattle.std.specs.Prelude.{ℕ, zero, suc, ◌≡◌, List, [], map, length}
 use Rattle.dbtg_schema.specs.Lists.{Lists}
 use Rattle.dbtg_unit.specs.declared.statement.Statement.{Statement}
 use Rattle.dbtg_unit.specs.declared.unit.Unit.{Unit}
 use Rattle.dbtg_unit.specs.declared.unit.Entry.{Entry}
 use Rattle.dbtg_unit.specs.Image.{Image}
+use Rattle.dbtg_step.specs.declared.image.Run.{Run}
 use Rattle.dbtg_step.specs.SequentialDatabase.{SequentialDatabase}
 use Rattle.dbtg_step.specs.Machine.{State, SequentialState}
 use Rattle.dbtg_step.specs.Step.{Transition, MovedTo, IsBlocked, IsIdle, step}
@@ -37,3 +38,7 @@ machine_after_scripts schema capacity scripts =
 pub record IsSerialRun (schema : Lists) (capacity : ℕ) (scripts : List (List Statement)) (history : List Entry) (image : Image) (units : List Unit) : Type 0 where
   pub history_is : history ≡ map entry_of (machine_after_scripts schema capacity scripts).history
   pub sequential : IsSequential schema capacity scripts history image units
+
+-- the same of a run as it is handed out, which has no results
+abbrev pub SerialRunIs : Lists → ℕ → List (List Statement) → Run → Type 0
+SerialRunIs schema capacity scripts given = (given.results ≡ []) × IsSerialRun schema capacity scripts given.history given.image given.units

@@ -40,8 +40,10 @@ module _ (D : SequentialDatabase) where
   -- after an event of unit u that draws no ticket
   unfoldable pub updated : State D → ℕ → UnitState D → (D.Cell → Location D.Value) → D.Guesses → Option (Progress D) → State D
   updated s u state location guesses progress = record {
-    location = location; history = s.history; counter = s.counter;
-    units = with_unit_at s.units u (with_progress state guesses progress)
+    location = location;
+    history = s.history;
+    counter = s.counter;
+    units = with_unit_at s.units u (with_progress state guesses progress);
   }
 
   -- the held cells with the values that they have in db
@@ -52,13 +54,20 @@ module _ (D : SequentialDatabase) where
   -- after the ticket: the entry joins the history, the unit is the sequential database's, what is due stands in the held cells
   unfoldable pub with_ticket : SequentialState D → State D → ℕ → UnitState D → Progress D → D.Statement → List D.Statement → State D
   with_ticket opening s u state w x xs =
-    let db = (replay D opening s.history).database in
-    let e = D.effect db state.unit x in
-    record {
-      location = s.location; history = s.history ++ record { ticket = s.counter; unit = u; statement = x; answer = e.answer } ∷ []; counter = suc s.counter;
-      units = with_unit_at s.units u (record { unit = e.unit; guesses = D.guesses_after db state.unit x state.guesses; script = state.script; remaining = xs;
-        progress = unless_over D (record { exclusive = w.exclusive; areas = w.areas; cells = due_cells e.database w.cells; turning_back = false; ticket = Some s.counter; linked = 0 }) w.areas (due_cells e.database w.cells) })
-    }
+      let db = (replay D opening s.history).database in
+      let e = D.effect db state.unit x in
+      record {
+        location = s.location;
+        history = s.history ++ record { ticket = s.counter; unit = u; statement = x; answer = e.answer } ∷ [];
+        counter = suc s.counter;
+        units = with_unit_at s.units u (record {
+          unit = e.unit;
+          guesses = D.guesses_after db state.unit x state.guesses;
+          script = state.script;
+          remaining = xs;
+          progress = unless_over D (record { exclusive = w.exclusive; areas = w.areas; cells = due_cells e.database w.cells; turning_back = false; ticket = Some s.counter; linked = 0 }) w.areas (due_cells e.database w.cells);
+        });
+      }
 
   -- with a ticket: a link while one is left, then each cell goes back, then each area is left
   unfoldable pub after_ticket : State D → ℕ → UnitState D → Progress D → Bool → List (HeldCell D.Cell D.Value) → List ℕ → State D

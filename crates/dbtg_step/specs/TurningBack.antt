@@ -37,13 +37,13 @@ needs_left schema capacity db unit statement guesses areas cells =
 -- or cell that is taken, or a turn back, after which no cell is held
 pub record NeedsComeToAnEnd (schema : Lists) (capacity : ℕ) : Type 0 where
   pub not_stale_again : (db : Database) (unit : Unit) (statement : Statement) (guesses : List (Option Owner)) → fits schema statement ≡ true →
-    is_stale schema capacity db unit (with_owners guesses (stale_owners schema capacity db unit guesses statement)) statement ≡ false
+      is_stale schema capacity db unit (with_owners guesses (stale_owners schema capacity db unit guesses statement)) statement ≡ false
   pub area_taken : (db : Database) (unit : Unit) (statement : Statement) (guesses : List (Option Owner)) (areas : List ℕ) (cells : List (HeldCell CellName CellValue)) (a : ℕ) →
-    (network schema capacity).need db unit statement guesses areas cells ≡ NeedsArea a →
-    needs_left schema capacity db unit statement guesses (a ∷ areas) cells < needs_left schema capacity db unit statement guesses areas cells
+      (network schema capacity).need db unit statement guesses areas cells ≡ NeedsArea a →
+      needs_left schema capacity db unit statement guesses (a ∷ areas) cells < needs_left schema capacity db unit statement guesses areas cells
   pub cell_taken : (db : Database) (unit : Unit) (statement : Statement) (guesses : List (Option Owner)) (areas : List ℕ) (cells : List (HeldCell CellName CellValue)) (h : HeldCell CellName CellValue) →
-    (network schema capacity).need db unit statement guesses areas cells ≡ NeedsCell h.name →
-    needs_left schema capacity db unit statement guesses areas (h ∷ cells) < needs_left schema capacity db unit statement guesses areas cells
+      (network schema capacity).need db unit statement guesses areas cells ≡ NeedsCell h.name →
+      needs_left schema capacity db unit statement guesses areas (h ∷ cells) < needs_left schema capacity db unit statement guesses areas cells
   pub turned_back : (db : Database) (unit : Unit) (statement : Statement) (guesses others : List (Option Owner)) (areas : List ℕ) (cells : List (HeldCell CellName CellValue)) → fits schema statement ≡ true →
-    (network schema capacity).need db unit statement guesses areas cells ≡ StaleGuesses others →
-    needs_left schema capacity db unit statement others areas [] < needs_left schema capacity db unit statement guesses areas cells
+      (network schema capacity).need db unit statement guesses areas cells ≡ StaleGuesses others →
+      needs_left schema capacity db unit statement others areas [] < needs_left schema capacity db unit statement guesses areas cells

@@ -9,65 +9,55 @@ ghost use Rattle.dbtg_step.specs.Network.{StatementsAreLocal, SuitsMachine};
 /// database, whose cells are those at home and those that are held, and whose units are the units.
 pub fn each_event_keeps_lawful()
     ensures { (schema : Lists) (capacity : ℕ) → SuitsMachine schema → StatementsAreLocal schema capacity → EachEventKeepsLawful schema capacity }
-{
-}
+{}
 
 /// Every list of moves, with blocked and idle ones and quits in it, leads from an opening state to a lawful state.
 pub fn every_run_is_lawful()
     ensures { (schema : Lists) (capacity : ℕ) → SuitsMachine schema → StatementsAreLocal schema capacity → EveryRunIsLawful schema capacity }
-{
-}
+{}
 
 /// The image of a lawful state, also in mid-statement, has for each cell what the database of its history has: a cell that
 /// is held with a ticket counts as what it is due to become.
 pub fn every_image_is_of_its_history()
     ensures { (schema : Lists) (capacity : ℕ) → EveryImageIsOfItsHistory schema capacity }
-{
-}
+{}
 
 /// After every list of moves from an opening state, where a unit is in mid-statement some unit's next step is an event.
 pub fn no_run_is_stuck()
     ensures { (schema : Lists) (capacity : ℕ) → SuitsMachine schema → StatementsAreLocal schema capacity → NoRunIsStuck schema capacity }
-{
-}
+{}
 
-/// A statement that meets nobody and never turns back has `2 + 2a + 3c` events, for the `a` areas and `c` cells that it
+/// A statement that is never blocked and never turns back has `2 + 2a + 3c` events, for the `a` areas and `c` cells that it
 /// takes: it is over after so many steps of its unit, and not before.
 pub fn statements_have_their_events()
     ensures { (schema : Lists) (capacity : ℕ) → StatementsHaveTheirEvents schema capacity }
-{
-}
+{}
 
 /// A history is never rewritten: moves put entries behind those that are there.
 pub fn every_run_extends_history()
     ensures { (schema : Lists) (capacity : ℕ) → EveryRunExtendsHistory schema capacity }
-{
-}
+{}
 
 /// The headline, of the machine: after every list of moves from the opening state the tickets are 0, 1, 2, .. in order; the
 /// statements of the history, taken whole in this order on the sequential database, have just these answers and lead to
 /// just these units; and the entries of each unit are the beginning of its script.
 pub fn every_run_is_sequential()
     ensures { (schema : Lists) (capacity : ℕ) → SuitsMachine schema → StatementsAreLocal schema capacity → EveryRunIsSequential schema capacity }
-{
-}
+{}
 
 /// Stepping one unit after another, each until its next step is idle, is one of these runs.
 pub fn every_serial_run_is_a_run()
     ensures { (schema : Lists) (capacity : ℕ) → EverySerialRunIsARun schema capacity }
-{
-}
+{}
 
 /// A cell that a statement needs next isn't held and lies in an area that is held; areas are needed in ascending order, and
 /// then, of every statement but DELETE, cells in theirs, whatever other units do meanwhile to the cells that are not held.
 pub fn needs_are_in_order()
     ensures { (schema : Lists) (capacity : ℕ) → SuitsMachine schema → NeedsAreInOrder schema capacity }
-{
-}
+{}
 
 /// On one database the needs of a statement come to an end: with the true owners noted no guess is stale, and a stated number
 /// falls with each area and cell that is taken and with a turn back.
 pub fn needs_come_to_an_end()
     ensures { (schema : Lists) (capacity : ℕ) → NeedsComeToAnEnd schema capacity }
-{
-}
+{}

@@ -1,8 +1,14 @@
 //! The core: run-units that make their statements event by event, in every interleaving.
 #![tactic(auto)]
 
+mod image;
 mod laws;
 mod moves;
 
-pub use laws::{each_event_keeps_lawful, every_image_is_of_its_history, every_run_extends_history, every_run_is_lawful, every_run_is_sequential, every_serial_run_is_a_run, needs_are_in_order, needs_come_to_an_end, no_run_is_stuck, statements_have_their_events};
+pub use image::{Image, Run};
+pub use laws::{
+    each_event_keeps_lawful, every_image_is_of_its_history, every_run_extends_history,
+    every_run_is_lawful, every_run_is_sequential, every_serial_run_is_a_run, needs_are_in_order,
+    needs_come_to_an_end, no_run_is_stuck, statements_have_their_events,
+};
 pub use moves::{Move, Stepped};

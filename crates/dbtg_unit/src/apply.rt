@@ -139,7 +139,7 @@ fn edit_ring(ring: &mut Ring, edit: Edit)
 }
 
 /// Makes an edit of a cell. It takes no memory and cannot fail; an edit of another kind of cell leaves the cell as it was.
-pub fn apply(cell: &mut Cell, edit: Edit)
+pub fn edit_cell(cell: &mut Cell, edit: Edit)
     requires { CanEdit edit cell.old }
     ensures { shown cell.new ≡ edited edit (shown cell.old) }
 {

@@ -24,7 +24,7 @@ mod see;
 mod statement;
 mod unit;
 
-pub use apply::apply;
+pub use apply::edit_cell;
 pub use areas::is_automatic_in;
 pub use changes::{is_rekeyed_in, names_calc, names_item};
 pub use checks::refused_at_once;

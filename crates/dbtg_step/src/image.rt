@@ -1,0 +1,36 @@
+//! What a run gives: the image of its database, its history and its units.
+use crate::moves::Stepped;
+use dbtg_cells::{DbKey, Mode, Owner, Value};
+use dbtg_schema::Row;
+use dbtg_unit::{Entry, Unit};
+use std::marker::Model;
+
+/// All that a database has, as lists: records and versions by key; the lists by set, then owner; by record type the least
+/// free number, 0 for none, and the last generation of each number; by area who has it open, in the order of opening.
+#[derive(Drop)]
+pub struct Image {
+    pub records: Row<(DbKey, Row<Value>)>,
+    pub versions: Row<(DbKey, u64)>,
+    pub lists: Row<Row<(Owner, Row<DbKey>)>>,
+    pub next: Row<u32>,
+    pub last: Row<Row<u8>>,
+    pub usage: Row<Row<(u8, Mode)>>,
+}
+
+impl Model for Image {
+    ghost use Rattle.dbtg_unit.specs.Image.{Image as ImageOfDatabase};
+
+    ghost Value = { ImageOfDatabase };
+
+    ghost view = { λ i. record { records = i.records; versions = i.versions; lists = i.lists; next = i.next; last = i.last; usage = i.usage } };
+}
+
+/// What the moves of a run came to, one for one, and then the image, the statements that drew a ticket, in the order of their
+/// tickets, and the units by number.
+#[derive(Drop)]
+pub struct Run {
+    pub results: Row<Stepped>,
+    pub image: Image,
+    pub history: Row<Entry>,
+    pub units: Row<Unit>,
+}
