@@ -8,7 +8,7 @@ use Rattle.dbtg_schema.specs.Lookups.{first}
 use Rattle.dbtg_schema.specs.Words.{Word}
 use Rattle.dbtg_schema.specs.Forms.{starts, may_end, labelled, start_with, by_start, labels, Derives}
 use Rattle.dbtg_schema.specs.SchemaGrammar.{Form, Start, Labelled, fits}
-use Rattle.dbtg_schema.specs.SchemaFaults.{at_word, at_other, at_end, places, when, fault, record_end, open_record, unknown_vias}
+use Rattle.dbtg_schema.specs.SchemaFaults.{at_word, at_other, places, fault, record_end, open_record, unknown_vias}
 use Rattle.dbtg_schema.specs.Reading.{verdict}
 use Rattle.dbtg_schema.proofs.Derived.{ends, starts_ok, found}
 

@@ -1,5 +1,5 @@
 -- In a text without faults nothing is wrong at the end of a record type.
-use Rattle.std.proofs.Common.{◌≡◌, ℕ, Bool, true, false, cond, ◌||◌, List, [], ◌∷◌, ◌++◌, Option, Some, None, refl, sym, ap, subst, ◌∙◌, append_assoc, ◌⊎◌, inl, inr}
+use Rattle.std.proofs.Common.{◌≡◌, ℕ, Bool, true, false, cond, List, [], ◌∷◌, ◌++◌, Option, Some, None, refl, sym, ap, subst, ◌∙◌, append_assoc, inl, inr}
 use Rattle.std.specs.List.{flat_map, list_any, AllByRecursion}
 use Rattle.std.proofs.lemmas.List.{append-nil}
 use Rattle.std.proofs.lemmas.Bool.{cases_Bool}
@@ -11,10 +11,10 @@ use Rattle.dbtg_schema.specs.Lookups.{first}
 use Rattle.dbtg_schema.specs.Words.{Word}
 use Rattle.dbtg_schema.specs.Forms.{starts, may_end, labelled, start_with, by_start, labels}
 use Rattle.dbtg_schema.specs.SchemaGrammar.{Form, Start, Labelled, fits}
-use Rattle.dbtg_schema.specs.Labels.{is, since, until, entries}
-use Rattle.dbtg_schema.specs.SchemaFaults.{at_word, at_other, at_end, ended, fault, places, record_end, open_record, unknown_vias}
+use Rattle.dbtg_schema.specs.Labels.{is, until, entries}
+use Rattle.dbtg_schema.specs.SchemaFaults.{at_word, at_other, ended, fault, places, record_end, open_record, unknown_vias}
 use Rattle.dbtg_schema.specs.Reading.{verdict}
-use Rattle.dbtg_schema.proofs.Accepted.{none_rest, never, may_stop}
+use Rattle.dbtg_schema.proofs.Accepted.{none_rest, never}
 use Rattle.dbtg_schema.proofs.Roles.{role_is}
 use Rattle.dbtg_schema.proofs.Walks.{EachClean, since_last, any_snoc, none_here}
 use Rattle.dbtg_schema.proofs.Limits.{at_word_parts}

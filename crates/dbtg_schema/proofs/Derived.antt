@@ -1,7 +1,6 @@
 -- What is labelled to its end is derived by the form.
-use Rattle.std.proofs.Common.{◌≡◌, ℕ, Bool, true, false, cond, ◌&&◌, ◌||◌, List, [], ◌∷◌, ◌++◌, Option, Some, None, map, refl, sym, ap, subst, ◌∙◌, append_assoc, ◌⊎◌, inl, inr}
-use Rattle.std.specs.List.{flat_map, AllByRecursion}
-use Rattle.dbtg_schema.specs.Forms.{Form, nothing, one, both, either, many, Start, starts, may_end, followed_by, Labelled, labelled, start_with, by_start, labels, Derives}
+use Rattle.std.proofs.Common.{◌≡◌, Bool, true, false, cond, ◌&&◌, ◌||◌, List, [], ◌∷◌, ◌++◌, Some, map, refl, sym, ap, subst, ◌∙◌, ◌⊎◌, inl, inr}
+use Rattle.dbtg_schema.specs.Forms.{Form, nothing, one, both, either, many, Start, starts, may_end, followed_by, Labelled, labelled, start_with, Derives}
 
 abbrev pub Among : {S : Type 0} → S → List S → Type 0
 Among s [] = ⊥

@@ -1,5 +1,5 @@
 -- The first of two lists of faults, one after the other.
-use Rattle.std.proofs.Common.{◌≡◌, List, [], ◌∷◌, ◌++◌, Option, Some, None, refl}
+use Rattle.std.proofs.Common.{◌≡◌, List, [], ◌∷◌, ◌++◌, Some, None, refl}
 use Rattle.dbtg_schema.specs.Lookups.{first}
 use Rattle.dbtg_schema.specs.declared.fault.Fault.{Fault}
 

@@ -1,13 +1,12 @@
 -- What is made of entries within the limits is within them.
-use Rattle.std.proofs.Common.{◌≡◌, ℕ, ◌≤◌, List, [], ◌∷◌, length, map, sym, ap, subst}
+use Rattle.std.proofs.Common.{ℕ, ◌≤◌, List, [], ◌∷◌, length, map, sym, subst}
 use Rattle.std.specs.List.{All, AllByRecursion}
 use Rattle.std.proofs.lemmas.List.Elements.{All-nil, All-cons}
 use Rattle.dbtg_schema.specs.declared.role.Role.TheVariants as role
 use Rattle.dbtg_schema.specs.declared.shape.Area.{Area}
 use Rattle.dbtg_schema.specs.SchemaGrammar.{Labelled}
-use Rattle.dbtg_schema.specs.Labels.{count_of, until, entries}
-use Rattle.dbtg_schema.specs.SchemaLists.{item_from, area_from, areas_from, record_type_from, types_from, set_from, schema_of}
-use Rattle.dbtg_schema.specs.Reading.{WithinLimits}
+use Rattle.dbtg_schema.specs.Labels.{count_of}
+use Rattle.dbtg_schema.specs.SchemaLists.{item_from, record_type_from}
 use Rattle.dbtg_schema.proofs.Places.{length-mapped}
 
 pub items_fit : (areas : List Area) (es : List (List Labelled)) → AllByRecursion (λ e. count_of role.ItemEntry e ≤ 16) es → All (λ r. length r.items ≤ 16) (map (record_type_from areas) es)

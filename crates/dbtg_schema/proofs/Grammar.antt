@@ -1,13 +1,11 @@
 -- What the grammar gives: some areas, some record types, some members in each set.
-use Rattle.std.proofs.Common.{◌≡◌, ℕ, zero, suc, ◌+◌, ◌<◌, ◌≤◌, Bool, true, false, cond, not, ◌&&◌, ◌||◌, List, [], ◌∷◌, ◌++◌, length, min, refl, sym, ap, subst, ◌∙◌, append_assoc, arith, ◌⊎◌, inl, inr, length-append}
+use Rattle.std.proofs.Common.{◌≡◌, ℕ, ◌+◌, ◌<◌, ◌≤◌, Bool, true, false, cond, not, ◌&&◌, ◌||◌, List, [], ◌∷◌, ◌++◌, length, min, refl, sym, ap, subst, ◌∙◌, arith, inl, inr}
 use Rattle.std.specs.Prelude.{filter, ◌==◌}
 use Rattle.std.specs.List.{flat_map, list_any, AllByRecursion}
-use Rattle.std.proofs.lemmas.List.{append-nil}
-use Rattle.std.proofs.lemmas.Bool.{cases_Bool}
 use Rattle.dbtg_schema.specs.declared.role.Role.{Role}
 use Rattle.dbtg_schema.specs.declared.role.Role.TheVariants as role
 use Rattle.dbtg_schema.specs.Forms.{nothing, one, both, either, many, labelled, Derives, some}
-use Rattle.dbtg_schema.specs.SchemaGrammar.{Form, Labelled, fits, area, rec, set, schema}
+use Rattle.dbtg_schema.specs.SchemaGrammar.{Form, Labelled, fits, set, schema}
 use Rattle.dbtg_schema.specs.Labels.{number, is, count_of, until, entries}
 
 -- no word of the form has this role

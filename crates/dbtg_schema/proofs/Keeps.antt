@@ -1,11 +1,10 @@
 -- A schema that is read keeps to what it must.
-use Rattle.std.proofs.Common.{◌≡◌, ℕ, zero, suc, ◌+◌, ◌-◌, ◌*◌, ◌<◌, ◌≤◌, Bool, true, false, cond, not, ◌&&◌, ◌||◌, List, [], ◌∷◌, ◌++◌, length, map, Option, Some, None, refl, sym, ap, subst, ◌∙◌, arith, ◌⊎◌, inl, inr, get_or}
-use Rattle.std.specs.Prelude.{filter, unwrap_or, option_map, slice_get, IfSome, nat_le, ◌==◌}
+use Rattle.std.proofs.Common.{◌≡◌, ℕ, zero, suc, ◌+◌, ◌<◌, ◌≤◌, Bool, true, false, cond, not, ◌&&◌, ◌||◌, List, [], ◌∷◌, length, map, Option, Some, None, refl, arith}
+use Rattle.std.specs.Prelude.{filter, unwrap_or, IfSome, nat_le, ◌==◌}
 use Rattle.std.specs.List.{list_any, list_all, All, AllByRecursion, position_from}
 use Rattle.std.specs.Str.{bytes_eq}
 use Rattle.std.proofs.lemmas.List.{length-map}
 use Rattle.std.proofs.lemmas.List.Elements.{All-nil, All-cons}
-use Rattle.std.proofs.lemmas.Bool.{cases_Bool}
 use Rattle.std.proofs.lemmas.Bool.Decides.{nat_tests}
 use Rattle.dbtg_schema.specs.declared.fault.Cause.TheVariants.{NoItems}
 use Rattle.dbtg_schema.specs.declared.role.Role.{Role}
@@ -15,16 +14,14 @@ use Rattle.dbtg_schema.specs.declared.shape.Picture.TheVariants.{Number, Text}
 use Rattle.dbtg_schema.specs.declared.shape.Area.{Area}
 use Rattle.dbtg_schema.specs.declared.shape.Item.{Item}
 use Rattle.dbtg_schema.specs.declared.shape.RecordType.{RecordType}
-use Rattle.dbtg_schema.specs.declared.shape.SetType.{SetType}
 use Rattle.dbtg_schema.specs.declared.shape.Member.{Member}
 use Rattle.dbtg_schema.specs.Lists.{Lists}
-use Rattle.dbtg_schema.specs.Structure.{place_of}
 use Rattle.dbtg_schema.specs.Spelling.{spelled_picture, sized, of_size, in_parentheses}
 use Rattle.dbtg_schema.specs.Forms.{Derives, labels}
 use Rattle.dbtg_schema.specs.SchemaGrammar.{Labelled, fits, schema}
 use Rattle.dbtg_schema.specs.Labels.{is, count_of, named, until, entries, first_named}
-use Rattle.dbtg_schema.specs.SchemaFaults.{record_end, when, fault, calc_faults}
-use Rattle.dbtg_schema.specs.SchemaLists.{has, number_of, area_from, areas_from, item_from, items_from, calc_items_from, calc_from, record_type_from, types_from, items_at, key_from, type_named, member_from, owner_from, set_from, sets_from, schema_of}
+use Rattle.dbtg_schema.specs.SchemaFaults.{when, fault, calc_faults}
+use Rattle.dbtg_schema.specs.SchemaLists.{has, number_of, area_from, areas_from, item_from, items_from, calc_items_from, calc_from, record_type_from, types_from, items_at, key_from, type_named, member_from, owner_from, set_from, schema_of}
 use Rattle.dbtg_schema.specs.Words.{Word}
 use Rattle.dbtg_schema.specs.Reading.{WithinLimits, verdict}
 use Rattle.dbtg_schema.proofs.Accepted.{derived}

@@ -1,5 +1,5 @@
 -- A word has the role whose number it has.
-use Rattle.std.proofs.Common.{◌≡◌, ℕ, Bool, true, false, List, [], ◌∷◌, ◌==◌, get_or, refl, sym, ap, ◌∙◌}
+use Rattle.std.proofs.Common.{◌≡◌, ℕ, true, [], ◌∷◌, get_or, refl, sym, ap, ◌∙◌}
 use Rattle.std.proofs.lemmas.Bool.{eqb-true}
 use Rattle.dbtg_schema.specs.declared.role.Role.{Role}
 use Rattle.dbtg_schema.specs.declared.role.Role.TheVariants as role

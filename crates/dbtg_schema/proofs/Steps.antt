@@ -1,15 +1,11 @@
 -- One word further.
-use Rattle.std.proofs.Common.{◌≡◌, ℕ, List, [], ◌∷◌, ◌++◌, Option, Some, None, refl, sym, ap, ◌∙◌, append_assoc}
-use Rattle.std.specs.Prelude.{option_map}
-use Rattle.std.specs.List.{flat_map}
+use Rattle.std.proofs.Common.{◌≡◌, ℕ, List, [], ◌∷◌, ◌++◌, Some, None, sym, append_assoc}
 use Rattle.dbtg_schema.specs.Lookups.{first}
-use Rattle.dbtg_schema.specs.Words.{is_noise, text_words}
-use Rattle.dbtg_schema.specs.Forms.{by_start, labelled, labels, start_with, starts}
+use Rattle.dbtg_schema.specs.Forms.{labelled, labels, start_with, starts}
 use Rattle.dbtg_schema.specs.SchemaGrammar.{fits, Form, Start, Labelled}
-use Rattle.dbtg_schema.specs.SchemaFaults.{at_other, at_word, faults, places, refusal, too_long}
+use Rattle.dbtg_schema.specs.SchemaFaults.{at_other, at_word}
 use Rattle.dbtg_schema.specs.declared.fault.Fault.{Fault}
 use Rattle.dbtg_schema.specs.Words.{Word}
-use Rattle.dbtg_schema.specs.Automaton.{rest_of, view_start}
 use Rattle.dbtg_schema.specs.Reading.{verdict}
 use Rattle.dbtg_schema.proofs.Firsts.{first_then, first_else}
 

@@ -1,5 +1,5 @@
 -- What is kept from word to word of a text without faults, and from word to word of an entry.
-use Rattle.std.proofs.Common.{◌≡◌, ℕ, suc, ◌<◌, ◌≤◌, Bool, true, false, cond, not, ◌&&◌, ◌||◌, List, [], ◌∷◌, ◌++◌, length, Option, Some, None, refl, sym, ap, subst, ◌∙◌, append_assoc, arith, ◌⊎◌, inl, inr}
+use Rattle.std.proofs.Common.{◌≡◌, ℕ, Bool, true, false, cond, not, ◌&&◌, ◌||◌, List, [], ◌∷◌, ◌++◌, Option, Some, None, refl, sym, subst, append_assoc, inl, inr}
 use Rattle.std.specs.List.{flat_map, list_any, AllByRecursion}
 use Rattle.std.proofs.lemmas.List.{append-nil}
 use Rattle.std.proofs.lemmas.Bool.{cases_Bool}
@@ -10,7 +10,7 @@ use Rattle.dbtg_schema.specs.Words.{Word}
 use Rattle.dbtg_schema.specs.Forms.{starts, labelled, start_with, by_start, labels}
 use Rattle.dbtg_schema.specs.SchemaGrammar.{Form, Start, Labelled, fits}
 use Rattle.dbtg_schema.specs.Labels.{is, since, until, entries}
-use Rattle.dbtg_schema.specs.SchemaFaults.{at_word, at_other, at_end, places}
+use Rattle.dbtg_schema.specs.SchemaFaults.{at_word, at_other, places}
 use Rattle.dbtg_schema.specs.Reading.{verdict}
 use Rattle.dbtg_schema.proofs.Accepted.{none_rest, never}
 

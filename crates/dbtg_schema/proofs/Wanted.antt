@@ -1,5 +1,5 @@
 -- Where no start fits a word, no derivation goes on with it.
-use Rattle.std.proofs.Common.{◌≡◌, ℕ, Bool, true, false, cond, ◌&&◌, ◌||◌, List, [], ◌∷◌, ◌++◌, Option, Some, None, map, refl, sym, ap, subst, ◌∙◌, append_assoc, ◌⊎◌, inl, inr}
+use Rattle.std.proofs.Common.{◌≡◌, Bool, true, false, cond, ◌&&◌, ◌||◌, List, [], ◌∷◌, ◌++◌, Some, None, map, refl, sym, ap, subst, ◌∙◌, ◌⊎◌, inl, inr}
 use Rattle.std.specs.List.{flat_map, AllByRecursion}
 use Rattle.dbtg_schema.specs.Forms.{Form, nothing, one, both, either, many, Start, starts, may_end, followed_by, Labelled, labelled, start_with, Derives}
 use Rattle.dbtg_schema.proofs.Derived.{Among}

@@ -1,6 +1,5 @@
 -- What is left of the grammar in each state of the reader.
 use Rattle.std.specs.Prelude.{ℕ, List, map, codes}
-use Rattle.dbtg_schema.specs.declared.role.Role.{Role}
 use Rattle.dbtg_schema.specs.declared.role.Role.TheVariants as role
 use Rattle.dbtg_schema.specs.declared.automaton.State.{State}
 use Rattle.dbtg_schema.specs.declared.automaton.State.TheVariants as state
@@ -9,7 +8,7 @@ use Rattle.dbtg_schema.specs.declared.automaton.Kind.TheVariants as code
 use Rattle.dbtg_schema.specs.declared.automaton.Start as code_start
 use Rattle.dbtg_schema.specs.declared.automaton.Keyword.{Keyword}
 use Rattle.dbtg_schema.specs.declared.automaton.Keyword.TheVariants as keyword
-use Rattle.dbtg_schema.specs.Forms.{nothing, one, either, many, some, maybe, ◌▹◌}
+use Rattle.dbtg_schema.specs.Forms.{nothing, one, either, many, some, ◌▹◌}
 use Rattle.dbtg_schema.specs.SchemaGrammar.{Kind, key, name, picture, Form, Start, say, period, area, location, item, rec, order, member, set, schema}
 
 abbrev pub rest_of : State → Form

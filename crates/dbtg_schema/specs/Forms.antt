@@ -1,6 +1,6 @@
 -- Grammars as values, over words of any sort. A form says which lists of words it has, and gives each word its role.
 use Rattle.std.specs.Prelude.{◌≡◌, Bool, true, false, ◌&&◌, ◌||◌, List, [], ◌∷◌, ◌++◌, map, Option, Some, None, if◌then◌else◌, ◌⊎◌}
-use Rattle.std.specs.List.{find, flat_map, AllByRecursion}
+use Rattle.std.specs.List.{flat_map, AllByRecursion}
 
 -- a form over kinds of words and the roles that words can have
 pub data Form (K R : Type 0) : Type 0 where

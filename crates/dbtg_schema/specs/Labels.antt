@@ -1,5 +1,5 @@
 -- What labelled words say, by their roles.
-use Rattle.std.specs.Prelude.{ℕ, Bool, true, false, ◌&&◌, not, List, [], ◌∷◌, map, filter, if◌then◌else◌, ◌==◌, length}
+use Rattle.std.specs.Prelude.{ℕ, Bool, ◌&&◌, not, List, [], ◌∷◌, map, filter, if◌then◌else◌, ◌==◌, length}
 use Rattle.std.specs.List.{list_any}
 use Rattle.dbtg_schema.specs.declared.role.Role.{Role}
 use Rattle.dbtg_schema.specs.declared.role.Role.TheVariants as role

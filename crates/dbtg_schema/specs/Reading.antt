@@ -1,5 +1,5 @@
 -- The refusal, as it is reached from left to right.
-use Rattle.std.specs.Prelude.{◌≡◌, ℕ, ◌≤◌, List, Option, Some, None}
+use Rattle.std.specs.Prelude.{◌≡◌, ℕ, ◌≤◌, List, Option, Some}
 use Rattle.std.specs.List.{flat_map, AllByRecursion}
 use Rattle.dbtg_schema.specs.declared.fault.Fault.{Fault}
 use Rattle.dbtg_schema.specs.declared.fault.SchemaFault.{SchemaFault}

@@ -1,5 +1,5 @@
 -- Names and pictures, as they are spelled.
-use Rattle.std.specs.Prelude.{ℕ, Bool, true, false, ◌&&◌, ◌||◌, not, List, [], ◌∷◌, length, Option, Some, None, is_some, if◌then◌else◌, codes, nat_le, nat_lt, slice_index, ◌==◌, ◌+◌, ◌*◌, ◌-◌}
+use Rattle.std.specs.Prelude.{ℕ, Bool, ◌&&◌, ◌||◌, not, List, [], ◌∷◌, length, Option, Some, None, is_some, if◌then◌else◌, codes, nat_le, nat_lt, slice_index, ◌==◌, ◌+◌, ◌*◌, ◌-◌}
 use Rattle.std.specs.List.{list_any, list_all}
 use Rattle.std.specs.Str.{bytes_eq}
 use Rattle.dbtg_schema.specs.declared.shape.Picture.{Picture}

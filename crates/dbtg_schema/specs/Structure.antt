@@ -1,5 +1,5 @@
 -- What a schema says of its record types, sets and areas, by their numbers.
-use Rattle.std.specs.Prelude.{ℕ, Bool, true, false, cond, not, ◌&&◌, ◌||◌, ◌==◌, List, [], ◌∷◌, ◌++◌, Option, Some, None, is_some, is_none, unwrap_or, option_map, option_and_then, map, filter, length, slice_get}
+use Rattle.std.specs.Prelude.{ℕ, Bool, true, false, ◌&&◌, ◌==◌, List, [], ◌∷◌, Option, is_some, is_none, unwrap_or, option_map, option_and_then, map, filter, length, slice_get}
 use Rattle.std.specs.List.{list_any, find, range_with_len, position_from}
 use Rattle.std.specs.Str.{bytes_eq}
 use Rattle.dbtg_schema.specs.Lists.{Lists}

@@ -1,7 +1,6 @@
 -- What each schema that is read keeps to: the limits, and how its parts fit together.
-use Rattle.std.specs.Prelude.{◌≡◌, ℕ, ◌<◌, ◌≤◌, Bool, true, false, not, ◌&&◌, ◌==◌, List, [], ◌∷◌, ◌++◌, Option, Some, None, is_some, IfSome, length, map, option_and_then}
+use Rattle.std.specs.Prelude.{ℕ, ◌<◌, ◌≤◌, Bool, true, false, not, ◌&&◌, ◌==◌, List, [], ◌∷◌, Option, IfSome, length, option_and_then}
 use Rattle.std.specs.List.{list_any, All}
-use Rattle.std.specs.Str.{bytes_eq}
 use Rattle.dbtg_schema.specs.Lists.{Lists}
 use Rattle.dbtg_schema.specs.Structure.{item_list, picture_of}
 use Rattle.dbtg_schema.specs.declared.shape.Picture.{Picture}

@@ -1,5 +1,5 @@
 -- The words of a text, each with its line.
-use Rattle.std.specs.Prelude.{◌≡◌, ℕ, ◌+◌, Bool, true, false, not, ◌&&◌, ◌||◌, List, [], ◌∷◌, ◌==◌, if◌then◌else◌, codes, filter}
+use Rattle.std.specs.Prelude.{ℕ, ◌+◌, Bool, not, ◌&&◌, ◌||◌, List, [], ◌∷◌, ◌==◌, if◌then◌else◌, codes, filter}
 use Rattle.std.specs.Str.{bytes_eq}
 use Rattle.dbtg_schema.specs.declared.scanner.Word as code
 

@@ -1,13 +1,12 @@
 -- The value of a cell after many edits.
-use Rattle.std.proofs.Common.{◌⊎◌, ◌≡◌, ◌≢◌, refl, sym, ◌∙◌, ap, subst, ℕ, zero, suc, ◌+◌, ◌<◌, ◌≤◌, arith, Bool, true, false, cond, not, ◌&&◌, ◌||◌, List, [], ◌∷◌, ◌++◌, eqb, inl, inr}
+use Rattle.std.proofs.Common.{◌⊎◌, ◌≡◌, ◌≢◌, refl, sym, ◌∙◌, ap, ℕ, zero, suc, ◌+◌, ◌<◌, ◌≤◌, arith, Bool, true, false, cond, not, ◌||◌, List, [], ◌∷◌, ◌++◌, eqb, inl, inr}
 use Rattle.std.specs.Prelude.{filter}
 use Rattle.std.specs.List.{list_any, list_all, flat_map, range_with_len}
-use Rattle.std.proofs.lemmas.Bool.{false_from_ne_true, and_parts, and_from, cases_Bool, eqb-true, eq-eqb, eqb-false, false≢true, or_parts}
+use Rattle.std.proofs.lemmas.Bool.{false_from_ne_true, and_parts, and_from, cases_Bool, eqb-true, eq-eqb, eqb-false, false≢true}
 use Rattle.dbtg_cells.specs.declared.name.CellName.{CellName}
 use Rattle.dbtg_cells.specs.Shown.{CellValue}
-use Rattle.dbtg_cells.specs.Names.{name_eq}
 use Rattle.dbtg_unit.specs.declared.edit.CellEdit.{CellEdit}
-use Rattle.dbtg_unit.specs.Edits.{edited_at, edited}
+use Rattle.dbtg_unit.specs.Edits.{edited_at}
 use Rattle.dbtg_unit.specs.Legal.{pairwise}
 
 -- edits, and then others
@@ -42,9 +41,9 @@ edits-miss c f (x ∷ xs) value miss =
     edited_at-append c (f x) (flat_map f xs) value
     ∙ ap (edited_at c (flat_map f xs)) (miss x value (ap (λ b. b || has_number x xs) (eq-eqb x x refl)))
     ∙ edits-miss c f xs value (λ y v h. miss y v (ap (λ b. eqb x y || b) h ∙ or_true (eqb x y))) where
-  or_true : (b : Bool) → (b || true) ≡ true
-  or_true true = refl
-  or_true false = refl
+      or_true : (b : Bool) → (b || true) ≡ true
+      or_true true = refl
+      or_true false = refl
 
 -- edits set by set, of which only those of set s are of this cell
 pub edits-hit : (c : CellName) (f : ℕ → List CellEdit) (xs : List ℕ) (s : ℕ) (value : CellValue) → distinct xs ≡ true → has_number s xs ≡ true
@@ -55,12 +54,12 @@ edits-hit c f (x ∷ xs) s value once has miss =
     edited_at-append c (f x) (flat_map f xs) value
     ∙ elim (cases_Bool (eqb x s)) [
       | inl e ↦
-        let here = eqb-true x s e in
-        edits-miss c f xs (edited_at c (f x) value) (λ y v h. miss y v (λ same. not_equal x y (has_number-all (λ z. not (eqb x z)) y xs ones.0 h) (here ∙ sym same)))
-        ∙ ap (λ z. edited_at c (f z) value) here
+          let here = eqb-true x s e in
+          edits-miss c f xs (edited_at c (f x) value) (λ y v h. miss y v (λ same. not_equal x y (has_number-all (λ z. not (eqb x z)) y xs ones.0 h) (here ∙ sym same)))
+          ∙ ap (λ z. edited_at c (f z) value) here
       | inr e ↦
-        ap (edited_at c (flat_map f xs)) (miss x value (λ same. false≢true (sym e ∙ eq-eqb x s same)))
-        ∙ edits-hit c f xs s value ones.1 (sym (ap (λ b. b || has_number s xs) e) ∙ has) miss
+          ap (edited_at c (flat_map f xs)) (miss x value (λ same. false≢true (sym e ∙ eq-eqb x s same)))
+          ∙ edits-hit c f xs s value ones.1 (sym (ap (λ b. b || has_number s xs) e) ∙ has) miss
     ]
 
 -- numbers that differ do not compare alike
@@ -83,10 +82,10 @@ has_number-passes p s [] h = absurd (false≢true h)
 has_number-passes p s (x ∷ xs) h =
     elim (cases_Bool (p x)) [
       | inl e ↦
-        elim (cases_Bool (eqb x s)) [
-          | inl same ↦ ap p (sym (eqb-true x s same)) ∙ e
-          | inr other ↦ has_number-passes p s xs (sym (ap (λ b. has_number s (cond b (x ∷ filter p xs) (filter p xs))) e ∙ ap (λ b. b || has_number s (filter p xs)) other) ∙ h)
-        ]
+          elim (cases_Bool (eqb x s)) [
+            | inl same ↦ ap p (sym (eqb-true x s same)) ∙ e
+            | inr other ↦ has_number-passes p s xs (sym (ap (λ b. has_number s (cond b (x ∷ filter p xs) (filter p xs))) e ∙ ap (λ b. b || has_number s (filter p xs)) other) ∙ h)
+          ]
       | inr e ↦ has_number-passes p s xs (sym (ap (λ b. has_number s (cond b (x ∷ filter p xs) (filter p xs))) e) ∙ h)
     ]
 
@@ -95,14 +94,14 @@ has_number-filter p s [] passes h = absurd (false≢true h)
 has_number-filter p s (x ∷ xs) passes h =
     elim (cases_Bool (eqb x s)) [
       | inl e ↦
-        ap (λ b. has_number s (cond b (x ∷ filter p xs) (filter p xs))) (ap p (eqb-true x s e) ∙ passes)
-        ∙ ap (λ b. b || has_number s (filter p xs)) e
+          ap (λ b. has_number s (cond b (x ∷ filter p xs) (filter p xs))) (ap p (eqb-true x s e) ∙ passes)
+          ∙ ap (λ b. b || has_number s (filter p xs)) e
       | inr e ↦
-        let rest = has_number-filter p s xs passes (sym (ap (λ b. b || has_number s xs) e) ∙ h) in
-        elim (p x) as (λ b. has_number s (cond b (x ∷ filter p xs) (filter p xs)) ≡ true) [
-          | true ↦ ap (λ b. b || has_number s (filter p xs)) e ∙ rest
-          | false ↦ rest
-        ]
+          let rest = has_number-filter p s xs passes (sym (ap (λ b. b || has_number s xs) e) ∙ h) in
+          elim (p x) as (λ b. has_number s (cond b (x ∷ filter p xs) (filter p xs)) ≡ true) [
+            | true ↦ ap (λ b. b || has_number s (filter p xs)) e ∙ rest
+            | false ↦ rest
+          ]
     ]
 
 pub has_number-range : (s from count : ℕ) → from ≤ s → s < from + count → has_number s (range_with_len from count) ≡ true
@@ -121,6 +120,6 @@ has_number-unfiltered p s (x ∷ xs) h =
       | inl e ↦ ap (λ b. b || has_number s xs) e
       | inr e ↦ ap (λ b. b || has_number s xs) e ∙ has_number-unfiltered p s xs (rest (cases_Bool (p x)) e)
     ] where
-  rest : (p x ≡ true) ⊎ (p x ≡ false) → eqb x s ≡ false → has_number s (filter p xs) ≡ true
-  rest (inl passes) e = sym (ap (λ b. has_number s (cond b (x ∷ filter p xs) (filter p xs))) passes ∙ ap (λ b. b || has_number s (filter p xs)) e) ∙ h
-  rest (inr fails) e = sym (ap (λ b. has_number s (cond b (x ∷ filter p xs) (filter p xs))) fails) ∙ h
+      rest : (p x ≡ true) ⊎ (p x ≡ false) → eqb x s ≡ false → has_number s (filter p xs) ≡ true
+      rest (inl passes) e = sym (ap (λ b. has_number s (cond b (x ∷ filter p xs) (filter p xs))) passes ∙ ap (λ b. b || has_number s (filter p xs)) e) ∙ h
+      rest (inr fails) e = sym (ap (λ b. has_number s (cond b (x ∷ filter p xs) (filter p xs))) fails) ∙ h

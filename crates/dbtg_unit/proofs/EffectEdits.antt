@@ -1,6 +1,6 @@
 -- The effect of a statement on the cells is its edits.
-use Rattle.std.proofs.Common.{◌≡◌, refl, sym, ◌∙◌, ap, subst, ℕ, ◌+◌, ◌≤◌, Bool, true, false, cond, not, ◌&&◌, List, [], ◌∷◌, ◌++◌, Option, Some, None, eqb, ltb, arith}
-use Rattle.std.specs.Prelude.{is_none, is_some, unwrap_or, option_map, filter, slice_set}
+use Rattle.std.proofs.Common.{◌≡◌, refl, sym, ◌∙◌, ap, subst, ℕ, ◌≤◌, Bool, true, false, cond, not, ◌&&◌, List, [], ◌∷◌, ◌++◌, Option, Some, None, eqb, ltb}
+use Rattle.std.specs.Prelude.{is_none, is_some, unwrap_or, filter}
 use Rattle.std.specs.List.{list_any, range_with_len}
 use Rattle.std.proofs.lemmas.Bool.{and_parts, false≢true, not-true, not-false}
 use Rattle.dbtg_schema.specs.Lists.{Lists}
@@ -24,17 +24,16 @@ use Rattle.dbtg_unit.specs.declared.unit.Cause.TheVariants.{AlreadyMember, Delet
 use Rattle.dbtg_unit.specs.declared.unit.Place.{Place}
 use Rattle.dbtg_unit.specs.declared.unit.Status.TheVariants.{Done, Refused}
 use Rattle.dbtg_unit.specs.declared.unit.Unit.{Unit}
-use Rattle.dbtg_unit.specs.Base.{Database, is_live, items_of, key_at, key_item, members_of, owner_of, sort_key}
+use Rattle.dbtg_unit.specs.Base.{Database, is_live, items_of, key_at, key_item, owner_of, sort_key}
 use Rattle.dbtg_unit.specs.Cells.{cell}
-use Rattle.dbtg_unit.specs.Checks.{lacks_current, refused_at_once}
+use Rattle.dbtg_unit.specs.Checks.{lacks_current}
 use Rattle.dbtg_unit.specs.Edits.{edited_at}
 use Rattle.dbtg_unit.specs.EditsOf.{EffectIsItsEdits, edits_of, is_delete}
-use Rattle.dbtg_unit.specs.Effect.{Outcome, calc_taken, conflict, done, effect, effect_on_cells, free_number, inserted, insert_checks, modified, modify_checks, new_key, own_checks, place_checks, refused, removed, remove_checks, store_checks, stored, version_of}
+use Rattle.dbtg_unit.specs.Effect.{Outcome, calc_taken, conflict, done, effect_on_cells, free_number, inserted, insert_checks, modified, modify_checks, new_key, own_checks, place_checks, refused, removed, remove_checks, store_checks, stored, version_of}
 use Rattle.dbtg_unit.specs.Found.{found}
 use Rattle.dbtg_unit.specs.Legal.{Legal}
 use Rattle.dbtg_unit.specs.Units.{forgotten, noted, place_in, seen}
 use Rattle.dbtg_unit.proofs.CheckLemmas.{passes, passes_check, passes-append, passes-each, number_passes, number_within}
-use Rattle.dbtg_unit.proofs.EditLemmas.{has_number}
 use Rattle.dbtg_unit.proofs.InsertCells.{insert_makes}
 use Rattle.dbtg_unit.proofs.LegalEffect.{passed, some_from, none_at, first_has}
 use Rattle.dbtg_unit.proofs.ModifyCells.{modify_makes}
@@ -58,12 +57,12 @@ module _ (schema : Lists) (capacity : ℕ) (db : Database) (unit : Unit) (legal 
   unfolding cell
   of_open a mode =
       of_unless db unit (Edited (edits_of schema capacity db unit (OpenArea a mode))) (no_refusal (edits_of schema capacity db unit (OpenArea a mode)))
-        (first_cause ((list_any (λ e. conflict e.1 mode) (db.usage a), UsageConflict) ∷ [])) _ (λ h is_done lawful c. made c) where
-    made : (c : CellName) → cell schema capacity (record db { usage = λ b. cond (eqb b a) (db.usage b ++ (unit.number, mode) ∷ []) (db.usage b) }) c ≡ edited_at c (edits_of schema capacity db unit (OpenArea a mode)) (cell schema capacity db c)
-    made (Usage b) = elim (eqb b a) as (λ x. UsageValue (cond x (db.usage b ++ (unit.number, mode) ∷ []) (db.usage b)) ≡ cond x (UsageValue (db.usage b ++ (unit.number, mode) ∷ [])) (UsageValue (db.usage b))) [ true ↦ refl | false ↦ refl ]
-    made (Extent t) = refl
-    made (Ring s q) = refl
-    made (Slot t n) = refl
+      (first_cause ((list_any (λ e. conflict e.1 mode) (db.usage a), UsageConflict) ∷ [])) _ (λ h is_done lawful c. made c) where
+        made : (c : CellName) → cell schema capacity (record db { usage = λ b. cond (eqb b a) (db.usage b ++ (unit.number, mode) ∷ []) (db.usage b) }) c ≡ edited_at c (edits_of schema capacity db unit (OpenArea a mode)) (cell schema capacity db c)
+        made (Usage b) = elim (eqb b a) as (λ x. UsageValue (cond x (db.usage b ++ (unit.number, mode) ∷ []) (db.usage b)) ≡ cond x (UsageValue (db.usage b ++ (unit.number, mode) ∷ [])) (UsageValue (db.usage b))) [ true ↦ refl | false ↦ refl ]
+        made (Extent t) = refl
+        made (Ring s q) = refl
+        made (Slot t n) = refl
 
   of_close : (a : ℕ) → Edited (edits_of schema capacity db unit (CloseArea a)) (effect_on_cells schema capacity db unit (CloseArea a))
   unfolding cell
@@ -89,25 +88,26 @@ module _ (schema : Lists) (capacity : ℕ) (db : Database) (unit : Unit) (legal 
       → Edited (edits_of schema capacity db unit (Store t items suppress)) (effect_on_cells schema capacity db unit (Store t items suppress))
   of_store t items suppress placed =
       of_unless db unit (Edited (edits_of schema capacity db unit (Store t items suppress))) (no_refusal (edits_of schema capacity db unit (Store t items suppress)))
-        (first_cause (store_checks schema capacity db unit t items)) (stored schema capacity db unit (new_key db t (unwrap_or (free_number capacity db t) 0)) items suppress) made where
-    free : ℕ → Bool
-    free n = not (is_live db (key_at db t n)) && ltb (db.last t n) 255
-    made : first_cause (store_checks schema capacity db unit t items) ≡ None → Edited (edits_of schema capacity db unit (Store t items suppress)) (stored schema capacity db unit (new_key db t (unwrap_or (free_number capacity db t) 0)) items suppress)
-    made checks is_done lawful c =
-        let room = passes_check (is_none (free_number capacity db t)) NoRoom _ checks in
-        let unique = passes_check (calc_taken schema capacity db t items (λ k. false)) DuplicatesNotAllowed _ room.1 in
-        let n = some_from (free_number capacity db t) room.0 in
-        let number = unwrap_or (free_number capacity db t) 0 in
-        let is : n.0 ≡ number = ap (λ (o : Option ℕ). unwrap_or o 0) (sym n.1) in
-        let chosen = number_passes free n.0 (range_with_len 1 capacity) (first_has (filter free (range_with_len 1 capacity)) n.0 n.1) in
-        let within = number_within n.0 1 capacity chosen.0 in
-        let low = within.0 in
-        let unused = not-true _ (and_parts (not (is_live db (key_at db t n.0))) (ltb (db.last t n.0) 255) chosen.1).0 in
-        store_makes schema capacity db unit (new_key db t number) items legal (subst (λ (m : ℕ). 1 ≤ m) is low) refl
-          (subst (λ m. is_live db (key_at db t m) ≡ false) is unused)
-          (λ s h. placing s (key_item schema s t items) (none_at (λ s. is_none (place_in schema unit s)) s (automatic_sets schema t) h placed)
+      (first_cause (store_checks schema capacity db unit t items)) (stored schema capacity db unit (new_key db t (unwrap_or (free_number capacity db t) 0)) items suppress) made where
+        free : ℕ → Bool
+        free n = not (is_live db (key_at db t n)) && ltb (db.last t n) 255
+
+        made : first_cause (store_checks schema capacity db unit t items) ≡ None → Edited (edits_of schema capacity db unit (Store t items suppress)) (stored schema capacity db unit (new_key db t (unwrap_or (free_number capacity db t) 0)) items suppress)
+        made checks is_done lawful c =
+            let room = passes_check (is_none (free_number capacity db t)) NoRoom _ checks in
+            let unique = passes_check (calc_taken schema capacity db t items (λ k. false)) DuplicatesNotAllowed _ room.1 in
+            let n = some_from (free_number capacity db t) room.0 in
+            let number = unwrap_or (free_number capacity db t) 0 in
+            let is : n.0 ≡ number = ap (λ (o : Option ℕ). unwrap_or o 0) (sym n.1) in
+            let chosen = number_passes free n.0 (range_with_len 1 capacity) (first_has (filter free (range_with_len 1 capacity)) n.0 n.1) in
+            let within = number_within n.0 1 capacity chosen.0 in
+            let low = within.0 in
+            let unused = not-true _ (and_parts (not (is_live db (key_at db t n.0))) (ltb (db.last t n.0) 255) chosen.1).0 in
+            store_makes schema capacity db unit (new_key db t number) items legal (subst (λ (m : ℕ). 1 ≤ m) is low) refl
+            (subst (λ m. is_live db (key_at db t m) ≡ false) is unused)
+            (λ s h. placing s (key_item schema s t items) (none_at (λ s. is_none (place_in schema unit s)) s (automatic_sets schema t) h placed)
             (passes-each (λ s. place_checks schema db unit s (key_item schema s t items)) (automatic_sets schema t) s h unique.1))
-          lawful c
+            lawful c
 
   -- STATEMENTS ABOUT THE CURRENT OF RUN-UNIT
 
@@ -119,32 +119,32 @@ module _ (schema : Lists) (capacity : ℕ) (db : Database) (unit : Unit) (legal 
   of_insert : (s : ℕ) → lacks_current schema unit (Insert s) ≡ false → Edited (edits_of schema capacity db unit (Insert s)) (effect_on_cells schema capacity db unit (Insert s))
   of_insert s placed =
       of_current db unit (Edited (edits_of schema capacity db unit (Insert s))) (no_refusal (edits_of schema capacity db unit (Insert s)))
-        unit.currency.run_unit (insert_checks schema capacity db unit s) (inserted schema db unit s)
-        (λ k is checks is_done lawful c.
-          let own = alive k ((is_some (owner_of schema capacity db s k), AlreadyMember) ∷ place_checks schema db unit s (sort_key schema db s k)) checks in
-          let rest = passes (is_some (owner_of schema capacity db s k), AlreadyMember) (place_checks schema db unit s (sort_key schema db s k)) own.1 in
-          let at = placing s (sort_key schema db s k) placed rest.1 in
-          insert_makes schema capacity db unit s k at.0 legal at.1 own.0 lawful at.2 c
-          ∙ ap (λ current. edited_at c (edits_of schema capacity db (record unit { currency = record unit.currency { run_unit = current } }) (Insert s)) (cell schema capacity db c)) (sym is))
+      unit.currency.run_unit (insert_checks schema capacity db unit s) (inserted schema db unit s)
+      (λ k is checks is_done lawful c.
+      let own = alive k ((is_some (owner_of schema capacity db s k), AlreadyMember) ∷ place_checks schema db unit s (sort_key schema db s k)) checks in
+      let rest = passes (is_some (owner_of schema capacity db s k), AlreadyMember) (place_checks schema db unit s (sort_key schema db s k)) own.1 in
+      let at = placing s (sort_key schema db s k) placed rest.1 in
+      insert_makes schema capacity db unit s k at.0 legal at.1 own.0 lawful at.2 c
+      ∙ ap (λ current. edited_at c (edits_of schema capacity db (record unit { currency = record unit.currency { run_unit = current } }) (Insert s)) (cell schema capacity db c)) (sym is))
 
   of_remove : (s : ℕ) → Edited (edits_of schema capacity db unit (Remove s)) (effect_on_cells schema capacity db unit (Remove s))
   of_remove s =
       of_current db unit (Edited (edits_of schema capacity db unit (Remove s))) (no_refusal (edits_of schema capacity db unit (Remove s)))
-        unit.currency.run_unit (remove_checks schema capacity db unit s) (removed db unit s)
-        (λ k is checks is_done lawful c.
-          let own = alive k ((is_none (owner_of schema capacity db s k), NotMember) ∷ []) checks in
-          let owner = some_from (owner_of schema capacity db s k) (passes (is_none (owner_of schema capacity db s k), NotMember) [] own.1).0 in
-          remove_makes schema capacity db unit s k owner.0 legal own.0 owner.1 c
-          ∙ ap (λ current. edited_at c (edits_of schema capacity db (record unit { currency = record unit.currency { run_unit = current } }) (Remove s)) (cell schema capacity db c)) (sym is))
+      unit.currency.run_unit (remove_checks schema capacity db unit s) (removed db unit s)
+      (λ k is checks is_done lawful c.
+      let own = alive k ((is_none (owner_of schema capacity db s k), NotMember) ∷ []) checks in
+      let owner = some_from (owner_of schema capacity db s k) (passes (is_none (owner_of schema capacity db s k), NotMember) [] own.1).0 in
+      remove_makes schema capacity db unit s k owner.0 legal own.0 owner.1 c
+      ∙ ap (λ current. edited_at c (edits_of schema capacity db (record unit { currency = record unit.currency { run_unit = current } }) (Remove s)) (cell schema capacity db c)) (sym is))
 
   of_modify : (t : ℕ) (changes : List Change) → Edited (edits_of schema capacity db unit (Modify t changes)) (effect_on_cells schema capacity db unit (Modify t changes))
   of_modify t changes =
       of_current db unit (Edited (edits_of schema capacity db unit (Modify t changes))) (no_refusal (edits_of schema capacity db unit (Modify t changes)))
-        unit.currency.run_unit (modify_checks schema capacity db unit changes) (modified schema capacity db unit changes)
-        (λ k is checks is_done lawful c.
-          let first = passes_check (not (is_live db k)) Deleted _ checks in
-          modify_makes schema capacity db unit changes k legal (not-false _ first.0) lawful c
-          ∙ ap (λ current. edited_at c (edits_of schema capacity db (record unit { currency = record unit.currency { run_unit = current } }) (Modify t changes)) (cell schema capacity db c)) (sym is))
+      unit.currency.run_unit (modify_checks schema capacity db unit changes) (modified schema capacity db unit changes)
+      (λ k is checks is_done lawful c.
+      let first = passes_check (not (is_live db k)) Deleted _ checks in
+      modify_makes schema capacity db unit changes k legal (not-false _ first.0) lawful c
+      ∙ ap (λ current. edited_at c (edits_of schema capacity db (record unit { currency = record unit.currency { run_unit = current } }) (Modify t changes)) (cell schema capacity db c)) (sym is))
 
   -- THE WHOLE
 
@@ -167,4 +167,4 @@ module _ (schema : Lists) (capacity : ℕ) (db : Database) (unit : Unit) (legal 
 pub effect_is_its_edits : EffectIsItsEdits
 effect_is_its_edits schema capacity db unit statement other legal lawful is_done c =
     of_effect db unit (Edited schema capacity db unit legal (edits_of schema capacity db unit statement)) (no_refusal schema capacity db unit legal (edits_of schema capacity db unit statement)) schema capacity statement
-      (λ passes_at_once. on_cells schema capacity db unit legal statement other (passed schema capacity unit statement passes_at_once).placed) is_done lawful c
+    (λ passes_at_once. on_cells schema capacity db unit legal statement other (passed schema capacity unit statement passes_at_once).placed) is_done lawful c

@@ -1,6 +1,6 @@
 -- Two lists side by side.
-use Rattle.std.proofs.Common.{◌≡◌, refl, sym, ◌∙◌, ap, ℕ, zero, suc, ◌+◌, ◌<◌, Bool, true, false, ◌&&◌, List, [], ◌∷◌, Option, Some, None, drop, arith}
-use Rattle.std.specs.Prelude.{map, slice_get, option_map, is_none}
+use Rattle.std.proofs.Common.{◌≡◌, refl, ℕ, zero, suc, ◌+◌, List, [], ◌∷◌, Some, None, drop, arith}
+use Rattle.std.specs.Prelude.{map, slice_get, option_map}
 
 pub drop_some : {X : Type 0} (xs : List X) (i : ℕ) (x : X) → slice_get xs i ≡ Some x → drop i xs ≡ x ∷ drop (i + 1) xs
 drop_some [] i x h = cc

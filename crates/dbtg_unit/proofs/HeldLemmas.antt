@@ -1,5 +1,5 @@
 -- Names and cells side by side.
-use Rattle.std.proofs.Common.{◌≡◌, refl, sym, ◌∙◌, ap, ℕ, zero, suc, ◌+◌, Bool, true, false, cond, List, [], ◌∷◌, ◌++◌, Option, Some, None, length, inl, inr, arith}
+use Rattle.std.proofs.Common.{◌≡◌, refl, sym, ◌∙◌, ap, ℕ, suc, ◌+◌, true, false, cond, List, [], ◌∷◌, ◌++◌, Some, None, length, inl, inr, arith}
 use Rattle.std.specs.Prelude.{slice_get, slice_set}
 use Rattle.std.specs.List.{position_from, zip}
 use Rattle.std.proofs.lemmas.Bool.{cases_Bool}
@@ -52,11 +52,11 @@ stands_from c [] cells base at h = cc
 stands_from c (n ∷ ns) cells base at h =
     elim (cases_Bool (name_eq c n)) [
       | inl same ↦
-        let found : Some base ≡ Some at = sym (ap (λ b. cond b (Some base) (position_from (name_eq c) (base + 1) ns)) same) ∙ h in
-        here c n ns cells base at same (cc)
+          let found : Some base ≡ Some at = sym (ap (λ b. cond b (Some base) (position_from (name_eq c) (base + 1) ns)) same) ∙ h in
+          here c n ns cells base at same (cc)
       | inr other ↦
-        let later : position_from (name_eq c) (base + 1) ns ≡ Some at = sym (ap (λ b. cond b (Some base) (position_from (name_eq c) (base + 1) ns)) other) ∙ h in
-        behind c n ns cells base at other (stands_from c ns (tail_of cells) (base + 1) at later)
+          let later : position_from (name_eq c) (base + 1) ns ≡ Some at = sym (ap (λ b. cond b (Some base) (position_from (name_eq c) (base + 1) ns)) other) ∙ h in
+          behind c n ns cells base at other (stands_from c ns (tail_of cells) (base + 1) at later)
     ]
 
 -- the cell of a name that is found, and its place written
@@ -79,11 +79,11 @@ nowhere_from c (n ∷ ns) [] base h = refl
 nowhere_from c (n ∷ ns) (x ∷ xs) base h =
     elim (cases_Bool (name_eq c n)) [
       | inl same ↦
-        let found : Some base ≡ None = sym (ap (λ b. cond b (Some base) (position_from (name_eq c) (base + 1) ns)) same) ∙ h in
-        cc
+          let found : Some base ≡ None = sym (ap (λ b. cond b (Some base) (position_from (name_eq c) (base + 1) ns)) same) ∙ h in
+          cc
       | inr other ↦
-        let later : position_from (name_eq c) (base + 1) ns ≡ None = sym (ap (λ b. cond b (Some base) (position_from (name_eq c) (base + 1) ns)) other) ∙ h in
-        ap (λ b. cond b (Some x) (cell_of c (zip ns xs))) other ∙ nowhere_from c ns xs (base + 1) later
+          let later : position_from (name_eq c) (base + 1) ns ≡ None = sym (ap (λ b. cond b (Some base) (position_from (name_eq c) (base + 1) ns)) other) ∙ h in
+          ap (λ b. cond b (Some x) (cell_of c (zip ns xs))) other ∙ nowhere_from c ns xs (base + 1) later
     ]
 
 pub no_cell : (c : CellName) (names : List CellName) (cells : List Cell) → position_from (name_eq c) 0 names ≡ None → cell_of c (zip names cells) ≡ None

@@ -1,43 +1,35 @@
 -- INSERT changes the cells by its edits, and no other cell.
-use Rattle.std.proofs.Common.{◌≡◌, refl, sym, ◌∙◌, ap, subst, ℕ, zero, suc, ◌+◌, ◌<◌, ◌≤◌, Bool, true, false, cond, ◌&&◌, ◌||◌, List, [], ◌∷◌, Option, Some, None, map, length, arith, eqb, inl, inr, ◌⊎◌, ⊎_elim}
-use Rattle.std.specs.Prelude.{is_some, option_map, unwrap_or, slice_set, slice_get}
-use Rattle.std.specs.List.{list_any, range_with_len}
-use Rattle.std.proofs.lemmas.Bool.{and_parts, and_from, cases_Bool, eqb-true, eq-eqb, false≢true, false_from_ne_true, or_parts}
+use Rattle.std.proofs.Common.{◌≡◌, refl, sym, ◌∙◌, ap, subst, ℕ, true, false, ◌&&◌, ◌||◌, List, [], Option, Some, None, map, eqb, inl, inr}
+use Rattle.std.specs.Prelude.{is_some, option_map, unwrap_or}
+use Rattle.std.proofs.lemmas.Bool.{and_parts, and_from, cases_Bool, eqb-true, eq-eqb, false≢true, false_from_ne_true}
 use Rattle.dbtg_schema.specs.Lists.{Lists}
-use Rattle.dbtg_schema.specs.Structure.{order_of, set_numbers}
+use Rattle.dbtg_schema.specs.Structure.{order_of}
 use Rattle.dbtg_schema.specs.declared.shape.Order.{Order}
 use Rattle.dbtg_schema.specs.declared.shape.Order.TheVariants.{First, Last, Next, Prior, Sorted}
 use Rattle.dbtg_cells.specs.declared.key.DbKey.{DbKey}
 use Rattle.dbtg_cells.specs.declared.key.Owner.{Owner}
 use Rattle.dbtg_cells.specs.declared.key.Value.{Value}
 use Rattle.dbtg_cells.specs.declared.name.CellName.{CellName}
-use Rattle.dbtg_cells.specs.declared.name.CellName.TheVariants.{Usage, Extent, Ring, Slot}
-use Rattle.dbtg_cells.specs.Shown.{CellValue, RingValue, SlotValue}
+use Rattle.dbtg_cells.specs.Shown.{RingValue}
 use Rattle.dbtg_cells.specs.Keys.{key_eq, owner_eq}
-use Rattle.dbtg_cells.specs.Names.{name_eq, place_eq}
-use Rattle.dbtg_cells.specs.Placed.{placed, Spot, Front, Back, After, Before, Among}
+use Rattle.dbtg_cells.specs.Placed.{placed}
 use Rattle.dbtg_unit.specs.declared.unit.Place.{Place}
 use Rattle.dbtg_unit.specs.declared.unit.Unit.{Unit}
-use Rattle.dbtg_unit.specs.Base.{key_item, Database, Record, is_live, items_of, members_of, is_member, owner_of, sort_key, key_at}
-use Rattle.dbtg_unit.specs.Units.{place_in, owners_of}
-use Rattle.dbtg_unit.specs.Effect.{inserted, connected_in, raised, next_version, spot, after_position, before_position, comes_before, is_current_owner, joined}
-use Rattle.dbtg_unit.specs.Legal.{Legal, has_occurrence}
-use Rattle.dbtg_unit.specs.Cells.{cell, owner_at, slot_of, ring_of}
-use Rattle.dbtg_unit.specs.CellNames.{place_of, slot_name}
-use Rattle.dbtg_unit.specs.Edits.{edited_at, edited, member_spot, after_key, before_key, with_members, with_owner, with_next_version}
+use Rattle.dbtg_unit.specs.Base.{key_item, Database, is_live, items_of, members_of, is_member, sort_key}
+use Rattle.dbtg_unit.specs.Units.{place_in}
+use Rattle.dbtg_unit.specs.Effect.{inserted, spot, is_current_owner, joined}
+use Rattle.dbtg_unit.specs.Legal.{Legal}
+use Rattle.dbtg_unit.specs.Cells.{cell, ring_of}
+use Rattle.dbtg_unit.specs.Edits.{edited_at, member_spot, with_members}
 use Rattle.dbtg_unit.specs.EditsOf.{insert_edits}
-use Rattle.dbtg_unit.specs.declared.edit.CellEdit.{CellEdit}
 use Rattle.dbtg_unit.proofs.OneMembership.{ChangesMembership, changed_items-same, membership_edits, membership_cells}
 use Rattle.dbtg_unit.specs.declared.edit.Edit.{Edit}
-use Rattle.dbtg_unit.specs.declared.edit.Edit.TheVariants.{PlaceMember, ChangeOwner, RaiseVersion}
-use Rattle.dbtg_unit.proofs.KeyLemmas.{same_key, key_eq-refl, owner_eq-refl, same_owner}
-use Rattle.dbtg_unit.proofs.CellNameLemmas.{same_name, place_eq-refl, same_place}
+use Rattle.dbtg_unit.specs.declared.edit.Edit.TheVariants.{PlaceMember}
+use Rattle.dbtg_unit.proofs.KeyLemmas.{key_eq-refl, owner_eq-refl, same_owner}
 use Rattle.dbtg_unit.proofs.PlacedMaps.{map-placed, spot_before_map}
 use Rattle.dbtg_unit.proofs.Listing.{any-placed}
-use Rattle.dbtg_unit.proofs.RangeMaps.{map-range_set}
-use Rattle.dbtg_unit.proofs.RemoveLocal.{owner_at-place}
-use Rattle.dbtg_unit.proofs.OwnersFound.{latest, standing, owner_is, no_owner}
-use Rattle.dbtg_unit.proofs.SameItems.{SameItems, extent-same, ring-same, slot-same, owner_of-same, sort_key-same, owner_at-same, key_at-same}
+use Rattle.dbtg_unit.proofs.OwnersFound.{owner_is}
+use Rattle.dbtg_unit.proofs.SameItems.{sort_key-same}
 
 -- a spot in a ring is the spot in the list, by the members' keys
 spot-members : (order : Order) (position : Option DbKey) (key : DbKey → Option Value) (m : DbKey)
@@ -70,10 +62,10 @@ module _ (schema : Lists) (capacity : ℕ) (db : Database) (unit : Unit) (s : �
   list-else s' o other =
       elim (cases_Bool (eqb s s')) [
         | inl e ↦
-          let here = eqb-true s s' e in
-          let not_owner : is_current_owner schema unit s' o ≡ false =
-              false_from_ne_true _ (λ h. other (sym here) (sym (same_owner place.owner o (sym (owner_is_current o) ∙ ap (λ u. is_current_owner schema unit u o) here ∙ h)))) in
-          rw (e, not_owner) refl
+            let here = eqb-true s s' e in
+            let not_owner : is_current_owner schema unit s' o ≡ false =
+            false_from_ne_true _ (λ h. other (sym here) (sym (same_owner place.owner o (sym (owner_is_current o) ∙ ap (λ u. is_current_owner schema unit u o) here ∙ h)))) in
+            rw (e, not_owner) refl
         | inr e ↦ rw e refl
       ]
 
@@ -93,16 +85,16 @@ module _ (schema : Lists) (capacity : ℕ) (db : Database) (unit : Unit) (s : �
   member-else x other s' o =
       elim (cases_Bool (eqb s' s && owner_eq o place.owner)) [
         | inl e ↦
-          let es = and_parts _ _ e in
-          let set_is = eqb-true s' s es.0 in
-          let owner = same_owner o place.owner es.1 in
-          (λ i. is_member x (members_of new (set_is i) (owner i)))
-          ∙ ap (λ l. is_member x (unwrap_or l [])) list-here
-          ∙ elim (db.lists s place.owner) as (λ l. is_member x (unwrap_or (option_map (joined schema db unit s k) l) []) ≡ is_member x (unwrap_or l [])) [
-            | None ↦ refl
-            | Some list ↦ any-placed (key_eq x) _ k list ∙ ap (λ b. b || is_member x list) other
-          ]
-          ∙ (λ i. is_member x (members_of db (sym set_is i) (sym owner i)))
+            let es = and_parts _ _ e in
+            let set_is = eqb-true s' s es.0 in
+            let owner = same_owner o place.owner es.1 in
+            (λ i. is_member x (members_of new (set_is i) (owner i)))
+            ∙ ap (λ l. is_member x (unwrap_or l [])) list-here
+            ∙ elim (db.lists s place.owner) as (λ l. is_member x (unwrap_or (option_map (joined schema db unit s k) l) []) ≡ is_member x (unwrap_or l [])) [
+              | None ↦ refl
+              | Some list ↦ any-placed (key_eq x) _ k list ∙ ap (λ b. b || is_member x list) other
+            ]
+            ∙ (λ i. is_member x (members_of db (sym set_is i) (sym owner i)))
         | inr e ↦ ap (λ l. is_member x (unwrap_or l [])) (list-else s' o (λ a b. false≢true (sym e ∙ and_from _ _ (eq-eqb s' s a) (subst (λ p. owner_eq p place.owner ≡ true) (sym b) (owner_eq-refl place.owner)))))
       ]
 
@@ -114,8 +106,8 @@ module _ (schema : Lists) (capacity : ℕ) (db : Database) (unit : Unit) (s : �
   ring-here None = refl
   ring-here (Some list) =
       let placed_is : map (λ x. (x, sort_key schema db s x)) (joined schema db unit s k list)
-          ≡ placed (member_spot (order_of schema s) place.at (sort_key schema db s k)) (k, sort_key schema db s k) (map (λ x. (x, sort_key schema db s x)) list) =
-          rw stands (ring-placed (order_of schema s) place.at (sort_key schema db s) k list) in
+      ≡ placed (member_spot (order_of schema s) place.at (sort_key schema db s k)) (k, sort_key schema db s k) (map (λ x. (x, sort_key schema db s x)) list) =
+      rw stands (ring-placed (order_of schema s) place.at (sort_key schema db s) k list) in
       (λ i. Some (record { owner = place.owner; members = map (λ x. (x, sort_key-same (changed_items-same changes) schema s x i)) (joined schema db unit s k list) }))
       ∙ (λ i. Some (record { owner = place.owner; members = placed_is i }))
 
@@ -126,5 +118,5 @@ module _ (schema : Lists) (capacity : ℕ) (db : Database) (unit : Unit) (s : �
       let edit : Edit = PlaceMember (order_of schema s) place.at k key in
       let edits_are : insert_edits schema db unit s k ≡ membership_edits changes legal live edit (Some place.owner) = rw stands refl in
       membership_cells changes legal live edit (Some place.owner) present (owner_is schema capacity new legal_new s place.owner k (has-here present))
-        (ap (λ l. RingValue (option_map (ring_of schema new s place.owner) l)) list-here ∙ ap RingValue (ring-here (db.lists s place.owner))) c
+      (ap (λ l. RingValue (option_map (ring_of schema new s place.owner) l)) list-here ∙ ap RingValue (ring-here (db.lists s place.owner))) c
       ∙ ap (λ es. edited_at c es (cell schema capacity db c)) (sym edits_are)

@@ -63,6 +63,6 @@ pairwise-push test (x ∷ xs) m h g =
     let hs = and_parts (list_all (test x) xs) (pairwise test xs) h in
     let gs = and_parts (test x m) (list_all (λ y. test y m) xs) g in
     and_from (list_all (test x) (xs ++ m ∷ [])) (pairwise test (xs ++ m ∷ [])) (all-push (test x) xs m hs.0 gs.0) (pairwise-push test xs m hs.1 gs.1) where
-  all-push : {X : Type 0} (p : X → Bool) (xs : List X) (m : X) → list_all p xs ≡ true → p m ≡ true → list_all p (xs ++ m ∷ []) ≡ true
-  all-push p [] m h g = and_from (p m) true g refl
-  all-push p (x ∷ xs) m h g = let hs = and_parts (p x) (list_all p xs) h in and_from (p x) (list_all p (xs ++ m ∷ [])) hs.0 (all-push p xs m hs.1 g)
+      all-push : {X : Type 0} (p : X → Bool) (xs : List X) (m : X) → list_all p xs ≡ true → p m ≡ true → list_all p (xs ++ m ∷ []) ≡ true
+      all-push p [] m h g = and_from (p m) true g refl
+      all-push p (x ∷ xs) m h g = let hs = and_parts (p x) (list_all p xs) h in and_from (p x) (list_all p (xs ++ m ∷ [])) hs.0 (all-push p xs m hs.1 g)

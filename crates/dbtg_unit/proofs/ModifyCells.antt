@@ -1,7 +1,7 @@
 -- MODIFY changes the cells by its edits, and no other cell.
-use Rattle.std.proofs.Common.{◌⊎◌, ◌≡◌, ◌≢◌, refl, sym, ◌∙◌, ap, subst, ℕ, ◌+◌, ◌<◌, ◌≤◌, Bool, true, false, cond, not, ◌&&◌, ◌||◌, List, [], ◌∷◌, ◌++◌, Option, Some, None, map, length, arith, eqb, inl, inr, get_or-set_other}
-use Rattle.std.specs.Prelude.{is_some, option_map, option_and_then, unwrap_or, filter, slice_index_or, slice_set, slice_get}
-use Rattle.std.specs.List.{find, list_any, list_all, range_with_len, flat_map}
+use Rattle.std.proofs.Common.{◌⊎◌, ◌≡◌, refl, sym, ◌∙◌, ap, subst, ℕ, ◌+◌, ◌<◌, Bool, true, false, cond, not, ◌&&◌, ◌||◌, List, [], ◌∷◌, ◌++◌, Option, Some, None, map, length, arith, eqb, inl, inr, get_or-set_other}
+use Rattle.std.specs.Prelude.{is_some, option_map, option_and_then, unwrap_or, slice_index_or, slice_set, slice_get}
+use Rattle.std.specs.List.{find, list_any, range_with_len, flat_map}
 use Rattle.std.proofs.lemmas.Bool.{and_parts, and_from, cases_Bool, eqb-true, eq-eqb, eqb-false, false≢true, false_from_ne_true, or_parts}
 use Rattle.dbtg_schema.specs.Lists.{Lists}
 use Rattle.dbtg_schema.specs.Lookups.{some_and}
@@ -16,23 +16,22 @@ use Rattle.dbtg_cells.specs.declared.key.Value.TheVariants.{Num}
 use Rattle.dbtg_cells.specs.declared.name.CellName.{CellName}
 use Rattle.dbtg_cells.specs.declared.name.CellName.TheVariants.{Usage, Extent, Ring, Slot}
 use Rattle.dbtg_cells.specs.Shown.{CellValue, ExtentValue, RingValue, SlotValue}
-use Rattle.dbtg_cells.specs.Keys.{key_eq, owner_eq}
+use Rattle.dbtg_cells.specs.Keys.{key_eq}
 use Rattle.dbtg_cells.specs.Names.{name_eq, place_eq}
 use Rattle.dbtg_cells.specs.Placed.{placed}
 use Rattle.dbtg_unit.specs.declared.statement.Change.{Change}
 use Rattle.dbtg_unit.specs.declared.edit.Edit.{Edit}
 use Rattle.dbtg_unit.specs.declared.edit.Edit.TheVariants.{ChangeNumber, ReplaceMember, ChangeItems, RaiseVersion}
 use Rattle.dbtg_unit.specs.declared.edit.CellEdit.{CellEdit}
-use Rattle.dbtg_unit.specs.declared.unit.Place.{Place}
 use Rattle.dbtg_unit.specs.declared.unit.Unit.{Unit}
 use Rattle.dbtg_unit.specs.Base.{Database, Record, is_live, items_of, members_of, is_member, owner_of, sort_key, key_item, key_at, calc_items, picked}
 use Rattle.dbtg_unit.specs.Units.{place_in, owners_of}
 use Rattle.dbtg_unit.specs.Effect.{modified, with_items, with_its_items, changed_items, names_calc, replaced_sets, next_version, joined, without}
 use Rattle.dbtg_unit.specs.Legal.{Legal}
 use Rattle.dbtg_unit.specs.Cells.{cell, owner_at, slot_of, ring_of, number_of}
-use Rattle.dbtg_unit.specs.CellNames.{place_of, slot_name}
+use Rattle.dbtg_unit.specs.CellNames.{place_of}
 use Rattle.dbtg_unit.specs.Edits.{edited_at, edited, revalued, with_number, with_members, members_without, member_spot, with_stored_items, with_next_version}
-use Rattle.dbtg_unit.specs.EditsOf.{modify_edits, replacing_edits, ring_edits, slot_edit}
+use Rattle.dbtg_unit.specs.EditsOf.{modify_edits, replacing_edits, slot_edit}
 use Rattle.dbtg_unit.proofs.KeyLemmas.{same_key, key_eq-refl}
 use Rattle.dbtg_unit.proofs.CellNameLemmas.{same_place, place_eq-refl}
 use Rattle.dbtg_unit.proofs.Listing.{any-placed}
@@ -43,7 +42,7 @@ use Rattle.dbtg_unit.proofs.RemoveLocal.{owner_at-place, member-without}
 use Rattle.dbtg_unit.proofs.RangeMaps.{map-range_changed}
 use Rattle.dbtg_unit.proofs.OwnersFound.{within, latest, standing, owner_is, owner_has, owner_of-by_members, some_list}
 use Rattle.dbtg_unit.proofs.PlacedLemmas.{pairwise-filter}
-use Rattle.dbtg_unit.proofs.EditLemmas.{edited_at-append, edits-miss, edits-hit, has_number, differ, range-distinct, has_number-passes, has_number-filter, has_number-range, has_number-unfiltered}
+use Rattle.dbtg_unit.proofs.EditLemmas.{edited_at-append, edits-miss, edits-hit, has_number, differ, range-distinct, has_number-filter, has_number-range, has_number-unfiltered}
 
 -- an item that is not named stays
 pub changed_items-else : (changes : List Change) (items : List Value) (i : ℕ) (other : Value) → list_any (λ c. eqb c.item i) changes ≡ false → slice_index_or (changed_items changes items) i other ≡ slice_index_or items i other
@@ -61,15 +60,15 @@ any-map f p (x ∷ xs) = ap (λ b. p (f x) || b) (any-map f p xs)
 calc_items-else : (schema : Lists) (t : ℕ) (changes : List Change) (items : List Value) → names_calc schema t changes ≡ false → calc_items schema t (changed_items changes items) ≡ calc_items schema t items
 calc_items-else schema t changes items h =
     elim (calc_of schema t) as (λ o. some_and (λ (calc : Calc). list_any (λ i. list_any (λ c. eqb c.item i) changes) calc.items) o ≡ false
-      → unwrap_or (option_map (λ (calc : Calc). picked calc.items (changed_items changes items)) o) [] ≡ unwrap_or (option_map (λ (calc : Calc). picked calc.items items) o) []) [
+    → unwrap_or (option_map (λ (calc : Calc). picked calc.items (changed_items changes items)) o) [] ≡ unwrap_or (option_map (λ (calc : Calc). picked calc.items items) o) []) [
       | None ↦ λ h. refl
       | Some calc ↦ λ h. same_picked calc.items h
     ] h where
-  same_picked : (numbers : List ℕ) → list_any (λ i. list_any (λ c. eqb c.item i) changes) numbers ≡ false → picked numbers (changed_items changes items) ≡ picked numbers items
-  same_picked [] h = refl
-  same_picked (i ∷ numbers) h =
-      let hs = or_parts (list_any (λ c. eqb c.item i) changes) (list_any (λ i. list_any (λ c. eqb c.item i) changes) numbers) h in
-      λ j. changed_items-else changes items i (Num 0) hs.0 j ∷ same_picked numbers hs.1 j
+      same_picked : (numbers : List ℕ) → list_any (λ i. list_any (λ c. eqb c.item i) changes) numbers ≡ false → picked numbers (changed_items changes items) ≡ picked numbers items
+      same_picked [] h = refl
+      same_picked (i ∷ numbers) h =
+          let hs = or_parts (list_any (λ c. eqb c.item i) changes) (list_any (λ i. list_any (λ c. eqb c.item i) changes) numbers) h in
+          λ j. changed_items-else changes items i (Num 0) hs.0 j ∷ same_picked numbers hs.1 j
 
 -- the key item of a set stays where it is not named
 key_item-else : (schema : Lists) (s t : ℕ) (changes : List Change) (items : List Value)
@@ -77,13 +76,13 @@ key_item-else : (schema : Lists) (s t : ℕ) (changes : List Change) (items : Li
     → key_item schema s t (changed_items changes items) ≡ key_item schema s t items
 key_item-else schema s t changes items h =
     elim (member_clause schema s t) as (λ o. some_and (λ (m : Member). some_and (λ i. list_any (λ j. eqb j i) (map (λ c. c.item) changes)) m.key) o ≡ false
-      → option_and_then (λ (m : Member). option_map (λ i. slice_index_or (changed_items changes items) i (Num 0)) m.key) o ≡ option_and_then (λ (m : Member). option_map (λ i. slice_index_or items i (Num 0)) m.key) o) [
+    → option_and_then (λ (m : Member). option_map (λ i. slice_index_or (changed_items changes items) i (Num 0)) m.key) o ≡ option_and_then (λ (m : Member). option_map (λ i. slice_index_or items i (Num 0)) m.key) o) [
       | None ↦ λ h. refl
       | Some m ↦ elim m.key as (λ key. some_and (λ i. list_any (λ j. eqb j i) (map (λ c. c.item) changes)) key ≡ false
-        → option_map (λ i. slice_index_or (changed_items changes items) i (Num 0)) key ≡ option_map (λ i. slice_index_or items i (Num 0)) key) [
-        | None ↦ λ h. refl
-        | Some i ↦ λ h. ap Some (changed_items-else changes items i (Num 0) (sym (any-map (λ (c : Change). c.item) (λ j. eqb j i) changes) ∙ h))
-      ]
+          → option_map (λ i. slice_index_or (changed_items changes items) i (Num 0)) key ≡ option_map (λ i. slice_index_or items i (Num 0)) key) [
+            | None ↦ λ h. refl
+            | Some i ↦ λ h. ap Some (changed_items-else changes items i (Num 0) (sym (any-map (λ (c : Change). c.item) (λ j. eqb j i) changes) ∙ h))
+          ]
     ] h
 
 module _ (schema : Lists) (capacity : ℕ) (db : Database) (unit : Unit) (changes : List Change) (k : DbKey) (legal : Legal schema capacity db) (live : is_live db k ≡ true) where
@@ -117,16 +116,16 @@ module _ (schema : Lists) (capacity : ℕ) (db : Database) (unit : Unit) (change
   member-same x s o =
       elim (cases_Bool (has_number s rekeyed && is_member k (members_of db s o))) [
         | inl e ↦
-          ap (λ b. is_member x (unwrap_or (cond b (option_map (λ list. joined schema changed_db unit s k (without k list)) (db.lists s o)) (db.lists s o)) [])) e
-          ∙ elim (db.lists s o) as (λ l. is_member k (unwrap_or l []) ≡ true → is_member x (unwrap_or (option_map (λ list. joined schema changed_db unit s k (without k list)) l) []) ≡ is_member x (unwrap_or l [])) [
-            | None ↦ λ h. refl
-            | Some list ↦ λ h. any-placed (key_eq x) _ k (without k list) ∙ back x list h (cases_Bool (key_eq x k))
-          ] (and_parts _ _ e).1
+            ap (λ b. is_member x (unwrap_or (cond b (option_map (λ list. joined schema changed_db unit s k (without k list)) (db.lists s o)) (db.lists s o)) [])) e
+            ∙ elim (db.lists s o) as (λ l. is_member k (unwrap_or l []) ≡ true → is_member x (unwrap_or (option_map (λ list. joined schema changed_db unit s k (without k list)) l) []) ≡ is_member x (unwrap_or l [])) [
+              | None ↦ λ h. refl
+              | Some list ↦ λ h. any-placed (key_eq x) _ k (without k list) ∙ back x list h (cases_Bool (key_eq x k))
+            ] (and_parts _ _ e).1
         | inr e ↦ ap (λ b. is_member x (unwrap_or (cond b (option_map (λ list. joined schema changed_db unit s k (without k list)) (db.lists s o)) (db.lists s o)) [])) e
       ] where
-    back : (x : DbKey) (list : List DbKey) → is_member k list ≡ true → (key_eq x k ≡ true) ⊎ (key_eq x k ≡ false) → (key_eq x k || is_member x (without k list)) ≡ is_member x list
-    back x list has (inl e) = ap (λ b. b || is_member x (without k list)) e ∙ sym (subst (λ y. is_member y list ≡ true) (sym (same_key x k e)) has)
-    back x list has (inr e) = ap (λ b. b || is_member x (without k list)) e ∙ member-without k x list e
+        back : (x : DbKey) (list : List DbKey) → is_member k list ≡ true → (key_eq x k ≡ true) ⊎ (key_eq x k ≡ false) → (key_eq x k || is_member x (without k list)) ≡ is_member x list
+        back x list has (inl e) = ap (λ b. b || is_member x (without k list)) e ∙ sym (subst (λ y. is_member y list ≡ true) (sym (same_key x k e)) has)
+        back x list has (inr e) = ap (λ b. b || is_member x (without k list)) e ∙ member-without k x list e
 
   owners-same : Legal schema capacity new → (x : DbKey) → owners_of schema capacity new x ≡ owners_of schema capacity db x
   owners-same legal_new x = λ i. map (λ s. owner_of-by_members schema capacity db new legal legal_new s x (member-same x s) i) (set_numbers schema)
@@ -145,7 +144,7 @@ module _ (schema : Lists) (capacity : ℕ) (db : Database) (unit : Unit) (change
   key-else : (t n : ℕ) → (eqb t k.rtype && eqb n k.number) ≡ false → key_eq k (key_at db t n) ≡ false
   key-else t n e =
       false_from_ne_true _ (λ h. let same = same_key k (key_at db t n) h in
-        false≢true (sym e ∙ and_from _ _ (eq-eqb t k.rtype (sym (ap (λ x. x.rtype) same))) (eq-eqb n k.number (sym (ap (λ x. x.number) same)))))
+      false≢true (sym e ∙ and_from _ _ (eq-eqb t k.rtype (sym (ap (λ x. x.rtype) same))) (eq-eqb n k.number (sym (ap (λ x. x.number) same)))))
 
   slot-made : Legal schema capacity new → (t n : ℕ)
       → cell schema capacity new (Slot t n) ≡ edited_at (Slot t n) (slot_edit k (ChangeItems new_items) ∷ (slot_edit k RaiseVersion ∷ [])) (cell schema capacity db (Slot t n))
@@ -155,17 +154,17 @@ module _ (schema : Lists) (capacity : ℕ) (db : Database) (unit : Unit) (change
       let changed = edited (ChangeItems new_items) value in
       elim (cases_Bool (eqb t k.rtype && eqb n k.number)) [
         | inl e ↦
-          let es = and_parts _ _ e in
-          let at : key_at db t n ≡ k = (λ i. key_at db (eqb-true t k.rtype es.0 i) (eqb-true n k.number es.1 i)) ∙ latest schema capacity db legal k live in
-          (λ i. SlotValue (option_map (slot_of schema capacity new (at i)) (new.records (at i))))
-          ∙ ap (λ r. SlotValue (option_map (slot_of schema capacity new k) r)) records-here
-          ∙ ap SlotValue (slot-here legal_new (db.records k))
-          ∙ (λ i. edited RaiseVersion (edited (ChangeItems new_items) (SlotValue (option_map (slot_of schema capacity db (sym at i)) (db.records (sym at i))))))
-          ∙ ap (λ b. cond b (edited RaiseVersion (cond b changed value)) (cond b changed value)) (sym e)
+            let es = and_parts _ _ e in
+            let at : key_at db t n ≡ k = (λ i. key_at db (eqb-true t k.rtype es.0 i) (eqb-true n k.number es.1 i)) ∙ latest schema capacity db legal k live in
+            (λ i. SlotValue (option_map (slot_of schema capacity new (at i)) (new.records (at i))))
+            ∙ ap (λ r. SlotValue (option_map (slot_of schema capacity new k) r)) records-here
+            ∙ ap SlotValue (slot-here legal_new (db.records k))
+            ∙ (λ i. edited RaiseVersion (edited (ChangeItems new_items) (SlotValue (option_map (slot_of schema capacity db (sym at i)) (db.records (sym at i))))))
+            ∙ ap (λ b. cond b (edited RaiseVersion (cond b changed value)) (cond b changed value)) (sym e)
         | inr e ↦
-          let x = key_at db t n in
-          (λ i. SlotValue (option_map (λ r. record { generation = x.generation; version = r.version; items = r.items; owners = owners-same legal_new x i }) (records-else x (key-else t n e) i)))
-          ∙ ap (λ b. cond b (edited RaiseVersion (cond b changed value)) (cond b changed value)) (sym e)
+            let x = key_at db t n in
+            (λ i. SlotValue (option_map (λ r. record { generation = x.generation; version = r.version; items = r.items; owners = owners-same legal_new x i }) (records-else x (key-else t n e) i)))
+            ∙ ap (λ b. cond b (edited RaiseVersion (cond b changed value)) (cond b changed value)) (sym e)
       ]
 
   -- THE EXTENT
@@ -185,27 +184,27 @@ module _ (schema : Lists) (capacity : ℕ) (db : Database) (unit : Unit) (change
   extent-here : map (number_of schema new k.rtype) (range_with_len 1 capacity) ≡ with_number k.number (revalued (calc_items schema k.rtype new_items)) (map (number_of schema db k.rtype) (range_with_len 1 capacity))
   extent-here =
       map-range_changed (number_of schema new k.rtype) (number_of schema db k.rtype) (revalued (calc_items schema k.rtype new_items)) 1 capacity k.number k.number (omega arith) (legal.keys k live).1
-        (λ i. record { last = db.last k.rtype k.number; calc = calc-here i })
-        (λ n other. number-else k.rtype n (and_second (eqb k.rtype k.rtype) (differ n k.number other))) where
-    and_second : (a : Bool) {b : Bool} → b ≡ false → (a && b) ≡ false
-    and_second true h = h
-    and_second false h = refl
+      (λ i. record { last = db.last k.rtype k.number; calc = calc-here i })
+      (λ n other. number-else k.rtype n (and_second (eqb k.rtype k.rtype) (differ n k.number other))) where
+        and_second : (a : Bool) {b : Bool} → b ≡ false → (a && b) ≡ false
+        and_second true h = h
+        and_second false h = refl
 
   -- where no CALC item is named the extent stays
   extent-unnamed : names_calc schema k.rtype changes ≡ false → (n : ℕ) → number_of schema new k.rtype n ≡ number_of schema db k.rtype n
   extent-unnamed unnamed n =
       elim (cases_Bool (eqb k.rtype k.rtype && eqb n k.number)) [
         | inl e ↦
-          let here = eqb-true n k.number (and_parts _ _ e).1 in
-          let before : option_map (λ (r : Record). calc_items schema k.rtype r.items) (db.records (key_at db k.rtype k.number)) ≡ Some (calc_items schema k.rtype (items_of db k)) =
-              ap (λ x. option_map (λ (r : Record). calc_items schema k.rtype r.items) (db.records x)) (latest schema capacity db legal k live)
-              ∙ elim (db.records k) as (λ r. is_some r ≡ true → option_map (λ (r : Record). calc_items schema k.rtype r.items) r ≡ Some (calc_items schema k.rtype (unwrap_or (option_map (λ (r : Record). r.items) r) []))) [
-                | None ↦ λ h. absurd (false≢true h)
-                | Some r ↦ λ h. refl
-              ] live in
-          (λ i. number_of schema new k.rtype (here i))
-          ∙ (λ i. record { last = db.last k.rtype k.number; calc = (calc-here ∙ ap Some (calc_items-else schema k.rtype changes (items_of db k) unnamed) ∙ sym before) i })
-          ∙ (λ i. number_of schema db k.rtype (sym here i))
+            let here = eqb-true n k.number (and_parts _ _ e).1 in
+            let before : option_map (λ (r : Record). calc_items schema k.rtype r.items) (db.records (key_at db k.rtype k.number)) ≡ Some (calc_items schema k.rtype (items_of db k)) =
+            ap (λ x. option_map (λ (r : Record). calc_items schema k.rtype r.items) (db.records x)) (latest schema capacity db legal k live)
+            ∙ elim (db.records k) as (λ r. is_some r ≡ true → option_map (λ (r : Record). calc_items schema k.rtype r.items) r ≡ Some (calc_items schema k.rtype (unwrap_or (option_map (λ (r : Record). r.items) r) []))) [
+              | None ↦ λ h. absurd (false≢true h)
+              | Some r ↦ λ h. refl
+            ] live in
+            (λ i. number_of schema new k.rtype (here i))
+            ∙ (λ i. record { last = db.last k.rtype k.number; calc = (calc-here ∙ ap Some (calc_items-else schema k.rtype changes (items_of db k) unnamed) ∙ sym before) i })
+            ∙ (λ i. number_of schema db k.rtype (sym here i))
         | inr e ↦ number-else k.rtype n e
       ]
 
@@ -219,26 +218,26 @@ module _ (schema : Lists) (capacity : ℕ) (db : Database) (unit : Unit) (change
       let edit = ChangeNumber k.number (calc_items schema k.rtype new_items) in
       elim (cases_Bool (eqb t k.rtype)) [
         | inl e ↦
-          let here = eqb-true t k.rtype e in
-          elim (cases_Bool (names_calc schema k.rtype changes)) [
-            | inl named ↦
-              (λ i. ExtentValue (map (number_of schema new (here i)) (range_with_len 1 capacity)))
-              ∙ ap ExtentValue extent-here
-              ∙ (λ i. edited edit (ExtentValue (map (number_of schema db (sym here i)) (range_with_len 1 capacity))))
-              ∙ ap (λ b. cond b (edited edit value) value) (sym e)
-              ∙ ap (λ b. edited_at (Extent t) (cond b (record { name = Extent k.rtype; edit = edit } ∷ []) []) value) (sym named)
-            | inr unnamed ↦
-              (λ i. ExtentValue (map (number_of schema new (here i)) (range_with_len 1 capacity)))
-              ∙ (λ i. ExtentValue (map (λ n. extent-unnamed unnamed n i) (range_with_len 1 capacity)))
-              ∙ (λ i. ExtentValue (map (number_of schema db (sym here i)) (range_with_len 1 capacity)))
-              ∙ ap (λ b. edited_at (Extent t) (cond b (record { name = Extent k.rtype; edit = edit } ∷ []) []) value) (sym unnamed)
-          ]
+            let here = eqb-true t k.rtype e in
+            elim (cases_Bool (names_calc schema k.rtype changes)) [
+              | inl named ↦
+                  (λ i. ExtentValue (map (number_of schema new (here i)) (range_with_len 1 capacity)))
+                  ∙ ap ExtentValue extent-here
+                  ∙ (λ i. edited edit (ExtentValue (map (number_of schema db (sym here i)) (range_with_len 1 capacity))))
+                  ∙ ap (λ b. cond b (edited edit value) value) (sym e)
+                  ∙ ap (λ b. edited_at (Extent t) (cond b (record { name = Extent k.rtype; edit = edit } ∷ []) []) value) (sym named)
+              | inr unnamed ↦
+                  (λ i. ExtentValue (map (number_of schema new (here i)) (range_with_len 1 capacity)))
+                  ∙ (λ i. ExtentValue (map (λ n. extent-unnamed unnamed n i) (range_with_len 1 capacity)))
+                  ∙ (λ i. ExtentValue (map (number_of schema db (sym here i)) (range_with_len 1 capacity)))
+                  ∙ ap (λ b. edited_at (Extent t) (cond b (record { name = Extent k.rtype; edit = edit } ∷ []) []) value) (sym unnamed)
+            ]
         | inr e ↦
-          (λ i. ExtentValue (map (λ n. number-else t n (ap (λ b. b && eqb n k.number) e) i) (range_with_len 1 capacity)))
-          ∙ elim (names_calc schema k.rtype changes) as (λ b. value ≡ edited_at (Extent t) (cond b (record { name = Extent k.rtype; edit = edit } ∷ []) []) value) [
-            | true ↦ ap (λ b. cond b (edited edit value) value) (sym e)
-            | false ↦ refl
-          ]
+            (λ i. ExtentValue (map (λ n. number-else t n (ap (λ b. b && eqb n k.number) e) i) (range_with_len 1 capacity)))
+            ∙ elim (names_calc schema k.rtype changes) as (λ b. value ≡ edited_at (Extent t) (cond b (record { name = Extent k.rtype; edit = edit } ∷ []) []) value) [
+              | true ↦ ap (λ b. cond b (edited edit value) value) (sym e)
+              | false ↦ refl
+            ]
       ]
 
   -- THE RINGS
@@ -295,9 +294,9 @@ module _ (schema : Lists) (capacity : ℕ) (db : Database) (unit : Unit) (change
       let rest = without k list in
       let shown = ring-placed (order_of schema s) at (sort_key schema changed_db s) k rest in
       let rest_is : map {B = DbKey × Option Value} (λ x. (x, sort_key schema changed_db s x)) rest ≡ members_without k (map (λ x. (x, sort_key schema db s x)) list) =
-          (λ i. map {B = DbKey × Option Value} (λ x. (x, sym (sort_key-raised s x) i)) rest)
-          ∙ keys-else s rest (without_gone k list)
-          ∙ map-filter {Y = DbKey × Option Value} (λ x. (x, sort_key schema db s x)) (λ m. not (key_eq k m.0)) list in
+      (λ i. map {B = DbKey × Option Value} (λ x. (x, sym (sort_key-raised s x) i)) rest)
+      ∙ keys-else s rest (without_gone k list)
+      ∙ map-filter {Y = DbKey × Option Value} (λ x. (x, sort_key schema db s x)) (λ m. not (key_eq k m.0)) list in
       (λ i. record { owner = o; members = map (λ x. (x, sort_key-raised s x i)) (joined schema changed_db unit s k rest) })
       ∙ (λ i. record { owner = o; members = shown i })
       ∙ (λ i. record { owner = o; members = placed (member_spot (order_of schema s) at (sort_key-here s i)) (k, sort_key-here s i) (rest_is i) })
@@ -325,11 +324,11 @@ module _ (schema : Lists) (capacity : ℕ) (db : Database) (unit : Unit) (change
   unfolding rekeys
   rekeyed-else s h =
       false_from_ne_true _ (λ e. false≢true (sym h ∙ has_number-filter rekeys s (set_numbers schema) e (has_number-range s 0 (length schema.sets) (omega arith) (omega (arith, in_schema e))))) where
-    in_schema : rekeys s ≡ true → s < length schema.sets
-    in_schema e = within schema.sets s (elim (slice_get schema.sets s) as (λ o. some_and (λ (m : Member). some_and (λ i. list_any (λ j. eqb j i) (map (λ c. c.item) changes)) m.key) (option_and_then (λ (set : SetType). find (λ (m : Member). eqb m.rtype k.rtype) set.members) o) ≡ true → is_some o ≡ true) [
-      | None ↦ λ h. absurd (false≢true h)
-      | Some set ↦ λ h. refl
-    ] e)
+        in_schema : rekeys s ≡ true → s < length schema.sets
+        in_schema e = within schema.sets s (elim (slice_get schema.sets s) as (λ o. some_and (λ (m : Member). some_and (λ i. list_any (λ j. eqb j i) (map (λ c. c.item) changes)) m.key) (option_and_then (λ (set : SetType). find (λ (m : Member). eqb m.rtype k.rtype) set.members) o) ≡ true → is_some o ≡ true) [
+          | None ↦ λ h. absurd (false≢true h)
+          | Some set ↦ λ h. refl
+        ] e)
 
   ring-made : (s : ℕ) (q : Option (ℕ × ℕ)) → cell schema capacity new (Ring s q) ≡ ring-edits (Ring s q) (cell schema capacity db (Ring s q))
   unfolding cell ring-edits rekeys
@@ -338,47 +337,48 @@ module _ (schema : Lists) (capacity : ℕ) (db : Database) (unit : Unit) (change
       let value = cell schema capacity db (Ring s q) in
       elim (cases_Bool (has_number s rekeyed && is_member k (members_of db s o))) [
         | inl e ↦
-          let es = and_parts _ _ e in
-          let stands : owner_of schema capacity db s k ≡ Some o = owner_is schema capacity db legal s o k es.1 in
-          let there : has_number s (replaced_sets schema capacity db changes k) ≡ true = has_number-filter (λ s'. is_some (owner_of schema capacity db s' k)) s rekeyed (ap is_some stands) es.0 in
-          let once = pairwise-filter _ _ rekeyed (pairwise-filter _ _ (set_numbers schema) (range-distinct 0 (length schema.sets))) in
-          let named : (eqb s s && place_eq q (place_of o)) ≡ true = and_from _ _ (eq-eqb s s refl) (ap (place_eq q) (owner_at-place db q) ∙ place_eq-refl q) in
-          let hit : edited_at (Ring s q) (replacing_edits schema capacity db unit k new_items s) value ≡ edited (placing s) value =
-              rw stands (ap (λ b. cond b (edited (placing s) value) value) named) in
-          ap (λ b. RingValue (option_map (ring_of schema new s o) (cond b (option_map (λ list. joined schema changed_db unit s k (without k list)) (db.lists s o)) (db.lists s o)))) e
-          ∙ shown s o (db.lists s o)
-          ∙ sym hit
-          ∙ sym (edits-hit (Ring s q) (replacing_edits schema capacity db unit k new_items) (replaced_sets schema capacity db changes k) s value once there
+            let es = and_parts _ _ e in
+            let stands : owner_of schema capacity db s k ≡ Some o = owner_is schema capacity db legal s o k es.1 in
+            let there : has_number s (replaced_sets schema capacity db changes k) ≡ true = has_number-filter (λ s'. is_some (owner_of schema capacity db s' k)) s rekeyed (ap is_some stands) es.0 in
+            let once = pairwise-filter _ _ rekeyed (pairwise-filter _ _ (set_numbers schema) (range-distinct 0 (length schema.sets))) in
+            let named : (eqb s s && place_eq q (place_of o)) ≡ true = and_from _ _ (eq-eqb s s refl) (ap (place_eq q) (owner_at-place db q) ∙ place_eq-refl q) in
+            let hit : edited_at (Ring s q) (replacing_edits schema capacity db unit k new_items s) value ≡ edited (placing s) value =
+            rw stands (ap (λ b. cond b (edited (placing s) value) value) named) in
+            ap (λ b. RingValue (option_map (ring_of schema new s o) (cond b (option_map (λ list. joined schema changed_db unit s k (without k list)) (db.lists s o)) (db.lists s o)))) e
+            ∙ shown s o (db.lists s o)
+            ∙ sym hit
+            ∙ sym (edits-hit (Ring s q) (replacing_edits schema capacity db unit k new_items) (replaced_sets schema capacity db changes k) s value once there
             (λ s' v other. replacing-misses (Ring s q) s' v (λ p is. ap (λ b. b && place_eq q (place_of p)) (differ s s' (λ same. other (sym same))))))
         | inr e ↦
-          ap (λ b. RingValue (option_map (ring_of schema new s o) (cond b (option_map (λ list. joined schema changed_db unit s k (without k list)) (db.lists s o)) (db.lists s o)))) e
-          ∙ ap RingValue (stays s o e)
-          ∙ sym (edits-miss (Ring s q) (replacing_edits schema capacity db unit k new_items) (replaced_sets schema capacity db changes k) value
+            ap (λ b. RingValue (option_map (ring_of schema new s o) (cond b (option_map (λ list. joined schema changed_db unit s k (without k list)) (db.lists s o)) (db.lists s o)))) e
+            ∙ ap RingValue (stays s o e)
+            ∙ sym (edits-miss (Ring s q) (replacing_edits schema capacity db unit k new_items) (replaced_sets schema capacity db changes k) value
             (λ s' v h. replacing-misses (Ring s q) s' v (λ p is. false_from_ne_true _ (λ same.
-              let sames = and_parts (eqb s s') (place_eq q (place_of p)) same in
-              let set_is = eqb-true s s' sames.0 in
-              let has : is_member k (members_of db s' p) ≡ true = owner_has schema capacity db s' p k is in
-              let owner : o ≡ p = ap (owner_at db) (same_place q (place_of p) sames.1) ∙ standing schema capacity db legal s' p (sym (legal.pairs s' p) ∙ some_list (db.lists s' p) k has) in
-              let rekeyed_there : has_number s rekeyed ≡ true = subst (λ x. has_number x rekeyed ≡ true) (sym set_is) (has_number-unfiltered (λ x. is_some (owner_of schema capacity db x k)) s' rekeyed h) in
-              false≢true (sym e ∙ and_from _ _ rekeyed_there (λ i. (subst (λ x. is_member k (members_of db x o) ≡ true) (sym set_is) (subst (λ u. is_member k (members_of db s' u) ≡ true) (sym owner) has)) i))))))
+            let sames = and_parts (eqb s s') (place_eq q (place_of p)) same in
+            let set_is = eqb-true s s' sames.0 in
+            let has : is_member k (members_of db s' p) ≡ true = owner_has schema capacity db s' p k is in
+            let owner : o ≡ p = ap (owner_at db) (same_place q (place_of p) sames.1) ∙ standing schema capacity db legal s' p (sym (legal.pairs s' p) ∙ some_list (db.lists s' p) k has) in
+            let rekeyed_there : has_number s rekeyed ≡ true = subst (λ x. has_number x rekeyed ≡ true) (sym set_is) (has_number-unfiltered (λ x. is_some (owner_of schema capacity db x k)) s' rekeyed h) in
+            false≢true (sym e ∙ and_from _ _ rekeyed_there (λ i. (subst (λ x. is_member k (members_of db x o) ≡ true) (sym set_is) (subst (λ u. is_member k (members_of db s' u) ≡ true) (sym owner) has)) i))))))
       ] where
-    shown : (s : ℕ) (o : Owner) (l : Option (List DbKey)) → RingValue (option_map (ring_of schema new s o) (option_map (λ list. joined schema changed_db unit s k (without k list)) l)) ≡ edited (placing s) (RingValue (option_map (ring_of schema db s o) l))
-    shown s o None = refl
-    shown s o (Some list) = λ i. RingValue (Some (ring-replaced s o list i))
-    stays : (s : ℕ) (o : Owner) → (has_number s rekeyed && is_member k (members_of db s o)) ≡ false → option_map (ring_of schema new s o) (db.lists s o) ≡ option_map (ring_of schema db s o) (db.lists s o)
-    stays s o e =
-        elim (db.lists s o) as (λ l. (has_number s rekeyed && is_member k (unwrap_or l [])) ≡ false → option_map (ring_of schema new s o) l ≡ option_map (ring_of schema db s o) l) [
-          | None ↦ λ h. refl
-          | Some list ↦ λ h i. Some (record { owner = o; members = keys-are s list h i })
-        ] e where
-      keys-are : (s : ℕ) (list : List DbKey) → (has_number s rekeyed && is_member k list) ≡ false → map {B = DbKey × Option Value} (λ x. (x, sort_key schema new s x)) list ≡ map {B = DbKey × Option Value} (λ x. (x, sort_key schema db s x)) list
-      keys-are s list h =
-          elim (cases_Bool (is_member k list)) [
-            | inl has ↦
-              let other : has_number s rekeyed ≡ false = false_from_ne_true _ (λ there. false≢true (sym h ∙ and_from _ _ there has)) in
-              keys-stay s (key_item-else schema s k.rtype changes (items_of db k) (rekeyed-else s other)) list
-            | inr absent ↦ keys-else s list absent
-          ]
+        shown : (s : ℕ) (o : Owner) (l : Option (List DbKey)) → RingValue (option_map (ring_of schema new s o) (option_map (λ list. joined schema changed_db unit s k (without k list)) l)) ≡ edited (placing s) (RingValue (option_map (ring_of schema db s o) l))
+        shown s o None = refl
+        shown s o (Some list) = λ i. RingValue (Some (ring-replaced s o list i))
+
+        stays : (s : ℕ) (o : Owner) → (has_number s rekeyed && is_member k (members_of db s o)) ≡ false → option_map (ring_of schema new s o) (db.lists s o) ≡ option_map (ring_of schema db s o) (db.lists s o)
+        stays s o e =
+            elim (db.lists s o) as (λ l. (has_number s rekeyed && is_member k (unwrap_or l [])) ≡ false → option_map (ring_of schema new s o) l ≡ option_map (ring_of schema db s o) l) [
+              | None ↦ λ h. refl
+              | Some list ↦ λ h i. Some (record { owner = o; members = keys-are s list h i })
+            ] e where
+              keys-are : (s : ℕ) (list : List DbKey) → (has_number s rekeyed && is_member k list) ≡ false → map {B = DbKey × Option Value} (λ x. (x, sort_key schema new s x)) list ≡ map {B = DbKey × Option Value} (λ x. (x, sort_key schema db s x)) list
+              keys-are s list h =
+                  elim (cases_Bool (is_member k list)) [
+                    | inl has ↦
+                        let other : has_number s rekeyed ≡ false = false_from_ne_true _ (λ there. false≢true (sym h ∙ and_from _ _ there has)) in
+                        keys-stay s (key_item-else schema s k.rtype changes (items_of db k) (rekeyed-else s other)) list
+                    | inr absent ↦ keys-else s list absent
+                  ]
 
   -- MODIFY changes the cells by its edits
   pub modify_makes : Legal schema capacity new → (c : CellName) → cell schema capacity new c ≡ edited_at c (modify_edits schema capacity db unit changes k) (cell schema capacity db c)
@@ -386,11 +386,13 @@ module _ (schema : Lists) (capacity : ℕ) (db : Database) (unit : Unit) (change
   modify_makes legal_new c = made c ∙ sym (in_turn c (cell schema capacity db c)) where
     slots : List CellEdit
     slots = slot_edit k (ChangeItems new_items) ∷ (slot_edit k RaiseVersion ∷ [])
+
     in_turn : (c : CellName) (value : CellValue) → edited_at c (modify_edits schema capacity db unit changes k) value ≡ edited_at c (slot_edit k (ChangeItems new_items) ∷ (slot_edit k RaiseVersion ∷ [])) (ring-edits c (edited_at c extent-edits value))
     in_turn c value =
         let rings = flat_map (replacing_edits schema capacity db unit k new_items) (replaced_sets schema capacity db changes k) in
         edited_at-append c extent-edits (rings ++ slot_edit k (ChangeItems new_items) ∷ (slot_edit k RaiseVersion ∷ [])) value
         ∙ edited_at-append c rings (slot_edit k (ChangeItems new_items) ∷ (slot_edit k RaiseVersion ∷ [])) (edited_at c extent-edits value)
+
     extent-misses : (c : CellName) (value : CellValue) → name_eq c (Extent k.rtype) ≡ false → edited_at c extent-edits value ≡ value
     extent-misses c value miss =
         let edit = ChangeNumber k.number (calc_items schema k.rtype new_items) in
@@ -398,6 +400,7 @@ module _ (schema : Lists) (capacity : ℕ) (db : Database) (unit : Unit) (change
           | true ↦ ap (λ b. cond b (edited edit value) value) miss
           | false ↦ refl
         ]
+
     made : (c : CellName) → cell schema capacity new c ≡ edited_at c (slot_edit k (ChangeItems new_items) ∷ (slot_edit k RaiseVersion ∷ [])) (ring-edits c (edited_at c extent-edits (cell schema capacity db c)))
     made (Usage a) =
         let value = cell schema capacity db (Usage a) in

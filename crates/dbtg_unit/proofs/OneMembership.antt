@@ -1,5 +1,5 @@
 -- A statement that changes one list of one owner, at one record, and raises that record's version: the cells that it changes.
-use Rattle.std.proofs.Common.{◌≡◌, refl, sym, ◌∙◌, ap, subst, ℕ, ◌+◌, Bool, true, false, cond, ◌&&◌, List, [], ◌∷◌, Option, Some, None, map, length, arith, eqb, inl, inr}
+use Rattle.std.proofs.Common.{◌≡◌, refl, sym, ◌∙◌, ap, subst, ℕ, ◌+◌, Bool, true, false, cond, ◌&&◌, List, [], ◌∷◌, Option, Some, None, length, arith, eqb, inl, inr}
 use Rattle.std.specs.Prelude.{is_some, option_map, unwrap_or, slice_set}
 use Rattle.std.proofs.lemmas.Bool.{and_parts, and_from, cases_Bool, eqb-true, eq-eqb, false≢true, false_from_ne_true}
 use Rattle.dbtg_schema.specs.Lists.{Lists}
@@ -57,7 +57,7 @@ module _ {schema : Lists} {capacity : ℕ} {db new : Database} {s : ℕ} {k : Db
   pub owners-changed : (o : Option Owner) → owner_of schema capacity new s k ≡ o → owners_of schema capacity new k ≡ slice_set (owners_of schema capacity db k) s o
   owners-changed o here =
       map-range_set (λ s'. owner_of schema capacity new s' k) (λ s'. owner_of schema capacity db s' k) o 0 (length schema.sets) s s (omega arith) here
-        (λ s' other. owner_of-same same schema capacity s' k (λ p. ap (λ l. is_member k (unwrap_or l [])) (changes.list_else s' p (λ a b. other a))))
+      (λ s' other. owner_of-same same schema capacity s' k (λ p. ap (λ l. is_member k (unwrap_or l [])) (changes.list_else s' p (λ a b. other a))))
 
   slot-changed : (o : Option Owner) → owner_of schema capacity new s k ≡ o → (r : Option Record)
       → option_map (slot_of schema capacity new k) (option_map next_version r) ≡ option_map with_next_version (option_map (with_owner s o) (option_map (slot_of schema capacity db k) r))
@@ -79,39 +79,39 @@ module _ {schema : Lists} {capacity : ℕ} {db new : Database} {s : ℕ} {k : Db
       let value = cell schema capacity db (Ring s' q) in
       elim (cases_Bool (eqb s' s && place_eq q (place_of owner))) [
         | inl e ↦
-          let es = and_parts _ _ e in
-          let set_is = eqb-true s' s es.0 in
-          let place_is = same_place q (place_of owner) es.1 in
-          let stands = standing schema capacity db legal s owner (sym (legal.pairs s owner) ∙ present) in
-          (λ i. RingValue (option_map (ring_of schema new (set_is i) (owner_at new (place_is i))) (new.lists (set_is i) (owner_at new (place_is i)))))
-          ∙ (λ i. RingValue (option_map (ring_of schema new s ((owner_at-same same (place_of owner) ∙ stands) i)) (new.lists s ((owner_at-same same (place_of owner) ∙ stands) i))))
-          ∙ ring
-          ∙ (λ i. edited edit (RingValue (option_map (ring_of schema db s (sym stands i)) (db.lists s (sym stands i)))))
-          ∙ (λ i. edited edit (cell schema capacity db (Ring (sym set_is i) (sym place_is i))))
-          ∙ ap (λ b. cond b (edited edit value) value) (sym e)
+            let es = and_parts _ _ e in
+            let set_is = eqb-true s' s es.0 in
+            let place_is = same_place q (place_of owner) es.1 in
+            let stands = standing schema capacity db legal s owner (sym (legal.pairs s owner) ∙ present) in
+            (λ i. RingValue (option_map (ring_of schema new (set_is i) (owner_at new (place_is i))) (new.lists (set_is i) (owner_at new (place_is i)))))
+            ∙ (λ i. RingValue (option_map (ring_of schema new s ((owner_at-same same (place_of owner) ∙ stands) i)) (new.lists s ((owner_at-same same (place_of owner) ∙ stands) i))))
+            ∙ ring
+            ∙ (λ i. edited edit (RingValue (option_map (ring_of schema db s (sym stands i)) (db.lists s (sym stands i)))))
+            ∙ (λ i. edited edit (cell schema capacity db (Ring (sym set_is i) (sym place_is i))))
+            ∙ ap (λ b. cond b (edited edit value) value) (sym e)
         | inr e ↦
-          ring-same same schema capacity s' q (changes.list_else s' (owner_at db q) (λ a b. false≢true (sym e ∙ and_from _ _ (eq-eqb s' s a) (subst (λ p. place_eq p (place_of owner) ≡ true) (ap place_of (sym b) ∙ owner_at-place db q) (place_eq-refl (place_of owner))))))
-          ∙ ap (λ b. cond b (edited edit value) value) (sym e)
+            ring-same same schema capacity s' q (changes.list_else s' (owner_at db q) (λ a b. false≢true (sym e ∙ and_from _ _ (eq-eqb s' s a) (subst (λ p. place_eq p (place_of owner) ≡ true) (ap place_of (sym b) ∙ owner_at-place db q) (place_eq-refl (place_of owner))))))
+            ∙ ap (λ b. cond b (edited edit value) value) (sym e)
       ]
   membership_cells edit o present here ring (Slot t n) =
       let value = cell schema capacity db (Slot t n) in
       let moved = edited (ChangeOwner s o) value in
       elim (cases_Bool (eqb t k.rtype && eqb n k.number)) [
         | inl e ↦
-          let es = and_parts _ _ e in
-          let at : key_at db t n ≡ k = (λ i. key_at db (eqb-true t k.rtype es.0 i) (eqb-true n k.number es.1 i)) ∙ latest schema capacity db legal k live in
-          let raised_is : new.records k ≡ option_map next_version (db.records k) = changes.records k ∙ ap (λ b. cond b (option_map next_version (db.records k)) (db.records k)) (key_eq-refl k) in
-          (λ i. SlotValue (option_map (slot_of schema capacity new ((key_at-same same t n ∙ at) i)) (new.records ((key_at-same same t n ∙ at) i))))
-          ∙ ap (λ r. SlotValue (option_map (slot_of schema capacity new k) r)) raised_is
-          ∙ ap SlotValue (slot-changed o here (db.records k))
-          ∙ (λ i. SlotValue (option_map with_next_version (option_map (with_owner s o) (option_map (slot_of schema capacity db (sym at i)) (db.records (sym at i))))))
-          ∙ ap (λ b. cond b (edited RaiseVersion (cond b moved value)) (cond b moved value)) (sym e)
+            let es = and_parts _ _ e in
+            let at : key_at db t n ≡ k = (λ i. key_at db (eqb-true t k.rtype es.0 i) (eqb-true n k.number es.1 i)) ∙ latest schema capacity db legal k live in
+            let raised_is : new.records k ≡ option_map next_version (db.records k) = changes.records k ∙ ap (λ b. cond b (option_map next_version (db.records k)) (db.records k)) (key_eq-refl k) in
+            (λ i. SlotValue (option_map (slot_of schema capacity new ((key_at-same same t n ∙ at) i)) (new.records ((key_at-same same t n ∙ at) i))))
+            ∙ ap (λ r. SlotValue (option_map (slot_of schema capacity new k) r)) raised_is
+            ∙ ap SlotValue (slot-changed o here (db.records k))
+            ∙ (λ i. SlotValue (option_map with_next_version (option_map (with_owner s o) (option_map (slot_of schema capacity db (sym at i)) (db.records (sym at i))))))
+            ∙ ap (λ b. cond b (edited RaiseVersion (cond b moved value)) (cond b moved value)) (sym e)
         | inr e ↦
-          let x = key_at db t n in
-          let other : key_eq k x ≡ false = false_from_ne_true _ (λ h. false≢true (sym e ∙ same_numbers (same_key k x h))) in
-          let other' : key_eq x k ≡ false = false_from_ne_true _ (λ h. false≢true (sym e ∙ same_numbers (sym (same_key x k h)))) in
-          slot-same same schema capacity t n (changes.records x ∙ ap (λ b. cond b (option_map next_version (db.records x)) (db.records x)) other) (changes.member_else x other')
-          ∙ ap (λ b. cond b (edited RaiseVersion (cond b moved value)) (cond b moved value)) (sym e)
+            let x = key_at db t n in
+            let other : key_eq k x ≡ false = false_from_ne_true _ (λ h. false≢true (sym e ∙ same_numbers (same_key k x h))) in
+            let other' : key_eq x k ≡ false = false_from_ne_true _ (λ h. false≢true (sym e ∙ same_numbers (sym (same_key x k h)))) in
+            slot-same same schema capacity t n (changes.records x ∙ ap (λ b. cond b (option_map next_version (db.records x)) (db.records x)) other) (changes.member_else x other')
+            ∙ ap (λ b. cond b (edited RaiseVersion (cond b moved value)) (cond b moved value)) (sym e)
       ] where
-    same_numbers : k ≡ key_at db t n → (eqb t k.rtype && eqb n k.number) ≡ true
-    same_numbers h = and_from _ _ (eq-eqb t k.rtype (sym (ap (λ x. x.rtype) h))) (eq-eqb n k.number (sym (ap (λ x. x.number) h)))
+        same_numbers : k ≡ key_at db t n → (eqb t k.rtype && eqb n k.number) ≡ true
+        same_numbers h = and_from _ _ (eq-eqb t k.rtype (sym (ap (λ x. x.rtype) h))) (eq-eqb n k.number (sym (ap (λ x. x.number) h)))

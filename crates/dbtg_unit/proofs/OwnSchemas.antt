@@ -12,21 +12,21 @@ shelf =
       name = codes "SHELF";
       areas = record { name = codes "HALL" } ∷ [];
       types =
-        record { name = codes "SHELF"; area = 0; items = record { name = codes "SNO"; picture = Number 2 } ∷ []; calc = None }
-        ∷ record { name = codes "BOOK"; area = 0; items = record { name = codes "RANK"; picture = Number 2 } ∷ []; calc = None }
-        ∷ [];
+          record { name = codes "SHELF"; area = 0; items = record { name = codes "SNO"; picture = Number 2 } ∷ []; calc = None }
+          ∷ record { name = codes "BOOK"; area = 0; items = record { name = codes "RANK"; picture = Number 2 } ∷ []; calc = None }
+          ∷ [];
       sets =
-        record { name = codes "IN-FRONT"; order = First; owner = Some 0; members = record { rtype = 1; class = OptionalAutomatic; key = None } ∷ [] }
-        ∷ record { name = codes "AT-END"; order = Last; owner = Some 0; members = record { rtype = 1; class = OptionalAutomatic; key = None } ∷ [] }
-        ∷ record { name = codes "BEHIND"; order = Next; owner = Some 0; members = record { rtype = 1; class = OptionalAutomatic; key = None } ∷ [] }
-        ∷ record { name = codes "AHEAD"; order = Prior; owner = Some 0; members = record { rtype = 1; class = OptionalAutomatic; key = None } ∷ [] }
-        ∷ record { name = codes "UP-FIRST"; order = Sorted true FirstAmongEqual; owner = Some 0; members = record { rtype = 1; class = OptionalAutomatic; key = Some 0 } ∷ [] }
-        ∷ record { name = codes "UP-LAST"; order = Sorted true LastAmongEqual; owner = Some 0; members = record { rtype = 1; class = OptionalAutomatic; key = Some 0 } ∷ [] }
-        ∷ record { name = codes "UP-ONLY"; order = Sorted true NotAllowed; owner = Some 0; members = record { rtype = 1; class = OptionalManual; key = Some 0 } ∷ [] }
-        ∷ record { name = codes "DOWN-FIRST"; order = Sorted false FirstAmongEqual; owner = Some 0; members = record { rtype = 1; class = OptionalAutomatic; key = Some 0 } ∷ [] }
-        ∷ record { name = codes "DOWN-LAST"; order = Sorted false LastAmongEqual; owner = Some 0; members = record { rtype = 1; class = OptionalAutomatic; key = Some 0 } ∷ [] }
-        ∷ record { name = codes "DOWN-ONLY"; order = Sorted false NotAllowed; owner = Some 0; members = record { rtype = 1; class = OptionalManual; key = Some 0 } ∷ [] }
-        ∷ [];
+          record { name = codes "IN-FRONT"; order = First; owner = Some 0; members = record { rtype = 1; class = OptionalAutomatic; key = None } ∷ [] }
+          ∷ record { name = codes "AT-END"; order = Last; owner = Some 0; members = record { rtype = 1; class = OptionalAutomatic; key = None } ∷ [] }
+          ∷ record { name = codes "BEHIND"; order = Next; owner = Some 0; members = record { rtype = 1; class = OptionalAutomatic; key = None } ∷ [] }
+          ∷ record { name = codes "AHEAD"; order = Prior; owner = Some 0; members = record { rtype = 1; class = OptionalAutomatic; key = None } ∷ [] }
+          ∷ record { name = codes "UP-FIRST"; order = Sorted true FirstAmongEqual; owner = Some 0; members = record { rtype = 1; class = OptionalAutomatic; key = Some 0 } ∷ [] }
+          ∷ record { name = codes "UP-LAST"; order = Sorted true LastAmongEqual; owner = Some 0; members = record { rtype = 1; class = OptionalAutomatic; key = Some 0 } ∷ [] }
+          ∷ record { name = codes "UP-ONLY"; order = Sorted true NotAllowed; owner = Some 0; members = record { rtype = 1; class = OptionalManual; key = Some 0 } ∷ [] }
+          ∷ record { name = codes "DOWN-FIRST"; order = Sorted false FirstAmongEqual; owner = Some 0; members = record { rtype = 1; class = OptionalAutomatic; key = Some 0 } ∷ [] }
+          ∷ record { name = codes "DOWN-LAST"; order = Sorted false LastAmongEqual; owner = Some 0; members = record { rtype = 1; class = OptionalAutomatic; key = Some 0 } ∷ [] }
+          ∷ record { name = codes "DOWN-ONLY"; order = Sorted false NotAllowed; owner = Some 0; members = record { rtype = 1; class = OptionalManual; key = Some 0 } ∷ [] }
+          ∷ [];
     }
 
 abbrev pub hall : ℕ
@@ -74,13 +74,13 @@ mixed =
       name = codes "MIXED";
       areas = record { name = codes "YARD" } ∷ [];
       types =
-        record { name = codes "BIN"; area = 0; items = record { name = codes "BNO"; picture = Number 2 } ∷ []; calc = None }
-        ∷ record { name = codes "RED"; area = 0; items = record { name = codes "RNO"; picture = Number 2 } ∷ []; calc = None }
-        ∷ record { name = codes "BLUE"; area = 0; items = record { name = codes "BLNO"; picture = Number 2 } ∷ []; calc = None }
-        ∷ [];
+          record { name = codes "BIN"; area = 0; items = record { name = codes "BNO"; picture = Number 2 } ∷ []; calc = None }
+          ∷ record { name = codes "RED"; area = 0; items = record { name = codes "RNO"; picture = Number 2 } ∷ []; calc = None }
+          ∷ record { name = codes "BLUE"; area = 0; items = record { name = codes "BLNO"; picture = Number 2 } ∷ []; calc = None }
+          ∷ [];
       sets =
-        record { name = codes "CONTENT"; order = Last; owner = Some 0; members = record { rtype = 1; class = OptionalAutomatic; key = None } ∷ record { rtype = 2; class = OptionalAutomatic; key = None } ∷ [] }
-        ∷ [];
+          record { name = codes "CONTENT"; order = Last; owner = Some 0; members = record { rtype = 1; class = OptionalAutomatic; key = None } ∷ record { rtype = 2; class = OptionalAutomatic; key = None } ∷ [] }
+          ∷ [];
     }
 
 abbrev pub yard : ℕ
@@ -104,16 +104,16 @@ tree =
       name = codes "TREE";
       areas = record { name = codes "WOOD" } ∷ [];
       types =
-        record { name = codes "ROOT"; area = 0; items = record { name = codes "RNO"; picture = Number 2 } ∷ []; calc = None }
-        ∷ record { name = codes "BRANCH"; area = 0; items = record { name = codes "BNO"; picture = Number 2 } ∷ []; calc = None }
-        ∷ record { name = codes "LEAF"; area = 0; items = record { name = codes "LNO"; picture = Number 2 } ∷ []; calc = None }
-        ∷ [];
+          record { name = codes "ROOT"; area = 0; items = record { name = codes "RNO"; picture = Number 2 } ∷ []; calc = None }
+          ∷ record { name = codes "BRANCH"; area = 0; items = record { name = codes "BNO"; picture = Number 2 } ∷ []; calc = None }
+          ∷ record { name = codes "LEAF"; area = 0; items = record { name = codes "LNO"; picture = Number 2 } ∷ []; calc = None }
+          ∷ [];
       sets =
-        record { name = codes "GROWS"; order = Last; owner = Some 0; members = record { rtype = 1; class = MandatoryAutomatic; key = None } ∷ [] }
-        ∷ record { name = codes "BEARS"; order = Last; owner = Some 1; members = record { rtype = 2; class = OptionalAutomatic; key = None } ∷ [] }
-        ∷ record { name = codes "SHEDS"; order = Last; owner = Some 0; members = record { rtype = 2; class = OptionalManual; key = None } ∷ [] }
-        ∷ record { name = codes "BINDS"; order = Last; owner = Some 1; members = record { rtype = 2; class = MandatoryManual; key = None } ∷ [] }
-        ∷ [];
+          record { name = codes "GROWS"; order = Last; owner = Some 0; members = record { rtype = 1; class = MandatoryAutomatic; key = None } ∷ [] }
+          ∷ record { name = codes "BEARS"; order = Last; owner = Some 1; members = record { rtype = 2; class = OptionalAutomatic; key = None } ∷ [] }
+          ∷ record { name = codes "SHEDS"; order = Last; owner = Some 0; members = record { rtype = 2; class = OptionalManual; key = None } ∷ [] }
+          ∷ record { name = codes "BINDS"; order = Last; owner = Some 1; members = record { rtype = 2; class = MandatoryManual; key = None } ∷ [] }
+          ∷ [];
     }
 
 abbrev pub wood : ℕ
@@ -146,16 +146,16 @@ desk =
       name = codes "DESK";
       areas = record { name = codes "ROOM" } ∷ [];
       types =
-        record { name = codes "DESK"; area = 0; items = record { name = codes "DNO"; picture = Number 2 } ∷ []; calc = Some (record { items = 0 ∷ []; duplicates_allowed = false }) }
-        ∷ record { name = codes "NOTE"; area = 0; items = record { name = codes "NNO"; picture = Number 2 } ∷ record { name = codes "WORD"; picture = Text 2 } ∷ []; calc = Some (record { items = 0 ∷ 1 ∷ []; duplicates_allowed = true }) }
-        ∷ record { name = codes "TAG"; area = 0; items = record { name = codes "TNO"; picture = Number 2 } ∷ record { name = codes "HUE"; picture = Number 2 } ∷ []; calc = Some (record { items = 0 ∷ []; duplicates_allowed = false }) }
-        ∷ [];
+          record { name = codes "DESK"; area = 0; items = record { name = codes "DNO"; picture = Number 2 } ∷ []; calc = Some (record { items = 0 ∷ []; duplicates_allowed = false }) }
+          ∷ record { name = codes "NOTE"; area = 0; items = record { name = codes "NNO"; picture = Number 2 } ∷ record { name = codes "WORD"; picture = Text 2 } ∷ []; calc = Some (record { items = 0 ∷ 1 ∷ []; duplicates_allowed = true }) }
+          ∷ record { name = codes "TAG"; area = 0; items = record { name = codes "TNO"; picture = Number 2 } ∷ record { name = codes "HUE"; picture = Number 2 } ∷ []; calc = Some (record { items = 0 ∷ []; duplicates_allowed = false }) }
+          ∷ [];
       sets =
-        record { name = codes "ON-TOP"; order = Prior; owner = Some 0; members = record { rtype = 1; class = OptionalAutomatic; key = None } ∷ [] }
-        ∷ record { name = codes "BY-WORD"; order = Sorted false NotAllowed; owner = None; members = record { rtype = 1; class = OptionalManual; key = Some 1 } ∷ [] }
-        ∷ record { name = codes "BY-HUE"; order = Sorted true NotAllowed; owner = None; members = record { rtype = 2; class = OptionalAutomatic; key = Some 1 } ∷ [] }
-        ∷ record { name = codes "SHOWS"; order = Prior; owner = Some 0; members = record { rtype = 2; class = OptionalAutomatic; key = None } ∷ [] }
-        ∷ [];
+          record { name = codes "ON-TOP"; order = Prior; owner = Some 0; members = record { rtype = 1; class = OptionalAutomatic; key = None } ∷ [] }
+          ∷ record { name = codes "BY-WORD"; order = Sorted false NotAllowed; owner = None; members = record { rtype = 1; class = OptionalManual; key = Some 1 } ∷ [] }
+          ∷ record { name = codes "BY-HUE"; order = Sorted true NotAllowed; owner = None; members = record { rtype = 2; class = OptionalAutomatic; key = Some 1 } ∷ [] }
+          ∷ record { name = codes "SHOWS"; order = Prior; owner = Some 0; members = record { rtype = 2; class = OptionalAutomatic; key = None } ∷ [] }
+          ∷ [];
     }
 
 abbrev pub room : ℕ

@@ -1,20 +1,18 @@
 -- Whose list has a record: what `owner_of` finds in a legal database.
-use Rattle.std.proofs.Common.{◌≡◌, refl, sym, ◌∙◌, ap, subst, ℕ, zero, suc, ◌+◌, ◌<◌, ◌≤◌, Bool, true, false, cond, ◌&&◌, ◌||◌, List, [], ◌∷◌, Option, Some, None, map, length, arith, eqb, inl, inr, ◌⊎◌, ⊎_elim}
+use Rattle.std.proofs.Common.{◌≡◌, refl, sym, ◌∙◌, ap, subst, ℕ, zero, suc, ◌+◌, ◌<◌, ◌≤◌, Bool, true, false, cond, List, [], ◌∷◌, Option, Some, None, map, length, arith, eqb, inl, inr, ◌⊎◌, ⊎_elim}
 use Rattle.std.specs.Prelude.{is_none, slice_get, option_and_then, is_some, option_map, unwrap_or, filter}
-use Rattle.std.specs.List.{list_any, find, range_with_len}
-use Rattle.std.proofs.lemmas.Bool.{false_from_ne_true, cases_lt, and_parts, and_from, cases_Bool, eqb-true, eq-eqb, false≢true}
+use Rattle.std.specs.List.{find, range_with_len}
+use Rattle.std.proofs.lemmas.Bool.{false_from_ne_true, cases_lt, and_parts, cases_Bool, eqb-true, false≢true}
 use Rattle.dbtg_schema.specs.Lists.{Lists}
 use Rattle.dbtg_schema.specs.Lookups.{some_and}
-use Rattle.dbtg_schema.specs.Structure.{is_system, owner_type, owns, set_numbers}
+use Rattle.dbtg_schema.specs.Structure.{is_system, owner_type, owns}
 use Rattle.dbtg_cells.specs.declared.key.DbKey.{DbKey}
 use Rattle.dbtg_cells.specs.declared.key.Owner.{Owner}
 use Rattle.dbtg_cells.specs.declared.key.Owner.TheVariants.{System, Rec}
-use Rattle.dbtg_cells.specs.Keys.{key_eq, owner_eq}
 use Rattle.dbtg_unit.specs.Base.{Database, is_live, key_at, live_keys, owners, members_of, is_member, owner_of}
 use Rattle.dbtg_unit.specs.Legal.{Legal, has_occurrence}
 use Rattle.dbtg_unit.specs.Cells.{owner_at}
 use Rattle.dbtg_unit.specs.CellNames.{place_of}
-use Rattle.dbtg_unit.proofs.KeyLemmas.{key_eq-refl, owner_eq-refl, same_owner}
 
 -- an element of a list
 abbrev pub Has : {X : Type 0} → X → List X → Type 0
@@ -43,8 +41,8 @@ find-passes p x (y ∷ ys) (inr h) passes =
     elim (cases_Bool (p y)) [
       | inl e ↦ (y, subst (λ b. cond b (Some y) (find p ys) ≡ Some y) (sym e) refl, e)
       | inr e ↦
-        let found = find-passes p x ys h passes in
-        (found.0, ap (λ b. cond b (Some y) (find p ys)) e ∙ found.1, found.2)
+          let found = find-passes p x ys h passes in
+          (found.0, ap (λ b. cond b (Some y) (find p ys)) e ∙ found.1, found.2)
     ]
 
 pub find-none : {X : Type 0} (p : X → Bool) (xs : List X) → ((x : X) → p x ≡ false) → find p xs ≡ None
@@ -67,8 +65,8 @@ pub has_live : (schema : Lists) (capacity : ℕ) (db : Database) → Legal schem
 has_live schema capacity db legal k live =
     let range = legal.keys k live in
     has-filter (is_live db) k (map (key_at db k.rtype) (range_with_len 1 capacity)) live
-      (subst (λ x. Has x (map (key_at db k.rtype) (range_with_len 1 capacity))) (latest schema capacity db legal k live)
-        (has-map (key_at db k.rtype) k.number (range_with_len 1 capacity) (has-range 1 capacity k.number (omega (arith, range.1)) (omega (arith, range.2)))))
+    (subst (λ x. Has x (map (key_at db k.rtype) (range_with_len 1 capacity))) (latest schema capacity db legal k live)
+    (has-map (key_at db k.rtype) k.number (range_with_len 1 capacity) (has-range 1 capacity k.number (omega (arith, range.1)) (omega (arith, range.2)))))
 
 -- a set with an owner type is no SYSTEM set
 pub owner_type-system : (schema : Lists) (s t : ℕ) → owns schema s t ≡ true → (is_system schema s ≡ false) × (owner_type schema s ≡ Some t)
@@ -89,7 +87,7 @@ has_owner schema capacity db legal s (Rec k) h =
     let set = owner_type-system schema s k.rtype hs.0 in
     subst (λ b. Has (Rec k) (cond b (System ∷ []) (unwrap_or (option_map (λ t. map Rec (live_keys capacity db t)) (owner_type schema s)) []))) (sym set.0)
     (subst (λ o. Has (Rec k) (unwrap_or (option_map (λ t. map Rec (live_keys capacity db t)) o) [])) (sym set.1)
-      (has-map Rec k (live_keys capacity db k.rtype) (has_live schema capacity db legal k hs.1)))
+    (has-map Rec k (live_keys capacity db k.rtype) (has_live schema capacity db legal k hs.1)))
 
 -- a list that has a member is there
 pub some_list : (l : Option (List DbKey)) (m : DbKey) → is_member m (unwrap_or l []) ≡ true → is_some l ≡ true
@@ -111,8 +109,8 @@ owner_has schema capacity db s o m h = found-passes (owners schema capacity db s
   found-passes (x ∷ xs) h =
       elim (cases_Bool (is_member m (members_of db s x))) [
         | inl e ↦
-          let same : Some x ≡ Some o = sym (ap (λ b. cond b (Some x) (find (λ p. is_member m (members_of db s p)) xs)) e) ∙ h in
-          subst (λ p. is_member m (members_of db s p) ≡ true) (ap (λ q. unwrap_or q x) same) e
+            let same : Some x ≡ Some o = sym (ap (λ b. cond b (Some x) (find (λ p. is_member m (members_of db s p)) xs)) e) ∙ h in
+            subst (λ p. is_member m (members_of db s p) ≡ true) (ap (λ q. unwrap_or q x) same) e
         | inr e ↦ found-passes xs (sym (ap (λ b. cond b (Some x) (find (λ p. is_member m (members_of db s p)) xs)) e) ∙ h)
       ]
 

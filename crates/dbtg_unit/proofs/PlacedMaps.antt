@@ -61,24 +61,25 @@ before-parted c m (x ∷ xs) h =
     let hs = and_parts _ _ h in
     elim (cases_Bool (c x)) [
       | inl e ↦
-        ap (λ b. cond (not b) (m ∷ (x ∷ xs)) (x ∷ before (λ y. not (c y)) m xs)) e
-        ∙ ap (λ zs. x ∷ zs) (before-parted c m xs hs.1)
-        ∙ ap (λ b. cond b (x ∷ filter c xs) (filter c xs) ++ m ∷ cond (not b) (x ∷ filter (λ y. not (c y)) xs) (filter (λ y. not (c y)) xs)) (sym e)
+          ap (λ b. cond (not b) (m ∷ (x ∷ xs)) (x ∷ before (λ y. not (c y)) m xs)) e
+          ∙ ap (λ zs. x ∷ zs) (before-parted c m xs hs.1)
+          ∙ ap (λ b. cond b (x ∷ filter c xs) (filter c xs) ++ m ∷ cond (not b) (x ∷ filter (λ y. not (c y)) xs) (filter (λ y. not (c y)) xs)) (sym e)
       | inr e ↦
-        let none : list_all (λ y. not (c y)) xs ≡ true = sym (ap (λ b. list_all (λ y. b || not (c y)) xs) e) ∙ hs.0 in
-        ap (λ b. cond (not b) (m ∷ (x ∷ xs)) (x ∷ before (λ y. not (c y)) m xs)) e
-        ∙ (λ i. m ∷ (x ∷ sym (all-pass (λ y. not (c y)) xs none) i))
-        ∙ (λ i. sym (none-pass c xs none) i ++ m ∷ (x ∷ filter (λ y. not (c y)) xs))
-        ∙ ap (λ b. cond b (x ∷ filter c xs) (filter c xs) ++ m ∷ cond (not b) (x ∷ filter (λ y. not (c y)) xs) (filter (λ y. not (c y)) xs)) (sym e)
+          let none : list_all (λ y. not (c y)) xs ≡ true = sym (ap (λ b. list_all (λ y. b || not (c y)) xs) e) ∙ hs.0 in
+          ap (λ b. cond (not b) (m ∷ (x ∷ xs)) (x ∷ before (λ y. not (c y)) m xs)) e
+          ∙ (λ i. m ∷ (x ∷ sym (all-pass (λ y. not (c y)) xs none) i))
+          ∙ (λ i. sym (none-pass c xs none) i ++ m ∷ (x ∷ filter (λ y. not (c y)) xs))
+          ∙ ap (λ b. cond b (x ∷ filter c xs) (filter c xs) ++ m ∷ cond (not b) (x ∷ filter (λ y. not (c y)) xs) (filter (λ y. not (c y)) xs)) (sym e)
     ] where
-  all-pass : {X : Type 0} (p : X → Bool) (xs : List X) → list_all p xs ≡ true → filter p xs ≡ xs
-  all-pass p [] h = refl
-  all-pass p (x ∷ xs) h = let hs = and_parts _ _ h in ap (λ b. cond b (x ∷ filter p xs) (filter p xs)) hs.0 ∙ ap (λ zs. x ∷ zs) (all-pass p xs hs.1)
-  none-pass : {X : Type 0} (c : X → Bool) (xs : List X) → list_all (λ y. not (c y)) xs ≡ true → filter c xs ≡ []
-  none-pass c [] h = refl
-  none-pass c (x ∷ xs) h =
-      let hs = and_parts _ _ h in
-      elim (cases_Bool (c x)) [
-        | inl e ↦ absurd (false≢true (sym (ap not e) ∙ hs.0))
-        | inr e ↦ ap (λ b. cond b (x ∷ filter c xs) (filter c xs)) e ∙ none-pass c xs hs.1
-      ]
+      all-pass : {X : Type 0} (p : X → Bool) (xs : List X) → list_all p xs ≡ true → filter p xs ≡ xs
+      all-pass p [] h = refl
+      all-pass p (x ∷ xs) h = let hs = and_parts _ _ h in ap (λ b. cond b (x ∷ filter p xs) (filter p xs)) hs.0 ∙ ap (λ zs. x ∷ zs) (all-pass p xs hs.1)
+
+      none-pass : {X : Type 0} (c : X → Bool) (xs : List X) → list_all (λ y. not (c y)) xs ≡ true → filter c xs ≡ []
+      none-pass c [] h = refl
+      none-pass c (x ∷ xs) h =
+          let hs = and_parts _ _ h in
+          elim (cases_Bool (c x)) [
+            | inl e ↦ absurd (false≢true (sym (ap not e) ∙ hs.0))
+            | inr e ↦ ap (λ b. cond b (x ∷ filter c xs) (filter c xs)) e ∙ none-pass c xs hs.1
+          ]

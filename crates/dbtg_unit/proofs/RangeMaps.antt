@@ -1,5 +1,5 @@
 -- Maps over a range that differ at one number.
-use Rattle.std.proofs.Common.{◌≡◌, ◌≢◌, refl, sym, ◌∙◌, ap, ℕ, zero, suc, ◌+◌, ◌≤◌, List, [], ◌∷◌, map, arith}
+use Rattle.std.proofs.Common.{◌≡◌, ◌≢◌, refl, sym, ◌∙◌, ap, ℕ, zero, suc, ◌+◌, ◌≤◌, ◌∷◌, map, arith}
 use Rattle.std.specs.Prelude.{slice_set, cond}
 use Rattle.std.proofs.Common.{eqb, inl, inr, ◌-◌}
 use Rattle.std.proofs.lemmas.Bool.{cases_Bool, eqb-true, eqb-false}
@@ -31,12 +31,12 @@ map-range_changed f g change from zero i n is above here same = refl
 map-range_changed f g change from (suc count) i n is above here same =
     elim (cases_Bool (eqb i 1)) [
       | inl e ↦
-        let one = eqb-true i 1 e in
-        let first : from ≡ n = omega (arith, is, one) in
-        (λ j. (ap f first ∙ here ∙ ap (λ m. change (g m)) (sym first)) j ∷ map-range_same f g (from + 1) count (λ m beyond. same m (omega (arith, beyond, is, one))) j)
-        ∙ ap (λ b. cond b (change (g from) ∷ map g (range_with_len (from + 1) count)) (g from ∷ with_number (i - 1) change (map g (range_with_len (from + 1) count)))) (sym e)
+          let one = eqb-true i 1 e in
+          let first : from ≡ n = omega (arith, is, one) in
+          (λ j. (ap f first ∙ here ∙ ap (λ m. change (g m)) (sym first)) j ∷ map-range_same f g (from + 1) count (λ m beyond. same m (omega (arith, beyond, is, one))) j)
+          ∙ ap (λ b. cond b (change (g from) ∷ map g (range_with_len (from + 1) count)) (g from ∷ with_number (i - 1) change (map g (range_with_len (from + 1) count)))) (sym e)
       | inr e ↦
-        let more = eqb-false i 1 e in
-        (λ j. same from (omega (arith, is, more, above)) j ∷ map-range_changed f g change (from + 1) count (i - 1) n (omega (arith, is, more, above)) (omega (arith, more, above)) here same j)
-        ∙ ap (λ b. cond b (change (g from) ∷ map g (range_with_len (from + 1) count)) (g from ∷ with_number (i - 1) change (map g (range_with_len (from + 1) count)))) (sym e)
+          let more = eqb-false i 1 e in
+          (λ j. same from (omega (arith, is, more, above)) j ∷ map-range_changed f g change (from + 1) count (i - 1) n (omega (arith, is, more, above)) (omega (arith, more, above)) here same j)
+          ∙ ap (λ b. cond b (change (g from) ∷ map g (range_with_len (from + 1) count)) (g from ∷ with_number (i - 1) change (map g (range_with_len (from + 1) count)))) (sym e)
     ]

@@ -1,36 +1,26 @@
 -- REMOVE changes the cells by its edits, and no other cell.
-use Rattle.std.proofs.Common.{◌≡◌, refl, sym, ◌∙◌, ap, subst, ℕ, ◌+◌, Bool, true, false, cond, not, ◌&&◌, ◌||◌, List, [], ◌∷◌, Option, Some, None, map, length, arith, eqb, inl, inr}
-use Rattle.std.specs.Prelude.{is_some, option_map, unwrap_or, slice_set, filter}
-use Rattle.std.proofs.lemmas.Bool.{and_parts, and_from, cases_Bool, eqb-true, eq-eqb, false≢true, false_from_ne_true, or_parts}
+use Rattle.std.proofs.Common.{◌≡◌, refl, sym, ◌∙◌, ap, subst, ℕ, true, false, cond, not, List, [], ◌∷◌, Option, Some, None, map, eqb, inl, inr}
+use Rattle.std.specs.Prelude.{option_map, unwrap_or}
+use Rattle.std.proofs.lemmas.Bool.{cases_Bool, eqb-true, eq-eqb, false_from_ne_true}
 use Rattle.dbtg_schema.specs.Lists.{Lists}
-use Rattle.dbtg_schema.specs.Structure.{set_numbers}
 use Rattle.dbtg_cells.specs.declared.key.DbKey.{DbKey}
 use Rattle.dbtg_cells.specs.declared.key.Owner.{Owner}
-use Rattle.dbtg_cells.specs.declared.key.Value.{Value}
 use Rattle.dbtg_cells.specs.declared.name.CellName.{CellName}
-use Rattle.dbtg_cells.specs.declared.name.CellName.TheVariants.{Usage, Extent, Ring, Slot}
-use Rattle.dbtg_cells.specs.Shown.{RingValue, SlotValue}
-use Rattle.dbtg_cells.specs.Keys.{key_eq, owner_eq}
-use Rattle.dbtg_cells.specs.Names.{name_eq, place_eq}
+use Rattle.dbtg_cells.specs.Shown.{RingValue}
+use Rattle.dbtg_cells.specs.Keys.{key_eq}
 use Rattle.dbtg_unit.specs.declared.unit.Unit.{Unit}
-use Rattle.dbtg_unit.specs.declared.edit.CellEdit.{CellEdit}
-use Rattle.dbtg_unit.specs.declared.edit.Edit.TheVariants.{TakeOut, ChangeOwner, RaiseVersion}
-use Rattle.dbtg_unit.specs.Base.{Database, Record, is_live, members_of, is_member, owner_of, sort_key, key_at}
-use Rattle.dbtg_unit.specs.Units.{owners_of}
-use Rattle.dbtg_unit.specs.Effect.{removed, next_version, without}
-use Rattle.dbtg_unit.specs.Legal.{Legal, has_occurrence}
-use Rattle.dbtg_unit.specs.Cells.{cell, owner_at, slot_of, ring_of}
-use Rattle.dbtg_unit.specs.CellNames.{place_of, slot_name}
-use Rattle.dbtg_unit.specs.Edits.{edited_at, edited, members_without, with_members, with_owner, with_next_version}
+use Rattle.dbtg_unit.specs.declared.edit.Edit.TheVariants.{TakeOut}
+use Rattle.dbtg_unit.specs.Base.{Database, is_live, members_of, is_member, owner_of, sort_key}
+use Rattle.dbtg_unit.specs.Effect.{removed, without}
+use Rattle.dbtg_unit.specs.Legal.{Legal}
+use Rattle.dbtg_unit.specs.Cells.{cell, ring_of}
+use Rattle.dbtg_unit.specs.Edits.{edited_at, members_without, with_members}
 use Rattle.dbtg_unit.specs.EditsOf.{remove_edits}
-use Rattle.dbtg_unit.proofs.KeyLemmas.{same_key, key_eq-refl, owner_eq-refl, same_owner}
-use Rattle.dbtg_unit.proofs.CellNameLemmas.{place_eq-refl, same_place}
 use Rattle.dbtg_unit.proofs.PlacedMaps.{map-filter}
-use Rattle.dbtg_unit.proofs.RemoveLocal.{owner_at-place, without_absent, member-without}
-use Rattle.dbtg_unit.proofs.RangeMaps.{map-range_set}
-use Rattle.dbtg_unit.proofs.OwnersFound.{some_list, latest, standing, owner_is, owner_has, find-none}
+use Rattle.dbtg_unit.proofs.RemoveLocal.{without_absent, member-without}
+use Rattle.dbtg_unit.proofs.OwnersFound.{some_list, owner_has, find-none}
 use Rattle.dbtg_unit.proofs.OneMembership.{ChangesMembership, changed_items-same, membership_edits, membership_cells}
-use Rattle.dbtg_unit.proofs.SameItems.{SameItems, extent-same, ring-same, slot-same, owner_of-same, sort_key-same, owner_at-same, key_at-same}
+use Rattle.dbtg_unit.proofs.SameItems.{sort_key-same}
 
 -- no list has a key that was taken out of it
 pub without_gone : (k : DbKey) (xs : List DbKey) → is_member k (without k xs) ≡ false
@@ -57,13 +47,13 @@ module _ (schema : Lists) (capacity : ℕ) (db : Database) (unit : Unit) (s : �
   list-else s' o other =
       elim (cases_Bool (eqb s' s)) [
         | inl e ↦
-          let here = eqb-true s' s e in
-          let absent : is_member k (members_of db s' o) ≡ false =
-              false_from_ne_true _ (λ h. other here (legal.in_one s o owner k (subst (λ u. is_member k (members_of db u o) ≡ true) here h) has)) in
-          rw e (elim (db.lists s' o) as (λ l. is_member k (unwrap_or l []) ≡ false → option_map (without k) l ≡ l) [
-            | None ↦ λ h. refl
-            | Some list ↦ λ h. ap Some (without_absent k list h)
-          ] absent)
+            let here = eqb-true s' s e in
+            let absent : is_member k (members_of db s' o) ≡ false =
+            false_from_ne_true _ (λ h. other here (legal.in_one s o owner k (subst (λ u. is_member k (members_of db u o) ≡ true) here h) has)) in
+            rw e (elim (db.lists s' o) as (λ l. is_member k (unwrap_or l []) ≡ false → option_map (without k) l ≡ l) [
+              | None ↦ λ h. refl
+              | Some list ↦ λ h. ap Some (without_absent k list h)
+            ] absent)
         | inr e ↦ rw e refl
       ]
 
@@ -92,5 +82,5 @@ module _ (schema : Lists) (capacity : ℕ) (db : Database) (unit : Unit) (s : �
   remove_makes c =
       let edits_are : remove_edits schema capacity db s k ≡ membership_edits changes legal live (TakeOut k) None = rw stands refl in
       membership_cells changes legal live (TakeOut k) None (some_list (db.lists s owner) k has) (find-none (λ o. is_member k (members_of new s o)) _ gone)
-        (ap (λ l. RingValue (option_map (ring_of schema new s owner) l)) list-here ∙ ap RingValue (ring-here (db.lists s owner))) c
+      (ap (λ l. RingValue (option_map (ring_of schema new s owner) l)) list-here ∙ ap RingValue (ring-here (db.lists s owner))) c
       ∙ ap (λ es. edited_at c es (cell schema capacity db c)) (sym edits_are)

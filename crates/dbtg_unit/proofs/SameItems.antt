@@ -1,5 +1,5 @@
 -- Two databases whose records have the same items: what else they then have alike.
-use Rattle.std.proofs.Common.{◌≡◌, refl, sym, ◌∙◌, ap, ℕ, Bool, true, false, cond, List, [], ◌∷◌, Option, Some, None, map}
+use Rattle.std.proofs.Common.{◌≡◌, refl, sym, ◌∙◌, ap, ℕ, cond, List, [], ◌∷◌, Option, Some, None, map}
 use Rattle.std.specs.Prelude.{is_some, option_map, unwrap_or, filter}
 use Rattle.std.specs.List.{find, range_with_len}
 use Rattle.dbtg_schema.specs.Lists.{Lists}
@@ -11,8 +11,7 @@ use Rattle.dbtg_cells.specs.declared.key.Value.{Value}
 use Rattle.dbtg_cells.specs.declared.name.CellName.TheVariants.{Extent, Ring, Slot}
 use Rattle.dbtg_cells.specs.Shown.{ExtentValue, RingValue, SlotValue}
 use Rattle.dbtg_unit.specs.Base.{Database, Record, is_live, items_of, key_at, live_keys, owners, members_of, is_member, owner_of, sort_key, key_item, calc_items}
-use Rattle.dbtg_unit.specs.Units.{owners_of}
-use Rattle.dbtg_unit.specs.Cells.{cell, number_of, slot_of, ring_of, owner_at}
+use Rattle.dbtg_unit.specs.Cells.{cell, slot_of, ring_of, owner_at}
 
 -- the same numbers were used, and the same keys are live with the same items
 pub record SameItems (db new : Database) : Type 0 where
@@ -61,8 +60,8 @@ module _ {db new : Database} (same : SameItems db new) where
   unfolding cell
   extent-same schema capacity t =
       ap ExtentValue (λ i. map (λ n. record { last = same.last t n i; calc = (calc-same n) i }) (range_with_len 1 capacity)) where
-    calc-same : (n : ℕ) → option_map (λ (r : Record). calc_items schema t r.items) (new.records (key_at new t n)) ≡ option_map (λ (r : Record). calc_items schema t r.items) (db.records (key_at db t n))
-    calc-same n = of_items-same (calc_items schema t) (key_at new t n) ∙ ap (λ x. option_map (λ (r : Record). calc_items schema t r.items) (db.records x)) (key_at-same t n)
+        calc-same : (n : ℕ) → option_map (λ (r : Record). calc_items schema t r.items) (new.records (key_at new t n)) ≡ option_map (λ (r : Record). calc_items schema t r.items) (db.records (key_at db t n))
+        calc-same n = of_items-same (calc_items schema t) (key_at new t n) ∙ ap (λ x. option_map (λ (r : Record). calc_items schema t r.items) (db.records x)) (key_at-same t n)
 
   -- a ring whose list is as it was
   pub ring-same : (schema : Lists) (capacity s : ℕ) (q : Option (ℕ × ℕ)) → new.lists s (owner_at db q) ≡ db.lists s (owner_at db q) → cell schema capacity new (Ring s q) ≡ cell schema capacity db (Ring s q)

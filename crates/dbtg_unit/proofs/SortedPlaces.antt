@@ -1,5 +1,5 @@
 -- Placing in a sorted ring before the first member that does not come before.
-use Rattle.std.proofs.Common.{◌≡◌, refl, ap, true, Bool, not, List, Option, Some, None}
+use Rattle.std.proofs.Common.{◌≡◌, refl, true, Bool, not, Option, Some, None}
 use Rattle.dbtg_schema.specs.declared.shape.Duplicates.{Duplicates}
 use Rattle.dbtg_cells.specs.declared.key.DbKey.{DbKey}
 use Rattle.dbtg_cells.specs.declared.key.Value.{Value}

@@ -1,13 +1,13 @@
 -- STORE changes the cells by its edits, and no other cell.
-use Rattle.std.proofs.Common.{◌⊎◌, ◌≡◌, ◌≢◌, refl, sym, ◌∙◌, ap, subst, ℕ, ◌+◌, ◌<◌, ◌≤◌, Bool, true, false, cond, not, ◌&&◌, ◌||◌, List, [], ◌∷◌, ◌++◌, Option, Some, None, map, length, arith, eqb, inl, inr}
+use Rattle.std.proofs.Common.{◌⊎◌, ◌≡◌, ◌≢◌, refl, sym, ◌∙◌, ap, subst, ℕ, ◌+◌, ◌≤◌, Bool, true, false, cond, ◌&&◌, ◌||◌, List, [], ◌∷◌, ◌++◌, Option, Some, None, map, length, arith, eqb, inl, inr}
 use Rattle.std.specs.Prelude.{is_some, option_map, unwrap_or, filter}
-use Rattle.std.specs.List.{list_any, list_all, range_with_len, flat_map}
+use Rattle.std.specs.List.{range_with_len, flat_map}
 use Rattle.std.proofs.lemmas.Bool.{and_parts, and_from, cases_Bool, eqb-true, eq-eqb, false≢true, false_from_ne_true, or_parts}
 use Rattle.dbtg_schema.specs.Lists.{Lists}
 use Rattle.dbtg_schema.specs.Structure.{automatic_sets, order_of, owns, set_numbers}
 use Rattle.dbtg_cells.specs.declared.key.DbKey.{DbKey}
 use Rattle.dbtg_cells.specs.declared.key.Owner.{Owner}
-use Rattle.dbtg_cells.specs.declared.key.Owner.TheVariants.{System, Rec}
+use Rattle.dbtg_cells.specs.declared.key.Owner.TheVariants.{Rec}
 use Rattle.dbtg_cells.specs.declared.key.Value.{Value}
 use Rattle.dbtg_cells.specs.declared.name.CellName.{CellName}
 use Rattle.dbtg_cells.specs.declared.name.CellName.TheVariants.{Usage, Extent, Ring, Slot}
@@ -20,12 +20,12 @@ use Rattle.dbtg_unit.specs.declared.edit.Edit.TheVariants.{EnterNumber, OpenRing
 use Rattle.dbtg_unit.specs.declared.edit.CellEdit.{CellEdit}
 use Rattle.dbtg_unit.specs.declared.unit.Place.{Place}
 use Rattle.dbtg_unit.specs.declared.unit.Unit.{Unit}
-use Rattle.dbtg_unit.specs.Base.{Database, Record, is_live, items_of, members_of, is_member, owner_of, sort_key, key_item, key_at, calc_items}
-use Rattle.dbtg_unit.specs.Units.{place_in, owners_of}
+use Rattle.dbtg_unit.specs.Base.{Database, Record, is_live, members_of, is_member, owner_of, sort_key, key_item, key_at, calc_items}
+use Rattle.dbtg_unit.specs.Units.{place_in}
 use Rattle.dbtg_unit.specs.Effect.{connected_in, with_new, is_current_owner, joined}
 use Rattle.dbtg_unit.specs.Legal.{Legal, has_occurrence}
 use Rattle.dbtg_unit.specs.Cells.{cell, owner_at, slot_of, ring_of, number_of}
-use Rattle.dbtg_unit.specs.CellNames.{place_of, slot_name}
+use Rattle.dbtg_unit.specs.CellNames.{place_of}
 use Rattle.dbtg_unit.specs.Edits.{with_number, edited_at, edited, entered, with_members, member_spot}
 use Rattle.dbtg_unit.specs.EditsOf.{placed_at, ring_edits, store_edits, joining_edits, first_owners, slot_edit}
 use Rattle.dbtg_unit.proofs.KeyLemmas.{same_key, key_eq-refl, owner_eq-refl, same_owner}
@@ -33,8 +33,8 @@ use Rattle.dbtg_unit.proofs.CellNameLemmas.{same_place, place_eq-refl}
 use Rattle.dbtg_unit.proofs.Listing.{any-placed}
 use Rattle.dbtg_unit.proofs.InsertCells.{ring-placed}
 use Rattle.dbtg_unit.proofs.RemoveLocal.{owner_at-place}
-use Rattle.dbtg_unit.proofs.RangeMaps.{map-range_same, map-range_changed}
-use Rattle.dbtg_unit.proofs.OwnersFound.{set_within, latest, standing, owner_is, find-none, owner_of-by_members}
+use Rattle.dbtg_unit.proofs.RangeMaps.{map-range_changed}
+use Rattle.dbtg_unit.proofs.OwnersFound.{set_within, standing, owner_is, find-none, owner_of-by_members}
 use Rattle.dbtg_unit.proofs.StoreLegal.{joins, member-connected, member-new, not_member}
 use Rattle.dbtg_unit.proofs.PlacedLemmas.{pairwise-filter}
 use Rattle.dbtg_unit.proofs.EditLemmas.{edited_at-append, edits-miss, edits-hit, has_number, differ, range-distinct, has_number-passes, has_number-filter, has_number-range}
@@ -74,7 +74,7 @@ module _ (schema : Lists) (capacity : ℕ) (db : Database) (unit : Unit) (k : Db
   key-else : (t n : ℕ) → is_its_number t n ≡ false → key_eq k (key_at db t n) ≡ false
   key-else t n e =
       false_from_ne_true _ (λ h. let same = same_key k (key_at db t n) h in
-        false≢true (sym e ∙ and_from _ _ (eq-eqb t k.rtype (sym (ap (λ x. x.rtype) same))) (eq-eqb n k.number (sym (ap (λ x. x.number) same)))))
+      false≢true (sym e ∙ and_from _ _ (eq-eqb t k.rtype (sym (ap (λ x. x.rtype) same))) (eq-eqb n k.number (sym (ap (λ x. x.number) same)))))
 
   records-here : new.records k ≡ Some (record { items = items; version = 1 })
   records-here = ap (λ b. cond b (Some (record { items = items; version = 1 })) (db.records k)) (key_eq-refl k)
@@ -95,8 +95,8 @@ module _ (schema : Lists) (capacity : ℕ) (db : Database) (unit : Unit) (k : Db
   present-else : (s : ℕ) (o : Owner) → is_some (db.lists s o) ≡ true → entered_db.lists s o ≡ db.lists s o
   present-else s o present =
       ap (λ b. cond b (Some []) (db.lists s o))
-        (false_from_ne_true _ (λ h. let same = same_owner (Rec k) o (and_parts _ _ h).1 in
-          false≢true (sym (legal.pairs s (Rec k) ∙ ap (λ b. owns schema s k.rtype && b) fresh ∙ and_never (owns schema s k.rtype)) ∙ subst (λ (p : Owner). is_some (db.lists s p) ≡ true) (sym same) present)))
+      (false_from_ne_true _ (λ h. let same = same_owner (Rec k) o (and_parts _ _ h).1 in
+      false≢true (sym (legal.pairs s (Rec k) ∙ ap (λ b. owns schema s k.rtype && b) fresh ∙ and_never (owns schema s k.rtype)) ∙ subst (λ (p : Owner). is_some (db.lists s p) ≡ true) (sym same) present)))
 
   joined_at : ℕ → Owner → Bool
   joined_at s o = joins schema unit (automatic_sets schema k.rtype) s o && is_some (entered_db.lists s o)
@@ -135,14 +135,14 @@ module _ (schema : Lists) (capacity : ℕ) (db : Database) (unit : Unit) (k : Db
   owner-here legal_new s =
       elim (cases_Bool (has_number s (automatic_sets schema k.rtype))) [
         | inl e ↦
-          let at = stands s e in
-          owner_is schema capacity new legal_new s at.0.owner k (member-here s at.0 e at.1 at.2)
-          ∙ ap (option_map (λ place. place.owner)) (sym at.1)
-          ∙ ap (λ b. cond b (option_map (λ place. place.owner) (place_in schema unit s)) None) (sym e)
+            let at = stands s e in
+            owner_is schema capacity new legal_new s at.0.owner k (member-here s at.0 e at.1 at.2)
+            ∙ ap (option_map (λ place. place.owner)) (sym at.1)
+            ∙ ap (λ b. cond b (option_map (λ place. place.owner) (place_in schema unit s)) None) (sym e)
         | inr e ↦
-          find-none (λ o. is_member k (members_of new s o)) _
+            find-none (λ o. is_member k (members_of new s o)) _
             (λ o. ap (λ l. is_member k (unwrap_or l [])) (list-else s o e) ∙ member-new schema capacity db k items legal fresh s o k ∙ false_from_ne_true _ (not_member schema capacity db k legal fresh s o))
-          ∙ ap (λ b. cond b (option_map (λ place. place.owner) (place_in schema unit s)) None) (sym e)
+            ∙ ap (λ b. cond b (option_map (λ place. place.owner) (place_in schema unit s)) None) (sym e)
       ]
 
   -- THE EXTENT
@@ -152,17 +152,17 @@ module _ (schema : Lists) (capacity : ℕ) (db : Database) (unit : Unit) (k : Db
       λ i. record {
         last = last-else t n e i;
         calc = (ap (λ x. option_map (λ (r : Record). calc_items schema t r.items) (new.records x)) (key_at-else t n e)
-          ∙ ap (option_map (λ (r : Record). calc_items schema t r.items)) (records-else (key_at db t n) (key-else t n e))) i
+            ∙ ap (option_map (λ (r : Record). calc_items schema t r.items)) (records-else (key_at db t n) (key-else t n e))) i;
       }
 
   extent-here : map (number_of schema new k.rtype) (range_with_len 1 capacity) ≡ with_number k.number (entered (calc_items schema k.rtype items)) (map (number_of schema db k.rtype) (range_with_len 1 capacity))
   extent-here =
       map-range_changed (number_of schema new k.rtype) (number_of schema db k.rtype) (entered (calc_items schema k.rtype items)) 1 capacity k.number k.number (omega arith) counted
-        (λ i. record { last = (last-here ∙ next) i; calc = (ap (λ x. option_map (λ (r : Record). calc_items schema k.rtype r.items) (new.records x)) key_at-here ∙ ap (option_map (λ (r : Record). calc_items schema k.rtype r.items)) records-here) i })
-        (λ n other. number-else k.rtype n (and_second (eqb k.rtype k.rtype) (differ n k.number other))) where
-    and_second : (a : Bool) {b : Bool} → b ≡ false → (a && b) ≡ false
-    and_second true h = h
-    and_second false h = refl
+      (λ i. record { last = (last-here ∙ next) i; calc = (ap (λ x. option_map (λ (r : Record). calc_items schema k.rtype r.items) (new.records x)) key_at-here ∙ ap (option_map (λ (r : Record). calc_items schema k.rtype r.items)) records-here) i })
+      (λ n other. number-else k.rtype n (and_second (eqb k.rtype k.rtype) (differ n k.number other))) where
+        and_second : (a : Bool) {b : Bool} → b ≡ false → (a && b) ≡ false
+        and_second true h = h
+        and_second false h = refl
 
   -- THE SLOTS
 
@@ -206,26 +206,26 @@ module _ (schema : Lists) (capacity : ℕ) (db : Database) (unit : Unit) (k : Db
       ≡ option_map (with_members (placed (member_spot (order_of schema s) place.at (key_item schema s k.rtype items)) (k, key_item schema s k.rtype items))) (option_map (ring_of schema db s place.owner) (db.lists s place.owner))
   ring-here s place at =
       elim (db.lists s place.owner) as (λ l. is_member k (unwrap_or l []) ≡ false
-        → option_map (ring_of schema new s place.owner) (option_map (joined schema entered_db unit s k) l)
-        ≡ option_map (with_members (placed (member_spot (order_of schema s) place.at (key_item schema s k.rtype items)) (k, key_item schema s k.rtype items))) (option_map (ring_of schema db s place.owner) l)) [
+      → option_map (ring_of schema new s place.owner) (option_map (joined schema entered_db unit s k) l)
+      ≡ option_map (with_members (placed (member_spot (order_of schema s) place.at (key_item schema s k.rtype items)) (k, key_item schema s k.rtype items))) (option_map (ring_of schema db s place.owner) l)) [
         | None ↦ λ h. refl
         | Some list ↦ λ h.
-          let placed_is : map {B = DbKey × Option Value} (λ x. (x, sort_key schema new s x)) (joined schema entered_db unit s k list)
-              ≡ placed (member_spot (order_of schema s) place.at (sort_key schema new s k)) (k, sort_key schema new s k) (map {B = DbKey × Option Value} (λ x. (x, sort_key schema new s x)) list) =
-              rw at (ring-placed (order_of schema s) place.at (sort_key schema new s) k list) in
-          (λ i. Some (record { owner = place.owner; members = placed_is i }))
-          ∙ (λ i. Some (record { owner = place.owner; members = placed (member_spot (order_of schema s) place.at (sort_key-here s i)) (k, sort_key-here s i) (keys-else s list h i) }))
+            let placed_is : map {B = DbKey × Option Value} (λ x. (x, sort_key schema new s x)) (joined schema entered_db unit s k list)
+            ≡ placed (member_spot (order_of schema s) place.at (sort_key schema new s k)) (k, sort_key schema new s k) (map {B = DbKey × Option Value} (λ x. (x, sort_key schema new s x)) list) =
+            rw at (ring-placed (order_of schema s) place.at (sort_key schema new s) k list) in
+            (λ i. Some (record { owner = place.owner; members = placed_is i }))
+            ∙ (λ i. Some (record { owner = place.owner; members = placed (member_spot (order_of schema s) place.at (sort_key-here s i)) (k, sort_key-here s i) (keys-else s list h i) }))
       ] (not_in s place.owner)
 
   -- no owner of a list has k's number in the database before
   owner-not_k : (s : ℕ) (o : Owner) → is_some (db.lists s o) ≡ true → place_eq (Some (k.rtype, k.number)) (place_of o) ≡ false
   owner-not_k s o present =
       false_from_ne_true _ (λ h.
-        let named : place_of o ≡ Some (k.rtype, k.number) = sym (same_place (Some (k.rtype, k.number)) (place_of o) h) in
-        let stands_at : owner_at db (place_of o) ≡ o = standing schema capacity db legal s o (sym (legal.pairs s o) ∙ present) in
-        let is_key : Rec (key_at db k.rtype k.number) ≡ o = sym (ap (owner_at db) named) ∙ stands_at in
-        let there : is_some (db.lists s (Rec (key_at db k.rtype k.number))) ≡ true = subst (λ p. is_some (db.lists s p) ≡ true) (sym is_key) present in
-        false≢true (sym vacant ∙ (and_parts _ _ (sym (legal.pairs s (Rec (key_at db k.rtype k.number))) ∙ there)).1))
+      let named : place_of o ≡ Some (k.rtype, k.number) = sym (same_place (Some (k.rtype, k.number)) (place_of o) h) in
+      let stands_at : owner_at db (place_of o) ≡ o = standing schema capacity db legal s o (sym (legal.pairs s o) ∙ present) in
+      let is_key : Rec (key_at db k.rtype k.number) ≡ o = sym (ap (owner_at db) named) ∙ stands_at in
+      let there : is_some (db.lists s (Rec (key_at db k.rtype k.number))) ≡ true = subst (λ p. is_some (db.lists s p) ≡ true) (sym is_key) present in
+      false≢true (sym vacant ∙ (and_parts _ _ (sym (legal.pairs s (Rec (key_at db k.rtype k.number))) ∙ there)).1))
 
   -- THE EDITS
 
@@ -253,7 +253,7 @@ module _ (schema : Lists) (capacity : ℕ) (db : Database) (unit : Unit) (k : Db
   edits-in_turn : (c : CellName) (value : CellValue)
       → edited_at c (store_edits schema unit k items) value
       ≡ edited_at c (slot_edit k (Fill k.generation items (first_owners schema unit k.rtype)) ∷ [])
-        (opened_cells c (joined_cells c (cond (name_eq c (Extent k.rtype)) (edited (EnterNumber k.number (calc_items schema k.rtype items)) value) value)))
+      (opened_cells c (joined_cells c (cond (name_eq c (Extent k.rtype)) (edited (EnterNumber k.number (calc_items schema k.rtype items)) value) value)))
   unfolding joined_cells opened_cells joining opening_edits
   edits-in_turn c value =
       let filled = slot_edit k (Fill k.generation items (first_owners schema unit k.rtype)) ∷ [] in
@@ -277,28 +277,28 @@ module _ (schema : Lists) (capacity : ℕ) (db : Database) (unit : Unit) (k : Db
   unfolding opened_cells opening_edits
   opened-elsewhere s q value e =
       edits-miss (Ring s q) opening_edits (filter (λ s'. owns schema s' k.rtype) (set_numbers schema)) value
-        (λ s' v h. ap (λ b. cond b (edited (OpenRing (Rec k)) v) v) (ap (λ b. eqb s s' && b) e ∙ and_never (eqb s s')))
+      (λ s' v h. ap (λ b. cond b (edited (OpenRing (Rec k)) v) v) (ap (λ b. eqb s s' && b) e ∙ and_never (eqb s s')))
 
   joined-elsewhere : (s : ℕ) (q : Option (ℕ × ℕ)) (value : CellValue) → ((place : Place) → place_in schema unit s ≡ Some place → has_number s (automatic_sets schema k.rtype) ≡ true → place_eq q (place_of place.owner) ≡ false)
       → joined_cells (Ring s q) value ≡ value
   unfolding joined_cells joining
   joined-elsewhere s q value other =
       edits-miss (Ring s q) joining (automatic_sets schema k.rtype) value (λ s' v h. of_set s' v h (cases_Bool (eqb s s'))) where
-    of_set : (s' : ℕ) (v : CellValue) → has_number s' (automatic_sets schema k.rtype) ≡ true → (eqb s s' ≡ true) ⊎ (eqb s s' ≡ false) → edited_at (Ring s q) (joining s') v ≡ v
-    of_set s' v h (inr e) = joining-misses (Ring s q) s' v (λ p. ap (λ b. b && place_eq q p) e)
-    of_set s' v h (inl e) =
-        let here = eqb-true s s' e in
-        let automatic : has_number s (automatic_sets schema k.rtype) ≡ true = subst (λ x. has_number x (automatic_sets schema k.rtype) ≡ true) (sym here) h in
-        let at = stands s automatic in
-        let miss : edited_at (Ring s q) (joining s) v ≡ v = rw (at.1) (ap (λ b. cond b (edited (placed_at schema s k (key_item schema s k.rtype items) at.0) v) v) (ap (λ b. eqb s s && b) (other at.0 at.1 automatic) ∙ and_never (eqb s s))) in
-        subst (λ x. edited_at (Ring s q) (joining x) v ≡ v) here miss
+        of_set : (s' : ℕ) (v : CellValue) → has_number s' (automatic_sets schema k.rtype) ≡ true → (eqb s s' ≡ true) ⊎ (eqb s s' ≡ false) → edited_at (Ring s q) (joining s') v ≡ v
+        of_set s' v h (inr e) = joining-misses (Ring s q) s' v (λ p. ap (λ b. b && place_eq q p) e)
+        of_set s' v h (inl e) =
+            let here = eqb-true s s' e in
+            let automatic : has_number s (automatic_sets schema k.rtype) ≡ true = subst (λ x. has_number x (automatic_sets schema k.rtype) ≡ true) (sym here) h in
+            let at = stands s automatic in
+            let miss : edited_at (Ring s q) (joining s) v ≡ v = rw (at.1) (ap (λ b. cond b (edited (placed_at schema s k (key_item schema s k.rtype items) at.0) v) v) (ap (λ b. eqb s s && b) (other at.0 at.1 automatic) ∙ and_never (eqb s s))) in
+            subst (λ x. edited_at (Ring s q) (joining x) v ≡ v) here miss
 
   joined-here : (s : ℕ) (place : Place) (value : CellValue) → has_number s (automatic_sets schema k.rtype) ≡ true → place_in schema unit s ≡ Some place
       → joined_cells (Ring s (place_of place.owner)) value ≡ edited (PlaceMember (order_of schema s) place.at k (key_item schema s k.rtype items)) value
   unfolding joined_cells joining
   joined-here s place value automatic at =
       edits-hit (Ring s (place_of place.owner)) joining (automatic_sets schema k.rtype) s value (pairwise-filter _ _ (set_numbers schema) (range-distinct 0 (length schema.sets))) automatic
-        (λ s' v other. joining-other s' s (place_of place.owner) v other)
+      (λ s' v other. joining-other s' s (place_of place.owner) v other)
       ∙ rw at (ap (λ b. cond b (edited (PlaceMember (order_of schema s) place.at k (key_item schema s k.rtype items)) value) value) (and_from _ _ (eq-eqb s s refl) (place_eq-refl (place_of place.owner))))
 
   -- A RING OF K'S OWN NUMBER
@@ -307,14 +307,14 @@ module _ (schema : Lists) (capacity : ℕ) (db : Database) (unit : Unit) (k : Db
   not_current s automatic =
       let at = stands s automatic in
       false_from_ne_true _ (λ h.
-        let current : owner_eq at.0.owner (Rec k) ≡ true = rw at.1 at h in
-        false≢true (sym fresh ∙ (and_parts _ _ (sym (legal.pairs s (Rec k)) ∙ subst (λ p. is_some (db.lists s p) ≡ true) (same_owner at.0.owner (Rec k) current) at.2)).1))
+      let current : owner_eq at.0.owner (Rec k) ≡ true = rw at.1 at h in
+      false≢true (sym fresh ∙ (and_parts _ _ (sym (legal.pairs s (Rec k)) ∙ subst (λ p. is_some (db.lists s p) ≡ true) (same_owner at.0.owner (Rec k) current) at.2)).1))
 
   own_list : (s : ℕ) → new.lists s (Rec k) ≡ entered_db.lists s (Rec k)
   own_list s =
       elim (cases_Bool (has_number s (automatic_sets schema k.rtype))) [
         | inl e ↦ ap (λ b. cond (has_number s (automatic_sets schema k.rtype) && b) (option_map (joined schema entered_db unit s k) (entered_db.lists s (Rec k))) (entered_db.lists s (Rec k))) (not_current s e)
-          ∙ ap (λ b. cond b (option_map (joined schema entered_db unit s k) (entered_db.lists s (Rec k))) (entered_db.lists s (Rec k))) (and_never (has_number s (automatic_sets schema k.rtype)))
+            ∙ ap (λ b. cond b (option_map (joined schema entered_db unit s k) (entered_db.lists s (Rec k))) (entered_db.lists s (Rec k))) (and_never (has_number s (automatic_sets schema k.rtype)))
         | inr e ↦ list-else s (Rec k) e
       ]
 
@@ -329,12 +329,12 @@ module _ (schema : Lists) (capacity : ℕ) (db : Database) (unit : Unit) (k : Db
       ap (option_map (ring_of schema new s (Rec k))) (own_list s)
       ∙ elim (cases_Bool (owns schema s k.rtype)) [
         | inl e ↦
-          ap (λ b. option_map (ring_of schema new s (Rec k)) (cond b (Some []) (db.lists s (Rec k)))) (and_from _ _ e (key_eq-refl k))
-          ∙ ap (λ b. cond b (Some (record { owner = Rec k; members = [] })) None) (sym e)
+            ap (λ b. option_map (ring_of schema new s (Rec k)) (cond b (Some []) (db.lists s (Rec k)))) (and_from _ _ e (key_eq-refl k))
+            ∙ ap (λ b. cond b (Some (record { owner = Rec k; members = [] })) None) (sym e)
         | inr e ↦
-          ap (λ b. option_map (ring_of schema new s (Rec k)) (cond (b && key_eq k k) (Some []) (db.lists s (Rec k)))) e
-          ∙ ap (option_map (ring_of schema new s (Rec k))) (no_list s (Rec k) (ap (λ b. b && is_live db k) e))
-          ∙ ap (λ b. cond b (Some (record { owner = Rec k; members = [] })) None) (sym e)
+            ap (λ b. option_map (ring_of schema new s (Rec k)) (cond (b && key_eq k k) (Some []) (db.lists s (Rec k)))) e
+            ∙ ap (option_map (ring_of schema new s (Rec k))) (no_list s (Rec k) (ap (λ b. b && is_live db k) e))
+            ∙ ap (λ b. cond b (Some (record { owner = Rec k; members = [] })) None) (sym e)
       ]
 
   own_ring-before : (s : ℕ) → cell schema capacity db (Ring s (Some (k.rtype, k.number))) ≡ RingValue None
@@ -349,18 +349,18 @@ module _ (schema : Lists) (capacity : ℕ) (db : Database) (unit : Unit) (k : Db
       let name = Ring s (Some (k.rtype, k.number)) in
       elim (cases_Bool (owns schema s k.rtype)) [
         | inl e ↦
-          edits-hit name opening_edits (filter (λ s'. owns schema s' k.rtype) (set_numbers schema)) s (RingValue None) (pairwise-filter _ _ (set_numbers schema) (range-distinct 0 (length schema.sets))) (has_owned s e)
+            edits-hit name opening_edits (filter (λ s'. owns schema s' k.rtype) (set_numbers schema)) s (RingValue None) (pairwise-filter _ _ (set_numbers schema) (range-distinct 0 (length schema.sets))) (has_owned s e)
             (λ s' v other. ap (λ b. cond b (edited (OpenRing (Rec k)) v) v) (ap (λ b. b && place_eq (Some (k.rtype, k.number)) (Some (k.rtype, k.number))) (differ s s' (λ h. other (sym h)))))
-          ∙ ap (λ b. cond b (edited (OpenRing (Rec k)) (RingValue None)) (RingValue None)) (and_from _ _ (eq-eqb s s refl) (place_eq-refl (Some (k.rtype, k.number))))
-          ∙ ap (λ b. RingValue (cond b (Some (record { owner = Rec k; members = [] })) None)) (sym e)
+            ∙ ap (λ b. cond b (edited (OpenRing (Rec k)) (RingValue None)) (RingValue None)) (and_from _ _ (eq-eqb s s refl) (place_eq-refl (Some (k.rtype, k.number))))
+            ∙ ap (λ b. RingValue (cond b (Some (record { owner = Rec k; members = [] })) None)) (sym e)
         | inr e ↦
-          edits-miss name opening_edits (filter (λ s'. owns schema s' k.rtype) (set_numbers schema)) (RingValue None)
+            edits-miss name opening_edits (filter (λ s'. owns schema s' k.rtype) (set_numbers schema)) (RingValue None)
             (λ s' v h. ap (λ b. cond b (edited (OpenRing (Rec k)) v) v) (ap (λ b. b && place_eq (Some (k.rtype, k.number)) (Some (k.rtype, k.number)))
-              (differ s s' (λ same. false≢true (sym e ∙ ap (λ x. owns schema x k.rtype) same ∙ has_number-passes (λ x. owns schema x k.rtype) s' (set_numbers schema) h)))))
-          ∙ ap (λ b. RingValue (cond b (Some (record { owner = Rec k; members = [] })) None)) (sym e)
+            (differ s s' (λ same. false≢true (sym e ∙ ap (λ x. owns schema x k.rtype) same ∙ has_number-passes (λ x. owns schema x k.rtype) s' (set_numbers schema) h)))))
+            ∙ ap (λ b. RingValue (cond b (Some (record { owner = Rec k; members = [] })) None)) (sym e)
       ] where
-    has_owned : (s : ℕ) → owns schema s k.rtype ≡ true → has_number s (filter (λ s'. owns schema s' k.rtype) (set_numbers schema)) ≡ true
-    has_owned s e = has_number-filter (λ s'. owns schema s' k.rtype) s (set_numbers schema) e (has_number-range s 0 (length schema.sets) (omega arith) (omega (arith, set_within schema s k.rtype e)))
+        has_owned : (s : ℕ) → owns schema s k.rtype ≡ true → has_number s (filter (λ s'. owns schema s' k.rtype) (set_numbers schema)) ≡ true
+        has_owned s e = has_number-filter (λ s'. owns schema s' k.rtype) s (set_numbers schema) e (has_number-range s 0 (length schema.sets) (omega arith) (omega (arith, set_within schema s k.rtype e)))
 
   -- CELL BY CELL
 
@@ -376,14 +376,14 @@ module _ (schema : Lists) (capacity : ℕ) (db : Database) (unit : Unit) (k : Db
       let value = cell schema capacity db (Extent t) in
       elim (cases_Bool (eqb t k.rtype)) [
         | inl e ↦
-          let here = eqb-true t k.rtype e in
-          (λ i. ExtentValue (map (number_of schema new (here i)) (range_with_len 1 capacity)))
-          ∙ ap ExtentValue extent-here
-          ∙ (λ i. edited entry (ExtentValue (map (number_of schema db (sym here i)) (range_with_len 1 capacity))))
-          ∙ ap (λ b. cond b (edited entry value) value) (sym e)
+            let here = eqb-true t k.rtype e in
+            (λ i. ExtentValue (map (number_of schema new (here i)) (range_with_len 1 capacity)))
+            ∙ ap ExtentValue extent-here
+            ∙ (λ i. edited entry (ExtentValue (map (number_of schema db (sym here i)) (range_with_len 1 capacity))))
+            ∙ ap (λ b. cond b (edited entry value) value) (sym e)
         | inr e ↦
-          (λ i. ExtentValue (map (λ n. number-else t n (ap (λ b. b && eqb n k.number) e) i) (range_with_len 1 capacity)))
-          ∙ ap (λ b. cond b (edited entry value) value) (sym e)
+            (λ i. ExtentValue (map (λ n. number-else t n (ap (λ b. b && eqb n k.number) e) i) (range_with_len 1 capacity)))
+            ∙ ap (λ b. cond b (edited entry value) value) (sym e)
       ]
 
   slot-made : Legal schema capacity new → (t n : ℕ) → cell schema capacity new (Slot t n) ≡ cond (is_its_number t n) (edited filled (cell schema capacity db (Slot t n))) (cell schema capacity db (Slot t n))
@@ -392,11 +392,11 @@ module _ (schema : Lists) (capacity : ℕ) (db : Database) (unit : Unit) (k : Db
       let value = cell schema capacity db (Slot t n) in
       elim (cases_Bool (is_its_number t n)) [
         | inl e ↦
-          let its = its_number t n e in
-          (λ i. SlotValue (option_map (slot_of schema capacity new (key_at new (its.0 i) (its.1 i))) (new.records (key_at new (its.0 i) (its.1 i)))))
-          ∙ (λ i. SlotValue (option_map (slot_of schema capacity new (key_at-here i)) (new.records (key_at-here i))))
-          ∙ ap SlotValue (slot-here legal_new)
-          ∙ ap (λ b. cond b (edited filled value) value) (sym e)
+            let its = its_number t n e in
+            (λ i. SlotValue (option_map (slot_of schema capacity new (key_at new (its.0 i) (its.1 i))) (new.records (key_at new (its.0 i) (its.1 i)))))
+            ∙ (λ i. SlotValue (option_map (slot_of schema capacity new (key_at-here i)) (new.records (key_at-here i))))
+            ∙ ap SlotValue (slot-here legal_new)
+            ∙ ap (λ b. cond b (edited filled value) value) (sym e)
         | inr e ↦ ap SlotValue (slot-else legal_new t n e) ∙ ap (λ b. cond b (edited filled value) value) (sym e)
       ]
 
@@ -417,9 +417,9 @@ module _ (schema : Lists) (capacity : ℕ) (db : Database) (unit : Unit) (k : Db
       ∙ ap RingValue (own_ring s)
       ∙ sym (opened-own s)
       ∙ ap (opened_cells name) (sym (own_ring-before s) ∙ sym (joined-elsewhere s (Some (k.rtype, k.number)) (cell schema capacity db name)
-          (λ place at automatic. let there = stands s automatic in
-            let same : there.0 ≡ place = ap (λ p. unwrap_or p place) (sym there.1 ∙ at) in
-            owner-not_k s place.owner (subst (λ (p : Place). is_some (db.lists s p.owner) ≡ true) same there.2))))
+      (λ place at automatic. let there = stands s automatic in
+      let same : there.0 ≡ place = ap (λ p. unwrap_or p place) (sym there.1 ∙ at) in
+      owner-not_k s place.owner (subst (λ (p : Place). is_some (db.lists s p.owner) ≡ true) same there.2))))
 
   -- the ring of another owner
   ring-made : (s : ℕ) (q : Option (ℕ × ℕ)) → place_eq q (Some (k.rtype, k.number)) ≡ false → RingValue (option_map (ring_of schema new s (owner_at db q)) (new.lists s (owner_at db q))) ≡ joined_cells (Ring s q) (cell schema capacity db (Ring s q))
@@ -429,29 +429,29 @@ module _ (schema : Lists) (capacity : ℕ) (db : Database) (unit : Unit) (k : Db
       let entered_is : entered_db.lists s o ≡ db.lists s o = ap (λ b. cond b (Some []) (db.lists s o)) (ap (λ b. owns schema s k.rtype && b) (not_k_at q e) ∙ and_never (owns schema s k.rtype)) in
       elim (cases_Bool (has_number s (automatic_sets schema k.rtype) && is_current_owner schema unit s o)) [
         | inl h ↦
-          let hs = and_parts _ _ h in
-          let at = stands s hs.0 in
-          let current : owner_eq at.0.owner o ≡ true = rw at.1 at hs.1 in
-          let same : at.0.owner ≡ o = same_owner at.0.owner o current in
-          let named : place_of at.0.owner ≡ q = ap place_of same ∙ owner_at-place db q in
-          (λ i. RingValue (option_map (ring_of schema new s (sym same i)) (new.lists s (sym same i))))
-          ∙ ap (λ l. RingValue (option_map (ring_of schema new s at.0.owner) l)) (list-here s at.0 hs.0 at.1 at.2)
-          ∙ ap RingValue (ring-here s at.0 at.1)
-          ∙ (λ i. edited (PlaceMember (order_of schema s) at.0.at k (key_item schema s k.rtype items)) (RingValue (option_map (ring_of schema db s (same i)) (db.lists s (same i)))))
-          ∙ sym (joined-here s at.0 (cell schema capacity db (Ring s q)) hs.0 at.1)
-          ∙ (λ i. joined_cells (Ring s (named i)) (cell schema capacity db (Ring s q)))
+            let hs = and_parts _ _ h in
+            let at = stands s hs.0 in
+            let current : owner_eq at.0.owner o ≡ true = rw at.1 at hs.1 in
+            let same : at.0.owner ≡ o = same_owner at.0.owner o current in
+            let named : place_of at.0.owner ≡ q = ap place_of same ∙ owner_at-place db q in
+            (λ i. RingValue (option_map (ring_of schema new s (sym same i)) (new.lists s (sym same i))))
+            ∙ ap (λ l. RingValue (option_map (ring_of schema new s at.0.owner) l)) (list-here s at.0 hs.0 at.1 at.2)
+            ∙ ap RingValue (ring-here s at.0 at.1)
+            ∙ (λ i. edited (PlaceMember (order_of schema s) at.0.at k (key_item schema s k.rtype items)) (RingValue (option_map (ring_of schema db s (same i)) (db.lists s (same i)))))
+            ∙ sym (joined-here s at.0 (cell schema capacity db (Ring s q)) hs.0 at.1)
+            ∙ (λ i. joined_cells (Ring s (named i)) (cell schema capacity db (Ring s q)))
         | inr h ↦
-          ap (λ b. RingValue (option_map (ring_of schema new s o) (cond b (option_map (joined schema entered_db unit s k) (entered_db.lists s o)) (entered_db.lists s o)))) h
-          ∙ ap (λ l. RingValue (option_map (ring_of schema new s o) l)) entered_is
-          ∙ ap RingValue (ring-else s o)
-          ∙ sym (joined-elsewhere s q (cell schema capacity db (Ring s q))
-              (λ place at automatic. false_from_ne_true _ (λ same.
-                let named = same_place q (place_of place.owner) same in
-                let there = stands s automatic in
-                let present : is_some (db.lists s place.owner) ≡ true = subst (λ (p : Place). is_some (db.lists s p.owner) ≡ true) (ap (λ p. unwrap_or p place) (sym there.1 ∙ at)) there.2 in
-                let is_owner : place.owner ≡ o = sym (standing schema capacity db legal s place.owner (sym (legal.pairs s place.owner) ∙ present)) ∙ ap (owner_at db) (sym named) in
-                let current : is_current_owner schema unit s o ≡ true = rw at (subst (λ p. owner_eq place.owner p ≡ true) is_owner (owner_eq-refl place.owner)) in
-                false≢true (sym h ∙ and_from _ _ automatic current))))
+            ap (λ b. RingValue (option_map (ring_of schema new s o) (cond b (option_map (joined schema entered_db unit s k) (entered_db.lists s o)) (entered_db.lists s o)))) h
+            ∙ ap (λ l. RingValue (option_map (ring_of schema new s o) l)) entered_is
+            ∙ ap RingValue (ring-else s o)
+            ∙ sym (joined-elsewhere s q (cell schema capacity db (Ring s q))
+            (λ place at automatic. false_from_ne_true _ (λ same.
+            let named = same_place q (place_of place.owner) same in
+            let there = stands s automatic in
+            let present : is_some (db.lists s place.owner) ≡ true = subst (λ (p : Place). is_some (db.lists s p.owner) ≡ true) (ap (λ p. unwrap_or p place) (sym there.1 ∙ at)) there.2 in
+            let is_owner : place.owner ≡ o = sym (standing schema capacity db legal s place.owner (sym (legal.pairs s place.owner) ∙ present)) ∙ ap (owner_at db) (sym named) in
+            let current : is_current_owner schema unit s o ≡ true = rw at (subst (λ p. owner_eq place.owner p ≡ true) is_owner (owner_eq-refl place.owner)) in
+            false≢true (sym h ∙ and_from _ _ automatic current))))
       ]
 
   -- STORE changes the cells by its edits
@@ -470,13 +470,13 @@ module _ (schema : Lists) (capacity : ℕ) (db : Database) (unit : Unit) (k : Db
       let value = cell schema capacity db (Ring s q) in
       elim (cases_Bool (place_eq q (Some (k.rtype, k.number)))) [
         | inl e ↦
-          let own = same_place q (Some (k.rtype, k.number)) e in
-          (λ i. cell schema capacity new (Ring s (own i)))
-          ∙ own-made s
-          ∙ (λ i. opened_cells (Ring s (sym own i)) (joined_cells (Ring s (sym own i)) (cell schema capacity db (Ring s (sym own i)))))
+            let own = same_place q (Some (k.rtype, k.number)) e in
+            (λ i. cell schema capacity new (Ring s (own i)))
+            ∙ own-made s
+            ∙ (λ i. opened_cells (Ring s (sym own i)) (joined_cells (Ring s (sym own i)) (cell schema capacity db (Ring s (sym own i)))))
         | inr e ↦
-          (λ i. RingValue (option_map (ring_of schema new s (owner_at-other q e i)) (new.lists s (owner_at-other q e i))))
-          ∙ ring-made s q e
-          ∙ sym (opened-elsewhere s q (joined_cells (Ring s q) value) e)
+            (λ i. RingValue (option_map (ring_of schema new s (owner_at-other q e i)) (new.lists s (owner_at-other q e i))))
+            ∙ ring-made s q e
+            ∙ sym (opened-elsewhere s q (joined_cells (Ring s q) value) e)
       ]
       ∙ sym (edits-in_turn (Ring s q) value)

@@ -1,8 +1,8 @@
 -- Who is a member of a list after a record was stored or placed.
-use Rattle.std.proofs.Common.{◌≡◌, refl, sym, ◌∙◌, ap, subst, ℕ, Bool, true, false, cond, ◌&&◌, ◌||◌, List, [], Option, Some, None, eqb, inl, inr, ⊎_elim, ◌⊎◌}
+use Rattle.std.proofs.Common.{◌≡◌, refl, sym, ◌∙◌, ap, subst, ℕ, Bool, true, false, cond, ◌&&◌, ◌||◌, List, [], Option, Some, None, eqb, inl, inr}
 use Rattle.std.specs.Prelude.{is_some, option_map, unwrap_or}
 use Rattle.std.specs.List.{list_any}
-use Rattle.std.proofs.lemmas.Bool.{and_parts, or_cases, false≢true, cases_Bool}
+use Rattle.std.proofs.lemmas.Bool.{and_parts, false≢true, cases_Bool}
 use Rattle.dbtg_schema.specs.Lists.{Lists}
 use Rattle.dbtg_cells.specs.declared.key.DbKey.{DbKey}
 use Rattle.dbtg_cells.specs.declared.key.Owner.{Owner}
@@ -10,14 +10,11 @@ use Rattle.dbtg_cells.specs.declared.key.Owner.TheVariants.{Rec}
 use Rattle.dbtg_cells.specs.declared.key.Value.{Value}
 use Rattle.dbtg_cells.specs.Keys.{key_eq, owner_eq}
 use Rattle.dbtg_unit.specs.declared.unit.Unit.{Unit}
-use Rattle.dbtg_unit.specs.declared.unit.Place.{Place}
-use Rattle.dbtg_schema.specs.Lookups.{some_and}
 use Rattle.dbtg_unit.specs.Base.{Database, is_live, members_of, is_member}
-use Rattle.dbtg_unit.specs.Units.{place_in}
 use Rattle.dbtg_unit.specs.Effect.{connected_in, with_new, is_current_owner, joined}
 use Rattle.dbtg_unit.specs.Legal.{Legal}
 use Rattle.dbtg_unit.proofs.Listing.{any-placed}
-use Rattle.dbtg_unit.proofs.KeyLemmas.{same_key, same_owner}
+use Rattle.dbtg_unit.proofs.KeyLemmas.{same_owner}
 use Rattle.dbtg_schema.specs.Structure.{owns}
 
 -- the statement connects m in this list
@@ -46,15 +43,15 @@ pub member-new : (schema : Lists) (capacity : ℕ) (db : Database) (k : DbKey) (
 member-new schema capacity db k items legal fresh s o x =
     elim (cases_Bool (owns schema s k.rtype && owner_eq (Rec k) o)) [
       | inl h ↦
-        let hs = and_parts _ _ h in
-        let same = same_owner (Rec k) o hs.1 in
-        let none : is_some (db.lists s o) ≡ false = subst (λ (p : Owner). is_some (db.lists s p) ≡ false) same (legal.pairs s (Rec k) ∙ ap (λ b. owns schema s k.rtype && b) fresh ∙ and_false (owns schema s k.rtype)) in
-        ap (λ b. is_member x (unwrap_or (cond b (Some []) (db.lists s o)) [])) h ∙ sym (no_list (db.lists s o) none x)
+          let hs = and_parts _ _ h in
+          let same = same_owner (Rec k) o hs.1 in
+          let none : is_some (db.lists s o) ≡ false = subst (λ (p : Owner). is_some (db.lists s p) ≡ false) same (legal.pairs s (Rec k) ∙ ap (λ b. owns schema s k.rtype && b) fresh ∙ and_false (owns schema s k.rtype)) in
+          ap (λ b. is_member x (unwrap_or (cond b (Some []) (db.lists s o)) [])) h ∙ sym (no_list (db.lists s o) none x)
       | inr h ↦ ap (λ b. is_member x (unwrap_or (cond b (Some []) (db.lists s o)) [])) h
     ] where
-  and_false : (b : Bool) → (b && false) ≡ false
-  and_false true = refl
-  and_false false = refl
+      and_false : (b : Bool) → (b && false) ≡ false
+      and_false true = refl
+      and_false false = refl
 
 -- a record that is not live is in no list
 pub not_member : (schema : Lists) (capacity : ℕ) (db : Database) (k : DbKey) → Legal schema capacity db → is_live db k ≡ false → (s : ℕ) (o : Owner) → is_member k (members_of db s o) ≡ true → ⊥

@@ -1,6 +1,6 @@
 -- When an edit of a cell can be made, without memory and without a refusal.
 -- Letters: n a number, k a key, p the key in the position, v what a cell shows with its room.
-use Rattle.std.specs.Prelude.{◌≡◌, ℕ, ◌+◌, ◌<◌, ◌^◌, Bool, true, false, not, ◌||◌, List, Option, Some, None, is_some, IsTrue, ⊤}
+use Rattle.std.specs.Prelude.{◌≡◌, ◌+◌, ◌<◌, ◌^◌, Bool, true, not, ◌||◌, List, Option, Some, None, is_some, IsTrue, ⊤}
 use Rattle.dbtg_schema.specs.Lookups.{some_and}
 use Rattle.dbtg_schema.specs.declared.shape.Order.{Order}
 use Rattle.dbtg_schema.specs.declared.shape.Order.TheVariants.{First, Last, Next, Prior, Sorted}
@@ -12,13 +12,12 @@ use Rattle.dbtg_cells.specs.declared.slot.Stored.{Stored}
 use Rattle.dbtg_cells.specs.declared.cell.Cell.{Cell}
 use Rattle.dbtg_cells.specs.declared.cell.Cell.TheVariants.{Usage, Extent, Ring, Slot}
 use Rattle.dbtg_cells.specs.Keys.{is_member}
-use Rattle.dbtg_cells.specs.Shown.{RingView}
 use Rattle.dbtg_cells.specs.Members.{has_room, keys_in, members_in, with_members, without_key}
 use Rattle.dbtg_cells.specs.Numbers.{entry_of, is_free, is_used}
 use Rattle.dbtg_cells.specs.Orders.{comes_before}
 use Rattle.dbtg_unit.specs.Legal.{pairwise}
 use Rattle.dbtg_unit.specs.declared.edit.Edit.{Edit}
-use Rattle.dbtg_unit.specs.declared.edit.Edit.TheVariants.{EnterUser, LeaveUser, EnterNumber, LeaveNumber, ChangeNumber, OpenRing, CloseRing, PlaceMember, ReplaceMember, TakeOut, Fill, Vacate, ChangeItems, ChangeOwner, RaiseVersion}
+use Rattle.dbtg_unit.specs.declared.edit.Edit.TheVariants.{EnterUser, EnterNumber, LeaveNumber, ChangeNumber, OpenRing, PlaceMember, ReplaceMember, TakeOut, RaiseVersion}
 
 -- the members that come before a new one with this sort key stand before all others
 abbrev pub parts_by : Bool → Duplicates → Option Value → List (DbKey × Option Value) → Bool

@@ -1,14 +1,14 @@
 -- The edits by which a statement changes the cells, where nothing refuses it.
-use Rattle.std.specs.Prelude.{◌≡◌, ℕ, Bool, true, false, cond, not, ◌&&◌, ◌==◌, List, [], ◌∷◌, ◌++◌, Option, Some, None, is_some, map, filter, option_map, option_and_then, unwrap_or, if◌then◌else◌}
+use Rattle.std.specs.Prelude.{◌≡◌, ℕ, Bool, true, false, ◌==◌, List, [], ◌∷◌, ◌++◌, Option, Some, None, map, filter, option_map, option_and_then, unwrap_or, if◌then◌else◌}
 use Rattle.std.specs.List.{list_any, flat_map}
 use Rattle.dbtg_schema.specs.Lists.{Lists}
-use Rattle.dbtg_schema.specs.Structure.{automatic_sets, order_of, owns, rekeyed_sets, set_numbers}
+use Rattle.dbtg_schema.specs.Structure.{automatic_sets, order_of, owns, set_numbers}
 use Rattle.dbtg_cells.specs.declared.key.DbKey.{DbKey}
 use Rattle.dbtg_cells.specs.declared.key.Owner.{Owner}
 use Rattle.dbtg_cells.specs.declared.key.Owner.TheVariants.{Rec}
 use Rattle.dbtg_cells.specs.declared.key.Value.{Value}
 use Rattle.dbtg_cells.specs.declared.name.CellName.{CellName}
-use Rattle.dbtg_cells.specs.declared.name.CellName.TheVariants.{Usage, Extent, Ring, Slot}
+use Rattle.dbtg_cells.specs.declared.name.CellName.TheVariants.{Usage, Extent, Ring}
 use Rattle.dbtg_unit.specs.declared.edit.Edit.{Edit}
 use Rattle.dbtg_unit.specs.declared.edit.Edit.TheVariants.{EnterUser, LeaveUser, EnterNumber, ChangeNumber, OpenRing, PlaceMember, ReplaceMember, TakeOut, Fill, ChangeItems, ChangeOwner, RaiseVersion}
 use Rattle.dbtg_unit.specs.declared.edit.CellEdit.{CellEdit}
@@ -38,7 +38,7 @@ placed_at schema s m key place = PlaceMember (order_of schema s) place.at m key
 abbrev pub joining_edits : Lists → Unit → ℕ → DbKey → Option Value → List CellEdit
 joining_edits schema unit s m key =
     ring_edits s (option_map (λ place. place.owner) (place_in schema unit s))
-      (unwrap_or (option_map (λ place. placed_at schema s m key place ∷ []) (place_in schema unit s)) [])
+    (unwrap_or (option_map (λ place. placed_at schema s m key place ∷ []) (place_in schema unit s)) [])
 
 abbrev pub slot_edit : DbKey → Edit → CellEdit
 slot_edit k edit = record { name = slot_name k; edit = edit }
@@ -70,7 +70,7 @@ remove_edits schema capacity db s k =
 abbrev pub replacing_edits : Lists → ℕ → Database → Unit → DbKey → List Value → ℕ → List CellEdit
 replacing_edits schema capacity db unit k items s =
     ring_edits s (owner_of schema capacity db s k)
-      (ReplaceMember (order_of schema s) (option_and_then (λ place. place.at) (place_in schema unit s)) k (key_item schema s k.rtype items) ∷ [])
+    (ReplaceMember (order_of schema s) (option_and_then (λ place. place.at) (place_in schema unit s)) k (key_item schema s k.rtype items) ∷ [])
 
 abbrev pub modify_edits : Lists → ℕ → Database → Unit → List Change → DbKey → List CellEdit
 modify_edits schema capacity db unit changes k =

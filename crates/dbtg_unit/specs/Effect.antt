@@ -1,6 +1,6 @@
 -- The effect of each statement on a database and a unit.
 -- k is a key, m a new member, o an owner, s a set, t a record type, n a number, a and b areas, db a database.
-use Rattle.std.specs.Prelude.{ℕ, ◌+◌, Bool, true, false, not, ◌&&◌, ◌||◌, ◌==◌, nat_lt, List, [], ◌∷◌, ◌++◌, Option, Some, None, Result, Ok, Err, is_none, is_some, map, filter, length, slice_set, option_map, option_and_then, unwrap_or, if◌then◌else◌}
+use Rattle.std.specs.Prelude.{ℕ, ◌+◌, Bool, true, false, not, ◌&&◌, ◌==◌, nat_lt, List, [], ◌∷◌, ◌++◌, Option, Some, None, Result, Ok, Err, is_none, is_some, map, filter, length, slice_set, option_map, option_and_then, unwrap_or, if◌then◌else◌}
 use Rattle.std.specs.List.{list_any, range_with_len, flat_map}
 use Rattle.dbtg_schema.specs.Lists.{Lists}
 use Rattle.dbtg_schema.specs.declared.shape.Order.{Order}
@@ -136,7 +136,7 @@ with_new schema db k items =
 abbrev pub connected_in : Lists → Database → Unit → List ℕ → DbKey → Database
 connected_in schema db unit sets m =
     record db {
-      lists = λ s o. if list_any (λ s'. s' == s) sets && is_current_owner schema unit s o then option_map (joined schema db unit s m) (db.lists s o) else db.lists s o
+      lists = λ s o. if list_any (λ s'. s' == s) sets && is_current_owner schema unit s o then option_map (joined schema db unit s m) (db.lists s o) else db.lists s o;
     }
 
 -- a live record of type t with these CALC items, where their duplicates are not allowed, beside those that are left out
@@ -243,9 +243,9 @@ modify_checks schema capacity db unit changes k =
     own_checks db unit k
     ++ (names_calc schema k.rtype changes && calc_taken schema capacity db k.rtype items (key_eq k), DuplicatesNotAllowed)
     ∷ map (λ s.
-        let list = without k (unwrap_or (option_map (members_of db s) (owner_of schema capacity db s k)) []) in
-        (refuses_equal (order_of schema s) && list_any (λ x. option_value_eq (sort_key schema new s x) (sort_key schema new s k)) list, DuplicatesNotAllowed))
-      (replaced_sets schema capacity db changes k)
+    let list = without k (unwrap_or (option_map (members_of db s) (owner_of schema capacity db s k)) []) in
+    (refuses_equal (order_of schema s) && list_any (λ x. option_value_eq (sort_key schema new s x) (sort_key schema new s k)) list, DuplicatesNotAllowed))
+    (replaced_sets schema capacity db changes k)
 
 -- k with its changed items, placed anew
 abbrev pub modified : Lists → ℕ → Database → Unit → List Change → DbKey → Outcome
@@ -254,9 +254,9 @@ modified schema capacity db unit changes k =
     let sets = rekeyed_sets schema k.rtype (map (λ c. c.item) changes) in
     let new = raised (key_eq k) (record with_new_items {
       lists = λ s o.
-        if list_any (λ s'. s' == s) sets && is_member k (members_of db s o)
-        then option_map (λ list. joined schema with_new_items unit s k (without k list)) (db.lists s o)
-        else db.lists s o
+          if list_any (λ s'. s' == s) sets && is_member k (members_of db s o)
+          then option_map (λ list. joined schema with_new_items unit s k (without k list)) (db.lists s o)
+          else db.lists s o;
     }) in
     done new (renoted (key_eq k) new unit) None None
 
@@ -288,7 +288,7 @@ deleted schema capacity db unit option k =
     let is_taken_out : DbKey → Bool = λ x. not (is_member x gone) && list_any (λ s. list_any (λ o. is_member x (members_of db s (Rec o))) gone) (set_numbers schema) in
     let new : Database = raised is_taken_out (record db {
       records = λ x. if is_member x gone then None else db.records x;
-      lists = λ s o. if is_gone gone o then None else option_map (filter (λ x. not (is_member x gone))) (db.lists s o)
+      lists = λ s o. if is_gone gone o then None else option_map (filter (λ x. not (is_member x gone))) (db.lists s o);
     }) in
     let after = renoted is_taken_out new unit in
     done new (record after { currency = record after.currency { run_unit = None }; kept = forgotten k after.kept }) None None
@@ -309,7 +309,7 @@ finding db unit (Err cause) after = refused db unit cause
 abbrev pub effect_on_cells : Lists → ℕ → Database → Unit → Statement → Outcome
 effect_on_cells schema capacity db unit (OpenArea a mode) =
     unless_refused db unit (first_cause ((list_any (λ e. conflict e.1 mode) (db.usage a), UsageConflict) ∷ []))
-      (done (record db { usage = λ b. if b == a then db.usage b ++ (unit.number, mode) ∷ [] else db.usage b }) (record unit { modes = slice_set unit.modes a (Some mode) }) None None)
+    (done (record db { usage = λ b. if b == a then db.usage b ++ (unit.number, mode) ∷ [] else db.usage b }) (record unit { modes = slice_set unit.modes a (Some mode) }) None None)
 effect_on_cells schema capacity db unit (CloseArea a) =
     done (record db { usage = λ b. if b == a then filter (λ e. not (e.0 == unit.number)) (db.usage b) else db.usage b }) (record unit { modes = slice_set unit.modes a None }) None None
 effect_on_cells schema capacity db unit (Find form suppress) =
@@ -318,7 +318,7 @@ effect_on_cells schema capacity db unit (Get r) =
     on_current db unit unit.currency.run_unit (λ k. (not (is_live db k), Deleted) ∷ []) (λ k. done db unit (Some k) (Some (items_of db k)))
 effect_on_cells schema capacity db unit (Store t items suppress) =
     unless_refused db unit (first_cause (store_checks schema capacity db unit t items))
-      (stored schema capacity db unit (new_key db t (unwrap_or (free_number capacity db t) 0)) items suppress)
+    (stored schema capacity db unit (new_key db t (unwrap_or (free_number capacity db t) 0)) items suppress)
 effect_on_cells schema capacity db unit (Insert s) = on_current db unit unit.currency.run_unit (insert_checks schema capacity db unit s) (inserted schema db unit s)
 effect_on_cells schema capacity db unit (Remove s) = on_current db unit unit.currency.run_unit (remove_checks schema capacity db unit s) (removed db unit s)
 effect_on_cells schema capacity db unit (Modify t changes) = on_current db unit unit.currency.run_unit (modify_checks schema capacity db unit changes) (modified schema capacity db unit changes)

@@ -71,8 +71,8 @@ delete_cells schema capacity db unit option k =
     if is_some (first_cause (own_checks db unit k)) then slot_name k ∷ []
     else if is_plain option && has_members schema db k then slot_name k ∷ rings_to_member schema db k (filter (λ s. owns schema s k.rtype) (set_numbers schema))
     else (
-      let gone = doomed_in_turn schema capacity db option k in
-      names_once [] (slot_name k ∷ own_rings schema k ++ flat_map (cells_of_doomed schema db) gone ++ outer_cells schema capacity db gone))
+    let gone = doomed_in_turn schema capacity db option k in
+    names_once [] (slot_name k ∷ own_rings schema k ++ flat_map (cells_of_doomed schema db) gone ++ outer_cells schema capacity db gone))
 
 -- of the current of run-unit, or none
 abbrev pub delete_cells_of : Lists → ℕ → Database → Unit → Erase → Option DbKey → List CellName

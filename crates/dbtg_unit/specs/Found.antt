@@ -1,6 +1,6 @@
 -- What each form of FIND finds.
 -- k is a key, p a position, s a set, r a record type, a an area, db a database.
-use Rattle.std.specs.Prelude.{ℕ, Bool, true, false, not, ◌&&◌, ◌==◌, List, [], ◌∷◌, Option, Some, None, Result, Ok, Err, is_none, filter, if◌then◌else◌, option_and_then}
+use Rattle.std.specs.Prelude.{ℕ, Bool, true, false, not, ◌&&◌, List, [], ◌∷◌, Option, Some, None, Result, Ok, Err, is_none, filter, if◌then◌else◌, option_and_then}
 use Rattle.std.specs.List.{find, flat_map}
 use Rattle.dbtg_schema.specs.Lists.{Lists}
 use Rattle.dbtg_cells.specs.declared.key.DbKey.{DbKey}
@@ -87,13 +87,13 @@ found schema capacity db unit (CurrentOfSet s) = with_current (option_and_then k
 found schema capacity db unit (InSet which r s) = with_current (place_in schema unit s) (λ place.
     let list = members_of db s place.owner in
     found_unless (first_cause ((is_none (db.lists s place.owner), Deleted) ∷ (needs_position which && is_lost place.at list, PositionLost) ∷ []))
-      (chosen which (has_type r) place.at list) End)
+    (chosen which (has_type r) place.at list) End)
 found schema capacity db unit (InArea which r a) = found_unless None (chosen_by_key which (at unit.currency.areas a) (keys_in_area schema capacity db r a)) End
 found schema capacity db unit (OwnerOf s) = with_current (option_and_then (λ place. key_of_place (record place { at = None })) (place_in schema unit s)) (λ k. if is_live db k then Ok k else Err Deleted)
 found schema capacity db unit (Calc r values) = found_unless None (first (with_calc schema capacity db r values)) NoneSatisfies
 found schema capacity db unit (NextDuplicate r) = with_current (at unit.currency.types r) (λ k.
     found_unless (first_cause ((not (is_live db k), Deleted) ∷ []))
-      (first (filter (key_lt k) (with_calc schema capacity db r (calc_items schema r (items_of db k))))) End)
+    (first (filter (key_lt k) (with_calc schema capacity db r (calc_items schema r (items_of db k))))) End)
 found schema capacity db unit (Sorted value s) = with_current (place_in schema unit s) (λ place.
     found_unless (first_cause ((is_none (db.lists s place.owner), Deleted) ∷ []))
-      (find (λ k. some_and (value_eq value) (sort_key schema db s k)) (members_of db s place.owner)) NoneSatisfies)
+    (find (λ k. some_and (value_eq value) (sort_key schema db s k)) (members_of db s place.owner)) NoneSatisfies)

@@ -1,6 +1,6 @@
 -- What is true of every database that statements make.
 -- k and m are keys, s a set, o and p owners, t a record type, n a number, a an area, db a database.
-use Rattle.std.specs.Prelude.{◌≡◌, ℕ, ◌<◌, ◌≤◌, Bool, true, cond, not, ◌&&◌, ◌==◌, List, [], ◌∷◌, Option, Some, None, is_some, length, ◌⊎◌}
+use Rattle.std.specs.Prelude.{◌≡◌, ℕ, ◌<◌, ◌≤◌, Bool, true, not, ◌&&◌, ◌==◌, List, [], ◌∷◌, Option, is_some, length, ◌⊎◌}
 use Rattle.std.specs.List.{list_all}
 use Rattle.dbtg_schema.specs.Lists.{Lists}
 use Rattle.dbtg_schema.specs.declared.shape.Order.{Order}

@@ -70,8 +70,8 @@ find_cells schema capacity db unit (Sorted v s) = ring_names s (current_owner sc
 abbrev pub store_rings : Lists → Unit → DbKey → List CellName
 store_rings schema unit k =
     flat_map (λ s.
-      (if list_any (λ s'. s' == s) (automatic_sets schema k.rtype) then ring_names s (current_owner schema unit s) else [])
-      ++ (if owns schema s k.rtype then Ring s (Some (k.rtype, k.number)) ∷ [] else [])) (set_numbers schema)
+    (if list_any (λ s'. s' == s) (automatic_sets schema k.rtype) then ring_names s (current_owner schema unit s) else [])
+    ++ (if owns schema s k.rtype then Ring s (Some (k.rtype, k.number)) ∷ [] else [])) (set_numbers schema)
 
 -- a STORE that its extent refuses takes no more
 abbrev pub store_cells : Lists → Unit → ℕ → Database → ℕ → Option ℕ → Bool → List CellName

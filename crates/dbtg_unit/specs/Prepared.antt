@@ -1,7 +1,7 @@
 -- What a statement has prepared before it is done: its answer, the changes of the cells that it holds, and the change of
 -- its unit.
 -- Letters: s a set, a an area, k a key, e an entry or an edit, c the name of a cell.
-use Rattle.std.specs.Prelude.{◌≡◌, ℕ, Bool, true, false, List, [], ◌∷◌, Option, Some, None, slice_set, map}
+use Rattle.std.specs.Prelude.{◌≡◌, ℕ, true, List, [], ◌∷◌, Option, Some, None, slice_set, map}
 use Rattle.std.specs.List.{list_all}
 use Rattle.dbtg_schema.specs.Lists.{Lists}
 use Rattle.dbtg_cells.specs.declared.key.DbKey.{DbKey}
@@ -19,11 +19,10 @@ use Rattle.dbtg_unit.specs.declared.unit.Unit.{Unit}
 use Rattle.dbtg_unit.specs.Base.{Database}
 use Rattle.dbtg_unit.specs.Cells.{cell}
 use Rattle.dbtg_unit.specs.Edits.{edited_at}
-use Rattle.dbtg_unit.specs.Effect.{Outcome, effect, moved}
+use Rattle.dbtg_unit.specs.Effect.{effect, moved}
 use Rattle.dbtg_unit.specs.Guesses.{guesses_after}
 use Rattle.dbtg_unit.specs.Hands.{Hands}
 use Rattle.dbtg_unit.specs.Kept.{noted_again}
-use Rattle.dbtg_unit.specs.Legal.{Legal, UsageAgrees}
 use Rattle.dbtg_unit.specs.Local.{Agrees, holds}
 use Rattle.dbtg_unit.specs.Units.{forgotten, seen_with}
 

@@ -1,5 +1,5 @@
 -- Record types marked among all.
-use Rattle.std.specs.Prelude.{ℕ, Bool, true, false, ◌&&◌, ◌||◌, ◌==◌, List, filter, length, is_some, slice_index_or}
+use Rattle.std.specs.Prelude.{ℕ, Bool, false, ◌&&◌, ◌||◌, ◌==◌, List, filter, length, is_some, slice_index_or}
 use Rattle.std.specs.List.{list_any, range_with_len}
 use Rattle.dbtg_schema.specs.Lists.{Lists}
 use Rattle.dbtg_schema.specs.Structure.{member_clause, owns, set_numbers}

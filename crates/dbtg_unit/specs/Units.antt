@@ -64,7 +64,7 @@ seen_with schema unit k owners suppress =
         types = if suppress.types then was.types else slice_set was.types k.rtype (Some k);
         areas = if suppress.areas then was.areas else slice_set was.areas (area_of schema k.rtype) (Some k);
         sets = map (λ e. if suppresses suppress e.0 then e.1 else seen_place e.1 (owns schema e.0 k.rtype) k (at owners e.0)) (enumerate_from 0 was.sets);
-      }
+      };
     }
 
 -- the owner of k in each set

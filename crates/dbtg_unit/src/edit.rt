@@ -11,33 +11,69 @@ use dbtg_schema::{AreaNo, Order, Row, SetNo};
 #[derive(Drop)]
 pub enum Edit {
     /// A run-unit has opened the area of a usage cell.
-    EnterUser { unit: u8, mode: Mode },
+    EnterUser {
+        unit: u8,
+        mode: Mode,
+    },
     /// A run-unit has closed it.
-    LeaveUser { unit: u8 },
+    LeaveUser {
+        unit: u8,
+    },
     /// A number of an extent is live in its next generation, with these CALC values.
-    EnterNumber { number: u32, calc: Row<Value> },
+    EnterNumber {
+        number: u32,
+        calc: Row<Value>,
+    },
     /// A number of an extent is live no more.
-    LeaveNumber { number: u32 },
+    LeaveNumber {
+        number: u32,
+    },
     /// The CALC values of a live number are now these.
-    ChangeNumber { number: u32, calc: Row<Value> },
+    ChangeNumber {
+        number: u32,
+        calc: Row<Value>,
+    },
     /// A ring has an owner, and no member.
-    OpenRing { owner: Owner },
+    OpenRing {
+        owner: Owner,
+    },
     /// A ring has no owner any more.
     CloseRing,
     /// A new member of a ring, placed by the order of its set, from a position.
-    PlaceMember { order: Order, position: Option<DbKey>, key: DbKey, sort_key: Option<Value> },
+    PlaceMember {
+        order: Order,
+        position: Option<DbKey>,
+        key: DbKey,
+        sort_key: Option<Value>,
+    },
     /// A member of a ring, placed anew with this sort key.
-    ReplaceMember { order: Order, position: Option<DbKey>, key: DbKey, sort_key: Option<Value> },
+    ReplaceMember {
+        order: Order,
+        position: Option<DbKey>,
+        key: DbKey,
+        sort_key: Option<Value>,
+    },
     /// A member leaves a ring.
-    TakeOut { key: DbKey },
+    TakeOut {
+        key: DbKey,
+    },
     /// A slot has a record, in its first version.
-    Fill { generation: u8, items: Row<Value>, owners: Row<Option<Owner>> },
+    Fill {
+        generation: u8,
+        items: Row<Value>,
+        owners: Row<Option<Owner>>,
+    },
     /// A slot is vacant.
     Vacate,
     /// The items of the record in a slot are now these.
-    ChangeItems { items: Row<Value> },
+    ChangeItems {
+        items: Row<Value>,
+    },
     /// The record in a slot has this owner in a set, or none.
-    ChangeOwner { set: SetNo, owner: Option<Owner> },
+    ChangeOwner {
+        set: SetNo,
+        owner: Option<Owner>,
+    },
     /// The record in a slot has its next version.
     RaiseVersion,
 }
@@ -54,19 +90,37 @@ pub struct CellEdit {
 pub enum UnitEdit {
     Same,
     /// A record with these owners was found or stored, and is current; its owners are the guesses.
-    See { key: DbKey, owners: Owners, suppress: Suppress },
+    See {
+        key: DbKey,
+        owners: Owners,
+        suppress: Suppress,
+    },
     /// The current of a set moves; its owner is the guess there.
-    Move { set: SetNo, place: Place },
+    Move {
+        set: SetNo,
+        place: Place,
+    },
     /// The current of run-unit left its list in a set; there is no guess there.
-    Leave { set: SetNo },
+    Leave {
+        set: SetNo,
+    },
     /// An area is open in a mode, or is not open.
-    SetMode { area: AreaNo, mode: Option<Mode> },
+    SetMode {
+        area: AreaNo,
+        mode: Option<Mode>,
+    },
     /// The records that are kept are now these.
-    Keep { kept: Kept },
+    Keep {
+        kept: Kept,
+    },
     /// A record is kept no more.
-    Forget { key: DbKey },
+    Forget {
+        key: DbKey,
+    },
     /// No record is kept any more.
     ForgetAll,
     /// The current of run-unit was deleted: there is none, and it is not kept.
-    LoseCurrent { key: DbKey },
+    LoseCurrent {
+        key: DbKey,
+    },
 }

@@ -217,13 +217,13 @@ delete_all = refl
 abbrev pub a_tree : State
 a_tree =
     state_after tree 4 (opening_state tree 1) (by 1 (
-      OpenArea wood Update ∷ store roots (Num 1 ∷ []) ∷ store branches (Num 1 ∷ []) ∷ store leaves (Num 1 ∷ []) ∷ Remove bears ∷ Insert sheds
-      ∷ store branches (Num 2 ∷ []) ∷ store leaves (Num 2 ∷ []) ∷ find (Key (key branches 1)) ∷ store leaves (Num 3 ∷ []) ∷ find (Key (key roots 1)) ∷ []))
+    OpenArea wood Update ∷ store roots (Num 1 ∷ []) ∷ store branches (Num 1 ∷ []) ∷ store leaves (Num 1 ∷ []) ∷ Remove bears ∷ Insert sheds
+    ∷ store branches (Num 2 ∷ []) ∷ store leaves (Num 2 ∷ []) ∷ find (Key (key branches 1)) ∷ store leaves (Num 3 ∷ []) ∷ find (Key (key roots 1)) ∷ []))
 
 delete_in_turn : cells_of tree 4 a_tree.database (unit_one a_tree) (None ∷ None ∷ None ∷ None ∷ []) (Delete All)
     ≡ Slot roots 1 ∷ ring 0 roots 1 ∷ ring 2 roots 1 ∷ Slot branches 1 ∷ Slot branches 2 ∷ Slot leaves 1
-      ∷ ring 1 branches 1 ∷ ring 3 branches 1 ∷ Slot leaves 3 ∷ ring 1 branches 2 ∷ ring 3 branches 2 ∷ Slot leaves 2
-      ∷ Extent roots ∷ Extent branches ∷ Extent leaves ∷ []
+    ∷ ring 1 branches 1 ∷ ring 3 branches 1 ∷ Slot leaves 3 ∷ ring 1 branches 2 ∷ ring 3 branches 2 ∷ Slot leaves 2
+    ∷ Extent roots ∷ Extent branches ∷ Extent leaves ∷ []
 unfolding effect
 delete_in_turn = refl
 
@@ -293,16 +293,16 @@ two_yards =
     record mixed {
       areas = record { name = codes "YARD" } ∷ record { name = codes "SHED" } ∷ [];
       types =
-        record { name = codes "BIN"; area = 0; items = record { name = codes "BNO"; picture = Number 2 } ∷ []; calc = None }
-        ∷ record { name = codes "RED"; area = 0; items = record { name = codes "RNO"; picture = Number 2 } ∷ []; calc = None }
-        ∷ record { name = codes "BLUE"; area = 1; items = record { name = codes "BLNO"; picture = Number 2 } ∷ []; calc = None }
-        ∷ [];
+          record { name = codes "BIN"; area = 0; items = record { name = codes "BNO"; picture = Number 2 } ∷ []; calc = None }
+          ∷ record { name = codes "RED"; area = 0; items = record { name = codes "RNO"; picture = Number 2 } ∷ []; calc = None }
+          ∷ record { name = codes "BLUE"; area = 1; items = record { name = codes "BLNO"; picture = Number 2 } ∷ []; calc = None }
+          ∷ [];
     }
 
 abbrev pub a_bin : State
 a_bin =
     state_after two_yards 4 (opening_state two_yards 1) (by 1 (
-      OpenArea 0 Update ∷ OpenArea 1 Update ∷ store bins (Num 1 ∷ []) ∷ store reds (Num 1 ∷ []) ∷ store blues (Num 1 ∷ []) ∷ []))
+    OpenArea 0 Update ∷ OpenArea 1 Update ∷ store bins (Num 1 ∷ []) ∷ store reds (Num 1 ∷ []) ∷ store blues (Num 1 ∷ []) ∷ []))
 
 -- of all member types, or of the named one
 all_members : areas_in_order two_yards (unit_one a_bin) (find_in_set First content) ≡ 0 ∷ 1 ∷ []

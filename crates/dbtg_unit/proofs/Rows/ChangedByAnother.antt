@@ -41,22 +41,22 @@ who_changed_it =
 
 who_changed_it_answers : (run tree 10 2 who_changed_it).answers
     ≡ done ∷ found (key roots 1) ∷ found (key branches 1) ∷ found (key leaves 1) ∷ found (key leaves 2)
-      ∷ found (key leaves 1) ∷ done ∷ done ∷ found (key leaves 1) ∷ done ∷ done ∷ done ∷ done ∷ done
-      ∷ no ChangedByAnother ∷ no NoSuchCurrent ∷ no ChangedByAnother ∷ no ChangedByAnother ∷ no ChangedByAnother
-      ∷ got (key leaves 1) (Num 5 ∷ []) ∷ done ∷ no NotKept ∷ done ∷ no ChangedByAnother ∷ no ChangedByAnother
-      ∷ found (key branches 1) ∷ done ∷ found (key branches 1) ∷ done ∷ no ChangedByAnother ∷ done ∷ no Deleted
-      ∷ no Deleted ∷ no Deleted ∷ done ∷ no NotKept ∷ []
+    ∷ found (key leaves 1) ∷ done ∷ done ∷ found (key leaves 1) ∷ done ∷ done ∷ done ∷ done ∷ done
+    ∷ no ChangedByAnother ∷ no NoSuchCurrent ∷ no ChangedByAnother ∷ no ChangedByAnother ∷ no ChangedByAnother
+    ∷ got (key leaves 1) (Num 5 ∷ []) ∷ done ∷ no NotKept ∷ done ∷ no ChangedByAnother ∷ no ChangedByAnother
+    ∷ found (key branches 1) ∷ done ∷ found (key branches 1) ∷ done ∷ no ChangedByAnother ∷ done ∷ no Deleted
+    ∷ no Deleted ∷ no Deleted ∷ done ∷ no NotKept ∷ []
 unfolding effect image_of
 who_changed_it_answers = refl
 
 who_changed_it_units : (run tree 10 2 who_changed_it).units
     ≡ unit 1 (Some (key branches 1)) (Some (key roots 1) ∷ Some (key branches 1) ∷ Some (key leaves 1) ∷ [])
-          (member (key roots 1) (key branches 1) ∷ owner_itself (key branches 1) ∷ member (key roots 1) (key leaves 1) ∷ owner_itself (key branches 1) ∷ [])
-          (Some (key branches 1) ∷ []) (Some Update ∷ []) ([])
-      ∷ unit 2 None (None ∷ Some (key branches 1) ∷ Some (key leaves 1) ∷ [])
-          (member (key roots 1) (key branches 1) ∷ owner_itself (key branches 1) ∷ None ∷ owner_itself (key branches 1) ∷ [])
-          (Some (key branches 1) ∷ []) (Some Update ∷ []) ([])
-      ∷ []
+    (member (key roots 1) (key branches 1) ∷ owner_itself (key branches 1) ∷ member (key roots 1) (key leaves 1) ∷ owner_itself (key branches 1) ∷ [])
+    (Some (key branches 1) ∷ []) (Some Update ∷ []) ([])
+    ∷ unit 2 None (None ∷ Some (key branches 1) ∷ Some (key leaves 1) ∷ [])
+    (member (key roots 1) (key branches 1) ∷ owner_itself (key branches 1) ∷ None ∷ owner_itself (key branches 1) ∷ [])
+    (Some (key branches 1) ∷ []) (Some Update ∷ []) ([])
+    ∷ []
 unfolding effect image_of
 who_changed_it_units = refl
 

@@ -23,25 +23,25 @@ pub found_out_at_use : run shop 100 2 (by 1 (
     Get None ∷ find_in_area Next main ∷ []))
     ≡ record {
       answers =
-        done ∷ done ∷ found (customer_key 1) ∷ found (customer_key 2) ∷ found (customer_key 1) ∷ done ∷ done
-        ∷ found (customer_key 1) ∷ done ∷ no Deleted ∷ found (customer_key 2) ∷ [];
+          done ∷ done ∷ found (customer_key 1) ∷ found (customer_key 2) ∷ found (customer_key 1) ∷ done ∷ done
+          ∷ found (customer_key 1) ∷ done ∷ no Deleted ∷ found (customer_key 2) ∷ [];
       records =
-        (customer_key 2, Num 8 ∷ text "        " ∷ []) ∷ [];
+          (customer_key 2, Num 8 ∷ text "        " ∷ []) ∷ [];
       lists =
-        ((Rec (customer_key 2), []) ∷ [])
-        ∷ ([])
-        ∷ ((System, []) ∷ [])
-        ∷ [];
+          ((Rec (customer_key 2), []) ∷ [])
+          ∷ ([])
+          ∷ ((System, []) ∷ [])
+          ∷ [];
       next = 1 ∷ 1 ∷ 1 ∷ [];
       usage = ((1, Update) ∷ (2, Update) ∷ []) ∷ ((1, Update) ∷ (2, Update) ∷ []) ∷ [];
       units =
-        unit 1 (Some (customer_key 2)) (Some (customer_key 2) ∷ None ∷ None ∷ [])
+          unit 1 (Some (customer_key 2)) (Some (customer_key 2) ∷ None ∷ None ∷ [])
           (owner_itself (customer_key 2) ∷ None ∷ None ∷ [])
           (Some (customer_key 2) ∷ None ∷ []) (Some Update ∷ Some Update ∷ []) ([])
-        ∷ unit 2 None (Some (customer_key 1) ∷ None ∷ None ∷ [])
+          ∷ unit 2 None (Some (customer_key 1) ∷ None ∷ None ∷ [])
           (owner_itself (customer_key 1) ∷ None ∷ None ∷ [])
           (Some (customer_key 1) ∷ None ∷ []) (Some Update ∷ Some Update ∷ []) ([])
-        ∷ [];
+          ∷ [];
     }
 unfolding effect image_of
 found_out_at_use = refl

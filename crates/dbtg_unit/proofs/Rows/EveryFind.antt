@@ -23,13 +23,13 @@ reds_and_blues =
 
 reds_and_blues_answers : (run mixed 10 1 reds_and_blues).answers
     ≡ done ∷ found (key bins 1) ∷ found (key reds 1) ∷ found (key blues 1) ∷ found (key reds 2)
-      ∷ found (key blues 2) ∷ found (key reds 3) ∷ []
+    ∷ found (key blues 2) ∷ found (key reds 3) ∷ []
 unfolding effect image_of
 reds_and_blues_answers = refl
 
 reds_and_blues_lists : (run mixed 10 1 reds_and_blues).lists
     ≡ ((Rec (key bins 1), key reds 1 ∷ key blues 1 ∷ key reds 2 ∷ key blues 2 ∷ key reds 3 ∷ []) ∷ [])
-      ∷ []
+    ∷ []
 unfolding effect image_of
 reds_and_blues_lists = refl
 
@@ -49,9 +49,9 @@ in_a_set =
 
 in_a_set_answers : drop 7 (run mixed 10 1 in_a_set).answers
     ≡ found (key blues 1) ∷ found (key blues 2) ∷ found (key reds 3) ∷ no End ∷ found (key reds 2)
-      ∷ found (key blues 1) ∷ found (key reds 1) ∷ no End ∷ no End ∷ found (key blues 2) ∷ found (key reds 2)
-      ∷ no End ∷ no End ∷ found (key reds 2) ∷ found (key reds 3) ∷ found (key reds 1) ∷ no End ∷ found (key reds 3)
-      ∷ no End ∷ found (key reds 1) ∷ found (key reds 3) ∷ []
+    ∷ found (key blues 1) ∷ found (key reds 1) ∷ no End ∷ no End ∷ found (key blues 2) ∷ found (key reds 2)
+    ∷ no End ∷ no End ∷ found (key reds 2) ∷ found (key reds 3) ∷ found (key reds 1) ∷ no End ∷ found (key reds 3)
+    ∷ no End ∷ found (key reds 1) ∷ found (key reds 3) ∷ []
 unfolding effect image_of
 in_a_set_answers = refl
 
@@ -66,8 +66,8 @@ from_the_owner =
 
 from_the_owner_answers : drop 7 (run mixed 10 1 from_the_owner).answers
     ≡ found (key bins 1) ∷ found (key blues 1) ∷ found (key bins 1) ∷ found (key blues 2) ∷ found (key bins 1)
-      ∷ found (key reds 3) ∷ found (key bins 1) ∷ found (key reds 1) ∷ found (key reds 1) ∷ found (key blues 2)
-      ∷ found (key blues 2) ∷ found (key blues 2) ∷ []
+    ∷ found (key reds 3) ∷ found (key bins 1) ∷ found (key reds 1) ∷ found (key reds 1) ∷ found (key blues 2)
+    ∷ found (key blues 2) ∷ found (key blues 2) ∷ []
 unfolding effect image_of
 from_the_owner_answers = refl
 
@@ -82,14 +82,14 @@ from_a_lost_position =
 
 from_a_lost_position_answers : drop 7 (run mixed 10 1 from_a_lost_position).answers
     ≡ found (key reds 2) ∷ done ∷ no PositionLost ∷ no PositionLost ∷ found (key blues 1) ∷ found (key reds 2)
-      ∷ found (key blues 2) ∷ found (key reds 3) ∷ done ∷ found (key reds 3) ∷ no PositionLost ∷ done
-      ∷ found (key blues 2) ∷ []
+    ∷ found (key blues 2) ∷ found (key reds 3) ∷ done ∷ found (key reds 3) ∷ no PositionLost ∷ done
+    ∷ found (key blues 2) ∷ []
 unfolding effect image_of
 from_a_lost_position_answers = refl
 
 from_a_lost_position_lists : (run mixed 10 1 from_a_lost_position).lists
     ≡ ((Rec (key bins 1), key reds 1 ∷ key blues 1 ∷ key blues 2 ∷ key reds 3 ∷ []) ∷ [])
-      ∷ []
+    ∷ []
 unfolding effect image_of
 from_a_lost_position_lists = refl
 
@@ -108,9 +108,9 @@ in_an_area =
 
 in_an_area_answers : drop 7 (run mixed 10 1 in_an_area).answers
     ≡ found (key bins 1) ∷ no End ∷ found (key reds 1) ∷ found (key blues 1) ∷ found (key reds 3)
-      ∷ found (key reds 2) ∷ no End ∷ found (key bins 1) ∷ found (key blues 2) ∷ no End ∷ found (key reds 3)
-      ∷ found (key reds 1) ∷ found (key blues 1) ∷ found (key reds 3) ∷ found (key reds 1) ∷ no End
-      ∷ found (key blues 2) ∷ no End ∷ found (key blues 1) ∷ []
+    ∷ found (key reds 2) ∷ no End ∷ found (key bins 1) ∷ found (key blues 2) ∷ no End ∷ found (key reds 3)
+    ∷ found (key reds 1) ∷ found (key blues 1) ∷ found (key reds 3) ∷ found (key reds 1) ∷ no End
+    ∷ found (key blues 2) ∷ no End ∷ found (key blues 1) ∷ []
 unfolding effect image_of
 in_an_area_answers = refl
 
@@ -129,9 +129,9 @@ by_two_items =
 
 by_two_items_answers : (run desk 10 1 by_two_items).answers
     ≡ done ∷ found (key desks 1) ∷ found (key notes 1) ∷ done ∷ found (key notes 2) ∷ done ∷ found (key notes 3)
-      ∷ done ∷ found (key notes 4) ∷ no DuplicatesNotAllowed ∷ found (key notes 3) ∷ no NoneSatisfies
-      ∷ found (key notes 3) ∷ found (key notes 4) ∷ no End ∷ done ∷ no End ∷ found (key notes 2)
-      ∷ found (key notes 4) ∷ no NoneSatisfies ∷ no DuplicatesNotAllowed ∷ found (key desks 2)
-      ∷ no DuplicatesNotAllowed ∷ done ∷ found (key desks 2) ∷ []
+    ∷ done ∷ found (key notes 4) ∷ no DuplicatesNotAllowed ∷ found (key notes 3) ∷ no NoneSatisfies
+    ∷ found (key notes 3) ∷ found (key notes 4) ∷ no End ∷ done ∷ no End ∷ found (key notes 2)
+    ∷ found (key notes 4) ∷ no NoneSatisfies ∷ no DuplicatesNotAllowed ∷ found (key desks 2)
+    ∷ no DuplicatesNotAllowed ∷ done ∷ found (key desks 2) ∷ []
 unfolding effect image_of
 by_two_items_answers = refl

@@ -20,23 +20,23 @@ pub before_the_delete : run shop 100 1 (by 1 (
     ∷ store items (text "    " ∷ Num 2 ∷ []) ∷ find (OwnerOf lines) ∷ []))
     ≡ record {
       answers =
-        done ∷ done ∷ found (customer_key 1) ∷ found (ordr_key 1) ∷ found (item_key 1) ∷ done ∷ found (item_key 2)
-        ∷ found (ordr_key 1) ∷ [];
+          done ∷ done ∷ found (customer_key 1) ∷ found (ordr_key 1) ∷ found (item_key 1) ∷ done ∷ found (item_key 2)
+          ∷ found (ordr_key 1) ∷ [];
       records =
-        (customer_key 1, Num 7 ∷ text "ADA     " ∷ []) ∷ (ordr_key 1, Num 1 ∷ [])
-        ∷ (item_key 1, text "    " ∷ Num 1 ∷ []) ∷ (item_key 2, text "    " ∷ Num 2 ∷ []) ∷ [];
+          (customer_key 1, Num 7 ∷ text "ADA     " ∷ []) ∷ (ordr_key 1, Num 1 ∷ [])
+          ∷ (item_key 1, text "    " ∷ Num 1 ∷ []) ∷ (item_key 2, text "    " ∷ Num 2 ∷ []) ∷ [];
       lists =
-        ((Rec (customer_key 1), ordr_key 1 ∷ []) ∷ [])
-        ∷ ((Rec (ordr_key 1), item_key 1 ∷ item_key 2 ∷ []) ∷ [])
-        ∷ ((System, item_key 1 ∷ []) ∷ [])
-        ∷ [];
+          ((Rec (customer_key 1), ordr_key 1 ∷ []) ∷ [])
+          ∷ ((Rec (ordr_key 1), item_key 1 ∷ item_key 2 ∷ []) ∷ [])
+          ∷ ((System, item_key 1 ∷ []) ∷ [])
+          ∷ [];
       next = 2 ∷ 2 ∷ 3 ∷ [];
       usage = ((1, Update) ∷ []) ∷ ((1, Update) ∷ []) ∷ [];
       units =
-        unit 1 (Some (ordr_key 1)) (Some (customer_key 1) ∷ Some (ordr_key 1) ∷ Some (item_key 2) ∷ [])
+          unit 1 (Some (ordr_key 1)) (Some (customer_key 1) ∷ Some (ordr_key 1) ∷ Some (item_key 2) ∷ [])
           (member (customer_key 1) (ordr_key 1) ∷ owner_itself (ordr_key 1) ∷ member_of_system (item_key 1) ∷ [])
           (Some (ordr_key 1) ∷ Some (item_key 2) ∷ []) (Some Update ∷ Some Update ∷ []) ([])
-        ∷ [];
+          ∷ [];
     }
 unfolding effect image_of
 before_the_delete = refl
@@ -48,23 +48,23 @@ pub delete_only : run shop 100 1 (by 1 (
     ∷ store items (text "    " ∷ Num 2 ∷ []) ∷ find (OwnerOf lines) ∷ Delete Only ∷ []))
     ≡ record {
       answers =
-        done ∷ done ∷ found (customer_key 1) ∷ found (ordr_key 1) ∷ found (item_key 1) ∷ done ∷ found (item_key 2)
-        ∷ found (ordr_key 1) ∷ done ∷ [];
+          done ∷ done ∷ found (customer_key 1) ∷ found (ordr_key 1) ∷ found (item_key 1) ∷ done ∷ found (item_key 2)
+          ∷ found (ordr_key 1) ∷ done ∷ [];
       records =
-        (customer_key 1, Num 7 ∷ text "ADA     " ∷ []) ∷ (item_key 1, text "    " ∷ Num 1 ∷ [])
-        ∷ (item_key 2, text "    " ∷ Num 2 ∷ []) ∷ [];
+          (customer_key 1, Num 7 ∷ text "ADA     " ∷ []) ∷ (item_key 1, text "    " ∷ Num 1 ∷ [])
+          ∷ (item_key 2, text "    " ∷ Num 2 ∷ []) ∷ [];
       lists =
-        ((Rec (customer_key 1), []) ∷ [])
-        ∷ ([])
-        ∷ ((System, item_key 1 ∷ []) ∷ [])
-        ∷ [];
+          ((Rec (customer_key 1), []) ∷ [])
+          ∷ ([])
+          ∷ ((System, item_key 1 ∷ []) ∷ [])
+          ∷ [];
       next = 2 ∷ 1 ∷ 3 ∷ [];
       usage = ((1, Update) ∷ []) ∷ ((1, Update) ∷ []) ∷ [];
       units =
-        unit 1 None (Some (customer_key 1) ∷ Some (ordr_key 1) ∷ Some (item_key 2) ∷ [])
+          unit 1 None (Some (customer_key 1) ∷ Some (ordr_key 1) ∷ Some (item_key 2) ∷ [])
           (member (customer_key 1) (ordr_key 1) ∷ owner_itself (ordr_key 1) ∷ member_of_system (item_key 1) ∷ [])
           (Some (ordr_key 1) ∷ Some (item_key 2) ∷ []) (Some Update ∷ Some Update ∷ []) ([])
-        ∷ [];
+          ∷ [];
     }
 unfolding effect image_of
 delete_only = refl
@@ -76,22 +76,22 @@ pub delete_selective : run shop 100 1 (by 1 (
     ∷ store items (text "    " ∷ Num 2 ∷ []) ∷ find (OwnerOf lines) ∷ Delete Selective ∷ []))
     ≡ record {
       answers =
-        done ∷ done ∷ found (customer_key 1) ∷ found (ordr_key 1) ∷ found (item_key 1) ∷ done ∷ found (item_key 2)
-        ∷ found (ordr_key 1) ∷ done ∷ [];
+          done ∷ done ∷ found (customer_key 1) ∷ found (ordr_key 1) ∷ found (item_key 1) ∷ done ∷ found (item_key 2)
+          ∷ found (ordr_key 1) ∷ done ∷ [];
       records =
-        (customer_key 1, Num 7 ∷ text "ADA     " ∷ []) ∷ (item_key 1, text "    " ∷ Num 1 ∷ []) ∷ [];
+          (customer_key 1, Num 7 ∷ text "ADA     " ∷ []) ∷ (item_key 1, text "    " ∷ Num 1 ∷ []) ∷ [];
       lists =
-        ((Rec (customer_key 1), []) ∷ [])
-        ∷ ([])
-        ∷ ((System, item_key 1 ∷ []) ∷ [])
-        ∷ [];
+          ((Rec (customer_key 1), []) ∷ [])
+          ∷ ([])
+          ∷ ((System, item_key 1 ∷ []) ∷ [])
+          ∷ [];
       next = 2 ∷ 1 ∷ 2 ∷ [];
       usage = ((1, Update) ∷ []) ∷ ((1, Update) ∷ []) ∷ [];
       units =
-        unit 1 None (Some (customer_key 1) ∷ Some (ordr_key 1) ∷ Some (item_key 2) ∷ [])
+          unit 1 None (Some (customer_key 1) ∷ Some (ordr_key 1) ∷ Some (item_key 2) ∷ [])
           (member (customer_key 1) (ordr_key 1) ∷ owner_itself (ordr_key 1) ∷ member_of_system (item_key 1) ∷ [])
           (Some (ordr_key 1) ∷ Some (item_key 2) ∷ []) (Some Update ∷ Some Update ∷ []) ([])
-        ∷ [];
+          ∷ [];
     }
 unfolding effect image_of
 delete_selective = refl
@@ -103,22 +103,22 @@ pub delete_all : run shop 100 1 (by 1 (
     ∷ store items (text "    " ∷ Num 2 ∷ []) ∷ find (OwnerOf lines) ∷ Delete All ∷ []))
     ≡ record {
       answers =
-        done ∷ done ∷ found (customer_key 1) ∷ found (ordr_key 1) ∷ found (item_key 1) ∷ done ∷ found (item_key 2)
-        ∷ found (ordr_key 1) ∷ done ∷ [];
+          done ∷ done ∷ found (customer_key 1) ∷ found (ordr_key 1) ∷ found (item_key 1) ∷ done ∷ found (item_key 2)
+          ∷ found (ordr_key 1) ∷ done ∷ [];
       records =
-        (customer_key 1, Num 7 ∷ text "ADA     " ∷ []) ∷ [];
+          (customer_key 1, Num 7 ∷ text "ADA     " ∷ []) ∷ [];
       lists =
-        ((Rec (customer_key 1), []) ∷ [])
-        ∷ ([])
-        ∷ ((System, []) ∷ [])
-        ∷ [];
+          ((Rec (customer_key 1), []) ∷ [])
+          ∷ ([])
+          ∷ ((System, []) ∷ [])
+          ∷ [];
       next = 2 ∷ 1 ∷ 1 ∷ [];
       usage = ((1, Update) ∷ []) ∷ ((1, Update) ∷ []) ∷ [];
       units =
-        unit 1 None (Some (customer_key 1) ∷ Some (ordr_key 1) ∷ Some (item_key 2) ∷ [])
+          unit 1 None (Some (customer_key 1) ∷ Some (ordr_key 1) ∷ Some (item_key 2) ∷ [])
           (member (customer_key 1) (ordr_key 1) ∷ owner_itself (ordr_key 1) ∷ member_of_system (item_key 1) ∷ [])
           (Some (ordr_key 1) ∷ Some (item_key 2) ∷ []) (Some Update ∷ Some Update ∷ []) ([])
-        ∷ [];
+          ∷ [];
     }
 unfolding effect image_of
 delete_all = refl
@@ -130,22 +130,22 @@ pub delete_plain : run shop 100 1 (by 1 (
     ∷ find_in_set First lines ∷ Delete Plain ∷ find (OwnerOf lines) ∷ Delete Plain ∷ Get None ∷ []))
     ≡ record {
       answers =
-        done ∷ done ∷ found (customer_key 1) ∷ found (ordr_key 1) ∷ found (item_key 1) ∷ found (ordr_key 1)
-        ∷ no OwnerHasMembers ∷ found (item_key 1) ∷ done ∷ found (ordr_key 1) ∷ done ∷ no NoCurrentOfRunUnit ∷ [];
+          done ∷ done ∷ found (customer_key 1) ∷ found (ordr_key 1) ∷ found (item_key 1) ∷ found (ordr_key 1)
+          ∷ no OwnerHasMembers ∷ found (item_key 1) ∷ done ∷ found (ordr_key 1) ∷ done ∷ no NoCurrentOfRunUnit ∷ [];
       records =
-        (customer_key 1, Num 7 ∷ text "ADA     " ∷ []) ∷ [];
+          (customer_key 1, Num 7 ∷ text "ADA     " ∷ []) ∷ [];
       lists =
-        ((Rec (customer_key 1), []) ∷ [])
-        ∷ ([])
-        ∷ ((System, []) ∷ [])
-        ∷ [];
+          ((Rec (customer_key 1), []) ∷ [])
+          ∷ ([])
+          ∷ ((System, []) ∷ [])
+          ∷ [];
       next = 2 ∷ 1 ∷ 1 ∷ [];
       usage = ((1, Update) ∷ []) ∷ ((1, Update) ∷ []) ∷ [];
       units =
-        unit 1 None (Some (customer_key 1) ∷ Some (ordr_key 1) ∷ Some (item_key 1) ∷ [])
+          unit 1 None (Some (customer_key 1) ∷ Some (ordr_key 1) ∷ Some (item_key 1) ∷ [])
           (member (customer_key 1) (ordr_key 1) ∷ owner_itself (ordr_key 1) ∷ None ∷ [])
           (Some (ordr_key 1) ∷ Some (item_key 1) ∷ []) (Some Update ∷ Some Update ∷ []) ([])
-        ∷ [];
+          ∷ [];
     }
 unfolding effect image_of
 delete_plain = refl

@@ -23,24 +23,24 @@ pub number_used_again : run shop 2 1 (by 1 (
     ∷ store items (text "    " ∷ Num 0 ∷ []) ∷ []))
     ≡ record {
       answers =
-        done ∷ done ∷ found (customer_key 1) ∷ found (ordr_key 1) ∷ found (item_key 1) ∷ found (item_key 2)
-        ∷ no NoRoom ∷ found (item_key 1) ∷ done ∷ found (record (item_key 1) { generation = 2 }) ∷ [];
+          done ∷ done ∷ found (customer_key 1) ∷ found (ordr_key 1) ∷ found (item_key 1) ∷ found (item_key 2)
+          ∷ no NoRoom ∷ found (item_key 1) ∷ done ∷ found (record (item_key 1) { generation = 2 }) ∷ [];
       records =
-        (customer_key 1, Num 7 ∷ text "ADA     " ∷ []) ∷ (ordr_key 1, Num 1 ∷ [])
-        ∷ (record (item_key 1) { generation = 2 }, text "    " ∷ Num 0 ∷ []) ∷ (item_key 2, text "    " ∷ Num 0 ∷ [])
-        ∷ [];
+          (customer_key 1, Num 7 ∷ text "ADA     " ∷ []) ∷ (ordr_key 1, Num 1 ∷ [])
+          ∷ (record (item_key 1) { generation = 2 }, text "    " ∷ Num 0 ∷ []) ∷ (item_key 2, text "    " ∷ Num 0 ∷ [])
+          ∷ [];
       lists =
-        ((Rec (customer_key 1), ordr_key 1 ∷ []) ∷ [])
-        ∷ ((Rec (ordr_key 1), item_key 2 ∷ record (item_key 1) { generation = 2 } ∷ []) ∷ [])
-        ∷ ((System, []) ∷ [])
-        ∷ [];
+          ((Rec (customer_key 1), ordr_key 1 ∷ []) ∷ [])
+          ∷ ((Rec (ordr_key 1), item_key 2 ∷ record (item_key 1) { generation = 2 } ∷ []) ∷ [])
+          ∷ ((System, []) ∷ [])
+          ∷ [];
       next = 2 ∷ 2 ∷ 0 ∷ [];
       usage = ((1, Update) ∷ []) ∷ ((1, Update) ∷ []) ∷ [];
       units =
-        unit 1 (Some (record (item_key 1) { generation = 2 })) (Some (customer_key 1) ∷ Some (ordr_key 1) ∷ Some (record (item_key 1) { generation = 2 }) ∷ [])
+          unit 1 (Some (record (item_key 1) { generation = 2 })) (Some (customer_key 1) ∷ Some (ordr_key 1) ∷ Some (record (item_key 1) { generation = 2 }) ∷ [])
           (member (customer_key 1) (ordr_key 1) ∷ member (ordr_key 1) (record (item_key 1) { generation = 2 }) ∷ None ∷ [])
           (Some (ordr_key 1) ∷ Some (record (item_key 1) { generation = 2 }) ∷ []) (Some Update ∷ Some Update ∷ []) ([])
-        ∷ [];
+          ∷ [];
     }
 unfolding effect image_of
 number_used_again = refl
@@ -54,25 +54,25 @@ pub first_generation_is_gone : run shop 2 1 (by 1 (
     ∷ find (Key (record (item_key 1) { generation = 2 })) ∷ []))
     ≡ record {
       answers =
-        done ∷ done ∷ found (customer_key 1) ∷ found (ordr_key 1) ∷ found (item_key 1) ∷ found (item_key 2)
-        ∷ no NoRoom ∷ found (item_key 1) ∷ done ∷ found (record (item_key 1) { generation = 2 }) ∷ no NoneSatisfies
-        ∷ found (record (item_key 1) { generation = 2 }) ∷ [];
+          done ∷ done ∷ found (customer_key 1) ∷ found (ordr_key 1) ∷ found (item_key 1) ∷ found (item_key 2)
+          ∷ no NoRoom ∷ found (item_key 1) ∷ done ∷ found (record (item_key 1) { generation = 2 }) ∷ no NoneSatisfies
+          ∷ found (record (item_key 1) { generation = 2 }) ∷ [];
       records =
-        (customer_key 1, Num 7 ∷ text "ADA     " ∷ []) ∷ (ordr_key 1, Num 1 ∷ [])
-        ∷ (record (item_key 1) { generation = 2 }, text "    " ∷ Num 0 ∷ []) ∷ (item_key 2, text "    " ∷ Num 0 ∷ [])
-        ∷ [];
+          (customer_key 1, Num 7 ∷ text "ADA     " ∷ []) ∷ (ordr_key 1, Num 1 ∷ [])
+          ∷ (record (item_key 1) { generation = 2 }, text "    " ∷ Num 0 ∷ []) ∷ (item_key 2, text "    " ∷ Num 0 ∷ [])
+          ∷ [];
       lists =
-        ((Rec (customer_key 1), ordr_key 1 ∷ []) ∷ [])
-        ∷ ((Rec (ordr_key 1), item_key 2 ∷ record (item_key 1) { generation = 2 } ∷ []) ∷ [])
-        ∷ ((System, []) ∷ [])
-        ∷ [];
+          ((Rec (customer_key 1), ordr_key 1 ∷ []) ∷ [])
+          ∷ ((Rec (ordr_key 1), item_key 2 ∷ record (item_key 1) { generation = 2 } ∷ []) ∷ [])
+          ∷ ((System, []) ∷ [])
+          ∷ [];
       next = 2 ∷ 2 ∷ 0 ∷ [];
       usage = ((1, Update) ∷ []) ∷ ((1, Update) ∷ []) ∷ [];
       units =
-        unit 1 (Some (record (item_key 1) { generation = 2 })) (Some (customer_key 1) ∷ Some (ordr_key 1) ∷ Some (record (item_key 1) { generation = 2 }) ∷ [])
+          unit 1 (Some (record (item_key 1) { generation = 2 })) (Some (customer_key 1) ∷ Some (ordr_key 1) ∷ Some (record (item_key 1) { generation = 2 }) ∷ [])
           (member (customer_key 1) (ordr_key 1) ∷ member (ordr_key 1) (record (item_key 1) { generation = 2 }) ∷ None ∷ [])
           (Some (ordr_key 1) ∷ Some (record (item_key 1) { generation = 2 }) ∷ []) (Some Update ∷ Some Update ∷ []) ([])
-        ∷ [];
+          ∷ [];
     }
 unfolding effect image_of
 first_generation_is_gone = refl
@@ -86,25 +86,25 @@ pub next_in_area : run shop 2 1 (by 1 (
     ∷ find_in_area Next side ∷ find_in_area Next side ∷ find_in_area Next side ∷ []))
     ≡ record {
       answers =
-        done ∷ done ∷ found (customer_key 1) ∷ found (ordr_key 1) ∷ found (item_key 1) ∷ found (item_key 2)
-        ∷ no NoRoom ∷ found (item_key 1) ∷ done ∷ found (record (item_key 1) { generation = 2 })
-        ∷ found (record (item_key 1) { generation = 2 }) ∷ found (item_key 2) ∷ no End ∷ [];
+          done ∷ done ∷ found (customer_key 1) ∷ found (ordr_key 1) ∷ found (item_key 1) ∷ found (item_key 2)
+          ∷ no NoRoom ∷ found (item_key 1) ∷ done ∷ found (record (item_key 1) { generation = 2 })
+          ∷ found (record (item_key 1) { generation = 2 }) ∷ found (item_key 2) ∷ no End ∷ [];
       records =
-        (customer_key 1, Num 7 ∷ text "ADA     " ∷ []) ∷ (ordr_key 1, Num 1 ∷ [])
-        ∷ (record (item_key 1) { generation = 2 }, text "    " ∷ Num 0 ∷ []) ∷ (item_key 2, text "    " ∷ Num 0 ∷ [])
-        ∷ [];
+          (customer_key 1, Num 7 ∷ text "ADA     " ∷ []) ∷ (ordr_key 1, Num 1 ∷ [])
+          ∷ (record (item_key 1) { generation = 2 }, text "    " ∷ Num 0 ∷ []) ∷ (item_key 2, text "    " ∷ Num 0 ∷ [])
+          ∷ [];
       lists =
-        ((Rec (customer_key 1), ordr_key 1 ∷ []) ∷ [])
-        ∷ ((Rec (ordr_key 1), item_key 2 ∷ record (item_key 1) { generation = 2 } ∷ []) ∷ [])
-        ∷ ((System, []) ∷ [])
-        ∷ [];
+          ((Rec (customer_key 1), ordr_key 1 ∷ []) ∷ [])
+          ∷ ((Rec (ordr_key 1), item_key 2 ∷ record (item_key 1) { generation = 2 } ∷ []) ∷ [])
+          ∷ ((System, []) ∷ [])
+          ∷ [];
       next = 2 ∷ 2 ∷ 0 ∷ [];
       usage = ((1, Update) ∷ []) ∷ ((1, Update) ∷ []) ∷ [];
       units =
-        unit 1 (Some (item_key 2)) (Some (customer_key 1) ∷ Some (ordr_key 1) ∷ Some (item_key 2) ∷ [])
+          unit 1 (Some (item_key 2)) (Some (customer_key 1) ∷ Some (ordr_key 1) ∷ Some (item_key 2) ∷ [])
           (member (customer_key 1) (ordr_key 1) ∷ member (ordr_key 1) (item_key 2) ∷ None ∷ [])
           (Some (ordr_key 1) ∷ Some (item_key 2) ∷ []) (Some Update ∷ Some Update ∷ []) ([])
-        ∷ [];
+          ∷ [];
     }
 unfolding effect image_of
 next_in_area = refl
@@ -128,10 +128,10 @@ pub spent_number : run card 1 1 (by 1 (OpenArea main Update ∷ again_and_again 
       next = 0 ∷ [];
       usage = ((1, Update) ∷ []) ∷ [];
       units =
-        unit 1 None (Some (record (customer_key 1) { generation = 255 }) ∷ [])
+          unit 1 None (Some (record (customer_key 1) { generation = 255 }) ∷ [])
           ([])
           (Some (record (customer_key 1) { generation = 255 }) ∷ []) (Some Update ∷ []) ([])
-        ∷ [];
+          ∷ [];
     }
 unfolding effect image_of
 spent_number = refl

@@ -20,8 +20,8 @@ use Rattle.dbtg_unit.proofs.Rows.Words.{by, find, modify, store, customer_key, i
 abbrev pub items_in_sets : State
 items_in_sets =
     state_after shop 10 (opening_state shop 1) (by 1 (
-      OpenArea main Update ∷ OpenArea side Update ∷ store customers (Num 7 ∷ text "ADA     " ∷ []) ∷ store orders (Num 1 ∷ [])
-      ∷ store items (text "A   " ∷ Num 1 ∷ []) ∷ store items (text "B   " ∷ Num 2 ∷ []) ∷ Insert watch ∷ []))
+    OpenArea main Update ∷ OpenArea side Update ∷ store customers (Num 7 ∷ text "ADA     " ∷ []) ∷ store orders (Num 1 ∷ [])
+    ∷ store items (text "A   " ∷ Num 1 ∷ []) ∷ store items (text "B   " ∷ Num 2 ∷ []) ∷ Insert watch ∷ []))
 
 -- what no statement would have noted
 abbrev pub before : List (Option Owner)

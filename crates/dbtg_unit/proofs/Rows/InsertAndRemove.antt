@@ -17,23 +17,23 @@ pub classes_of_members : run shop 100 1 (by 1 (
     ∷ Remove lines ∷ Insert has ∷ []))
     ≡ record {
       answers =
-        done ∷ done ∷ found (customer_key 1) ∷ found (ordr_key 1) ∷ no Mandatory ∷ no MandatoryAutomatic
-        ∷ found (item_key 1) ∷ done ∷ no NotMember ∷ no OtherRecordType ∷ [];
+          done ∷ done ∷ found (customer_key 1) ∷ found (ordr_key 1) ∷ no Mandatory ∷ no MandatoryAutomatic
+          ∷ found (item_key 1) ∷ done ∷ no NotMember ∷ no OtherRecordType ∷ [];
       records =
-        (customer_key 1, Num 7 ∷ text "ADA     " ∷ []) ∷ (ordr_key 1, Num 1 ∷ [])
-        ∷ (item_key 1, text "A   " ∷ Num 5 ∷ []) ∷ [];
+          (customer_key 1, Num 7 ∷ text "ADA     " ∷ []) ∷ (ordr_key 1, Num 1 ∷ [])
+          ∷ (item_key 1, text "A   " ∷ Num 5 ∷ []) ∷ [];
       lists =
-        ((Rec (customer_key 1), ordr_key 1 ∷ []) ∷ [])
-        ∷ ((Rec (ordr_key 1), []) ∷ [])
-        ∷ ((System, []) ∷ [])
-        ∷ [];
+          ((Rec (customer_key 1), ordr_key 1 ∷ []) ∷ [])
+          ∷ ((Rec (ordr_key 1), []) ∷ [])
+          ∷ ((System, []) ∷ [])
+          ∷ [];
       next = 2 ∷ 2 ∷ 2 ∷ [];
       usage = ((1, Update) ∷ []) ∷ ((1, Update) ∷ []) ∷ [];
       units =
-        unit 1 (Some (item_key 1)) (Some (customer_key 1) ∷ Some (ordr_key 1) ∷ Some (item_key 1) ∷ [])
+          unit 1 (Some (item_key 1)) (Some (customer_key 1) ∷ Some (ordr_key 1) ∷ Some (item_key 1) ∷ [])
           (member (customer_key 1) (ordr_key 1) ∷ member (ordr_key 1) (item_key 1) ∷ None ∷ [])
           (Some (ordr_key 1) ∷ Some (item_key 1) ∷ []) (Some Update ∷ Some Update ∷ []) ([])
-        ∷ [];
+          ∷ [];
     }
 unfolding effect image_of
 classes_of_members = refl

@@ -17,21 +17,21 @@ pub kept_then_changed : run card 100 2 (by 1 (
     OpenArea main Update ∷ find (Key (customer_key 1)) ∷ modify customers 1 (text "EVE     ") ∷ []))
     ≡ record {
       answers =
-        done ∷ found (customer_key 1) ∷ done ∷ done ∷ found (customer_key 1) ∷ done ∷ [];
+          done ∷ found (customer_key 1) ∷ done ∷ done ∷ found (customer_key 1) ∷ done ∷ [];
       records =
-        (customer_key 1, Num 7 ∷ text "EVE     " ∷ []) ∷ [];
+          (customer_key 1, Num 7 ∷ text "EVE     " ∷ []) ∷ [];
       lists =
-        [];
+          [];
       next = 2 ∷ [];
       usage = ((1, Update) ∷ (2, Update) ∷ []) ∷ [];
       units =
-        unit 1 (Some (customer_key 1)) (Some (customer_key 1) ∷ [])
+          unit 1 (Some (customer_key 1)) (Some (customer_key 1) ∷ [])
           ([])
           (Some (customer_key 1) ∷ []) (Some Update ∷ []) ((customer_key 1, 1) ∷ [])
-        ∷ unit 2 (Some (customer_key 1)) (Some (customer_key 1) ∷ [])
+          ∷ unit 2 (Some (customer_key 1)) (Some (customer_key 1) ∷ [])
           ([])
           (Some (customer_key 1) ∷ []) (Some Update ∷ []) ([])
-        ∷ [];
+          ∷ [];
     }
 unfolding effect image_of
 kept_then_changed = refl
@@ -46,22 +46,22 @@ pub changed_by_another : run card 100 2 (by 1 (
     ∷ modify customers 0 (Num 8) ∷ Free false ∷ Free false ∷ Free true ∷ []))
     ≡ record {
       answers =
-        done ∷ found (customer_key 1) ∷ done ∷ done ∷ found (customer_key 1) ∷ done ∷ no ChangedByAnother
-        ∷ got (customer_key 1) (Num 7 ∷ text "EVE     " ∷ []) ∷ done ∷ done ∷ done ∷ done ∷ no NotKept ∷ done ∷ [];
+          done ∷ found (customer_key 1) ∷ done ∷ done ∷ found (customer_key 1) ∷ done ∷ no ChangedByAnother
+          ∷ got (customer_key 1) (Num 7 ∷ text "EVE     " ∷ []) ∷ done ∷ done ∷ done ∷ done ∷ no NotKept ∷ done ∷ [];
       records =
-        (customer_key 1, Num 8 ∷ text "BOB     " ∷ []) ∷ [];
+          (customer_key 1, Num 8 ∷ text "BOB     " ∷ []) ∷ [];
       lists =
-        [];
+          [];
       next = 2 ∷ [];
       usage = ((1, Update) ∷ (2, Update) ∷ []) ∷ [];
       units =
-        unit 1 (Some (customer_key 1)) (Some (customer_key 1) ∷ [])
+          unit 1 (Some (customer_key 1)) (Some (customer_key 1) ∷ [])
           ([])
           (Some (customer_key 1) ∷ []) (Some Update ∷ []) ([])
-        ∷ unit 2 (Some (customer_key 1)) (Some (customer_key 1) ∷ [])
+          ∷ unit 2 (Some (customer_key 1)) (Some (customer_key 1) ∷ [])
           ([])
           (Some (customer_key 1) ∷ []) (Some Update ∷ []) ([])
-        ∷ [];
+          ∷ [];
     }
 unfolding effect image_of
 changed_by_another = refl

@@ -27,32 +27,32 @@ leaves_in_two_lists =
 
 leaves_in_two_lists_answers : (run tree 4 1 leaves_in_two_lists).answers
     ≡ done ∷ found (key roots 1) ∷ found (key branches 1) ∷ found (key leaves 1) ∷ found (key leaves 2) ∷ done
-      ∷ found (key leaves 3) ∷ done ∷ no Mandatory ∷ found (key leaves 4) ∷ done ∷ done ∷ done
-      ∷ found (key leaves 2) ∷ done ∷ found (key leaves 1) ∷ done ∷ found (key branches 1) ∷ done
-      ∷ found (key roots 1) ∷ done ∷ []
+    ∷ found (key leaves 3) ∷ done ∷ no Mandatory ∷ found (key leaves 4) ∷ done ∷ done ∷ done
+    ∷ found (key leaves 2) ∷ done ∷ found (key leaves 1) ∷ done ∷ found (key branches 1) ∷ done
+    ∷ found (key roots 1) ∷ done ∷ []
 unfolding effect image_of
 leaves_in_two_lists_answers = refl
 
 leaves_in_two_lists_lists : (run tree 4 1 leaves_in_two_lists).lists
     ≡ ((Rec (key roots 1), key branches 1 ∷ []) ∷ [])
-      ∷ ((Rec (key branches 1), key leaves 1 ∷ key leaves 2 ∷ key leaves 3 ∷ []) ∷ [])
-      ∷ ((Rec (key roots 1), key leaves 2 ∷ key leaves 4 ∷ []) ∷ [])
-      ∷ ((Rec (key branches 1), key leaves 3 ∷ []) ∷ [])
-      ∷ []
+    ∷ ((Rec (key branches 1), key leaves 1 ∷ key leaves 2 ∷ key leaves 3 ∷ []) ∷ [])
+    ∷ ((Rec (key roots 1), key leaves 2 ∷ key leaves 4 ∷ []) ∷ [])
+    ∷ ((Rec (key branches 1), key leaves 3 ∷ []) ∷ [])
+    ∷ []
 unfolding effect image_of
 leaves_in_two_lists_lists = refl
 
 leaves_in_two_lists_units : (run tree 4 1 leaves_in_two_lists).units
     ≡ unit 1 (Some (key roots 1)) (Some (key roots 1) ∷ Some (key branches 1) ∷ Some (key leaves 1) ∷ [])
-          (owner_itself (key roots 1) ∷ owner_itself (key branches 1) ∷ owner_itself (key roots 1) ∷ owner_itself (key branches 1) ∷ [])
-          (Some (key roots 1) ∷ []) (Some Update ∷ []) ((key roots 1, 1) ∷ (key branches 1, 1) ∷ (key leaves 1, 1) ∷ (key leaves 2, 2) ∷ (key leaves 4, 3) ∷ [])
-      ∷ []
+    (owner_itself (key roots 1) ∷ owner_itself (key branches 1) ∷ owner_itself (key roots 1) ∷ owner_itself (key branches 1) ∷ [])
+    (Some (key roots 1) ∷ []) (Some Update ∷ []) ((key roots 1, 1) ∷ (key branches 1, 1) ∷ (key leaves 1, 1) ∷ (key leaves 2, 2) ∷ (key leaves 4, 3) ∷ [])
+    ∷ []
 unfolding effect image_of
 leaves_in_two_lists_units = refl
 
 leaves_in_two_lists_versions : (image_of tree 4 (state_after tree 4 (opening_state tree 1) leaves_in_two_lists).database).versions
     ≡ (key roots 1, 1) ∷ (key branches 1, 1) ∷ (key leaves 1, 1) ∷ (key leaves 2, 2) ∷ (key leaves 3, 2)
-      ∷ (key leaves 4, 3) ∷ []
+    ∷ (key leaves 4, 3) ∷ []
 unfolding effect image_of
 leaves_in_two_lists_versions = refl
 
@@ -69,15 +69,15 @@ plain_is_refused_answers = refl
 
 plain_is_refused_units : (run tree 4 1 plain_is_refused).units
     ≡ unit 1 (Some (key roots 1)) (Some (key roots 1) ∷ Some (key branches 1) ∷ Some (key leaves 1) ∷ [])
-          (owner_itself (key roots 1) ∷ owner_itself (key branches 1) ∷ owner_itself (key roots 1) ∷ owner_itself (key branches 1) ∷ [])
-          (Some (key roots 1) ∷ []) (Some Update ∷ []) ((key roots 1, 1) ∷ (key branches 1, 1) ∷ (key leaves 1, 1) ∷ (key leaves 2, 2) ∷ (key leaves 4, 3) ∷ [])
-      ∷ []
+    (owner_itself (key roots 1) ∷ owner_itself (key branches 1) ∷ owner_itself (key roots 1) ∷ owner_itself (key branches 1) ∷ [])
+    (Some (key roots 1) ∷ []) (Some Update ∷ []) ((key roots 1, 1) ∷ (key branches 1, 1) ∷ (key leaves 1, 1) ∷ (key leaves 2, 2) ∷ (key leaves 4, 3) ∷ [])
+    ∷ []
 unfolding effect image_of
 plain_is_refused_units = refl
 
 plain_is_refused_versions : (image_of tree 4 (state_after tree 4 (opening_state tree 1) plain_is_refused).database).versions
     ≡ (key roots 1, 1) ∷ (key branches 1, 1) ∷ (key leaves 1, 1) ∷ (key leaves 2, 2) ∷ (key leaves 3, 2)
-      ∷ (key leaves 4, 3) ∷ []
+    ∷ (key leaves 4, 3) ∷ []
 unfolding effect image_of
 plain_is_refused_versions = refl
 
@@ -95,18 +95,18 @@ only_takes_mandatory_answers = refl
 
 only_takes_mandatory_lists : (run tree 4 1 only_takes_mandatory).lists
     ≡ ([])
-      ∷ ([])
-      ∷ ([])
-      ∷ ([])
-      ∷ []
+    ∷ ([])
+    ∷ ([])
+    ∷ ([])
+    ∷ []
 unfolding effect image_of
 only_takes_mandatory_lists = refl
 
 only_takes_mandatory_units : (run tree 4 1 only_takes_mandatory).units
     ≡ unit 1 None (Some (key roots 1) ∷ Some (key branches 1) ∷ Some (key leaves 1) ∷ [])
-          (owner_itself (key roots 1) ∷ owner_itself (key branches 1) ∷ owner_itself (key roots 1) ∷ owner_itself (key branches 1) ∷ [])
-          (Some (key roots 1) ∷ []) (Some Update ∷ []) ((key branches 1, 1) ∷ (key leaves 1, 2) ∷ (key leaves 2, 3) ∷ (key leaves 4, 4) ∷ [])
-      ∷ []
+    (owner_itself (key roots 1) ∷ owner_itself (key branches 1) ∷ owner_itself (key roots 1) ∷ owner_itself (key branches 1) ∷ [])
+    (Some (key roots 1) ∷ []) (Some Update ∷ []) ((key branches 1, 1) ∷ (key leaves 1, 2) ∷ (key leaves 2, 3) ∷ (key leaves 4, 4) ∷ [])
+    ∷ []
 unfolding effect image_of
 only_takes_mandatory_units = refl
 
@@ -138,18 +138,18 @@ selective_spares_the_shared_answers = refl
 
 selective_spares_the_shared_lists : (run tree 4 1 selective_spares_the_shared).lists
     ≡ ([])
-      ∷ ([])
-      ∷ ([])
-      ∷ ([])
-      ∷ []
+    ∷ ([])
+    ∷ ([])
+    ∷ ([])
+    ∷ []
 unfolding effect image_of
 selective_spares_the_shared_lists = refl
 
 selective_spares_the_shared_units : (run tree 4 1 selective_spares_the_shared).units
     ≡ unit 1 None (Some (key roots 1) ∷ Some (key branches 1) ∷ Some (key leaves 1) ∷ [])
-          (owner_itself (key roots 1) ∷ owner_itself (key branches 1) ∷ owner_itself (key roots 1) ∷ owner_itself (key branches 1) ∷ [])
-          (Some (key roots 1) ∷ []) (Some Update ∷ []) ((key branches 1, 1) ∷ (key leaves 1, 1) ∷ (key leaves 2, 3) ∷ (key leaves 4, 3) ∷ [])
-      ∷ []
+    (owner_itself (key roots 1) ∷ owner_itself (key branches 1) ∷ owner_itself (key roots 1) ∷ owner_itself (key branches 1) ∷ [])
+    (Some (key roots 1) ∷ []) (Some Update ∷ []) ((key branches 1, 1) ∷ (key leaves 1, 1) ∷ (key leaves 2, 3) ∷ (key leaves 4, 3) ∷ [])
+    ∷ []
 unfolding effect image_of
 selective_spares_the_shared_units = refl
 
@@ -176,18 +176,18 @@ all_takes_all_answers = refl
 
 all_takes_all_lists : (run tree 4 1 all_takes_all).lists
     ≡ ([])
-      ∷ ([])
-      ∷ ([])
-      ∷ ([])
-      ∷ []
+    ∷ ([])
+    ∷ ([])
+    ∷ ([])
+    ∷ []
 unfolding effect image_of
 all_takes_all_lists = refl
 
 all_takes_all_units : (run tree 4 1 all_takes_all).units
     ≡ unit 1 None (Some (key roots 1) ∷ Some (key branches 1) ∷ Some (key leaves 1) ∷ [])
-          (owner_itself (key roots 1) ∷ owner_itself (key branches 1) ∷ owner_itself (key roots 1) ∷ owner_itself (key branches 1) ∷ [])
-          (Some (key roots 1) ∷ []) (Some Update ∷ []) ((key branches 1, 1) ∷ (key leaves 1, 1) ∷ (key leaves 2, 2) ∷ (key leaves 4, 3) ∷ [])
-      ∷ []
+    (owner_itself (key roots 1) ∷ owner_itself (key branches 1) ∷ owner_itself (key roots 1) ∷ owner_itself (key branches 1) ∷ [])
+    (Some (key roots 1) ∷ []) (Some Update ∷ []) ((key branches 1, 1) ∷ (key leaves 1, 1) ∷ (key leaves 2, 2) ∷ (key leaves 4, 3) ∷ [])
+    ∷ []
 unfolding effect image_of
 all_takes_all_units = refl
 
@@ -214,10 +214,10 @@ one_owner_goes_answers = refl
 
 one_owner_goes_lists : (run tree 4 1 one_owner_goes).lists
     ≡ ((Rec (key roots 1), []) ∷ [])
-      ∷ ([])
-      ∷ ((Rec (key roots 1), key leaves 2 ∷ key leaves 4 ∷ []) ∷ [])
-      ∷ ([])
-      ∷ []
+    ∷ ([])
+    ∷ ((Rec (key roots 1), key leaves 2 ∷ key leaves 4 ∷ []) ∷ [])
+    ∷ ([])
+    ∷ []
 unfolding effect image_of
 one_owner_goes_lists = refl
 

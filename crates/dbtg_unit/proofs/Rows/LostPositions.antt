@@ -19,24 +19,24 @@ pub inserted_first : run shop 100 1 (by 1 (
     ∷ store items (text "C   " ∷ Num 5 ∷ []) ∷ Insert watch ∷ []))
     ≡ record {
       answers =
-        done ∷ done ∷ found (customer_key 1) ∷ found (ordr_key 1) ∷ found (item_key 1) ∷ found (item_key 2)
-        ∷ found (item_key 3) ∷ done ∷ [];
+          done ∷ done ∷ found (customer_key 1) ∷ found (ordr_key 1) ∷ found (item_key 1) ∷ found (item_key 2)
+          ∷ found (item_key 3) ∷ done ∷ [];
       records =
-        (customer_key 1, Num 7 ∷ text "ADA     " ∷ []) ∷ (ordr_key 1, Num 1 ∷ [])
-        ∷ (item_key 1, text "A   " ∷ Num 5 ∷ []) ∷ (item_key 2, text "B   " ∷ Num 5 ∷ [])
-        ∷ (item_key 3, text "C   " ∷ Num 5 ∷ []) ∷ [];
+          (customer_key 1, Num 7 ∷ text "ADA     " ∷ []) ∷ (ordr_key 1, Num 1 ∷ [])
+          ∷ (item_key 1, text "A   " ∷ Num 5 ∷ []) ∷ (item_key 2, text "B   " ∷ Num 5 ∷ [])
+          ∷ (item_key 3, text "C   " ∷ Num 5 ∷ []) ∷ [];
       lists =
-        ((Rec (customer_key 1), ordr_key 1 ∷ []) ∷ [])
-        ∷ ((Rec (ordr_key 1), item_key 1 ∷ item_key 2 ∷ item_key 3 ∷ []) ∷ [])
-        ∷ ((System, item_key 3 ∷ []) ∷ [])
-        ∷ [];
+          ((Rec (customer_key 1), ordr_key 1 ∷ []) ∷ [])
+          ∷ ((Rec (ordr_key 1), item_key 1 ∷ item_key 2 ∷ item_key 3 ∷ []) ∷ [])
+          ∷ ((System, item_key 3 ∷ []) ∷ [])
+          ∷ [];
       next = 2 ∷ 2 ∷ 4 ∷ [];
       usage = ((1, Update) ∷ []) ∷ ((1, Update) ∷ []) ∷ [];
       units =
-        unit 1 (Some (item_key 3)) (Some (customer_key 1) ∷ Some (ordr_key 1) ∷ Some (item_key 3) ∷ [])
+          unit 1 (Some (item_key 3)) (Some (customer_key 1) ∷ Some (ordr_key 1) ∷ Some (item_key 3) ∷ [])
           (member (customer_key 1) (ordr_key 1) ∷ member (ordr_key 1) (item_key 3) ∷ member_of_system (item_key 3) ∷ [])
           (Some (ordr_key 1) ∷ Some (item_key 3) ∷ []) (Some Update ∷ Some Update ∷ []) ([])
-        ∷ [];
+          ∷ [];
     }
 unfolding effect image_of
 inserted_first = refl
@@ -49,24 +49,24 @@ pub inserted_next : run shop 100 1 (by 1 (
     ∷ Insert watch ∷ []))
     ≡ record {
       answers =
-        done ∷ done ∷ found (customer_key 1) ∷ found (ordr_key 1) ∷ found (item_key 1) ∷ found (item_key 2)
-        ∷ found (item_key 3) ∷ done ∷ no AlreadyMember ∷ found (item_key 1) ∷ done ∷ [];
+          done ∷ done ∷ found (customer_key 1) ∷ found (ordr_key 1) ∷ found (item_key 1) ∷ found (item_key 2)
+          ∷ found (item_key 3) ∷ done ∷ no AlreadyMember ∷ found (item_key 1) ∷ done ∷ [];
       records =
-        (customer_key 1, Num 7 ∷ text "ADA     " ∷ []) ∷ (ordr_key 1, Num 1 ∷ [])
-        ∷ (item_key 1, text "A   " ∷ Num 5 ∷ []) ∷ (item_key 2, text "B   " ∷ Num 5 ∷ [])
-        ∷ (item_key 3, text "C   " ∷ Num 5 ∷ []) ∷ [];
+          (customer_key 1, Num 7 ∷ text "ADA     " ∷ []) ∷ (ordr_key 1, Num 1 ∷ [])
+          ∷ (item_key 1, text "A   " ∷ Num 5 ∷ []) ∷ (item_key 2, text "B   " ∷ Num 5 ∷ [])
+          ∷ (item_key 3, text "C   " ∷ Num 5 ∷ []) ∷ [];
       lists =
-        ((Rec (customer_key 1), ordr_key 1 ∷ []) ∷ [])
-        ∷ ((Rec (ordr_key 1), item_key 1 ∷ item_key 2 ∷ item_key 3 ∷ []) ∷ [])
-        ∷ ((System, item_key 3 ∷ item_key 1 ∷ []) ∷ [])
-        ∷ [];
+          ((Rec (customer_key 1), ordr_key 1 ∷ []) ∷ [])
+          ∷ ((Rec (ordr_key 1), item_key 1 ∷ item_key 2 ∷ item_key 3 ∷ []) ∷ [])
+          ∷ ((System, item_key 3 ∷ item_key 1 ∷ []) ∷ [])
+          ∷ [];
       next = 2 ∷ 2 ∷ 4 ∷ [];
       usage = ((1, Update) ∷ []) ∷ ((1, Update) ∷ []) ∷ [];
       units =
-        unit 1 (Some (item_key 1)) (Some (customer_key 1) ∷ Some (ordr_key 1) ∷ Some (item_key 1) ∷ [])
+          unit 1 (Some (item_key 1)) (Some (customer_key 1) ∷ Some (ordr_key 1) ∷ Some (item_key 1) ∷ [])
           (member (customer_key 1) (ordr_key 1) ∷ member (ordr_key 1) (item_key 1) ∷ member_of_system (item_key 1) ∷ [])
           (Some (ordr_key 1) ∷ Some (item_key 1) ∷ []) (Some Update ∷ Some Update ∷ []) ([])
-        ∷ [];
+          ∷ [];
     }
 unfolding effect image_of
 inserted_next = refl
@@ -79,24 +79,24 @@ pub taken_out : run shop 100 1 (by 1 (
     ∷ Insert watch ∷ find (Key (item_key 3)) ∷ Remove watch ∷ []))
     ≡ record {
       answers =
-        done ∷ done ∷ found (customer_key 1) ∷ found (ordr_key 1) ∷ found (item_key 1) ∷ found (item_key 2)
-        ∷ found (item_key 3) ∷ done ∷ no AlreadyMember ∷ found (item_key 1) ∷ done ∷ found (item_key 3) ∷ done ∷ [];
+          done ∷ done ∷ found (customer_key 1) ∷ found (ordr_key 1) ∷ found (item_key 1) ∷ found (item_key 2)
+          ∷ found (item_key 3) ∷ done ∷ no AlreadyMember ∷ found (item_key 1) ∷ done ∷ found (item_key 3) ∷ done ∷ [];
       records =
-        (customer_key 1, Num 7 ∷ text "ADA     " ∷ []) ∷ (ordr_key 1, Num 1 ∷ [])
-        ∷ (item_key 1, text "A   " ∷ Num 5 ∷ []) ∷ (item_key 2, text "B   " ∷ Num 5 ∷ [])
-        ∷ (item_key 3, text "C   " ∷ Num 5 ∷ []) ∷ [];
+          (customer_key 1, Num 7 ∷ text "ADA     " ∷ []) ∷ (ordr_key 1, Num 1 ∷ [])
+          ∷ (item_key 1, text "A   " ∷ Num 5 ∷ []) ∷ (item_key 2, text "B   " ∷ Num 5 ∷ [])
+          ∷ (item_key 3, text "C   " ∷ Num 5 ∷ []) ∷ [];
       lists =
-        ((Rec (customer_key 1), ordr_key 1 ∷ []) ∷ [])
-        ∷ ((Rec (ordr_key 1), item_key 1 ∷ item_key 2 ∷ item_key 3 ∷ []) ∷ [])
-        ∷ ((System, item_key 1 ∷ []) ∷ [])
-        ∷ [];
+          ((Rec (customer_key 1), ordr_key 1 ∷ []) ∷ [])
+          ∷ ((Rec (ordr_key 1), item_key 1 ∷ item_key 2 ∷ item_key 3 ∷ []) ∷ [])
+          ∷ ((System, item_key 1 ∷ []) ∷ [])
+          ∷ [];
       next = 2 ∷ 2 ∷ 4 ∷ [];
       usage = ((1, Update) ∷ []) ∷ ((1, Update) ∷ []) ∷ [];
       units =
-        unit 1 (Some (item_key 3)) (Some (customer_key 1) ∷ Some (ordr_key 1) ∷ Some (item_key 3) ∷ [])
+          unit 1 (Some (item_key 3)) (Some (customer_key 1) ∷ Some (ordr_key 1) ∷ Some (item_key 3) ∷ [])
           (member (customer_key 1) (ordr_key 1) ∷ member (ordr_key 1) (item_key 3) ∷ member_of_system (item_key 3) ∷ [])
           (Some (ordr_key 1) ∷ Some (item_key 3) ∷ []) (Some Update ∷ Some Update ∷ []) ([])
-        ∷ [];
+          ∷ [];
     }
 unfolding effect image_of
 taken_out = refl
@@ -110,25 +110,25 @@ pub position_lost : run shop 100 1 (by 1 (
     ∷ find_in_set First watch ∷ find_in_set Prior watch ∷ []))
     ≡ record {
       answers =
-        done ∷ done ∷ found (customer_key 1) ∷ found (ordr_key 1) ∷ found (item_key 1) ∷ found (item_key 2)
-        ∷ found (item_key 3) ∷ done ∷ no AlreadyMember ∷ found (item_key 1) ∷ done ∷ found (item_key 3) ∷ done
-        ∷ found (item_key 2) ∷ no PositionLost ∷ found (item_key 1) ∷ no End ∷ [];
+          done ∷ done ∷ found (customer_key 1) ∷ found (ordr_key 1) ∷ found (item_key 1) ∷ found (item_key 2)
+          ∷ found (item_key 3) ∷ done ∷ no AlreadyMember ∷ found (item_key 1) ∷ done ∷ found (item_key 3) ∷ done
+          ∷ found (item_key 2) ∷ no PositionLost ∷ found (item_key 1) ∷ no End ∷ [];
       records =
-        (customer_key 1, Num 7 ∷ text "ADA     " ∷ []) ∷ (ordr_key 1, Num 1 ∷ [])
-        ∷ (item_key 1, text "A   " ∷ Num 5 ∷ []) ∷ (item_key 2, text "B   " ∷ Num 5 ∷ [])
-        ∷ (item_key 3, text "C   " ∷ Num 5 ∷ []) ∷ [];
+          (customer_key 1, Num 7 ∷ text "ADA     " ∷ []) ∷ (ordr_key 1, Num 1 ∷ [])
+          ∷ (item_key 1, text "A   " ∷ Num 5 ∷ []) ∷ (item_key 2, text "B   " ∷ Num 5 ∷ [])
+          ∷ (item_key 3, text "C   " ∷ Num 5 ∷ []) ∷ [];
       lists =
-        ((Rec (customer_key 1), ordr_key 1 ∷ []) ∷ [])
-        ∷ ((Rec (ordr_key 1), item_key 1 ∷ item_key 2 ∷ item_key 3 ∷ []) ∷ [])
-        ∷ ((System, item_key 1 ∷ []) ∷ [])
-        ∷ [];
+          ((Rec (customer_key 1), ordr_key 1 ∷ []) ∷ [])
+          ∷ ((Rec (ordr_key 1), item_key 1 ∷ item_key 2 ∷ item_key 3 ∷ []) ∷ [])
+          ∷ ((System, item_key 1 ∷ []) ∷ [])
+          ∷ [];
       next = 2 ∷ 2 ∷ 4 ∷ [];
       usage = ((1, Update) ∷ []) ∷ ((1, Update) ∷ []) ∷ [];
       units =
-        unit 1 (Some (item_key 1)) (Some (customer_key 1) ∷ Some (ordr_key 1) ∷ Some (item_key 1) ∷ [])
+          unit 1 (Some (item_key 1)) (Some (customer_key 1) ∷ Some (ordr_key 1) ∷ Some (item_key 1) ∷ [])
           (member (customer_key 1) (ordr_key 1) ∷ member (ordr_key 1) (item_key 1) ∷ member_of_system (item_key 1) ∷ [])
           (Some (ordr_key 1) ∷ Some (item_key 1) ∷ []) (Some Update ∷ Some Update ∷ []) ([])
-        ∷ [];
+          ∷ [];
     }
 unfolding effect image_of
 position_lost = refl

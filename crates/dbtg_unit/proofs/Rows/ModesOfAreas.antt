@@ -17,7 +17,7 @@ use Rattle.dbtg_unit.proofs.Rows.Words.{by, customer_key, done, found, no, run, 
 abbrev pub beside : Mode → List (Option Answer)
 beside mode =
     flat_map (λ other. drop 1 (run shop 10 2 ((1, OpenArea main mode) ∷ (2, OpenArea main other) ∷ [])).answers)
-      (Retrieval ∷ Update ∷ ProtectedRetrieval ∷ ProtectedUpdate ∷ ExclusiveRetrieval ∷ ExclusiveUpdate ∷ [])
+    (Retrieval ∷ Update ∷ ProtectedRetrieval ∷ ProtectedUpdate ∷ ExclusiveRetrieval ∷ ExclusiveUpdate ∷ [])
 
 beside_retrieval : beside Retrieval ≡ done ∷ done ∷ done ∷ done ∷ no UsageConflict ∷ no UsageConflict ∷ []
 unfolding effect image_of
@@ -64,7 +64,7 @@ in_order_of_opening_usage = refl
 
 -- records are changed in the update modes alone
 update_modes : flat_map (λ mode. drop 1 (run shop 10 1 (by 1 (OpenArea main mode ∷ store customers (Num 7 ∷ text "ADA     " ∷ []) ∷ []))).answers)
-      (Retrieval ∷ Update ∷ ProtectedRetrieval ∷ ProtectedUpdate ∷ ExclusiveRetrieval ∷ ExclusiveUpdate ∷ [])
+    (Retrieval ∷ Update ∷ ProtectedRetrieval ∷ ProtectedUpdate ∷ ExclusiveRetrieval ∷ ExclusiveUpdate ∷ [])
     ≡ no UpdateModeNeeded ∷ found (customer_key 1) ∷ no UpdateModeNeeded ∷ found (customer_key 1) ∷ no UpdateModeNeeded ∷ found (customer_key 1) ∷ []
 unfolding effect image_of
 update_modes = refl

@@ -16,19 +16,19 @@ pub open_store_find_get : run card 100 1 (by 1 (
     ∷ Get None ∷ []))
     ≡ record {
       answers =
-        done ∷ found (customer_key 1) ∷ found (customer_key 1) ∷ got (customer_key 1) (Num 7 ∷ text "ADA     " ∷ [])
-        ∷ [];
+          done ∷ found (customer_key 1) ∷ found (customer_key 1) ∷ got (customer_key 1) (Num 7 ∷ text "ADA     " ∷ [])
+          ∷ [];
       records =
-        (customer_key 1, Num 7 ∷ text "ADA     " ∷ []) ∷ [];
+          (customer_key 1, Num 7 ∷ text "ADA     " ∷ []) ∷ [];
       lists =
-        [];
+          [];
       next = 2 ∷ [];
       usage = ((1, Update) ∷ []) ∷ [];
       units =
-        unit 1 (Some (customer_key 1)) (Some (customer_key 1) ∷ [])
+          unit 1 (Some (customer_key 1)) (Some (customer_key 1) ∷ [])
           ([])
           (Some (customer_key 1) ∷ []) (Some Update ∷ []) ([])
-        ∷ [];
+          ∷ [];
     }
 unfolding effect image_of
 open_store_find_get = refl
@@ -40,19 +40,19 @@ pub calc_value_is_unique : run card 100 1 (by 1 (
     ∷ []))
     ≡ record {
       answers =
-        done ∷ found (customer_key 1) ∷ found (customer_key 1) ∷ got (customer_key 1) (Num 7 ∷ text "ADA     " ∷ [])
-        ∷ no DuplicatesNotAllowed ∷ found (customer_key 2) ∷ [];
+          done ∷ found (customer_key 1) ∷ found (customer_key 1) ∷ got (customer_key 1) (Num 7 ∷ text "ADA     " ∷ [])
+          ∷ no DuplicatesNotAllowed ∷ found (customer_key 2) ∷ [];
       records =
-        (customer_key 1, Num 7 ∷ text "ADA     " ∷ []) ∷ (customer_key 2, Num 8 ∷ text "        " ∷ []) ∷ [];
+          (customer_key 1, Num 7 ∷ text "ADA     " ∷ []) ∷ (customer_key 2, Num 8 ∷ text "        " ∷ []) ∷ [];
       lists =
-        [];
+          [];
       next = 3 ∷ [];
       usage = ((1, Update) ∷ []) ∷ [];
       units =
-        unit 1 (Some (customer_key 2)) (Some (customer_key 2) ∷ [])
+          unit 1 (Some (customer_key 2)) (Some (customer_key 2) ∷ [])
           ([])
           (Some (customer_key 2) ∷ []) (Some Update ∷ []) ([])
-        ∷ [];
+          ∷ [];
     }
 unfolding effect image_of
 calc_value_is_unique = refl
@@ -63,18 +63,18 @@ pub retrieval_mode : run card 100 1 (by 1 (
     ∷ CloseArea main ∷ CloseArea main ∷ []))
     ≡ record {
       answers =
-        done ∷ no UpdateModeNeeded ∷ no NoneSatisfies ∷ done ∷ no AreaNotOpen ∷ [];
+          done ∷ no UpdateModeNeeded ∷ no NoneSatisfies ∷ done ∷ no AreaNotOpen ∷ [];
       records =
-        [];
+          [];
       lists =
-        [];
+          [];
       next = 1 ∷ [];
       usage = ([]) ∷ [];
       units =
-        unit 1 None (None ∷ [])
+          unit 1 None (None ∷ [])
           ([])
           (None ∷ []) (None ∷ []) ([])
-        ∷ [];
+          ∷ [];
     }
 unfolding effect image_of
 retrieval_mode = refl

@@ -34,13 +34,13 @@ nothing_is_open =
 
 nothing_is_open_answers : (run shop 100 1 nothing_is_open).answers
     ≡ no NoCurrentOfRunUnit ∷ no NoCurrentOfRunUnit ∷ no NoCurrentOfRunUnit ∷ no NoCurrentOfRunUnit
-      ∷ no NoCurrentOfRunUnit ∷ no NoCurrentOfRunUnit ∷ no NoCurrentOfRunUnit ∷ no NoCurrentOfRunUnit ∷ done
-      ∷ no NoCurrentOfRunUnit ∷ no NoSuchCurrent ∷ no NoSuchCurrent ∷ no NoSuchCurrent ∷ no NoSuchCurrent
-      ∷ no NoSuchCurrent ∷ no NoSuchCurrent ∷ no NoSuchCurrent ∷ no NoSuchCurrent ∷ no NoSuchCurrent
-      ∷ no NoSuchCurrent ∷ no NoSuchCurrent ∷ no AreaNotOpen ∷ no AreaNotOpen ∷ no AreaNotOpen ∷ no AreaNotOpen
-      ∷ no AreaNotOpen ∷ no AreaNotOpen ∷ no AreaNotOpen ∷ no AreaNotOpen ∷ done ∷ no AreaAlreadyOpen
-      ∷ no UpdateModeNeeded ∷ no NoneSatisfies ∷ no NoneSatisfies ∷ no NoneSatisfies ∷ no End ∷ no AreaNotOpen
-      ∷ done ∷ no End ∷ no End ∷ no End ∷ []
+    ∷ no NoCurrentOfRunUnit ∷ no NoCurrentOfRunUnit ∷ no NoCurrentOfRunUnit ∷ no NoCurrentOfRunUnit ∷ done
+    ∷ no NoCurrentOfRunUnit ∷ no NoSuchCurrent ∷ no NoSuchCurrent ∷ no NoSuchCurrent ∷ no NoSuchCurrent
+    ∷ no NoSuchCurrent ∷ no NoSuchCurrent ∷ no NoSuchCurrent ∷ no NoSuchCurrent ∷ no NoSuchCurrent
+    ∷ no NoSuchCurrent ∷ no NoSuchCurrent ∷ no AreaNotOpen ∷ no AreaNotOpen ∷ no AreaNotOpen ∷ no AreaNotOpen
+    ∷ no AreaNotOpen ∷ no AreaNotOpen ∷ no AreaNotOpen ∷ no AreaNotOpen ∷ done ∷ no AreaAlreadyOpen
+    ∷ no UpdateModeNeeded ∷ no NoneSatisfies ∷ no NoneSatisfies ∷ no NoneSatisfies ∷ no End ∷ no AreaNotOpen
+    ∷ done ∷ no End ∷ no End ∷ no End ∷ []
 unfolding effect image_of
 nothing_is_open_answers = refl
 
@@ -60,11 +60,11 @@ what_the_unit_alone_decides =
 
 what_the_unit_alone_decides_answers : (run shop 100 2 what_the_unit_alone_decides).answers
     ≡ done ∷ done ∷ found (customer_key 1) ∷ found (ordr_key 1) ∷ found (item_key 1) ∷ done ∷ found (ordr_key 1)
-      ∷ no MandatoryAutomatic ∷ no Mandatory ∷ no OtherRecordType ∷ no OtherRecordType ∷ no OtherRecordType
-      ∷ no OtherRecordType ∷ no NoSuchCurrent ∷ no NoSuchCurrent ∷ no AreaNotOpen ∷ done ∷ no UpdateModeNeeded
-      ∷ found (ordr_key 1) ∷ no UpdateModeNeeded ∷ found (item_key 1) ∷ no UpdateModeNeeded ∷ no UpdateModeNeeded
-      ∷ no UpdateModeNeeded ∷ no UpdateModeNeeded ∷ done ∷ done ∷ no AreaNotOpen ∷ no OtherRecordType
-      ∷ no AreaNotOpen ∷ done ∷ no NotKept ∷ []
+    ∷ no MandatoryAutomatic ∷ no Mandatory ∷ no OtherRecordType ∷ no OtherRecordType ∷ no OtherRecordType
+    ∷ no OtherRecordType ∷ no NoSuchCurrent ∷ no NoSuchCurrent ∷ no AreaNotOpen ∷ done ∷ no UpdateModeNeeded
+    ∷ found (ordr_key 1) ∷ no UpdateModeNeeded ∷ found (item_key 1) ∷ no UpdateModeNeeded ∷ no UpdateModeNeeded
+    ∷ no UpdateModeNeeded ∷ no UpdateModeNeeded ∷ done ∷ done ∷ no AreaNotOpen ∷ no OtherRecordType
+    ∷ no AreaNotOpen ∷ done ∷ no NotKept ∷ []
 unfolding effect image_of
 what_the_unit_alone_decides_answers = refl
 
@@ -92,22 +92,22 @@ what_is_deleted =
 
 what_is_deleted_answers : (run shop 100 2 what_is_deleted).answers
     ≡ done ∷ done ∷ found (customer_key 1) ∷ found (ordr_key 1) ∷ found (item_key 1) ∷ done ∷ done ∷ done
-      ∷ found (ordr_key 1) ∷ found (item_key 1) ∷ found (ordr_key 1) ∷ done ∷ no Deleted ∷ no Deleted ∷ no Deleted
-      ∷ no Deleted ∷ no Deleted ∷ no Deleted ∷ no Deleted ∷ no Deleted ∷ no Deleted ∷ no Deleted ∷ no Deleted
-      ∷ no Deleted ∷ no Deleted ∷ no Deleted ∷ no Deleted ∷ no Deleted ∷ no Deleted ∷ no End ∷ no PositionLost
-      ∷ no End ∷ found (again (ordr_key 1) 2) ∷ no Deleted ∷ no Deleted ∷ no NoneSatisfies
-      ∷ found (again (ordr_key 1) 2) ∷ no End ∷ found (customer_key 1) ∷ []
+    ∷ found (ordr_key 1) ∷ found (item_key 1) ∷ found (ordr_key 1) ∷ done ∷ no Deleted ∷ no Deleted ∷ no Deleted
+    ∷ no Deleted ∷ no Deleted ∷ no Deleted ∷ no Deleted ∷ no Deleted ∷ no Deleted ∷ no Deleted ∷ no Deleted
+    ∷ no Deleted ∷ no Deleted ∷ no Deleted ∷ no Deleted ∷ no Deleted ∷ no Deleted ∷ no End ∷ no PositionLost
+    ∷ no End ∷ found (again (ordr_key 1) 2) ∷ no Deleted ∷ no Deleted ∷ no NoneSatisfies
+    ∷ found (again (ordr_key 1) 2) ∷ no End ∷ found (customer_key 1) ∷ []
 unfolding effect image_of
 what_is_deleted_answers = refl
 
 what_is_deleted_units : (run shop 100 2 what_is_deleted).units
     ≡ unit 1 (Some (again (ordr_key 1) 2)) (Some (customer_key 1) ∷ Some (again (ordr_key 1) 2) ∷ Some (item_key 1) ∷ [])
-          (member (customer_key 1) (again (ordr_key 1) 2) ∷ owner_itself (again (ordr_key 1) 2) ∷ member_of_system (item_key 1) ∷ [])
-          (Some (again (ordr_key 1) 2) ∷ Some (item_key 1) ∷ []) (Some Update ∷ Some Update ∷ []) ([])
-      ∷ unit 2 (Some (customer_key 1)) (Some (customer_key 1) ∷ Some (again (ordr_key 1) 2) ∷ Some (item_key 1) ∷ [])
-          (owner_itself (customer_key 1) ∷ owner_itself (again (ordr_key 1) 2) ∷ member_of_system (item_key 1) ∷ [])
-          (Some (customer_key 1) ∷ Some (item_key 1) ∷ []) (Some Update ∷ Some Update ∷ []) ([])
-      ∷ []
+    (member (customer_key 1) (again (ordr_key 1) 2) ∷ owner_itself (again (ordr_key 1) 2) ∷ member_of_system (item_key 1) ∷ [])
+    (Some (again (ordr_key 1) 2) ∷ Some (item_key 1) ∷ []) (Some Update ∷ Some Update ∷ []) ([])
+    ∷ unit 2 (Some (customer_key 1)) (Some (customer_key 1) ∷ Some (again (ordr_key 1) 2) ∷ Some (item_key 1) ∷ [])
+    (owner_itself (customer_key 1) ∷ owner_itself (again (ordr_key 1) 2) ∷ member_of_system (item_key 1) ∷ [])
+    (Some (customer_key 1) ∷ Some (item_key 1) ∷ []) (Some Update ∷ Some Update ∷ []) ([])
+    ∷ []
 unfolding effect image_of
 what_is_deleted_units = refl
 
@@ -127,7 +127,7 @@ already_member_before_deleted_owner =
 
 already_member_before_deleted_owner_answers : (run shop 10 2 already_member_before_deleted_owner).answers
     ≡ done ∷ done ∷ found (customer_key 1) ∷ found (ordr_key 1) ∷ found (item_key 1) ∷ found (ordr_key 2) ∷ done
-      ∷ done ∷ found (ordr_key 2) ∷ found (item_key 1) ∷ done ∷ no AlreadyMember ∷ done ∷ no Deleted ∷ []
+    ∷ done ∷ found (ordr_key 2) ∷ found (item_key 1) ∷ done ∷ no AlreadyMember ∷ done ∷ no Deleted ∷ []
 unfolding effect image_of
 already_member_before_deleted_owner_answers = refl
 
@@ -145,7 +145,7 @@ deleted_owner_before_lost_position =
 
 deleted_owner_before_lost_position_answers : (run desk 10 2 deleted_owner_before_lost_position).answers
     ≡ done ∷ found (key desks 1) ∷ found (key tags 1) ∷ done ∷ found (key tags 1) ∷ found (key desks 1) ∷ done
-      ∷ no Deleted ∷ no Deleted ∷ no Deleted ∷ no Deleted ∷ []
+    ∷ no Deleted ∷ no Deleted ∷ no Deleted ∷ no Deleted ∷ []
 unfolding effect image_of
 deleted_owner_before_lost_position_answers = refl
 
@@ -163,10 +163,10 @@ what_the_cells_decide =
 
 what_the_cells_decide_answers : (run desk 3 1 what_the_cells_decide).answers
     ≡ done ∷ found (key desks 1) ∷ found (key tags 1) ∷ found (key desks 1) ∷ done ∷ no DuplicatesNotAllowed
-      ∷ no DuplicatesNotAllowed ∷ no Deleted ∷ found (again (key desks 1) 2) ∷ found (key tags 2) ∷ done
-      ∷ no PositionLost ∷ no DuplicatesNotAllowed ∷ no PositionLost ∷ found (again (key desks 1) 2)
-      ∷ found (key tags 3) ∷ no NoRoom ∷ no AlreadyMember ∷ found (again (key desks 1) 2) ∷ done
-      ∷ found (key tags 3) ∷ no Deleted ∷ no AlreadyMember ∷ done ∷ done ∷ no DuplicatesNotAllowed
-      ∷ no DuplicatesNotAllowed ∷ []
+    ∷ no DuplicatesNotAllowed ∷ no Deleted ∷ found (again (key desks 1) 2) ∷ found (key tags 2) ∷ done
+    ∷ no PositionLost ∷ no DuplicatesNotAllowed ∷ no PositionLost ∷ found (again (key desks 1) 2)
+    ∷ found (key tags 3) ∷ no NoRoom ∷ no AlreadyMember ∷ found (again (key desks 1) 2) ∷ done
+    ∷ found (key tags 3) ∷ no Deleted ∷ no AlreadyMember ∷ done ∷ done ∷ no DuplicatesNotAllowed
+    ∷ no DuplicatesNotAllowed ∷ []
 unfolding effect image_of
 what_the_cells_decide_answers = refl

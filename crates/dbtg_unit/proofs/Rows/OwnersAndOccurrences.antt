@@ -17,21 +17,21 @@ pub no_current_owner : run shop 100 1 (by 1 (
     OpenArea main Update ∷ store orders (Num 1 ∷ []) ∷ []))
     ≡ record {
       answers =
-        done ∷ no NoSuchCurrent ∷ [];
+          done ∷ no NoSuchCurrent ∷ [];
       records =
-        [];
+          [];
       lists =
-        ([])
-        ∷ ([])
-        ∷ ((System, []) ∷ [])
-        ∷ [];
+          ([])
+          ∷ ([])
+          ∷ ((System, []) ∷ [])
+          ∷ [];
       next = 1 ∷ 1 ∷ 1 ∷ [];
       usage = ((1, Update) ∷ []) ∷ ([]) ∷ [];
       units =
-        unit 1 None (None ∷ None ∷ None ∷ [])
+          unit 1 None (None ∷ None ∷ None ∷ [])
           (None ∷ None ∷ None ∷ [])
           (None ∷ None ∷ []) (Some Update ∷ None ∷ []) ([])
-        ∷ [];
+          ∷ [];
     }
 unfolding effect image_of
 no_current_owner = refl
@@ -42,21 +42,21 @@ pub owner_and_member : run shop 100 1 (by 1 (
     ∷ store orders (Num 1 ∷ []) ∷ []))
     ≡ record {
       answers =
-        done ∷ done ∷ found (customer_key 1) ∷ found (ordr_key 1) ∷ [];
+          done ∷ done ∷ found (customer_key 1) ∷ found (ordr_key 1) ∷ [];
       records =
-        (customer_key 1, Num 7 ∷ text "ADA     " ∷ []) ∷ (ordr_key 1, Num 1 ∷ []) ∷ [];
+          (customer_key 1, Num 7 ∷ text "ADA     " ∷ []) ∷ (ordr_key 1, Num 1 ∷ []) ∷ [];
       lists =
-        ((Rec (customer_key 1), ordr_key 1 ∷ []) ∷ [])
-        ∷ ((Rec (ordr_key 1), []) ∷ [])
-        ∷ ((System, []) ∷ [])
-        ∷ [];
+          ((Rec (customer_key 1), ordr_key 1 ∷ []) ∷ [])
+          ∷ ((Rec (ordr_key 1), []) ∷ [])
+          ∷ ((System, []) ∷ [])
+          ∷ [];
       next = 2 ∷ 2 ∷ 1 ∷ [];
       usage = ((1, Update) ∷ []) ∷ ((1, Update) ∷ []) ∷ [];
       units =
-        unit 1 (Some (ordr_key 1)) (Some (customer_key 1) ∷ Some (ordr_key 1) ∷ None ∷ [])
+          unit 1 (Some (ordr_key 1)) (Some (customer_key 1) ∷ Some (ordr_key 1) ∷ None ∷ [])
           (member (customer_key 1) (ordr_key 1) ∷ owner_itself (ordr_key 1) ∷ None ∷ [])
           (Some (ordr_key 1) ∷ None ∷ []) (Some Update ∷ Some Update ∷ []) ([])
-        ∷ [];
+          ∷ [];
     }
 unfolding effect image_of
 owner_and_member = refl
@@ -67,21 +67,21 @@ pub empty_occurrence : run shop 100 1 (by 1 (
     ∷ store orders (Num 1 ∷ []) ∷ find_in_set First lines ∷ []))
     ≡ record {
       answers =
-        done ∷ done ∷ found (customer_key 1) ∷ found (ordr_key 1) ∷ no End ∷ [];
+          done ∷ done ∷ found (customer_key 1) ∷ found (ordr_key 1) ∷ no End ∷ [];
       records =
-        (customer_key 1, Num 7 ∷ text "ADA     " ∷ []) ∷ (ordr_key 1, Num 1 ∷ []) ∷ [];
+          (customer_key 1, Num 7 ∷ text "ADA     " ∷ []) ∷ (ordr_key 1, Num 1 ∷ []) ∷ [];
       lists =
-        ((Rec (customer_key 1), ordr_key 1 ∷ []) ∷ [])
-        ∷ ((Rec (ordr_key 1), []) ∷ [])
-        ∷ ((System, []) ∷ [])
-        ∷ [];
+          ((Rec (customer_key 1), ordr_key 1 ∷ []) ∷ [])
+          ∷ ((Rec (ordr_key 1), []) ∷ [])
+          ∷ ((System, []) ∷ [])
+          ∷ [];
       next = 2 ∷ 2 ∷ 1 ∷ [];
       usage = ((1, Update) ∷ []) ∷ ((1, Update) ∷ []) ∷ [];
       units =
-        unit 1 (Some (ordr_key 1)) (Some (customer_key 1) ∷ Some (ordr_key 1) ∷ None ∷ [])
+          unit 1 (Some (ordr_key 1)) (Some (customer_key 1) ∷ Some (ordr_key 1) ∷ None ∷ [])
           (member (customer_key 1) (ordr_key 1) ∷ owner_itself (ordr_key 1) ∷ None ∷ [])
           (Some (ordr_key 1) ∷ None ∷ []) (Some Update ∷ Some Update ∷ []) ([])
-        ∷ [];
+          ∷ [];
     }
 unfolding effect image_of
 empty_occurrence = refl
@@ -92,21 +92,21 @@ pub owner_of_empty_occurrence : run shop 100 1 (by 1 (
     ∷ store orders (Num 1 ∷ []) ∷ find_in_set First lines ∷ find (OwnerOf lines) ∷ []))
     ≡ record {
       answers =
-        done ∷ done ∷ found (customer_key 1) ∷ found (ordr_key 1) ∷ no End ∷ found (ordr_key 1) ∷ [];
+          done ∷ done ∷ found (customer_key 1) ∷ found (ordr_key 1) ∷ no End ∷ found (ordr_key 1) ∷ [];
       records =
-        (customer_key 1, Num 7 ∷ text "ADA     " ∷ []) ∷ (ordr_key 1, Num 1 ∷ []) ∷ [];
+          (customer_key 1, Num 7 ∷ text "ADA     " ∷ []) ∷ (ordr_key 1, Num 1 ∷ []) ∷ [];
       lists =
-        ((Rec (customer_key 1), ordr_key 1 ∷ []) ∷ [])
-        ∷ ((Rec (ordr_key 1), []) ∷ [])
-        ∷ ((System, []) ∷ [])
-        ∷ [];
+          ((Rec (customer_key 1), ordr_key 1 ∷ []) ∷ [])
+          ∷ ((Rec (ordr_key 1), []) ∷ [])
+          ∷ ((System, []) ∷ [])
+          ∷ [];
       next = 2 ∷ 2 ∷ 1 ∷ [];
       usage = ((1, Update) ∷ []) ∷ ((1, Update) ∷ []) ∷ [];
       units =
-        unit 1 (Some (ordr_key 1)) (Some (customer_key 1) ∷ Some (ordr_key 1) ∷ None ∷ [])
+          unit 1 (Some (ordr_key 1)) (Some (customer_key 1) ∷ Some (ordr_key 1) ∷ None ∷ [])
           (member (customer_key 1) (ordr_key 1) ∷ owner_itself (ordr_key 1) ∷ None ∷ [])
           (Some (ordr_key 1) ∷ None ∷ []) (Some Update ∷ Some Update ∷ []) ([])
-        ∷ [];
+          ∷ [];
     }
 unfolding effect image_of
 owner_of_empty_occurrence = refl

@@ -19,25 +19,25 @@ pub moved_behind_its_equal : run shop 100 1 (by 1 (
     ∷ find_in_set Next lines ∷ []))
     ≡ record {
       answers =
-        done ∷ done ∷ found (customer_key 1) ∷ found (ordr_key 1) ∷ found (item_key 1) ∷ found (item_key 2)
-        ∷ found (item_key 3) ∷ found (item_key 1) ∷ done ∷ got (item_key 1) (text "A   " ∷ Num 2 ∷ [])
-        ∷ found (item_key 3) ∷ [];
+          done ∷ done ∷ found (customer_key 1) ∷ found (ordr_key 1) ∷ found (item_key 1) ∷ found (item_key 2)
+          ∷ found (item_key 3) ∷ found (item_key 1) ∷ done ∷ got (item_key 1) (text "A   " ∷ Num 2 ∷ [])
+          ∷ found (item_key 3) ∷ [];
       records =
-        (customer_key 1, Num 7 ∷ text "ADA     " ∷ []) ∷ (ordr_key 1, Num 1 ∷ [])
-        ∷ (item_key 1, text "A   " ∷ Num 2 ∷ []) ∷ (item_key 2, text "B   " ∷ Num 2 ∷ [])
-        ∷ (item_key 3, text "C   " ∷ Num 3 ∷ []) ∷ [];
+          (customer_key 1, Num 7 ∷ text "ADA     " ∷ []) ∷ (ordr_key 1, Num 1 ∷ [])
+          ∷ (item_key 1, text "A   " ∷ Num 2 ∷ []) ∷ (item_key 2, text "B   " ∷ Num 2 ∷ [])
+          ∷ (item_key 3, text "C   " ∷ Num 3 ∷ []) ∷ [];
       lists =
-        ((Rec (customer_key 1), ordr_key 1 ∷ []) ∷ [])
-        ∷ ((Rec (ordr_key 1), item_key 2 ∷ item_key 1 ∷ item_key 3 ∷ []) ∷ [])
-        ∷ ((System, []) ∷ [])
-        ∷ [];
+          ((Rec (customer_key 1), ordr_key 1 ∷ []) ∷ [])
+          ∷ ((Rec (ordr_key 1), item_key 2 ∷ item_key 1 ∷ item_key 3 ∷ []) ∷ [])
+          ∷ ((System, []) ∷ [])
+          ∷ [];
       next = 2 ∷ 2 ∷ 4 ∷ [];
       usage = ((1, Update) ∷ []) ∷ ((1, Update) ∷ []) ∷ [];
       units =
-        unit 1 (Some (item_key 3)) (Some (customer_key 1) ∷ Some (ordr_key 1) ∷ Some (item_key 3) ∷ [])
+          unit 1 (Some (item_key 3)) (Some (customer_key 1) ∷ Some (ordr_key 1) ∷ Some (item_key 3) ∷ [])
           (member (customer_key 1) (ordr_key 1) ∷ member (ordr_key 1) (item_key 3) ∷ None ∷ [])
           (Some (ordr_key 1) ∷ Some (item_key 3) ∷ []) (Some Update ∷ Some Update ∷ []) ([])
-        ∷ [];
+          ∷ [];
     }
 unfolding effect image_of
 moved_behind_its_equal = refl

@@ -24,22 +24,22 @@ every_order =
 
 every_order_answers : (run shelf 10 1 every_order).answers
     ≡ done ∷ found (key shelves 1) ∷ found (key books 1) ∷ found (key books 2) ∷ found (key books 3)
-      ∷ found (key books 1) ∷ found (key books 4) ∷ found (key shelves 1) ∷ found (key books 5) ∷ []
+    ∷ found (key books 1) ∷ found (key books 4) ∷ found (key shelves 1) ∷ found (key books 5) ∷ []
 unfolding effect image_of
 every_order_answers = refl
 
 every_order_lists : (run shelf 10 1 every_order).lists
     ≡ ((Rec (key shelves 1), key books 5 ∷ key books 4 ∷ key books 3 ∷ key books 2 ∷ key books 1 ∷ []) ∷ [])
-      ∷ ((Rec (key shelves 1), key books 1 ∷ key books 2 ∷ key books 3 ∷ key books 4 ∷ key books 5 ∷ []) ∷ [])
-      ∷ ((Rec (key shelves 1), key books 5 ∷ key books 1 ∷ key books 4 ∷ key books 2 ∷ key books 3 ∷ []) ∷ [])
-      ∷ ((Rec (key shelves 1), key books 3 ∷ key books 2 ∷ key books 4 ∷ key books 1 ∷ key books 5 ∷ []) ∷ [])
-      ∷ ((Rec (key shelves 1), key books 5 ∷ key books 2 ∷ key books 3 ∷ key books 1 ∷ key books 4 ∷ []) ∷ [])
-      ∷ ((Rec (key shelves 1), key books 2 ∷ key books 5 ∷ key books 1 ∷ key books 3 ∷ key books 4 ∷ []) ∷ [])
-      ∷ ((Rec (key shelves 1), []) ∷ [])
-      ∷ ((Rec (key shelves 1), key books 4 ∷ key books 3 ∷ key books 1 ∷ key books 5 ∷ key books 2 ∷ []) ∷ [])
-      ∷ ((Rec (key shelves 1), key books 4 ∷ key books 1 ∷ key books 3 ∷ key books 2 ∷ key books 5 ∷ []) ∷ [])
-      ∷ ((Rec (key shelves 1), []) ∷ [])
-      ∷ []
+    ∷ ((Rec (key shelves 1), key books 1 ∷ key books 2 ∷ key books 3 ∷ key books 4 ∷ key books 5 ∷ []) ∷ [])
+    ∷ ((Rec (key shelves 1), key books 5 ∷ key books 1 ∷ key books 4 ∷ key books 2 ∷ key books 3 ∷ []) ∷ [])
+    ∷ ((Rec (key shelves 1), key books 3 ∷ key books 2 ∷ key books 4 ∷ key books 1 ∷ key books 5 ∷ []) ∷ [])
+    ∷ ((Rec (key shelves 1), key books 5 ∷ key books 2 ∷ key books 3 ∷ key books 1 ∷ key books 4 ∷ []) ∷ [])
+    ∷ ((Rec (key shelves 1), key books 2 ∷ key books 5 ∷ key books 1 ∷ key books 3 ∷ key books 4 ∷ []) ∷ [])
+    ∷ ((Rec (key shelves 1), []) ∷ [])
+    ∷ ((Rec (key shelves 1), key books 4 ∷ key books 3 ∷ key books 1 ∷ key books 5 ∷ key books 2 ∷ []) ∷ [])
+    ∷ ((Rec (key shelves 1), key books 4 ∷ key books 1 ∷ key books 3 ∷ key books 2 ∷ key books 5 ∷ []) ∷ [])
+    ∷ ((Rec (key shelves 1), []) ∷ [])
+    ∷ []
 unfolding effect image_of
 every_order_lists = refl
 
@@ -53,22 +53,22 @@ no_equal_ranks =
 
 no_equal_ranks_answers : drop 9 (run shelf 10 1 no_equal_ranks).answers
     ≡ found (key books 1) ∷ done ∷ done ∷ found (key books 2) ∷ done ∷ done ∷ found (key books 3)
-      ∷ no DuplicatesNotAllowed ∷ no DuplicatesNotAllowed ∷ found (key books 4) ∷ done ∷ done ∷ []
+    ∷ no DuplicatesNotAllowed ∷ no DuplicatesNotAllowed ∷ found (key books 4) ∷ done ∷ done ∷ []
 unfolding effect image_of
 no_equal_ranks_answers = refl
 
 no_equal_ranks_lists : (run shelf 10 1 no_equal_ranks).lists
     ≡ ((Rec (key shelves 1), key books 5 ∷ key books 4 ∷ key books 3 ∷ key books 2 ∷ key books 1 ∷ []) ∷ [])
-      ∷ ((Rec (key shelves 1), key books 1 ∷ key books 2 ∷ key books 3 ∷ key books 4 ∷ key books 5 ∷ []) ∷ [])
-      ∷ ((Rec (key shelves 1), key books 5 ∷ key books 1 ∷ key books 4 ∷ key books 2 ∷ key books 3 ∷ []) ∷ [])
-      ∷ ((Rec (key shelves 1), key books 3 ∷ key books 2 ∷ key books 4 ∷ key books 1 ∷ key books 5 ∷ []) ∷ [])
-      ∷ ((Rec (key shelves 1), key books 5 ∷ key books 2 ∷ key books 3 ∷ key books 1 ∷ key books 4 ∷ []) ∷ [])
-      ∷ ((Rec (key shelves 1), key books 2 ∷ key books 5 ∷ key books 1 ∷ key books 3 ∷ key books 4 ∷ []) ∷ [])
-      ∷ ((Rec (key shelves 1), key books 2 ∷ key books 1 ∷ key books 4 ∷ []) ∷ [])
-      ∷ ((Rec (key shelves 1), key books 4 ∷ key books 3 ∷ key books 1 ∷ key books 5 ∷ key books 2 ∷ []) ∷ [])
-      ∷ ((Rec (key shelves 1), key books 4 ∷ key books 1 ∷ key books 3 ∷ key books 2 ∷ key books 5 ∷ []) ∷ [])
-      ∷ ((Rec (key shelves 1), key books 4 ∷ key books 1 ∷ key books 2 ∷ []) ∷ [])
-      ∷ []
+    ∷ ((Rec (key shelves 1), key books 1 ∷ key books 2 ∷ key books 3 ∷ key books 4 ∷ key books 5 ∷ []) ∷ [])
+    ∷ ((Rec (key shelves 1), key books 5 ∷ key books 1 ∷ key books 4 ∷ key books 2 ∷ key books 3 ∷ []) ∷ [])
+    ∷ ((Rec (key shelves 1), key books 3 ∷ key books 2 ∷ key books 4 ∷ key books 1 ∷ key books 5 ∷ []) ∷ [])
+    ∷ ((Rec (key shelves 1), key books 5 ∷ key books 2 ∷ key books 3 ∷ key books 1 ∷ key books 4 ∷ []) ∷ [])
+    ∷ ((Rec (key shelves 1), key books 2 ∷ key books 5 ∷ key books 1 ∷ key books 3 ∷ key books 4 ∷ []) ∷ [])
+    ∷ ((Rec (key shelves 1), key books 2 ∷ key books 1 ∷ key books 4 ∷ []) ∷ [])
+    ∷ ((Rec (key shelves 1), key books 4 ∷ key books 3 ∷ key books 1 ∷ key books 5 ∷ key books 2 ∷ []) ∷ [])
+    ∷ ((Rec (key shelves 1), key books 4 ∷ key books 1 ∷ key books 3 ∷ key books 2 ∷ key books 5 ∷ []) ∷ [])
+    ∷ ((Rec (key shelves 1), key books 4 ∷ key books 1 ∷ key books 2 ∷ []) ∷ [])
+    ∷ []
 unfolding effect image_of
 no_equal_ranks_lists = refl
 
@@ -86,16 +86,16 @@ places_after_a_change_answers = refl
 
 places_after_a_change_lists : (run shelf 10 1 places_after_a_change).lists
     ≡ ((Rec (key shelves 1), key books 5 ∷ key books 4 ∷ key books 3 ∷ key books 2 ∷ key books 1 ∷ []) ∷ [])
-      ∷ ((Rec (key shelves 1), key books 1 ∷ key books 2 ∷ key books 3 ∷ key books 4 ∷ key books 5 ∷ []) ∷ [])
-      ∷ ((Rec (key shelves 1), key books 5 ∷ key books 1 ∷ key books 4 ∷ key books 2 ∷ key books 3 ∷ []) ∷ [])
-      ∷ ((Rec (key shelves 1), key books 3 ∷ key books 2 ∷ key books 4 ∷ key books 1 ∷ key books 5 ∷ []) ∷ [])
-      ∷ ((Rec (key shelves 1), key books 4 ∷ key books 5 ∷ key books 2 ∷ key books 1 ∷ key books 3 ∷ []) ∷ [])
-      ∷ ((Rec (key shelves 1), key books 4 ∷ key books 2 ∷ key books 5 ∷ key books 3 ∷ key books 1 ∷ []) ∷ [])
-      ∷ ((Rec (key shelves 1), key books 4 ∷ key books 2 ∷ key books 1 ∷ []) ∷ [])
-      ∷ ((Rec (key shelves 1), key books 1 ∷ key books 3 ∷ key books 5 ∷ key books 2 ∷ key books 4 ∷ []) ∷ [])
-      ∷ ((Rec (key shelves 1), key books 3 ∷ key books 1 ∷ key books 2 ∷ key books 5 ∷ key books 4 ∷ []) ∷ [])
-      ∷ ((Rec (key shelves 1), key books 1 ∷ key books 2 ∷ key books 4 ∷ []) ∷ [])
-      ∷ []
+    ∷ ((Rec (key shelves 1), key books 1 ∷ key books 2 ∷ key books 3 ∷ key books 4 ∷ key books 5 ∷ []) ∷ [])
+    ∷ ((Rec (key shelves 1), key books 5 ∷ key books 1 ∷ key books 4 ∷ key books 2 ∷ key books 3 ∷ []) ∷ [])
+    ∷ ((Rec (key shelves 1), key books 3 ∷ key books 2 ∷ key books 4 ∷ key books 1 ∷ key books 5 ∷ []) ∷ [])
+    ∷ ((Rec (key shelves 1), key books 4 ∷ key books 5 ∷ key books 2 ∷ key books 1 ∷ key books 3 ∷ []) ∷ [])
+    ∷ ((Rec (key shelves 1), key books 4 ∷ key books 2 ∷ key books 5 ∷ key books 3 ∷ key books 1 ∷ []) ∷ [])
+    ∷ ((Rec (key shelves 1), key books 4 ∷ key books 2 ∷ key books 1 ∷ []) ∷ [])
+    ∷ ((Rec (key shelves 1), key books 1 ∷ key books 3 ∷ key books 5 ∷ key books 2 ∷ key books 4 ∷ []) ∷ [])
+    ∷ ((Rec (key shelves 1), key books 3 ∷ key books 1 ∷ key books 2 ∷ key books 5 ∷ key books 4 ∷ []) ∷ [])
+    ∷ ((Rec (key shelves 1), key books 1 ∷ key books 2 ∷ key books 4 ∷ []) ∷ [])
+    ∷ []
 unfolding effect image_of
 places_after_a_change_lists = refl
 
@@ -110,15 +110,15 @@ words_by_their_bytes =
 
 words_by_their_bytes_answers : (run desk 10 1 words_by_their_bytes).answers
     ≡ done ∷ found (key desks 1) ∷ found (key notes 1) ∷ done ∷ found (key notes 2) ∷ done ∷ found (key notes 3)
-      ∷ done ∷ found (key notes 4) ∷ no DuplicatesNotAllowed ∷ found (key notes 3) ∷ no NoneSatisfies ∷ []
+    ∷ done ∷ found (key notes 4) ∷ no DuplicatesNotAllowed ∷ found (key notes 3) ∷ no NoneSatisfies ∷ []
 unfolding effect image_of
 words_by_their_bytes_answers = refl
 
 words_by_their_bytes_lists : (run desk 10 1 words_by_their_bytes).lists
     ≡ ((Rec (key desks 1), key notes 4 ∷ key notes 3 ∷ key notes 2 ∷ key notes 1 ∷ []) ∷ [])
-      ∷ ((System, key notes 2 ∷ key notes 3 ∷ key notes 1 ∷ []) ∷ [])
-      ∷ ((System, []) ∷ [])
-      ∷ ((Rec (key desks 1), []) ∷ [])
-      ∷ []
+    ∷ ((System, key notes 2 ∷ key notes 3 ∷ key notes 1 ∷ []) ∷ [])
+    ∷ ((System, []) ∷ [])
+    ∷ ((Rec (key desks 1), []) ∷ [])
+    ∷ []
 unfolding effect image_of
 words_by_their_bytes_lists = refl

@@ -22,15 +22,15 @@ two_watched_items =
 
 two_watched_items_answers : (run shop 10 1 two_watched_items).answers
     ≡ done ∷ done ∷ found (customer_key 1) ∷ found (ordr_key 1) ∷ found (item_key 1) ∷ done ∷ found (item_key 2)
-      ∷ done ∷ []
+    ∷ done ∷ []
 unfolding effect image_of
 two_watched_items_answers = refl
 
 two_watched_items_units : (run shop 10 1 two_watched_items).units
     ≡ unit 1 (Some (item_key 2)) (Some (customer_key 1) ∷ Some (ordr_key 1) ∷ Some (item_key 2) ∷ [])
-          (member (customer_key 1) (ordr_key 1) ∷ member (ordr_key 1) (item_key 2) ∷ member_of_system (item_key 2) ∷ [])
-          (Some (ordr_key 1) ∷ Some (item_key 2) ∷ []) (Some Update ∷ Some Update ∷ []) ([])
-      ∷ []
+    (member (customer_key 1) (ordr_key 1) ∷ member (ordr_key 1) (item_key 2) ∷ member_of_system (item_key 2) ∷ [])
+    (Some (ordr_key 1) ∷ Some (item_key 2) ∷ []) (Some Update ∷ Some Update ∷ []) ([])
+    ∷ []
 unfolding effect image_of
 two_watched_items_units = refl
 
@@ -47,9 +47,9 @@ suppress_nothing_answers = refl
 
 suppress_nothing_units : (run shop 10 1 suppress_nothing).units
     ≡ unit 1 (Some (item_key 1)) (Some (customer_key 1) ∷ Some (ordr_key 1) ∷ Some (item_key 1) ∷ [])
-          (member (customer_key 1) (ordr_key 1) ∷ member (ordr_key 1) (item_key 1) ∷ member_of_system (item_key 1) ∷ [])
-          (Some (ordr_key 1) ∷ Some (item_key 1) ∷ []) (Some Update ∷ Some Update ∷ []) ([])
-      ∷ []
+    (member (customer_key 1) (ordr_key 1) ∷ member (ordr_key 1) (item_key 1) ∷ member_of_system (item_key 1) ∷ [])
+    (Some (ordr_key 1) ∷ Some (item_key 1) ∷ []) (Some Update ∷ Some Update ∷ []) ([])
+    ∷ []
 unfolding effect image_of
 suppress_nothing_units = refl
 
@@ -66,9 +66,9 @@ suppress_record_answers = refl
 
 suppress_record_units : (run shop 10 1 suppress_record).units
     ≡ unit 1 (Some (item_key 1)) (Some (customer_key 1) ∷ Some (ordr_key 1) ∷ Some (item_key 2) ∷ [])
-          (member (customer_key 1) (ordr_key 1) ∷ member (ordr_key 1) (item_key 1) ∷ member_of_system (item_key 1) ∷ [])
-          (Some (ordr_key 1) ∷ Some (item_key 1) ∷ []) (Some Update ∷ Some Update ∷ []) ([])
-      ∷ []
+    (member (customer_key 1) (ordr_key 1) ∷ member (ordr_key 1) (item_key 1) ∷ member_of_system (item_key 1) ∷ [])
+    (Some (ordr_key 1) ∷ Some (item_key 1) ∷ []) (Some Update ∷ Some Update ∷ []) ([])
+    ∷ []
 unfolding effect image_of
 suppress_record_units = refl
 
@@ -85,9 +85,9 @@ suppress_area_answers = refl
 
 suppress_area_units : (run shop 10 1 suppress_area).units
     ≡ unit 1 (Some (item_key 1)) (Some (customer_key 1) ∷ Some (ordr_key 1) ∷ Some (item_key 1) ∷ [])
-          (member (customer_key 1) (ordr_key 1) ∷ member (ordr_key 1) (item_key 1) ∷ member_of_system (item_key 1) ∷ [])
-          (Some (ordr_key 1) ∷ Some (item_key 2) ∷ []) (Some Update ∷ Some Update ∷ []) ([])
-      ∷ []
+    (member (customer_key 1) (ordr_key 1) ∷ member (ordr_key 1) (item_key 1) ∷ member_of_system (item_key 1) ∷ [])
+    (Some (ordr_key 1) ∷ Some (item_key 2) ∷ []) (Some Update ∷ Some Update ∷ []) ([])
+    ∷ []
 unfolding effect image_of
 suppress_area_units = refl
 
@@ -104,9 +104,9 @@ suppress_one_set_answers = refl
 
 suppress_one_set_units : (run shop 10 1 suppress_one_set).units
     ≡ unit 1 (Some (item_key 1)) (Some (customer_key 1) ∷ Some (ordr_key 1) ∷ Some (item_key 1) ∷ [])
-          (member (customer_key 1) (ordr_key 1) ∷ member (ordr_key 1) (item_key 2) ∷ member_of_system (item_key 1) ∷ [])
-          (Some (ordr_key 1) ∷ Some (item_key 1) ∷ []) (Some Update ∷ Some Update ∷ []) ([])
-      ∷ []
+    (member (customer_key 1) (ordr_key 1) ∷ member (ordr_key 1) (item_key 2) ∷ member_of_system (item_key 1) ∷ [])
+    (Some (ordr_key 1) ∷ Some (item_key 1) ∷ []) (Some Update ∷ Some Update ∷ []) ([])
+    ∷ []
 unfolding effect image_of
 suppress_one_set_units = refl
 
@@ -123,9 +123,9 @@ suppress_several_answers = refl
 
 suppress_several_units : (run shop 10 1 suppress_several).units
     ≡ unit 1 (Some (item_key 1)) (Some (customer_key 1) ∷ Some (ordr_key 1) ∷ Some (item_key 1) ∷ [])
-          (member (customer_key 1) (ordr_key 1) ∷ member (ordr_key 1) (item_key 2) ∷ member_of_system (item_key 2) ∷ [])
-          (Some (ordr_key 1) ∷ Some (item_key 2) ∷ []) (Some Update ∷ Some Update ∷ []) ([])
-      ∷ []
+    (member (customer_key 1) (ordr_key 1) ∷ member (ordr_key 1) (item_key 2) ∷ member_of_system (item_key 2) ∷ [])
+    (Some (ordr_key 1) ∷ Some (item_key 2) ∷ []) (Some Update ∷ Some Update ∷ []) ([])
+    ∷ []
 unfolding effect image_of
 suppress_several_units = refl
 
@@ -142,9 +142,9 @@ suppress_all_answers = refl
 
 suppress_all_units : (run shop 10 1 suppress_all).units
     ≡ unit 1 (Some (item_key 1)) (Some (customer_key 1) ∷ Some (ordr_key 1) ∷ Some (item_key 2) ∷ [])
-          (member (customer_key 1) (ordr_key 1) ∷ member (ordr_key 1) (item_key 2) ∷ member_of_system (item_key 2) ∷ [])
-          (Some (ordr_key 1) ∷ Some (item_key 2) ∷ []) (Some Update ∷ Some Update ∷ []) ([])
-      ∷ []
+    (member (customer_key 1) (ordr_key 1) ∷ member (ordr_key 1) (item_key 2) ∷ member_of_system (item_key 2) ∷ [])
+    (Some (ordr_key 1) ∷ Some (item_key 2) ∷ []) (Some Update ∷ Some Update ∷ []) ([])
+    ∷ []
 unfolding effect image_of
 suppress_all_units = refl
 
@@ -161,9 +161,9 @@ owner_found_answers = refl
 
 owner_found_units : (run shop 10 1 owner_found).units
     ≡ unit 1 (Some (ordr_key 1)) (Some (customer_key 1) ∷ Some (ordr_key 1) ∷ Some (item_key 2) ∷ [])
-          (member (customer_key 1) (ordr_key 1) ∷ owner_itself (ordr_key 1) ∷ member_of_system (item_key 2) ∷ [])
-          (Some (ordr_key 1) ∷ Some (item_key 2) ∷ []) (Some Update ∷ Some Update ∷ []) ([])
-      ∷ []
+    (member (customer_key 1) (ordr_key 1) ∷ owner_itself (ordr_key 1) ∷ member_of_system (item_key 2) ∷ [])
+    (Some (ordr_key 1) ∷ Some (item_key 2) ∷ []) (Some Update ∷ Some Update ∷ []) ([])
+    ∷ []
 unfolding effect image_of
 owner_found_units = refl
 
@@ -180,9 +180,9 @@ owner_found_suppressed_answers = refl
 
 owner_found_suppressed_units : (run shop 10 1 owner_found_suppressed).units
     ≡ unit 1 (Some (ordr_key 1)) (Some (customer_key 1) ∷ Some (ordr_key 1) ∷ Some (item_key 2) ∷ [])
-          (member (customer_key 1) (ordr_key 1) ∷ member (ordr_key 1) (item_key 2) ∷ member_of_system (item_key 2) ∷ [])
-          (Some (ordr_key 1) ∷ Some (item_key 2) ∷ []) (Some Update ∷ Some Update ∷ []) ([])
-      ∷ []
+    (member (customer_key 1) (ordr_key 1) ∷ member (ordr_key 1) (item_key 2) ∷ member_of_system (item_key 2) ∷ [])
+    (Some (ordr_key 1) ∷ Some (item_key 2) ∷ []) (Some Update ∷ Some Update ∷ []) ([])
+    ∷ []
 unfolding effect image_of
 owner_found_suppressed_units = refl
 
@@ -200,17 +200,17 @@ store_suppressed_answers = refl
 
 store_suppressed_lists : (run shop 10 1 store_suppressed).lists
     ≡ ((Rec (customer_key 1), ordr_key 1 ∷ ordr_key 2 ∷ []) ∷ (Rec (customer_key 2), []) ∷ [])
-      ∷ ((Rec (ordr_key 1), item_key 1 ∷ item_key 2 ∷ []) ∷ (Rec (ordr_key 2), []) ∷ [])
-      ∷ ((System, item_key 1 ∷ item_key 2 ∷ []) ∷ [])
-      ∷ []
+    ∷ ((Rec (ordr_key 1), item_key 1 ∷ item_key 2 ∷ []) ∷ (Rec (ordr_key 2), []) ∷ [])
+    ∷ ((System, item_key 1 ∷ item_key 2 ∷ []) ∷ [])
+    ∷ []
 unfolding effect image_of
 store_suppressed_lists = refl
 
 store_suppressed_units : (run shop 10 1 store_suppressed).units
     ≡ unit 1 (Some (ordr_key 2)) (Some (customer_key 2) ∷ Some (ordr_key 2) ∷ Some (item_key 2) ∷ [])
-          (member (customer_key 1) (ordr_key 2) ∷ owner_itself (ordr_key 2) ∷ member_of_system (item_key 2) ∷ [])
-          (Some (ordr_key 2) ∷ Some (item_key 2) ∷ []) (Some Update ∷ Some Update ∷ []) ([])
-      ∷ []
+    (member (customer_key 1) (ordr_key 2) ∷ owner_itself (ordr_key 2) ∷ member_of_system (item_key 2) ∷ [])
+    (Some (ordr_key 2) ∷ Some (item_key 2) ∷ []) (Some Update ∷ Some Update ∷ []) ([])
+    ∷ []
 unfolding effect image_of
 store_suppressed_units = refl
 
@@ -227,16 +227,16 @@ store_all_suppressed_answers = refl
 
 store_all_suppressed_lists : (run shop 10 1 store_all_suppressed).lists
     ≡ ((Rec (customer_key 1), ordr_key 1 ∷ []) ∷ [])
-      ∷ ((Rec (ordr_key 1), item_key 3 ∷ item_key 1 ∷ item_key 2 ∷ []) ∷ [])
-      ∷ ((System, item_key 1 ∷ item_key 2 ∷ []) ∷ [])
-      ∷ []
+    ∷ ((Rec (ordr_key 1), item_key 3 ∷ item_key 1 ∷ item_key 2 ∷ []) ∷ [])
+    ∷ ((System, item_key 1 ∷ item_key 2 ∷ []) ∷ [])
+    ∷ []
 unfolding effect image_of
 store_all_suppressed_lists = refl
 
 store_all_suppressed_units : (run shop 10 1 store_all_suppressed).units
     ≡ unit 1 (Some (item_key 3)) (Some (customer_key 1) ∷ Some (ordr_key 1) ∷ Some (item_key 2) ∷ [])
-          (member (customer_key 1) (ordr_key 1) ∷ member (ordr_key 1) (item_key 2) ∷ member_of_system (item_key 2) ∷ [])
-          (Some (ordr_key 1) ∷ Some (item_key 2) ∷ []) (Some Update ∷ Some Update ∷ []) ([])
-      ∷ []
+    (member (customer_key 1) (ordr_key 1) ∷ member (ordr_key 1) (item_key 2) ∷ member_of_system (item_key 2) ∷ [])
+    (Some (ordr_key 1) ∷ Some (item_key 2) ∷ []) (Some Update ∷ Some Update ∷ []) ([])
+    ∷ []
 unfolding effect image_of
 store_all_suppressed_units = refl

@@ -19,24 +19,24 @@ pub members_with_equal_keys : run shop 100 1 (by 1 (
     ∷ store items (text "C   " ∷ Num 5 ∷ []) ∷ []))
     ≡ record {
       answers =
-        done ∷ done ∷ found (customer_key 1) ∷ found (ordr_key 1) ∷ found (item_key 1) ∷ found (item_key 2)
-        ∷ found (item_key 3) ∷ [];
+          done ∷ done ∷ found (customer_key 1) ∷ found (ordr_key 1) ∷ found (item_key 1) ∷ found (item_key 2)
+          ∷ found (item_key 3) ∷ [];
       records =
-        (customer_key 1, Num 7 ∷ text "ADA     " ∷ []) ∷ (ordr_key 1, Num 1 ∷ [])
-        ∷ (item_key 1, text "A   " ∷ Num 5 ∷ []) ∷ (item_key 2, text "B   " ∷ Num 5 ∷ [])
-        ∷ (item_key 3, text "C   " ∷ Num 5 ∷ []) ∷ [];
+          (customer_key 1, Num 7 ∷ text "ADA     " ∷ []) ∷ (ordr_key 1, Num 1 ∷ [])
+          ∷ (item_key 1, text "A   " ∷ Num 5 ∷ []) ∷ (item_key 2, text "B   " ∷ Num 5 ∷ [])
+          ∷ (item_key 3, text "C   " ∷ Num 5 ∷ []) ∷ [];
       lists =
-        ((Rec (customer_key 1), ordr_key 1 ∷ []) ∷ [])
-        ∷ ((Rec (ordr_key 1), item_key 1 ∷ item_key 2 ∷ item_key 3 ∷ []) ∷ [])
-        ∷ ((System, []) ∷ [])
-        ∷ [];
+          ((Rec (customer_key 1), ordr_key 1 ∷ []) ∷ [])
+          ∷ ((Rec (ordr_key 1), item_key 1 ∷ item_key 2 ∷ item_key 3 ∷ []) ∷ [])
+          ∷ ((System, []) ∷ [])
+          ∷ [];
       next = 2 ∷ 2 ∷ 4 ∷ [];
       usage = ((1, Update) ∷ []) ∷ ((1, Update) ∷ []) ∷ [];
       units =
-        unit 1 (Some (item_key 3)) (Some (customer_key 1) ∷ Some (ordr_key 1) ∷ Some (item_key 3) ∷ [])
+          unit 1 (Some (item_key 3)) (Some (customer_key 1) ∷ Some (ordr_key 1) ∷ Some (item_key 3) ∷ [])
           (member (customer_key 1) (ordr_key 1) ∷ member (ordr_key 1) (item_key 3) ∷ None ∷ [])
           (Some (ordr_key 1) ∷ Some (item_key 3) ∷ []) (Some Update ∷ Some Update ∷ []) ([])
-        ∷ [];
+          ∷ [];
     }
 unfolding effect image_of
 members_with_equal_keys = refl
@@ -50,25 +50,25 @@ pub first_next_prior_last_nth : run shop 100 1 (by 1 (
     ∷ find_in_set (Nth (negsuc 2)) lines ∷ find_in_set (Nth (pos 4)) lines ∷ []))
     ≡ record {
       answers =
-        done ∷ done ∷ found (customer_key 1) ∷ found (ordr_key 1) ∷ found (item_key 1) ∷ found (item_key 2)
-        ∷ found (item_key 3) ∷ found (item_key 1) ∷ found (item_key 2) ∷ found (item_key 3) ∷ no End
-        ∷ found (item_key 2) ∷ found (item_key 3) ∷ found (item_key 1) ∷ no End ∷ [];
+          done ∷ done ∷ found (customer_key 1) ∷ found (ordr_key 1) ∷ found (item_key 1) ∷ found (item_key 2)
+          ∷ found (item_key 3) ∷ found (item_key 1) ∷ found (item_key 2) ∷ found (item_key 3) ∷ no End
+          ∷ found (item_key 2) ∷ found (item_key 3) ∷ found (item_key 1) ∷ no End ∷ [];
       records =
-        (customer_key 1, Num 7 ∷ text "ADA     " ∷ []) ∷ (ordr_key 1, Num 1 ∷ [])
-        ∷ (item_key 1, text "A   " ∷ Num 5 ∷ []) ∷ (item_key 2, text "B   " ∷ Num 5 ∷ [])
-        ∷ (item_key 3, text "C   " ∷ Num 5 ∷ []) ∷ [];
+          (customer_key 1, Num 7 ∷ text "ADA     " ∷ []) ∷ (ordr_key 1, Num 1 ∷ [])
+          ∷ (item_key 1, text "A   " ∷ Num 5 ∷ []) ∷ (item_key 2, text "B   " ∷ Num 5 ∷ [])
+          ∷ (item_key 3, text "C   " ∷ Num 5 ∷ []) ∷ [];
       lists =
-        ((Rec (customer_key 1), ordr_key 1 ∷ []) ∷ [])
-        ∷ ((Rec (ordr_key 1), item_key 1 ∷ item_key 2 ∷ item_key 3 ∷ []) ∷ [])
-        ∷ ((System, []) ∷ [])
-        ∷ [];
+          ((Rec (customer_key 1), ordr_key 1 ∷ []) ∷ [])
+          ∷ ((Rec (ordr_key 1), item_key 1 ∷ item_key 2 ∷ item_key 3 ∷ []) ∷ [])
+          ∷ ((System, []) ∷ [])
+          ∷ [];
       next = 2 ∷ 2 ∷ 4 ∷ [];
       usage = ((1, Update) ∷ []) ∷ ((1, Update) ∷ []) ∷ [];
       units =
-        unit 1 (Some (item_key 1)) (Some (customer_key 1) ∷ Some (ordr_key 1) ∷ Some (item_key 1) ∷ [])
+          unit 1 (Some (item_key 1)) (Some (customer_key 1) ∷ Some (ordr_key 1) ∷ Some (item_key 1) ∷ [])
           (member (customer_key 1) (ordr_key 1) ∷ member (ordr_key 1) (item_key 1) ∷ None ∷ [])
           (Some (ordr_key 1) ∷ Some (item_key 1) ∷ []) (Some Update ∷ Some Update ∷ []) ([])
-        ∷ [];
+          ∷ [];
     }
 unfolding effect image_of
 first_next_prior_last_nth = refl
@@ -81,25 +81,25 @@ pub by_value_and_by_sort_key : run shop 100 1 (by 1 (
     ∷ find (NextDuplicate items) ∷ find (Sorted (Num 2) lines) ∷ find (Sorted (Num 9) lines) ∷ []))
     ≡ record {
       answers =
-        done ∷ done ∷ found (customer_key 1) ∷ found (ordr_key 1) ∷ found (item_key 1) ∷ found (item_key 2)
-        ∷ found (item_key 3) ∷ found (item_key 1) ∷ found (item_key 3) ∷ no End ∷ found (item_key 2)
-        ∷ no NoneSatisfies ∷ [];
+          done ∷ done ∷ found (customer_key 1) ∷ found (ordr_key 1) ∷ found (item_key 1) ∷ found (item_key 2)
+          ∷ found (item_key 3) ∷ found (item_key 1) ∷ found (item_key 3) ∷ no End ∷ found (item_key 2)
+          ∷ no NoneSatisfies ∷ [];
       records =
-        (customer_key 1, Num 7 ∷ text "ADA     " ∷ []) ∷ (ordr_key 1, Num 1 ∷ [])
-        ∷ (item_key 1, text "A   " ∷ Num 1 ∷ []) ∷ (item_key 2, text "B   " ∷ Num 2 ∷ [])
-        ∷ (item_key 3, text "A   " ∷ Num 3 ∷ []) ∷ [];
+          (customer_key 1, Num 7 ∷ text "ADA     " ∷ []) ∷ (ordr_key 1, Num 1 ∷ [])
+          ∷ (item_key 1, text "A   " ∷ Num 1 ∷ []) ∷ (item_key 2, text "B   " ∷ Num 2 ∷ [])
+          ∷ (item_key 3, text "A   " ∷ Num 3 ∷ []) ∷ [];
       lists =
-        ((Rec (customer_key 1), ordr_key 1 ∷ []) ∷ [])
-        ∷ ((Rec (ordr_key 1), item_key 1 ∷ item_key 2 ∷ item_key 3 ∷ []) ∷ [])
-        ∷ ((System, []) ∷ [])
-        ∷ [];
+          ((Rec (customer_key 1), ordr_key 1 ∷ []) ∷ [])
+          ∷ ((Rec (ordr_key 1), item_key 1 ∷ item_key 2 ∷ item_key 3 ∷ []) ∷ [])
+          ∷ ((System, []) ∷ [])
+          ∷ [];
       next = 2 ∷ 2 ∷ 4 ∷ [];
       usage = ((1, Update) ∷ []) ∷ ((1, Update) ∷ []) ∷ [];
       units =
-        unit 1 (Some (item_key 2)) (Some (customer_key 1) ∷ Some (ordr_key 1) ∷ Some (item_key 2) ∷ [])
+          unit 1 (Some (item_key 2)) (Some (customer_key 1) ∷ Some (ordr_key 1) ∷ Some (item_key 2) ∷ [])
           (member (customer_key 1) (ordr_key 1) ∷ member (ordr_key 1) (item_key 2) ∷ None ∷ [])
           (Some (ordr_key 1) ∷ Some (item_key 2) ∷ []) (Some Update ∷ Some Update ∷ []) ([])
-        ∷ [];
+          ∷ [];
     }
 unfolding effect image_of
 by_value_and_by_sort_key = refl

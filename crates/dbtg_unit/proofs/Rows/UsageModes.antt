@@ -21,30 +21,30 @@ pub modes_of_four_units : run shop 100 4 (by 1 (
     ∷ OpenArea main Retrieval ∷ []))
     ≡ record {
       answers =
-        done ∷ done ∷ no UsageConflict ∷ no UsageConflict ∷ no UsageConflict ∷ done ∷ no AreaAlreadyOpen ∷ [];
+          done ∷ done ∷ no UsageConflict ∷ no UsageConflict ∷ no UsageConflict ∷ done ∷ no AreaAlreadyOpen ∷ [];
       records =
-        [];
+          [];
       lists =
-        ([])
-        ∷ ([])
-        ∷ ((System, []) ∷ [])
-        ∷ [];
+          ([])
+          ∷ ([])
+          ∷ ((System, []) ∷ [])
+          ∷ [];
       next = 1 ∷ 1 ∷ 1 ∷ [];
       usage = ((1, Retrieval) ∷ (2, Update) ∷ (4, Retrieval) ∷ []) ∷ ([]) ∷ [];
       units =
-        unit 1 None (None ∷ None ∷ None ∷ [])
+          unit 1 None (None ∷ None ∷ None ∷ [])
           (None ∷ None ∷ None ∷ [])
           (None ∷ None ∷ []) (Some Retrieval ∷ None ∷ []) ([])
-        ∷ unit 2 None (None ∷ None ∷ None ∷ [])
+          ∷ unit 2 None (None ∷ None ∷ None ∷ [])
           (None ∷ None ∷ None ∷ [])
           (None ∷ None ∷ []) (Some Update ∷ None ∷ []) ([])
-        ∷ unit 3 None (None ∷ None ∷ None ∷ [])
+          ∷ unit 3 None (None ∷ None ∷ None ∷ [])
           (None ∷ None ∷ None ∷ [])
           (None ∷ None ∷ []) (None ∷ None ∷ []) ([])
-        ∷ unit 4 None (None ∷ None ∷ None ∷ [])
+          ∷ unit 4 None (None ∷ None ∷ None ∷ [])
           (None ∷ None ∷ None ∷ [])
           (None ∷ None ∷ []) (Some Retrieval ∷ None ∷ []) ([])
-        ∷ [];
+          ∷ [];
     }
 unfolding effect image_of
 modes_of_four_units = refl
@@ -56,24 +56,24 @@ pub protected_beside_retrieval : run shop 100 2 (by 1 (
     OpenArea main ProtectedUpdate ∷ []))
     ≡ record {
       answers =
-        done ∷ done ∷ [];
+          done ∷ done ∷ [];
       records =
-        [];
+          [];
       lists =
-        ([])
-        ∷ ([])
-        ∷ ((System, []) ∷ [])
-        ∷ [];
+          ([])
+          ∷ ([])
+          ∷ ((System, []) ∷ [])
+          ∷ [];
       next = 1 ∷ 1 ∷ 1 ∷ [];
       usage = ((1, Retrieval) ∷ (2, ProtectedUpdate) ∷ []) ∷ ([]) ∷ [];
       units =
-        unit 1 None (None ∷ None ∷ None ∷ [])
+          unit 1 None (None ∷ None ∷ None ∷ [])
           (None ∷ None ∷ None ∷ [])
           (None ∷ None ∷ []) (Some Retrieval ∷ None ∷ []) ([])
-        ∷ unit 2 None (None ∷ None ∷ None ∷ [])
+          ∷ unit 2 None (None ∷ None ∷ None ∷ [])
           (None ∷ None ∷ None ∷ [])
           (None ∷ None ∷ []) (Some ProtectedUpdate ∷ None ∷ []) ([])
-        ∷ [];
+          ∷ [];
     }
 unfolding effect image_of
 protected_beside_retrieval = refl

@@ -1,4 +1,4 @@
-use Rattle.std.proofs.Common.{◌≡◌, false, List, [], ◌∷◌, length, refl, arith, add-one}
+use Rattle.std.proofs.Common.{false, [], ◌∷◌, refl, arith, add-one}
 use Rattle.dbtg_schema.proofs.Erasings.{next_round, none_marked, off, all_rounds}
 use Rattle.dbtg_schema.proofs.erasing.reachable.Goals as goal
 

@@ -1,4 +1,4 @@
-use Rattle.std.proofs.Common.{◌≡◌, ◌+◌, ◌≤◌, ◌<◌, drop, length}
+use Rattle.std.proofs.Common.{◌≡◌, ◌+◌, ◌≤◌, drop}
 use Rattle.dbtg_schema.specs.Words.{last_line}
 use Rattle.dbtg_schema.proofs.reader.last_line.Given as goal
 

@@ -1,10 +1,8 @@
-use Rattle.std.proofs.Common.{◌≡◌, List, [], ◌∷◌, ◌++◌, sym, ap, subst, ◌∙◌, arith}
+use Rattle.std.proofs.Common.{◌≡◌, List, [], ◌++◌, sym, ap, subst, ◌∙◌, arith}
 use Rattle.std.proofs.lemmas.Result.{err_from_is_err_and}
-use Rattle.std.specs.Prelude.{Some, None}
-use Rattle.dbtg_schema.specs.Lookups.{first}
+use Rattle.std.specs.Prelude.{None}
 use Rattle.dbtg_schema.specs.Words.{last_line, text_words}
 use Rattle.dbtg_schema.specs.SchemaGrammar.{schema}
-use Rattle.dbtg_schema.specs.SchemaFaults.{at_end, refusal}
 use Rattle.dbtg_schema.specs.Words.{view}
 use Rattle.dbtg_schema.specs.Automaton.{rest_of}
 use Rattle.dbtg_schema.specs.Views.{views}
@@ -15,7 +13,7 @@ use Rattle.dbtg_schema.specs.SchemaGrammar.{fits, Labelled}
 use Rattle.dbtg_schema.specs.SchemaLists.{schema_of}
 use Rattle.dbtg_schema.specs.WellFormed.{IsSchema}
 use Rattle.dbtg_schema.proofs.Keeps.{accepted_is_schema}
-use Rattle.dbtg_schema.specs.Reading.{verdict, Refuses, WithinLimits}
+use Rattle.dbtg_schema.specs.Reading.{verdict, WithinLimits}
 use Rattle.dbtg_schema.proofs.Walks.{clean}
 use Rattle.dbtg_schema.proofs.Limits.{within_limits}
 use Rattle.dbtg_schema.proofs.Accepted.{derived}

@@ -1,9 +1,7 @@
 use Rattle.std.proofs.Common.{◌≡◌, ◌++◌, [], length}
-use Rattle.std.specs.Prelude.{filter, not}
-use Rattle.dbtg_schema.specs.Words.{is_noise, last_line, text_words}
+use Rattle.dbtg_schema.specs.Words.{last_line, text_words}
 use Rattle.dbtg_schema.specs.Forms.{labels}
 use Rattle.dbtg_schema.specs.SchemaGrammar.{fits, schema}
-use Rattle.dbtg_schema.specs.Words.{words}
 use Rattle.dbtg_schema.specs.Automaton.{rest_of}
 use Rattle.dbtg_schema.specs.Views.{views}
 use Rattle.dbtg_schema.specs.Reading.{verdict}

@@ -1,10 +1,8 @@
-use Rattle.std.proofs.Common.{◌≡◌, Some, None, sym, ap, ◌∙◌, arith, rules}
-use Rattle.std.specs.Prelude.{option_map}
+use Rattle.std.proofs.Common.{sym}
 use Rattle.std.proofs.lemmas.List.{map_push}
 use Rattle.dbtg_schema.specs.Words.{view}
 use Rattle.dbtg_schema.specs.Automaton.{rest_of, view_start}
-use Rattle.dbtg_schema.specs.Views.{views, view_labelled}
-use Rattle.dbtg_schema.specs.Reading.{verdict}
+use Rattle.dbtg_schema.specs.Views.{views}
 use Rattle.dbtg_schema.proofs.Steps.{goes_on, stops_at, stops_other, labels_go_on}
 use Rattle.dbtg_schema.proofs.reader.take.Goals as goal
 

@@ -1,5 +1,4 @@
 use Rattle.std.proofs.Common.{◌∙◌}
-use Rattle.dbtg_unit.specs.Edits.{member_spot}
 use Rattle.dbtg_unit.proofs.SortedPlaces.{sorted-placed}
 use Rattle.dbtg_unit.proofs.apply.place.Goals as goal
 

@@ -2,7 +2,7 @@ use Rattle.std.proofs.Common.{◌≡◌, drop, length}
 use Rattle.std.specs.Prelude.{map, filter}
 use Rattle.std.specs.List.{list_any, range_with_len}
 use Rattle.dbtg_schema.specs.Lookups.{flatten}
-use Rattle.dbtg_schema.specs.Structure.{areas_with_homes, erase_areas}
+use Rattle.dbtg_schema.specs.Structure.{areas_with_homes}
 use Rattle.dbtg_unit.specs.Areas.{asks}
 use Rattle.dbtg_unit.specs.Reach.{is_marked}
 use Rattle.dbtg_unit.proofs.areas.ask_of_marked.Given as goal

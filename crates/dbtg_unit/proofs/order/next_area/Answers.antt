@@ -1,4 +1,4 @@
-use Rattle.std.proofs.Common.{◌≡◌, ◌∙◌, sym, ap, ◌&&◌, ◌<◌, ℕ, Bool, true, false, not, Some, eqb, length, arith}
+use Rattle.std.proofs.Common.{◌≡◌, ◌∙◌, sym, ap, ◌&&◌, ℕ, not, Some, eqb, length, arith}
 use Rattle.std.specs.List.{list_any}
 use Rattle.dbtg_unit.specs.Checks.{areas_of}
 use Rattle.dbtg_unit.proofs.SkipLemmas.{find_here, find_skipped}

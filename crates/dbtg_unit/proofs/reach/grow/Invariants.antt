@@ -6,5 +6,5 @@ abbrev pub invariant-loop-t : goal.invariant-loop-t
 invariant-loop-t l =
     record {
       marked : (k : ℕ) → k < l.t → is_marked l.next k ≡ is_next l.schema l.from l.marks k;
-      as_long : length l.next ≡ 16
+      as_long : length l.next ≡ 16;
     }

@@ -1,4 +1,4 @@
-use Rattle.std.proofs.Common.{◌≡◌, refl, sym, ◌∙◌, ap, ℕ, ◌+◌, suc, length, slice_set, arith}
+use Rattle.std.proofs.Common.{◌≡◌, sym, ◌∙◌, ap, ◌+◌, length, slice_set, arith}
 use Rattle.std.proofs.lemmas.List.{length-set}
 use Rattle.dbtg_unit.specs.Seen.{seen_in_set}
 use Rattle.dbtg_unit.proofs.Numbered.{rewritten, rewritten-all, rewritten-next}

@@ -7,5 +7,5 @@ abbrev pub invariant-loop-set : goal.invariant-loop-set
 invariant-loop-set l =
     record {
       finishes : rewritten (seen_in_set l.schema l.key l.owners l.suppress) 0 l.set l.sets ≡ seen_in_sets l.schema l.key l.owners l.suppress l.initial.sets;
-      as_long : length l.sets ≡ length l.initial.sets
+      as_long : length l.sets ≡ length l.initial.sets;
     }

@@ -1,4 +1,4 @@
-use Rattle.std.proofs.Common.{◌≡◌, ◌∙◌, arith}
+use Rattle.std.proofs.Common.{◌∙◌, arith}
 use Rattle.dbtg_schema.proofs.Erasings.{touched}
 use Rattle.dbtg_schema.proofs.schema.Schema.erase_areas.Goals as goal
 

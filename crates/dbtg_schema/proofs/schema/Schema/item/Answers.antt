@@ -1,4 +1,4 @@
-use Rattle.std.proofs.Common.{◌≡◌, arith}
+use Rattle.std.proofs.Common.{arith}
 use Rattle.dbtg_schema.proofs.schema.Schema.item.Goals as goal
 
 pub find_item-requires : goal.find_item-requires

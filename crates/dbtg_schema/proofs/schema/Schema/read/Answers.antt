@@ -1,4 +1,4 @@
-use Rattle.std.proofs.Common.{◌≡◌, subst}
+use Rattle.std.proofs.Common.{subst}
 use Rattle.dbtg_schema.specs.Forms.{Derives}
 use Rattle.dbtg_schema.specs.SchemaGrammar.{fits, schema}
 use Rattle.dbtg_schema.proofs.schema.Schema.read.Goals as goal

@@ -1,4 +1,4 @@
-use Rattle.std.proofs.Common.{◌≡◌, ◌∙◌, sym, ap}
+use Rattle.std.proofs.Common.{◌∙◌, sym, ap}
 use Rattle.dbtg_unit.proofs.HeldLemmas.{popped}
 use Rattle.dbtg_unit.proofs.held.Held.pop_cell.Goals as goal
 

@@ -1,4 +1,4 @@
-use Rattle.std.proofs.Common.{◌≡◌, refl, sym, ◌∙◌, ap, ℕ, ◌%◌, ◌^◌, ◌/◌, ◌≤◌, ◌<◌, false, nat_lt, arith, eqb}
+use Rattle.std.proofs.Common.{◌≡◌, sym, ◌∙◌, ap, ◌%◌, false, nat_lt, arith, eqb}
 use Rattle.std.proofs.lemmas.Bool.Decides.{nat_tests}
 use Rattle.dbtg_unit.proofs.BitLemmas.{no_bit}
 use Rattle.dbtg_unit.proofs.statement.Suppress.has_set.Goals as goal
