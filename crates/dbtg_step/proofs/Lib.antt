@@ -29,5 +29,6 @@ mod SameCells
 mod StableCells
 mod CellsAscend
 mod TakingOrder
+mod SoundSchemas
 mod NetworkFacts
 mod TurnsBack

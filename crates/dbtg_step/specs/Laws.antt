@@ -8,11 +8,10 @@ use Rattle.dbtg_cells.specs.Shown.{CellValue}
 use Rattle.dbtg_unit.specs.declared.statement.Statement.{Statement}
 use Rattle.dbtg_unit.specs.declared.unit.Unit.{Unit}
 use Rattle.dbtg_cells.specs.declared.key.Owner.{Owner}
-use Rattle.dbtg_unit.specs.Base.{Database, opening}
+use Rattle.dbtg_unit.specs.Base.{Database}
 use Rattle.dbtg_unit.specs.Cells.{cell}
 use Rattle.dbtg_unit.specs.Fits.{fits}
 use Rattle.dbtg_unit.specs.Image.{image_of}
-use Rattle.dbtg_unit.specs.LegalWith.{LegalWith}
 use Rattle.dbtg_step.specs.declared.moves.Move.{Move}
 use Rattle.dbtg_step.specs.SequentialDatabase.{HeldCell, NeedsCell, In, MayMake, NamesCells, unit_at}
 use Rattle.dbtg_step.specs.Machine.{UnitState, Progress, State, SequentialState, HistoryEntry, replay}
@@ -73,7 +72,7 @@ scripts_fit schema = list_all (list_all (fits schema))
 abbrev pub EveryRunIsSequential : Lists → ℕ → Type 0
 EveryRunIsSequential schema capacity =
     (scripts : List (List Statement)) (moves : List Move) →
-    LegalWith schema capacity (opening schema) (opening_of schema capacity (length scripts)).units → scripts_fit schema scripts ≡ true →
+    scripts_fit schema scripts ≡ true →
     IsSequential schema capacity scripts (map entry_of (machine_after schema capacity scripts moves).history)
     (image_of schema capacity (replay (network schema capacity) (opening_of schema capacity (length scripts)) (machine_after schema capacity scripts moves).history).database)
     (map (λ state. state.unit) (machine_after schema capacity scripts moves).units)

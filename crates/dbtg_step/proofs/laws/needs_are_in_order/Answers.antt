@@ -1,5 +1,6 @@
 use Rattle.dbtg_step.proofs.NetworkFacts as facts
+use Rattle.dbtg_step.proofs.SoundSchemas.{suits_machine}
 use Rattle.dbtg_step.proofs.laws.needs_are_in_order.Goals as goal
 
 pub returns : goal.returns
-returns c schema capacity suits = facts.needs_are_in_order schema capacity suits
+returns c schema capacity sound = facts.needs_are_in_order schema capacity (suits_machine schema sound)
