@@ -30,5 +30,6 @@ mod StableCells
 mod CellsAscend
 mod TakingOrder
 mod SoundSchemas
+mod StatementsLocal
 mod NetworkFacts
 mod TurnsBack

@@ -1,6 +1,5 @@
 use Rattle.dbtg_step.proofs.NetworkFacts as facts
-use Rattle.dbtg_step.proofs.SoundSchemas.{suits_machine}
 use Rattle.dbtg_step.proofs.laws.needs_are_in_order.Goals as goal
 
 pub returns : goal.returns
-returns c schema capacity sound = facts.needs_are_in_order schema capacity (suits_machine schema sound)
+returns c schema capacity sound = facts.needs_are_in_order schema capacity sound
