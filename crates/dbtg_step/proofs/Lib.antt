@@ -1,3 +1,4 @@
+mod Premises
 mod UnitLists
 mod UnitFacts
 mod Updates

@@ -6,7 +6,8 @@ use Rattle.dbtg_cells.specs.Names.{name_lt}
 use Rattle.dbtg_step.specs.SequentialDatabase.{IsSequentialDatabase}
 use Rattle.dbtg_step.specs.Laws.{NeedsAreInOrder}
 use Rattle.dbtg_step.specs.NeverStuck.{NeedsInOrder}
-use Rattle.dbtg_step.specs.Network.{network, StatementsAreLocal, SuitsMachine}
+use Rattle.dbtg_step.specs.Network.{network}
+use Rattle.dbtg_step.proofs.Premises.{StatementsAreLocal, SuitsMachine}
 use Rattle.dbtg_step.proofs.NeededCells.{needed_in_area}
 use Rattle.dbtg_step.proofs.NetworkNeeds.{network_names_cells}
 use Rattle.dbtg_step.proofs.SoundSchemas.{suits_machine}

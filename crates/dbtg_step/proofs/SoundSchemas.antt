@@ -12,7 +12,7 @@ use Rattle.dbtg_schema.specs.declared.shape.RecordType.{RecordType}
 use Rattle.dbtg_schema.specs.declared.shape.SetType.{SetType}
 use Rattle.dbtg_unit.proofs.LiveKeys.{any_in, find_element}
 use Rattle.dbtg_unit.proofs.SortKeyLemmas.{at_entry, some_of}
-use Rattle.dbtg_step.specs.Network.{SuitsMachine}
+use Rattle.dbtg_step.proofs.Premises.{SuitsMachine}
 
 -- where no member is of type t, no clause is found for t
 no_clause : (members : List Member) (t : ℕ) → list_any (λ m. eqb m.rtype t) members ≡ false → is_some (find (λ m. eqb m.rtype t) members) ≡ false

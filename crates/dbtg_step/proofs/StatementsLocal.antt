@@ -25,7 +25,8 @@ use Rattle.dbtg_unit.proofs.LegalUnits.{effect_keeps_legal}
 use Rattle.dbtg_unit.proofs.LocalReady.{changes_only_its_cells}
 use Rattle.dbtg_unit.proofs.ReadingCells.{same_name}
 use Rattle.dbtg_step.specs.SequentialDatabase.{HeldCell, Agrees, IsLocal, MayMake, NeedsNothing, NotAmong, unit_at, with_unit_at}
-use Rattle.dbtg_step.specs.Network.{network, holding, next_need_of, StatementsAreLocal}
+use Rattle.dbtg_step.specs.Network.{network, holding, next_need_of}
+use Rattle.dbtg_step.proofs.Premises.{StatementsAreLocal}
 
 -- CELLS IN HAND
 

@@ -19,7 +19,8 @@ use Rattle.dbtg_step.specs.Step.{transition, MovedTo, run}
 use Rattle.dbtg_step.specs.Lawful.{Lawful, IsOpening, ImageHas}
 use Rattle.dbtg_step.specs.NeverStuck.{SomeUnitMoves, NeedsInOrder}
 use Rattle.dbtg_step.specs.EventCount.{EventsAreCounted}
-use Rattle.dbtg_step.specs.Network.{network, area_of_cell}
+use Rattle.dbtg_unit.specs.CellNames.{area_of_cell}
+use Rattle.dbtg_step.specs.Network.{network}
 use Rattle.dbtg_step.specs.Serial.{machine_after_scripts}
 use Rattle.dbtg_step.specs.Headline.{IsSequential, entry_of, machine_after, opening_of}
 
@@ -68,11 +69,10 @@ EveryRunExtendsHistory schema capacity =
 abbrev pub scripts_fit : Lists → List (List Statement) → Bool
 scripts_fit schema = list_all (list_all (fits schema))
 
--- after every list of moves from the opening state the history is the sequential database's, and so are the units
+-- where all statements fit, after every list of moves from the opening state the history is the sequential database's, and so are the units
 abbrev pub EveryRunIsSequential : Lists → ℕ → Type 0
 EveryRunIsSequential schema capacity =
-    (scripts : List (List Statement)) (moves : List Move) →
-    scripts_fit schema scripts ≡ true →
+    (scripts : List (List Statement)) (moves : List Move) → scripts_fit schema scripts ≡ true →
     IsSequential schema capacity scripts (map entry_of (machine_after schema capacity scripts moves).history)
     (image_of schema capacity (replay (network schema capacity) (opening_of schema capacity (length scripts)) (machine_after schema capacity scripts moves).history).database)
     (map (λ state. state.unit) (machine_after schema capacity scripts moves).units)
