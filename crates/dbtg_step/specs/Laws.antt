@@ -22,7 +22,7 @@ use Rattle.dbtg_step.specs.EventCount.{EventsAreCounted}
 use Rattle.dbtg_unit.specs.CellNames.{area_of_cell}
 use Rattle.dbtg_step.specs.Network.{network}
 use Rattle.dbtg_step.specs.Serial.{machine_after_scripts}
-use Rattle.dbtg_step.specs.Headline.{IsSequential, entry_of, machine_after, opening_of}
+use Rattle.dbtg_step.specs.Headline.{IsSequential, entry_of, machine_after, machine_of, opening_of}
 
 -- each event, of a step or a quit, leads from a lawful state to a lawful state
 abbrev pub EachEventKeepsLawful : Lists → ℕ → Type 0
@@ -68,6 +68,12 @@ EveryRunExtendsHistory schema capacity =
 -- every statement of every script fits the schema
 abbrev pub scripts_fit : Lists → List (List Statement) → Bool
 scripts_fit schema = list_all (list_all (fits schema))
+
+-- where all statements fit, the machine before its scripts is an opening state
+abbrev pub MachineIsOpening : Lists → ℕ → Type 0
+MachineIsOpening schema capacity =
+    (scripts : List (List Statement)) → scripts_fit schema scripts ≡ true →
+    IsOpening (network schema capacity) (opening_of schema capacity (length scripts)) (machine_of schema capacity scripts)
 
 -- where all statements fit, after every list of moves from the opening state the history is the sequential database's, and so are the units
 abbrev pub EveryRunIsSequential : Lists → ℕ → Type 0

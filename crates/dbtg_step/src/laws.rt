@@ -2,13 +2,18 @@
 ghost use Rattle.std.specs.Prelude.{ℕ};
 ghost use Rattle.dbtg_schema.specs.Lists.{Lists};
 ghost use Rattle.dbtg_schema.specs.Sound.{IsSound};
-ghost use Rattle.dbtg_step.specs.Laws.{EachEventKeepsLawful, EveryRunIsLawful, EveryImageIsOfItsHistory, NoRunIsStuck, StatementsHaveTheirEvents, EveryRunExtendsHistory, EveryRunIsSequential, EverySerialRunIsARun, NeedsAreInOrder};
+ghost use Rattle.dbtg_step.specs.Laws.{EachEventKeepsLawful, EveryRunIsLawful, EveryImageIsOfItsHistory, MachineIsOpening, NoRunIsStuck, StatementsHaveTheirEvents, EveryRunExtendsHistory, EveryRunIsSequential, EverySerialRunIsARun, NeedsAreInOrder};
 ghost use Rattle.dbtg_step.specs.TurningBack.{NeedsComeToAnEnd};
 
 /// Each event, of a step or a quit, leads from a lawful state to a lawful state: its history replays on the sequential
 /// database, whose cells are those at home and those that are held, and whose units are the units.
 pub fn each_event_keeps_lawful()
     ensures { (schema : Lists) (capacity : ℕ) → IsSound schema → EachEventKeepsLawful schema capacity }
+{}
+
+/// Before scripts whose statements fit, one script for each unit, the machine is in an opening state.
+pub fn machine_is_opening()
+    ensures { (schema : Lists) (capacity : ℕ) → MachineIsOpening schema capacity }
 {}
 
 /// Every list of moves, with blocked and idle ones and quits in it, leads from an opening state to a lawful state.
