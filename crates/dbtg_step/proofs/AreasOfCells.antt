@@ -26,7 +26,7 @@ use Rattle.dbtg_unit.specs.declared.unit.Cause.{Cause}
 use Rattle.dbtg_unit.specs.declared.unit.Cause.TheVariants.{End, NoneSatisfies}
 use Rattle.dbtg_unit.specs.Base.{Database, live_keys, members_of, sort_key}
 use Rattle.dbtg_unit.specs.Belongs.{IsUnitOf, is_owner_in, is_place_in}
-use Rattle.dbtg_unit.specs.CellNames.{slot_name}
+use Rattle.dbtg_unit.specs.CellNames.{area_of_cell, slot_name}
 use Rattle.dbtg_unit.specs.Checks.{area_of_current, areas_of, find_areas}
 use Rattle.dbtg_unit.specs.Effect.{new_key}
 use Rattle.dbtg_unit.specs.Fits.{fits, form_fits, if_named}
@@ -35,7 +35,7 @@ use Rattle.dbtg_unit.specs.Legal.{Legal}
 use Rattle.dbtg_unit.specs.Needs.{cells_of, current_owner, find_cells, found_slot, ring_names, slot_names, store_cells, store_rings}
 use Rattle.dbtg_unit.specs.Units.{key_of_owner, key_of_place, place_in}
 use Rattle.dbtg_unit.proofs.LiveKeys.{In, any_in, any_element, find_element, in_filter, in_map, in_member, in_range, live_of, of_filter, of_flat_map, of_map}
-use Rattle.dbtg_step.specs.Network.{area_of_cell, is_delete}
+use Rattle.dbtg_step.specs.Network.{is_delete}
 use Rattle.dbtg_step.proofs.FoundKeys.{chosen_in, chosen_by_key_in, current_is, first_is_in, first_of_filter, found_is}
 
 -- LISTS OF WHICH ALL PASS

@@ -26,7 +26,8 @@ use Rattle.dbtg_unit.specs.Legal.{pairwise}
 use Rattle.dbtg_unit.specs.Needs.{cells_of, current_owner, find_cells, found_slot, ring_names, slot_names, store_cells, store_rings}
 use Rattle.dbtg_unit.specs.Units.{key_of_place, place_in}
 use Rattle.dbtg_unit.proofs.LiveKeys.{In, all_at, any_element, of_filter}
-use Rattle.dbtg_step.specs.Network.{SuitsMachine, is_delete}
+use Rattle.dbtg_step.specs.Network.{is_delete}
+use Rattle.dbtg_step.proofs.Premises.{SuitsMachine}
 use Rattle.dbtg_step.proofs.AreasOfCells.{all_each, all_flat, all_join}
 use Rattle.dbtg_step.proofs.Ascending.{ascending_filter, ascending_join, ascending_range}
 

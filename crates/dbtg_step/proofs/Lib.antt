@@ -1,3 +1,4 @@
+mod Premises
 mod UnitLists
 mod UnitFacts
 mod Updates
@@ -29,5 +30,7 @@ mod SameCells
 mod StableCells
 mod CellsAscend
 mod TakingOrder
+mod SoundSchemas
+mod StatementsLocal
 mod NetworkFacts
 mod TurnsBack

@@ -28,7 +28,9 @@ use Rattle.dbtg_unit.specs.Needs.{areas_in_order, cells_of}
 use Rattle.dbtg_unit.specs.Units.{key_of_place, place_in}
 use Rattle.dbtg_unit.proofs.LiveKeys.{In as Element, all_at, any_element, find_element, in_filter, in_range}
 use Rattle.dbtg_step.specs.SequentialDatabase.{HeldCell, NeedsCell, In, MayMake, unit_at}
-use Rattle.dbtg_step.specs.Network.{network, area_of_cell, SuitsMachine}
+use Rattle.dbtg_unit.specs.CellNames.{area_of_cell}
+use Rattle.dbtg_step.specs.Network.{network}
+use Rattle.dbtg_step.proofs.Premises.{SuitsMachine}
 use Rattle.dbtg_step.proofs.NetworkNeeds.{is_area_left, reads_cell}
 use Rattle.dbtg_step.proofs.AreasOfCells.{all_join, lies_in, cells_lie}
 use Rattle.dbtg_step.proofs.AreasOfDelete.{delete_cells_lie}

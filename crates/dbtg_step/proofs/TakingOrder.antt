@@ -17,7 +17,8 @@ use Rattle.dbtg_unit.specs.Legal.{pairwise}
 use Rattle.dbtg_unit.specs.Needs.{need, next_of, areas_in_order, cells_of, is_stale, stale_owners}
 use Rattle.dbtg_step.specs.SequentialDatabase.{HeldCell, NeedsArea, NeedsCell, In, Agrees}
 use Rattle.dbtg_step.specs.NeverStuck.{MayGoOn, NeedsInOrder, TakenInTurn, NoneYet, AreaNext, CellNext}
-use Rattle.dbtg_step.specs.Network.{network, holding, is_delete, next_need_of, SuitsMachine}
+use Rattle.dbtg_step.specs.Network.{network, holding, is_delete, next_need_of}
+use Rattle.dbtg_step.proofs.Premises.{SuitsMachine}
 use Rattle.dbtg_step.proofs.Ascending.{IsClosed, above_held, ascending_filter, ascending_range, closed_on}
 use Rattle.dbtg_step.proofs.NameOrder.{name_chain, name_never, name_total, number_chain, number_never, number_total}
 use Rattle.dbtg_step.proofs.NetworkNeeds.{held_name, is_area_left, is_not_held, reads_area, reads_cell}

@@ -26,7 +26,8 @@ use Rattle.dbtg_unit.proofs.KeyLemmas.{owner_eq-refl}
 use Rattle.dbtg_unit.proofs.LiveKeys.{In, any_in, any_element, find_element, of_filter, of_range}
 use Rattle.dbtg_unit.proofs.ReadingCells.{name_eq-refl}
 use Rattle.dbtg_step.specs.SequentialDatabase.{HeldCell, NeedsArea, NeedsCell, StaleGuesses}
-use Rattle.dbtg_step.specs.Network.{network, holding, next_need_of, with_owners}
+use Rattle.dbtg_unit.specs.Guesses.{with_owners}
+use Rattle.dbtg_step.specs.Network.{network, holding, next_need_of}
 use Rattle.dbtg_step.specs.TurningBack.{NeedsComeToAnEnd, count, holds_area, holds_cell, needs_left}
 use Rattle.dbtg_step.proofs.NetworkNeeds.{is_area_left, is_not_held, reads_area, reads_cell}
 

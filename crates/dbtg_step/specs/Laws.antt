@@ -8,11 +8,10 @@ use Rattle.dbtg_cells.specs.Shown.{CellValue}
 use Rattle.dbtg_unit.specs.declared.statement.Statement.{Statement}
 use Rattle.dbtg_unit.specs.declared.unit.Unit.{Unit}
 use Rattle.dbtg_cells.specs.declared.key.Owner.{Owner}
-use Rattle.dbtg_unit.specs.Base.{Database, opening}
+use Rattle.dbtg_unit.specs.Base.{Database}
 use Rattle.dbtg_unit.specs.Cells.{cell}
 use Rattle.dbtg_unit.specs.Fits.{fits}
 use Rattle.dbtg_unit.specs.Image.{image_of}
-use Rattle.dbtg_unit.specs.LegalWith.{LegalWith}
 use Rattle.dbtg_step.specs.declared.moves.Move.{Move}
 use Rattle.dbtg_step.specs.SequentialDatabase.{HeldCell, NeedsCell, In, MayMake, NamesCells, unit_at}
 use Rattle.dbtg_step.specs.Machine.{UnitState, Progress, State, SequentialState, HistoryEntry, replay}
@@ -20,9 +19,10 @@ use Rattle.dbtg_step.specs.Step.{transition, MovedTo, run}
 use Rattle.dbtg_step.specs.Lawful.{Lawful, IsOpening, ImageHas}
 use Rattle.dbtg_step.specs.NeverStuck.{SomeUnitMoves, NeedsInOrder}
 use Rattle.dbtg_step.specs.EventCount.{EventsAreCounted}
-use Rattle.dbtg_step.specs.Network.{network, area_of_cell}
+use Rattle.dbtg_unit.specs.CellNames.{area_of_cell}
+use Rattle.dbtg_step.specs.Network.{network}
 use Rattle.dbtg_step.specs.Serial.{machine_after_scripts}
-use Rattle.dbtg_step.specs.Headline.{IsSequential, entry_of, machine_after, opening_of}
+use Rattle.dbtg_step.specs.Headline.{IsSequential, entry_of, machine_after, machine_of, opening_of}
 
 -- each event, of a step or a quit, leads from a lawful state to a lawful state
 abbrev pub EachEventKeepsLawful : Lists → ℕ → Type 0
@@ -69,11 +69,16 @@ EveryRunExtendsHistory schema capacity =
 abbrev pub scripts_fit : Lists → List (List Statement) → Bool
 scripts_fit schema = list_all (list_all (fits schema))
 
--- after every list of moves from the opening state the history is the sequential database's, and so are the units
+-- where all statements fit, the machine before its scripts is an opening state
+abbrev pub MachineIsOpening : Lists → ℕ → Type 0
+MachineIsOpening schema capacity =
+    (scripts : List (List Statement)) → scripts_fit schema scripts ≡ true →
+    IsOpening (network schema capacity) (opening_of schema capacity (length scripts)) (machine_of schema capacity scripts)
+
+-- where all statements fit, after every list of moves from the opening state the history is the sequential database's, and so are the units
 abbrev pub EveryRunIsSequential : Lists → ℕ → Type 0
 EveryRunIsSequential schema capacity =
-    (scripts : List (List Statement)) (moves : List Move) →
-    LegalWith schema capacity (opening schema) (opening_of schema capacity (length scripts)).units → scripts_fit schema scripts ≡ true →
+    (scripts : List (List Statement)) (moves : List Move) → scripts_fit schema scripts ≡ true →
     IsSequential schema capacity scripts (map entry_of (machine_after schema capacity scripts moves).history)
     (image_of schema capacity (replay (network schema capacity) (opening_of schema capacity (length scripts)) (machine_after schema capacity scripts moves).history).database)
     (map (λ state. state.unit) (machine_after schema capacity scripts moves).units)

@@ -12,7 +12,8 @@ use Rattle.dbtg_unit.specs.Base.{Database}
 use Rattle.dbtg_unit.specs.Fits.{fits}
 use Rattle.dbtg_unit.specs.Needs.{areas_in_order, cells_of, is_stale, stale_owners}
 use Rattle.dbtg_step.specs.SequentialDatabase.{HeldCell, NeedsArea, NeedsCell, StaleGuesses}
-use Rattle.dbtg_step.specs.Network.{network, with_owners}
+use Rattle.dbtg_unit.specs.Guesses.{with_owners}
+use Rattle.dbtg_step.specs.Network.{network}
 
 -- how many pass
 abbrev pub count : {X : Type 0} → (X → Bool) → List X → ℕ

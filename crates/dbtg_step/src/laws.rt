@@ -1,19 +1,24 @@
 //! The laws of the machine of events, each the contract of a function that does nothing.
 ghost use Rattle.std.specs.Prelude.{ℕ};
 ghost use Rattle.dbtg_schema.specs.Lists.{Lists};
-ghost use Rattle.dbtg_step.specs.Laws.{EachEventKeepsLawful, EveryRunIsLawful, EveryImageIsOfItsHistory, NoRunIsStuck, StatementsHaveTheirEvents, EveryRunExtendsHistory, EveryRunIsSequential, EverySerialRunIsARun, NeedsAreInOrder};
+ghost use Rattle.dbtg_schema.specs.Sound.{IsSound};
+ghost use Rattle.dbtg_step.specs.Laws.{EachEventKeepsLawful, EveryRunIsLawful, EveryImageIsOfItsHistory, MachineIsOpening, NoRunIsStuck, StatementsHaveTheirEvents, EveryRunExtendsHistory, EveryRunIsSequential, EverySerialRunIsARun, NeedsAreInOrder};
 ghost use Rattle.dbtg_step.specs.TurningBack.{NeedsComeToAnEnd};
-ghost use Rattle.dbtg_step.specs.Network.{StatementsAreLocal, SuitsMachine};
 
 /// Each event, of a step or a quit, leads from a lawful state to a lawful state: its history replays on the sequential
 /// database, whose cells are those at home and those that are held, and whose units are the units.
 pub fn each_event_keeps_lawful()
-    ensures { (schema : Lists) (capacity : ℕ) → SuitsMachine schema → StatementsAreLocal schema capacity → EachEventKeepsLawful schema capacity }
+    ensures { (schema : Lists) (capacity : ℕ) → IsSound schema → EachEventKeepsLawful schema capacity }
+{}
+
+/// Before scripts whose statements fit, one script for each unit, the machine is in an opening state.
+pub fn machine_is_opening()
+    ensures { (schema : Lists) (capacity : ℕ) → MachineIsOpening schema capacity }
 {}
 
 /// Every list of moves, with blocked and idle ones and quits in it, leads from an opening state to a lawful state.
 pub fn every_run_is_lawful()
-    ensures { (schema : Lists) (capacity : ℕ) → SuitsMachine schema → StatementsAreLocal schema capacity → EveryRunIsLawful schema capacity }
+    ensures { (schema : Lists) (capacity : ℕ) → IsSound schema → EveryRunIsLawful schema capacity }
 {}
 
 /// The image of a lawful state, also in mid-statement, has for each cell what the database of its history has: a cell that
@@ -24,7 +29,7 @@ pub fn every_image_is_of_its_history()
 
 /// After every list of moves from an opening state, where a unit is in mid-statement some unit's next step is an event.
 pub fn no_run_is_stuck()
-    ensures { (schema : Lists) (capacity : ℕ) → SuitsMachine schema → StatementsAreLocal schema capacity → NoRunIsStuck schema capacity }
+    ensures { (schema : Lists) (capacity : ℕ) → IsSound schema → NoRunIsStuck schema capacity }
 {}
 
 /// A statement that is never blocked and never turns back has `2 + 2a + 3c` events, for the `a` areas and `c` cells that it
@@ -42,7 +47,7 @@ pub fn every_run_extends_history()
 /// statements of the history, taken whole in this order on the sequential database, have just these answers and lead to
 /// just these units; and the entries of each unit are the beginning of its script.
 pub fn every_run_is_sequential()
-    ensures { (schema : Lists) (capacity : ℕ) → SuitsMachine schema → StatementsAreLocal schema capacity → EveryRunIsSequential schema capacity }
+    ensures { (schema : Lists) (capacity : ℕ) → IsSound schema → EveryRunIsSequential schema capacity }
 {}
 
 /// Stepping one unit after another, each until its next step is idle, is one of these runs.
@@ -53,7 +58,7 @@ pub fn every_serial_run_is_a_run()
 /// A cell that a statement needs next isn't held and lies in an area that is held; areas are needed in ascending order, and
 /// then, of every statement but DELETE, cells in theirs, whatever other units do meanwhile to the cells that are not held.
 pub fn needs_are_in_order()
-    ensures { (schema : Lists) (capacity : ℕ) → SuitsMachine schema → NeedsAreInOrder schema capacity }
+    ensures { (schema : Lists) (capacity : ℕ) → IsSound schema → NeedsAreInOrder schema capacity }
 {}
 
 /// On one database the needs of a statement come to an end: with the true owners noted no guess is stale, and a stated number

@@ -5,6 +5,6 @@ use Rattle.dbtg_step.proofs.Opening.{opening_is_lawful}
 use Rattle.dbtg_step.proofs.laws.every_run_is_lawful.Goals as goal
 
 pub returns : goal.returns
-returns c schema capacity suits local opening s moves first =
-    let facts = network_is_sequential schema capacity suits local in
+returns c schema capacity sound opening s moves first =
+    let facts = network_is_sequential schema capacity sound in
     run_keeps (network schema capacity) facts opening s moves (opening_is_lawful (network schema capacity) facts opening s first)

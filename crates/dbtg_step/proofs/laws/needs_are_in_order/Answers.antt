@@ -2,4 +2,4 @@ use Rattle.dbtg_step.proofs.NetworkFacts as facts
 use Rattle.dbtg_step.proofs.laws.needs_are_in_order.Goals as goal
 
 pub returns : goal.returns
-returns c schema capacity suits = facts.needs_are_in_order schema capacity suits
+returns c schema capacity sound = facts.needs_are_in_order schema capacity sound

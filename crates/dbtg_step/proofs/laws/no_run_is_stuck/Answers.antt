@@ -2,10 +2,9 @@ use Rattle.dbtg_step.specs.Network.{network}
 use Rattle.dbtg_cells.specs.Names.{name_lt}
 use Rattle.dbtg_step.proofs.EveryRun.{every_run_never_stuck}
 use Rattle.dbtg_step.proofs.NameOrder.{names_are_ordered}
-use Rattle.dbtg_step.proofs.NetworkFacts.{network_is_sequential}
-use Rattle.dbtg_step.proofs.TakingOrder.{network_needs_in_order}
+use Rattle.dbtg_step.proofs.NetworkFacts.{needs_in_order, network_is_sequential}
 use Rattle.dbtg_step.proofs.laws.no_run_is_stuck.Goals as goal
 
 pub returns : goal.returns
-returns c schema capacity suits local opening s moves first u state w at is =
-    every_run_never_stuck (network schema capacity) (network_is_sequential schema capacity suits local) opening name_lt names_are_ordered (network_needs_in_order schema capacity suits) s moves first u state w at is
+returns c schema capacity sound opening s moves first u state w at is =
+    every_run_never_stuck (network schema capacity) (network_is_sequential schema capacity sound) opening name_lt names_are_ordered (needs_in_order schema capacity sound) s moves first u state w at is
