@@ -1,0 +1,9 @@
+pub mod TokenSteps
+pub mod Numbers
+pub mod Firsts
+pub mod Steps
+pub mod LineSteps
+pub mod ScriptSteps
+pub mod MoveSteps
+pub mod KeyText
+pub mod Accepted

@@ -1,0 +1,75 @@
+-- A run of bytes without a gap is one word; one word of moves further.
+use Rattle.std.proofs.Common.{◌≡◌, ℕ, zero, suc, ◌+◌, ◌<◌, ◌≤◌, true, false, List, [], ◌∷◌, ◌++◌, length, get_or, take, drop, Some, None, refl, sym, ap, ◌∙◌, arith, length-append}
+use Rattle.std.specs.Prelude.{nat_lt, replicate}
+use Rattle.std.proofs.lemmas.List.{length-replicate}
+use Rattle.std.proofs.lemmas.Bool.{false≢true}
+use Rattle.std.proofs.lemmas.Bool.Decides.{nat_tests}
+use Rattle.dbtg_step.specs.declared.moves.Move.{Move}
+use Rattle.dbtg_script.specs.declared.moves.MovesCause.TheVariants.{NotAMove, TooManyMoves}
+use Rattle.dbtg_script.specs.Moves.{is_gap, onto_word, words, spelled_move, refused_word}
+
+letter_word : (b : ℕ) (bs : List ℕ) → is_gap b ≡ false → words (b ∷ bs) ≡ onto_word b bs (words bs)
+unfolding words
+letter_word b bs h = rw h refl
+
+onto_last : (b : ℕ) (ws : List (List ℕ)) → onto_word b [] ws ≡ (b ∷ []) ∷ ws
+unfolding onto_word
+onto_last b ws = refl
+
+onto_new : (b c : ℕ) (cs : List ℕ) (ws : List (List ℕ)) → is_gap c ≡ true → onto_word b (c ∷ cs) ws ≡ (b ∷ []) ∷ ws
+unfolding onto_word
+onto_new b c cs [] h = refl
+onto_new b c cs (w ∷ ws) h = rw h refl
+
+onto_more : (b c : ℕ) (cs w : List ℕ) (ws : List (List ℕ)) → is_gap c ≡ false → onto_word b (c ∷ cs) (w ∷ ws) ≡ (b ∷ w) ∷ ws
+unfolding onto_word
+onto_more b c cs w ws h = rw h refl
+
+run_is : (n : ℕ) (bs : List ℕ) → n < length bs → ((k : ℕ) → k < suc n → is_gap (get_or bs k 0) ≡ false) → (suc n < length bs → is_gap (get_or bs (suc n) 0) ≡ true) → words bs ≡ take (suc n) bs ∷ words (drop (suc n) bs)
+run_is n [] lt each stops = absurd (omega arith)
+run_is zero (b ∷ []) lt each stops = letter_word b [] (each 0 (omega arith)) ∙ onto_last b (words [])
+run_is zero (b ∷ c ∷ cs) lt each stops = letter_word b (c ∷ cs) (each 0 (omega arith)) ∙ onto_new b c cs (words (c ∷ cs)) (stops (omega arith))
+run_is (suc n) (b ∷ []) lt each stops = absurd (omega arith)
+run_is (suc n) (b ∷ c ∷ cs) lt each stops =
+    let inner = run_is n (c ∷ cs) (omega arith) (λ k h. each (suc k) (omega arith)) (λ h. stops (omega arith)) in
+    letter_word b (c ∷ cs) (each 0 (omega arith)) ∙ ap (λ (x : List (List ℕ)). onto_word b (c ∷ cs) x) inner ∙ onto_more b c cs (take (suc n) (c ∷ cs)) (words (drop (suc n) (c ∷ cs))) (each 1 (omega arith))
+
+pub gap_step : (rest after : List ℕ) (b : ℕ) → rest ≡ b ∷ after → is_gap b ≡ true → words after ≡ words rest
+unfolding words
+gap_step rest after b e h = rw (e, h) refl
+
+pub word_step : (rest after : List ℕ) (b n : ℕ) (text tail : List ℕ) → rest ≡ b ∷ after → is_gap b ≡ false → n ≤ length rest → ((k : ℕ) → k < n → is_gap (get_or rest k 0) ≡ false)
+    → (n < length rest → is_gap (get_or rest n 0) ≡ true) → text ≡ take n rest → tail ≡ drop n rest → words rest ≡ text ∷ words tail
+word_step rest after b zero text tail e h le each stops t d =
+    let letter : is_gap (get_or rest 0 0) ≡ false = rw (e, h) refl in
+    let short : 0 < length rest = rw e (omega arith) in
+    absurd (false≢true (sym letter ∙ stops short))
+word_step rest after b (suc n) text tail e h le each stops t d = rw (t, d) (run_is n rest (omega arith) each stops)
+
+pub none_left : (rest : List ℕ) → length rest ≡ 0 → words rest ≡ []
+unfolding words
+none_left [] h = refl
+none_left (b ∷ bs) h = absurd (omega arith)
+
+-- a word that is no move
+pub no_move : (total number : ℕ) (w : List ℕ) (left : List (List ℕ)) → spelled_move w ≡ None → refused_word total number (w ∷ left) ≡ Some (number, NotAMove)
+unfolding refused_word
+no_move total number w left h = rw h refl
+
+-- a word with which the total passes the limit
+pub too_many : (total number : ℕ) (w : List ℕ) (left : List (List ℕ)) (m : Move) (k : ℕ) → spelled_move w ≡ Some (m, k) → 1000000 < total + k → refused_word total number (w ∷ left) ≡ Some (number, TooManyMoves)
+unfolding refused_word
+too_many total number w left m k h more = let e : nat_lt 1000000 (total + k) ≡ true = grind (arith, nat_tests) in rw (h, e) refl
+
+-- a word with its moves
+pub moves_on : (ms : List Move) (number : ℕ) (w : List ℕ) (left : List (List ℕ)) (m : Move) (k : ℕ) → spelled_move w ≡ Some (m, k) → length ms + k ≤ 1000000
+    → refused_word (length ms) number (w ∷ left) ≡ refused_word (length (ms ++ replicate k m)) (number + 1) left
+unfolding refused_word
+moves_on ms number w left m k h few =
+    let e : nat_lt 1000000 (length ms + k) ≡ false = grind (arith, nat_tests) in
+    let n : length (ms ++ replicate k m) ≡ length ms + k = length-append ms (replicate k m) ∙ ap (λ (x : ℕ). length ms + x) (length-replicate k m) in
+    rw (h, e, n) refl
+
+pub no_words : (total number : ℕ) (ws : List (List ℕ)) → ws ≡ [] → refused_word total number ws ≡ None
+unfolding refused_word
+no_words total number ws h = rw h refl

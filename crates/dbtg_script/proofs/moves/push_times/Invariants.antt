@@ -1,0 +1,6 @@
+use Rattle.std.proofs.Common.{◌≡◌, ◌++◌}
+use Rattle.std.specs.Prelude.{replicate}
+use Rattle.dbtg_script.proofs.moves.push_times.Given as goal
+
+abbrev pub invariant-loop : goal.invariant-loop
+invariant-loop l = l.moves.items ≡ l.initial.moves.items ++ replicate l.counter l.one

@@ -1,0 +1,44 @@
+use Rattle.std.proofs.Common.{◌∙◌, ◌+◌, ◌++◌, sym, ap, subst, List, ℕ, Option, arith, length}
+use Rattle.dbtg_unit.specs.declared.statement.Statement.{Statement}
+use Rattle.dbtg_script.specs.declared.fault.Fault.{Fault}
+use Rattle.dbtg_script.specs.Lines.{lines, trimmed}
+use Rattle.dbtg_script.specs.Reading.{lines_verdict, RefusesScript, at_line}
+use Rattle.dbtg_script.specs.Statements.{line_statement, statements_of}
+use Rattle.dbtg_script.proofs.ScriptSteps.{line_passes, line_refused, counted, one_more, short_script, no_lines}
+use Rattle.dbtg_script.proofs.reader.read_script.Goals as goal
+
+pub returns-in-Err-clause-refused : goal.returns-in-Err-clause-refused
+returns-in-Err-clause-refused c =
+    let schema = c.args.schema.now in
+    let n = length c.loop-line.statements.items in
+    let number = c.loop-line.number in
+    let line = c.in-Some.line.now in
+    let after = lines c.next.new.self.rest.now in
+    let whole = short_script schema c.args.text.now (omega arith) ∙ sym c.loop-line.invariant.reached ∙ ap (λ (ls : List (List ℕ)). lines_verdict schema n number ls) c.in-Some.ensures.found in
+    let refused = rw c.trimmed.ensures at c.in-Err.ensures.refused in
+    rw c.at_line.ensures (subst (λ (v : Option Fault). RefusesScript (at_line number c.in-Err.fault) v) (sym whole) (line_refused schema n number line after c.in-Err.fault refused))
+
+pub loop-line-preserved : goal.loop-line-preserved
+loop-line-preserved c =
+    let schema = c.args.schema.now in
+    let ss = c.loop-line.statements.items in
+    let number = c.loop-line.number in
+    let line = c.in-Some.line.now in
+    let after = lines c.next.new.self.rest.now in
+    let found = c.in-Some.ensures.found in
+    let accepted = rw c.trimmed.ensures at c.in_default-take_line.ensures.accepted in
+    let taken = rw c.trimmed.ensures at c.in_default-take_line.ensures.taken in
+    record {
+      reached = ap (λ (n : ℕ). lines_verdict schema n (number + 1) after) (ap length taken ∙ counted schema ss (trimmed line))
+          ∙ sym (line_passes schema (length ss) number line after accepted)
+          ∙ ap (λ (ls : List (List ℕ)). lines_verdict schema (length ss) number ls) (sym found) ∙ c.loop-line.invariant.reached;
+      said = ap (λ (xs : List Statement). xs ++ statements_of schema after) taken ∙ one_more (line_statement schema (trimmed line)) ss (statements_of schema after)
+          ∙ ap (λ (ls : List (List ℕ)). ss ++ statements_of schema ls) (sym found) ∙ c.loop-line.invariant.said;
+      in_range = omega (arith, c.in-Some.ensures.shorter);
+    }
+
+pub returns-clause-accepted : goal.returns-clause-accepted
+returns-clause-accepted c =
+    let schema = c.args.schema.now in
+    short_script schema c.args.text.now (omega arith) ∙ sym c.loop-line.invariant.reached
+    ∙ no_lines schema (length c.loop-line.statements.items) c.loop-line.number (lines c.loop-line.left.rest.now) c.in_default.ensures.found

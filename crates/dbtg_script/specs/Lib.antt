@@ -1,0 +1,16 @@
+pub mod Tokens
+pub mod Spelling
+pub mod Lines
+pub mod StatementGrammar
+pub mod Labels
+pub mod Lookups
+pub mod Values
+pub mod Causes
+pub mod StatementFaults
+pub mod Automaton
+pub mod Views
+pub mod Reading
+pub mod Statements
+pub mod Texts
+pub mod Moves
+pub mod Laws

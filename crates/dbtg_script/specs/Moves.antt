@@ -1,0 +1,94 @@
+-- The moves of a moves file.
+use Rattle.std.specs.Prelude.{◌≡◌, ℕ, ◌+◌, Bool, true, false, not, ◌&&◌, ◌||◌, ◌==◌, nat_le, nat_lt, List, [], ◌∷◌, ◌++◌, Option, Some, None, if◌then◌else◌, replicate}
+use Rattle.dbtg_step.specs.declared.moves.Move.{Move}
+use Rattle.dbtg_step.specs.declared.moves.Move.TheVariants.{Step, Quit}
+use Rattle.dbtg_script.specs.declared.moves.MovesCause.{MovesCause}
+use Rattle.dbtg_script.specs.declared.moves.MovesCause.TheVariants.{NotAMove, TooManyMoves}
+use Rattle.dbtg_script.specs.declared.moves.MovesFault.{MovesFault}
+use Rattle.dbtg_script.specs.declared.moves.MovesFault.TheVariants.{Refused, Memory}
+use Rattle.dbtg_script.specs.Spelling.{is_number, number, in_front, behind, has_byte}
+
+-- space, tab, line feed and carriage return separate words
+abbrev pub is_gap : ℕ → Bool
+is_gap b = b == 32 || b == 9 || b == 10 || b == 13
+
+-- the byte goes onto the word that follows it directly
+unfoldable pub onto_word : ℕ → List ℕ → List (List ℕ) → List (List ℕ)
+onto_word b [] ws = (b ∷ []) ∷ ws
+onto_word b (c ∷ cs) [] = (b ∷ []) ∷ []
+onto_word b (c ∷ cs) (w ∷ ws) = if is_gap c then (b ∷ []) ∷ w ∷ ws else (b ∷ w) ∷ ws
+
+unfoldable pub words : List ℕ → List (List ℕ)
+words [] = []
+words (b ∷ bs) = if is_gap b then words bs else onto_word b bs (words bs)
+
+abbrev pub begins_with : ℕ → List ℕ → Bool
+begins_with c [] = false
+begins_with c (b ∷ bs) = b == c
+
+-- digits without a leading zero, up to the greatest that is allowed
+abbrev pub plain_number : ℕ → List ℕ → Option ℕ
+plain_number most t = if is_number t && not (begins_with 48 t) && nat_le (number t) most then Some (number t) else None
+
+-- a move, and how often it is made
+abbrev pub times : Option ℕ → ℕ → Option (Move × ℕ)
+times None k = None
+times (Some u) k = Some (Step u, k)
+
+abbrev pub steps_of : List ℕ → Option ℕ → Option (Move × ℕ)
+steps_of t None = None
+steps_of t (Some k) = times (plain_number 99 t) k
+
+abbrev pub quit_of : Option ℕ → Option (Move × ℕ)
+quit_of None = None
+quit_of (Some u) = Some (Quit u, 1)
+
+-- Qu, u*k or u
+abbrev pub spelled_move : List ℕ → Option (Move × ℕ)
+spelled_move t =
+    if begins_with 81 t then quit_of (plain_number 99 (behind 81 t))
+    else (if has_byte 42 t then steps_of (in_front 42 t) (plain_number 1000000 (behind 42 t))
+    else times (plain_number 99 t) 1)
+
+abbrev pub repeated : Option (Move × ℕ) → List Move
+repeated None = []
+repeated (Some m) = replicate m.1 m.0
+
+-- the moves that words say
+abbrev pub moves_of : List (List ℕ) → List Move
+moves_of [] = []
+moves_of (w ∷ ws) = repeated (spelled_move w) ++ moves_of ws
+
+-- more than 1,000,000 moves behind so many?
+abbrev pub passes : ℕ → Option (Move × ℕ) → Bool
+passes total None = false
+passes total (Some m) = nat_lt 1000000 (total + m.1)
+
+abbrev pub total_after : ℕ → Option (Move × ℕ) → ℕ
+total_after total None = total
+total_after total (Some m) = total + m.1
+
+abbrev pub is_move : Option (Move × ℕ) → Bool
+is_move None = false
+is_move (Some m) = true
+
+-- the first fault of words, of which the first has this number, behind so many moves
+unfoldable pub refused_word : ℕ → ℕ → List (List ℕ) → Option (ℕ × MovesCause)
+refused_word total number [] = None
+refused_word total number (w ∷ ws) =
+    if not (is_move (spelled_move w)) then Some (number, NotAMove)
+    else (if passes total (spelled_move w) then Some (number, TooManyMoves)
+    else refused_word (total_after total (spelled_move w)) (number + 1) ws)
+
+abbrev pub refusal : List ℕ → Option (ℕ × MovesCause)
+refusal text = refused_word 0 1 (words text)
+
+-- the moves are refused with this fault, unless memory ran out
+abbrev pub Refuses : MovesFault → Option (ℕ × MovesCause) → Type 0
+Refuses Memory v = Unit {0}
+Refuses (Refused word cause) v = v ≡ Some (word, cause)
+
+-- the numbers by which causes are printed
+abbrev pub cause_number : MovesCause → ℕ
+cause_number NotAMove = 1
+cause_number TooManyMoves = 2

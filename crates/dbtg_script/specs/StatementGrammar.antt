@@ -1,0 +1,193 @@
+-- The grammar of a statement, with a role for each word.
+use Rattle.std.specs.Prelude.{ℕ, Bool, true, false, not, List, codes}
+use Rattle.std.specs.Str.{bytes_eq}
+use Rattle.dbtg_schema.specs.Forms as forms
+use Rattle.dbtg_schema.specs.Forms.{one, either, many, some, maybe, ◌▹◌}
+use Rattle.dbtg_script.specs.declared.role.Role.{Role}
+use Rattle.dbtg_script.specs.declared.role.Role.TheVariants as role
+use Rattle.dbtg_script.specs.Tokens.{Token, plain, equals, literal}
+use Rattle.dbtg_script.specs.Spelling.{is_number, is_signed, is_key}
+
+-- what stands in one place: this very word, any word but this, any word, the sign =, a number with or without a minus, a key, or a value
+pub data Kind : Type 0 where
+  key : List ℕ → Kind
+  other_than : List ℕ → Kind
+  name : Kind
+  equals_sign : Kind
+  signed : Kind
+  keyed : Kind
+  value : Kind
+
+-- which plain words fit
+abbrev pub fits_plain : Kind → List ℕ → Bool
+fits_plain (key k) t = bytes_eq t k
+fits_plain (other_than k) t = not (bytes_eq t k)
+fits_plain name t = true
+fits_plain equals_sign t = false
+fits_plain signed t = is_signed t
+fits_plain keyed t = is_key t
+fits_plain value t = is_number t
+
+abbrev pub is_equals : Kind → Bool
+is_equals equals_sign = true
+is_equals (key k) = false
+is_equals (other_than k) = false
+is_equals name = false
+is_equals signed = false
+is_equals keyed = false
+is_equals value = false
+
+abbrev pub is_value : Kind → Bool
+is_value value = true
+is_value (key k) = false
+is_value (other_than k) = false
+is_value name = false
+is_value equals_sign = false
+is_value signed = false
+is_value keyed = false
+
+abbrev pub fits : Kind → Token → Bool
+fits k (plain t) = fits_plain k t
+fits k equals = is_equals k
+fits k (literal t) = is_value k
+
+abbrev pub Form : Type 0
+Form = forms.Form Kind Role
+
+abbrev pub Start : Type 0
+Start = forms.Start Kind Role
+
+abbrev pub Labelled : Type 0
+Labelled = forms.Labelled Token Role
+
+-- this word, which says no more than that it stands there
+abbrev pub say : List ℕ → Form
+say w = one (key w) role.Plain
+
+-- this word, with a role
+abbrev pub word : List ℕ → Role → Form
+word w r = one (key w) r
+
+-- SUPPRESS ( ALL | ( RECORD | AREA | s )+ )
+abbrev pub currents : Form
+currents = either (word (codes "RECORD") role.SuppressTypes) (either (word (codes "AREA") role.SuppressAreas) (one name role.SuppressSet))
+
+abbrev pub suppress : Form
+suppress = say (codes "SUPPRESS") ▹ either (word (codes "ALL") role.SuppressAll) (some currents)
+
+-- i = v, and one more where SUPPRESS could stand too
+abbrev pub assignment : Form
+assignment = one name role.ItemName ▹ one equals_sign role.Plain ▹ one value role.Value
+
+abbrev pub further : Form
+further = one (other_than (codes "SUPPRESS")) role.ItemName ▹ one equals_sign role.Plain ▹ one value role.Value
+
+-- OPEN AREA a USAGE-MODE [ IS ] [ PROTECTED | EXCLUSIVE ] ( RETRIEVAL | UPDATE )
+abbrev pub sharing : Form
+sharing = either (word (codes "PROTECTED") role.Protected) (word (codes "EXCLUSIVE") role.Exclusive)
+
+abbrev pub access : Form
+access = either (word (codes "RETRIEVAL") role.Retrieval) (word (codes "UPDATE") role.Update)
+
+abbrev pub usage_mode : Form
+usage_mode = say (codes "USAGE-MODE") ▹ maybe (say (codes "IS")) ▹ maybe sharing ▹ access
+
+abbrev pub opening : Form
+opening = word (codes "OPEN") role.Open ▹ say (codes "AREA") ▹ one name role.AreaName ▹ usage_mode
+
+abbrev pub closing : Form
+closing = word (codes "CLOSE") role.Close ▹ say (codes "AREA") ▹ one name role.AreaName
+
+-- the words behind a name that say its kind
+abbrev pub set_word : Form
+set_word = word (codes "SET") role.KindSet
+
+abbrev pub record_word : Form
+record_word = word (codes "RECORD") role.RecordWord
+
+abbrev pub set_or_area : Form
+set_or_area = either set_word (word (codes "AREA") role.KindArea)
+
+abbrev pub any_kind : Form
+any_kind = either (word (codes "RECORD") role.KindRecord) set_or_area
+
+-- OF s SET, OF r RECORD
+abbrev pub of_set : Form
+of_set = say (codes "OF") ▹ one name role.Name ▹ set_word
+
+abbrev pub of_type : Form
+of_type = say (codes "OF") ▹ one name role.RecordName ▹ record_word
+
+-- [ r RECORD ] OF x ( SET | AREA )
+abbrev pub place : Form
+place = say (codes "OF") ▹ one name role.Name ▹ set_or_area
+
+abbrev pub inside : Form
+inside = either place (one name role.RecordName ▹ record_word ▹ place)
+
+-- the forms of FIND
+abbrev pub by_key : Form
+by_key = word (codes "KEY") role.FindKey ▹ one keyed role.Key
+
+abbrev pub current : Form
+current = either (word (codes "RUN-UNIT") role.RunUnit) (one name role.Name ▹ any_kind)
+
+abbrev pub by_current : Form
+by_current = word (codes "CURRENT") role.FindCurrent ▹ say (codes "OF") ▹ current
+
+abbrev pub by_owner : Form
+by_owner = word (codes "OWNER") role.FindOwner ▹ of_set
+
+abbrev pub calc_items : Form
+calc_items = say (codes "USING") ▹ assignment ▹ many further
+
+abbrev pub by_calc : Form
+by_calc = word (codes "CALC") role.FindCalc ▹ one name role.RecordName ▹ record_word ▹ calc_items
+
+abbrev pub by_sort_key : Form
+by_sort_key = word (codes "SORTED") role.FindSorted ▹ one value role.SortedValue ▹ of_set
+
+abbrev pub next_one : Form
+next_one = either (word (codes "DUPLICATE") role.FindDuplicate ▹ of_type) inside
+
+abbrev pub by_next : Form
+by_next = word (codes "NEXT") role.WhichNext ▹ next_one
+
+abbrev pub other_which : Form
+other_which = either (word (codes "FIRST") role.WhichFirst) (either (word (codes "LAST") role.WhichLast) (either (word (codes "PRIOR") role.WhichPrior) (one signed role.WhichNumber)))
+
+abbrev pub by_which : Form
+by_which = other_which ▹ inside
+
+abbrev pub find_form : Form
+find_form = either by_key (either by_current (either by_owner (either by_calc (either by_sort_key (either by_next by_which)))))
+
+abbrev pub find : Form
+find = word (codes "FIND") role.Find ▹ find_form ▹ maybe suppress
+
+abbrev pub getting : Form
+getting = word (codes "GET") role.Get ▹ maybe (one name role.TypeName)
+
+abbrev pub storing : Form
+storing = word (codes "STORE") role.Store ▹ one name role.TypeName ▹ many further ▹ maybe suppress
+
+abbrev pub inserting : Form
+inserting = word (codes "INSERT") role.Insert ▹ say (codes "INTO") ▹ one name role.SetName
+
+abbrev pub removing : Form
+removing = word (codes "REMOVE") role.Remove ▹ say (codes "FROM") ▹ one name role.SetName
+
+abbrev pub modifying : Form
+modifying = word (codes "MODIFY") role.Modify ▹ one name role.TypeName ▹ some assignment
+
+abbrev pub deleting : Form
+deleting = word (codes "DELETE") role.Delete ▹ maybe (either (word (codes "ONLY") role.Only) (either (word (codes "SELECTIVE") role.Selective) (word (codes "ALL") role.All)))
+
+abbrev pub keeping : Form
+keeping = word (codes "KEEP") role.Keep
+
+abbrev pub freeing : Form
+freeing = word (codes "FREE") role.Free ▹ maybe (word (codes "ALL") role.FreeAll)
+
+abbrev pub statement : Form
+statement = either opening (either closing (either find (either getting (either storing (either inserting (either removing (either modifying (either deleting (either keeping freeing)))))))))

@@ -1,0 +1,11 @@
+-- Words of the code, without where they lie in memory.
+use Rattle.std.specs.Prelude.{List, map}
+use Rattle.dbtg_script.specs.declared.queries.Labelled as code
+use Rattle.dbtg_script.specs.Tokens.{view}
+use Rattle.dbtg_script.specs.StatementGrammar.{Labelled}
+
+abbrev pub view_labelled : code.Labelled → Labelled
+view_labelled w = record { role = w.role; word = view w.token }
+
+abbrev pub views : List code.Labelled → List Labelled
+views ws = map view_labelled ws

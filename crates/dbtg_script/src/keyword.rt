@@ -1,0 +1,96 @@
+//! The words of the statement grammar.
+
+ghost use Rattle.dbtg_script.specs.Automaton.{spelling};
+ghost use Rattle.std.specs.Prelude.{◌≡◌};
+
+/// A word of the grammar.
+#[derive(Clone, Copy, Debug)]
+pub enum Keyword {
+    Open,
+    Close,
+    Find,
+    Get,
+    Store,
+    Insert,
+    Remove,
+    Modify,
+    Delete,
+    Keep,
+    Free,
+    Area,
+    Key,
+    Current,
+    Owner,
+    Calc,
+    Sorted,
+    Next,
+    First,
+    Last,
+    Prior,
+    Into,
+    From,
+    Only,
+    Selective,
+    All,
+    Of,
+    Duplicate,
+    Suppress,
+    UsageMode,
+    RunUnit,
+    Record,
+    Is,
+    Protected,
+    Exclusive,
+    Retrieval,
+    Update,
+    Set,
+    Using,
+}
+
+impl Keyword {
+    pub fn text(self) -> &'static str
+        ensures { result.now ≡ spelling self }
+    {
+        match self {
+            Keyword::Open => "OPEN",
+            Keyword::Close => "CLOSE",
+            Keyword::Find => "FIND",
+            Keyword::Get => "GET",
+            Keyword::Store => "STORE",
+            Keyword::Insert => "INSERT",
+            Keyword::Remove => "REMOVE",
+            Keyword::Modify => "MODIFY",
+            Keyword::Delete => "DELETE",
+            Keyword::Keep => "KEEP",
+            Keyword::Free => "FREE",
+            Keyword::Area => "AREA",
+            Keyword::Key => "KEY",
+            Keyword::Current => "CURRENT",
+            Keyword::Owner => "OWNER",
+            Keyword::Calc => "CALC",
+            Keyword::Sorted => "SORTED",
+            Keyword::Next => "NEXT",
+            Keyword::First => "FIRST",
+            Keyword::Last => "LAST",
+            Keyword::Prior => "PRIOR",
+            Keyword::Into => "INTO",
+            Keyword::From => "FROM",
+            Keyword::Only => "ONLY",
+            Keyword::Selective => "SELECTIVE",
+            Keyword::All => "ALL",
+            Keyword::Of => "OF",
+            Keyword::Duplicate => "DUPLICATE",
+            Keyword::Suppress => "SUPPRESS",
+            Keyword::UsageMode => "USAGE-MODE",
+            Keyword::RunUnit => "RUN-UNIT",
+            Keyword::Record => "RECORD",
+            Keyword::Is => "IS",
+            Keyword::Protected => "PROTECTED",
+            Keyword::Exclusive => "EXCLUSIVE",
+            Keyword::Retrieval => "RETRIEVAL",
+            Keyword::Update => "UPDATE",
+            Keyword::Set => "SET",
+            Keyword::Using => "USING",
+        }
+    }
+}

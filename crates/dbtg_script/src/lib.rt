@@ -1,0 +1,30 @@
+//! Scripts, moves, and the exact printed texts.
+#![tactic(auto)]
+
+mod automaton;
+mod checks;
+mod fault;
+mod image;
+mod keyword;
+mod laws;
+mod line;
+mod lookups;
+mod moves;
+mod print;
+mod queries;
+mod reader;
+mod role;
+mod spelling;
+mod statement;
+#[cfg(test)]
+mod tests;
+mod texts;
+mod token;
+mod values;
+
+pub use fault::{Cause, ScriptFault};
+pub use image::{image_text, moves_text};
+pub use laws::{a_line_without_faults_is_derived, a_printed_key_is_read_back};
+pub use moves::{MovesCause, MovesFault, read_moves};
+pub use reader::read_script;
+pub use texts::{answers_text, units_text};

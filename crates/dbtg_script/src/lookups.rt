@@ -1,0 +1,107 @@
+//! The names in a statement, and the numbers that they stand for. It takes no memory.
+
+ghost use Rattle.dbtg_script.specs.Lookups.{area_no, item_no, item_picture, set_no, sort_picture, type_no};
+ghost use Rattle.dbtg_script.specs.StatementFaults.{area_in, set_in, type_in, type_text};
+ghost use Rattle.dbtg_script.specs.Views.{views};
+ghost use Rattle.std.specs.Prelude.{◌≡◌};
+
+use crate::queries::{Labelled, has, named};
+use crate::role::Role;
+use dbtg_schema::{AreaNo, ItemNo, Picture, RecordNo, Schema, SetNo};
+
+pub fn area_no(schema: &Schema, name: &[u8]) -> AreaNo
+    ensures { result ≡ area_no schema.now name.now }
+{
+    match schema.area(name) {
+        Some(area) => area,
+        None => AreaNo::new(0),
+    }
+}
+
+pub fn type_no(schema: &Schema, name: &[u8]) -> RecordNo
+    ensures { result ≡ type_no schema.now name.now }
+{
+    match schema.rtype(name) {
+        Some(rtype) => rtype,
+        None => RecordNo::new(0),
+    }
+}
+
+pub fn set_no(schema: &Schema, name: &[u8]) -> SetNo
+    ensures { result ≡ set_no schema.now name.now }
+{
+    match schema.set(name) {
+        Some(set) => set,
+        None => SetNo::new(0),
+    }
+}
+
+pub fn item_no(schema: &Schema, rtype: RecordNo, name: &[u8]) -> ItemNo
+    ensures { result ≡ item_no schema.now rtype name.now }
+{
+    match schema.item(rtype, name) {
+        Some(item) => item,
+        None => ItemNo::new(0),
+    }
+}
+
+/// The picture of the item of this name.
+pub fn item_picture(schema: &Schema, rtype: RecordNo, name: &[u8]) -> Option<Picture>
+    ensures { result ≡ item_picture schema.now rtype name.now }
+{
+    match schema.item(rtype, name) {
+        Some(item) => schema.picture_of(rtype, item),
+        None => None,
+    }
+}
+
+/// The picture of the keys of a set, none where it is not sorted.
+pub fn sort_picture(schema: &Schema, set: SetNo) -> Option<Picture>
+    ensures { result ≡ sort_picture schema.now set }
+{
+    match schema.set_type(set) {
+        Some(set) => {
+            match set.members.as_slice().first() {
+                Some(member) => {
+                    match member.key {
+                        Some(item) => schema.picture_of(member.rtype, item),
+                        None => None,
+                    }
+                }
+                None => None,
+            }
+        }
+        None => None,
+    }
+}
+
+fn type_text<'a>(words: &[Labelled<'a>]) -> &'a [u8]
+    ensures { result.now ≡ type_text (views words.now) }
+{
+    if has(words, Role::TypeName) {
+        named(words, Role::TypeName)
+    } else {
+        named(words, Role::RecordName)
+    }
+}
+
+/// The record type that is named behind GET, STORE and MODIFY, or before RECORD.
+pub fn type_in(schema: &Schema, words: &[Labelled]) -> RecordNo
+    ensures { result ≡ type_in schema.now (views words.now) }
+{
+    type_no(schema, type_text(words))
+}
+
+/// The set that stands before SET.
+pub fn set_in(schema: &Schema, words: &[Labelled]) -> SetNo
+    ensures { result ≡ set_in schema.now (views words.now) }
+{
+    set_no(schema, named(words, Role::Name))
+}
+
+/// The area that stands before AREA.
+pub fn area_in(schema: &Schema, words: &[Labelled]) -> AreaNo
+    ensures { result ≡ area_in schema.now (views words.now) }
+{
+    area_no(schema, named(words, Role::Name))
+}

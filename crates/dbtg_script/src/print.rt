@@ -1,0 +1,246 @@
+//! Keys, values, places and lines of printed texts, pushed byte by byte.
+
+ghost use Rattle.dbtg_script.specs.Texts.{at_text, current_text, four_digits, generation_text, items_text, key_text, kept_entry, kept_text, mode_text, owner_text, place_text, spaced_key, type_name, value_text};
+ghost use Rattle.std.specs.List.{flat_map};
+ghost use Rattle.std.specs.Prelude.{◌≡◌, ◌++◌, ◌∷◌, ◌<◌, OnOk, decimal};
+
+use dbtg_cells::{DbKey, Mode, Owner, Value};
+use dbtg_schema::{Item, RecordNo, Schema};
+use dbtg_unit::Place;
+use itoa::Buffer;
+use std::alloc::AllocError;
+
+pub fn push_number(out: &mut Vec<u8>, n: u64) -> Result<(), AllocError>
+    ensures { OnOk result (out.new.items ≡ out.old.items ++ decimal n) }
+{
+    let mut buffer = Buffer::new();
+    out.extend_from_slice(buffer.format(n).as_bytes())
+}
+
+/// A status as four digits.
+pub fn push_status(out: &mut Vec<u8>, status: u16) -> Result<(), AllocError>
+    requires { status < 10000 }
+    ensures { OnOk result (out.new.items ≡ out.old.items ++ four_digits status) }
+{
+    let digits = [
+        b'0' + (status / 1000) as u8,
+        b'0' + (status / 100 % 10) as u8,
+        b'0' + (status / 10 % 10) as u8,
+        b'0' + (status % 10) as u8,
+    ];
+    out.extend_from_slice(&digits)
+}
+
+fn type_name(schema: &Schema, rtype: RecordNo) -> &[u8]
+    ensures { result.now ≡ type_name schema.now rtype }
+{
+    match schema.rtype_name(rtype) {
+        Some(name) => name,
+        None => b"",
+    }
+}
+
+fn push_generation(out: &mut Vec<u8>, generation: u8) -> Result<(), AllocError>
+    ensures { OnOk result (out.new.items ≡ out.old.items ++ generation_text generation) }
+{
+    if generation == 1 {
+        return Ok(());
+    }
+    out.push(b'.')?;
+    push_number(out, generation as u64)?;
+    Ok(())
+}
+
+pub fn push_key(out: &mut Vec<u8>, schema: &Schema, key: &DbKey) -> Result<(), AllocError>
+    ensures { OnOk result (out.new.items ≡ out.old.items ++ key_text schema.now key.now) }
+{
+    out.extend_from_slice(type_name(schema, key.rtype))?;
+    out.push(b':')?;
+    push_number(out, key.number as u64)?;
+    push_generation(out, key.generation)?;
+    Ok(())
+}
+
+pub fn push_spaced_key(out: &mut Vec<u8>, schema: &Schema, key: &DbKey) -> Result<(), AllocError>
+    ensures { OnOk result (out.new.items ≡ out.old.items ++ spaced_key schema.now key.now) }
+{
+    out.push(b' ')?;
+    push_key(out, schema, key)?;
+    Ok(())
+}
+
+pub fn push_keys(out: &mut Vec<u8>, schema: &Schema, keys: &[DbKey]) -> Result<(), AllocError>
+    ensures { OnOk result (out.new.items ≡ out.old.items ++ flat_map (spaced_key schema.now) keys.now) }
+{
+    for key in keys {
+        push_spaced_key(out, schema, key)?;
+    }
+    Ok(())
+}
+
+fn push_value(out: &mut Vec<u8>, value: &Value) -> Result<(), AllocError>
+    ensures { OnOk result (out.new.items ≡ out.old.items ++ value_text value.now) }
+{
+    match value {
+        Value::Num(n) => push_number(out, *n),
+        Value::Text(text) => {
+            out.push(b'"')?;
+            out.extend_from_slice(text.as_slice())?;
+            out.push(b'"')?;
+            Ok(())
+        }
+    }
+}
+
+fn push_item(out: &mut Vec<u8>, name: &[u8], value: &Value) -> Result<(), AllocError>
+    ensures { OnOk result (out.new.items ≡ out.old.items ++ 32 ∷ name.now ++ 61 ∷ value_text value.now) }
+{
+    out.push(b' ')?;
+    out.extend_from_slice(name)?;
+    out.push(b'=')?;
+    push_value(out, value)?;
+    Ok(())
+}
+
+/// Each value behind the name of its item.
+pub fn push_items(out: &mut Vec<u8>, values: &[Value], items: &[Item]) -> Result<(), AllocError>
+    ensures { OnOk result (out.new.items ≡ out.old.items ++ items_text values.now items.now) }
+{
+    for (i, value) in values.iter().enumerate() {
+        if i >= items.len() {
+            return Ok(());
+        }
+        push_item(out, items[i].name.as_slice(), value)?;
+    }
+    Ok(())
+}
+
+pub fn push_owner(out: &mut Vec<u8>, schema: &Schema, owner: &Owner) -> Result<(), AllocError>
+    ensures { OnOk result (out.new.items ≡ out.old.items ++ owner_text schema.now owner.now) }
+{
+    match owner {
+        Owner::System => out.extend_from_slice(b"SYSTEM"),
+        Owner::Rec(key) => push_key(out, schema, key),
+    }
+}
+
+pub fn push_mode(out: &mut Vec<u8>, mode: Mode) -> Result<(), AllocError>
+    ensures { OnOk result (out.new.items ≡ out.old.items ++ mode_text mode) }
+{
+    match mode {
+        Mode::Retrieval => out.extend_from_slice(b"RETRIEVAL"),
+        Mode::Update => out.extend_from_slice(b"UPDATE"),
+        Mode::ProtectedRetrieval => out.extend_from_slice(b"PROTECTED-RETRIEVAL"),
+        Mode::ProtectedUpdate => out.extend_from_slice(b"PROTECTED-UPDATE"),
+        Mode::ExclusiveRetrieval => out.extend_from_slice(b"EXCLUSIVE-RETRIEVAL"),
+        Mode::ExclusiveUpdate => out.extend_from_slice(b"EXCLUSIVE-UPDATE"),
+    }
+}
+
+/// A current, a dash for none.
+pub fn push_current(
+    out: &mut Vec<u8>,
+    schema: &Schema,
+    current: Option<DbKey>,
+) -> Result<(), AllocError>
+    ensures { OnOk result (out.new.items ≡ out.old.items ++ current_text schema.now current) }
+{
+    match current {
+        None => out.extend_from_slice(b" -"),
+        Some(key) => push_spaced_key(out, schema, &key),
+    }
+}
+
+pub fn push_currents(
+    out: &mut Vec<u8>,
+    schema: &Schema,
+    currents: &[Option<DbKey>],
+) -> Result<(), AllocError>
+    ensures { OnOk result (out.new.items ≡ out.old.items ++ flat_map (current_text schema.now) currents.now) }
+{
+    for current in currents {
+        push_current(out, schema, *current)?;
+    }
+    Ok(())
+}
+
+fn push_at(out: &mut Vec<u8>, schema: &Schema, at: Option<DbKey>) -> Result<(), AllocError>
+    ensures { OnOk result (out.new.items ≡ out.old.items ++ at_text schema.now at) }
+{
+    match at {
+        None => out.extend_from_slice(b"OWNER"),
+        Some(key) => push_key(out, schema, &key),
+    }
+}
+
+fn push_place(out: &mut Vec<u8>, schema: &Schema, place: Option<Place>) -> Result<(), AllocError>
+    ensures { OnOk result (out.new.items ≡ out.old.items ++ place_text schema.now place) }
+{
+    match place {
+        None => out.extend_from_slice(b" -"),
+        Some(place) => {
+            out.push(b' ')?;
+            push_owner(out, schema, &place.owner)?;
+            out.push(b'/')?;
+            push_at(out, schema, place.at)?;
+            Ok(())
+        }
+    }
+}
+
+pub fn push_places(
+    out: &mut Vec<u8>,
+    schema: &Schema,
+    places: &[Option<Place>],
+) -> Result<(), AllocError>
+    ensures { OnOk result (out.new.items ≡ out.old.items ++ flat_map (place_text schema.now) places.now) }
+{
+    for place in places {
+        push_place(out, schema, *place)?;
+    }
+    Ok(())
+}
+
+fn push_kept_entry(
+    out: &mut Vec<u8>,
+    schema: &Schema,
+    entry: &(DbKey, u64),
+) -> Result<(), AllocError>
+    ensures { OnOk result (out.new.items ≡ out.old.items ++ kept_entry schema.now entry.now) }
+{
+    push_spaced_key(out, schema, &entry.0)?;
+    out.push(b'/')?;
+    push_number(out, entry.1)?;
+    Ok(())
+}
+
+fn push_kept_entries(
+    out: &mut Vec<u8>,
+    schema: &Schema,
+    kept: &[(DbKey, u64)],
+) -> Result<(), AllocError>
+    ensures { OnOk result (out.new.items ≡ out.old.items ++ flat_map (kept_entry schema.now) kept.now) }
+{
+    for entry in kept {
+        push_kept_entry(out, schema, entry)?;
+    }
+    Ok(())
+}
+
+/// The records that a unit keeps, nothing where it keeps none.
+pub fn push_kept(
+    out: &mut Vec<u8>,
+    schema: &Schema,
+    kept: &[(DbKey, u64)],
+) -> Result<(), AllocError>
+    ensures { OnOk result (out.new.items ≡ out.old.items ++ kept_text schema.now kept.now) }
+{
+    match kept.split_first() {
+        None => Ok(()),
+        Some(_) => {
+            out.extend_from_slice(b" KEPT")?;
+            push_kept_entries(out, schema, kept)?;
+            Ok(())
+        }
+    }
+}

@@ -1,0 +1,185 @@
+//! Reading a script: the statement of each line, or the first fault.
+
+ghost use Rattle.dbtg_schema.specs.Forms.{labels};
+ghost use Rattle.dbtg_script.specs.Automaton.{rest_of};
+ghost use Rattle.dbtg_schema.specs.Lookups.{first};
+ghost use Rattle.dbtg_script.specs.Reading.{Refuses, RefusesScript, at_line, verdict};
+ghost use Rattle.dbtg_script.specs.StatementFaults.{line_faults, refusal, statement_faults};
+ghost use Rattle.dbtg_script.specs.Statements.{line_statement, prepend, script, statement_of};
+ghost use Rattle.dbtg_script.specs.StatementGrammar.{fits, statement};
+ghost use Rattle.dbtg_script.specs.Tokens.{Token as SeenToken, tokens, view};
+ghost use Rattle.dbtg_script.specs.Views.{views};
+ghost use Rattle.std.specs.Prelude.{◌≡◌, ◌∷◌, ◌++◌, ℕ, List, [], None, IfErr, IfOk, MatchResult, OnOk, false, length};
+
+use crate::automaton::{State, follow};
+use crate::checks::{at_other, end_fault, said};
+use crate::fault::{Cause, LineFault, ScriptFault};
+use crate::line::{Lines, ends_in_text, is_allowed, is_statement, trimmed};
+use crate::queries::Labelled;
+use crate::statement::statement_of;
+use crate::token::{Token, Tokens};
+use dbtg_schema::Schema;
+use dbtg_unit::Statement;
+use std::alloc::Global;
+
+/// Takes the next word: the state behind it, or the fault that the word is.
+fn take<'a>(
+    schema: &Schema,
+    words: &mut Vec<Labelled<'a>>,
+    state: State,
+    token: Token<'a>,
+) -> Result<State, LineFault>
+    ensures reached { (left : List SeenToken) → MatchResult result
+        (λ next. verdict schema.now (views words.old.items) (rest_of state) (view token.entry ∷ left) ≡ verdict schema.now (views words.new.items) (rest_of next) left)
+        (λ e. Refuses e (verdict schema.now (views words.old.items) (rest_of state) (view token.entry ∷ left))) }
+    ensures labels { IfOk result (λ next. (left : List SeenToken) → views words.old.items ++ labels fits (rest_of state) (view token.entry ∷ left) ≡ views words.new.items ++ labels fits (rest_of next) left) }
+{
+    match follow(state, token) {
+        None => Err(LineFault::Refused(at_other(words))),
+        Some(start) => {
+            let labelled = Labelled {
+                role: start.role,
+                token,
+            };
+            if let Some(cause) = said(schema, words, token, start.role) {
+                return Err(LineFault::Refused(cause));
+            }
+            words.push(labelled)?;
+            Ok(start.next)
+        }
+    }
+}
+
+#[tactic(auto, unfolding(crate::specs::Reading::verdict))]
+fn end_of(schema: &Schema, words: &[Labelled], state: State) -> Option<Cause>
+    ensures { result ≡ verdict schema.now (views words.now) (rest_of state) [] }
+{
+    if state.may_end() {
+        end_fault(schema, words)
+    } else {
+        Some(Cause::UnexpectedWord)
+    }
+}
+
+/// The words of a line that holds a statement, with their roles.
+fn read_words<'a>(
+    alloc: Global,
+    schema: &Schema,
+    line: &'a [u8],
+) -> Result<Vec<Labelled<'a>>, LineFault>
+    ensures accepted { OnOk result (verdict schema.now [] statement (tokens false line.now) ≡ None) }
+    ensures words { IfOk result (λ v. views v.items ≡ labels fits statement (tokens false line.now)) }
+    ensures refused { IfErr result (λ e. Refuses e (verdict schema.now [] statement (tokens false line.now))) }
+{
+    let mut words = Vec::new(alloc);
+    let mut state = State::Opening;
+    let mut left = Tokens { rest: line };
+    while let Some(token) = left.next() {
+        state = take(schema, &mut words, state, token)?;
+    }
+    match end_of(schema, &words, state) {
+        Some(cause) => Err(LineFault::Refused(cause)),
+        None => Ok(words),
+    }
+}
+
+/// The statement of a line that holds one.
+fn read_statement(alloc: Global, schema: &Schema, line: &[u8]) -> Result<Statement, LineFault>
+    ensures accepted { OnOk result (first (statement_faults schema.now line.now) ≡ None) }
+    ensures statement { IfOk result (λ s. s ≡ statement_of schema.now (labels fits statement (tokens false line.now))) }
+    ensures refused { IfErr result (λ e. Refuses e (first (statement_faults schema.now line.now))) }
+{
+    if ends_in_text(line) {
+        return Err(LineFault::Refused(Cause::UnexpectedWord));
+    }
+    match read_words(alloc, schema, line) {
+        Err(fault) => Err(fault),
+        Ok(words) => Ok(statement_of(alloc, schema, &words)?),
+    }
+}
+
+/// The statement of a line behind so many statements, if it holds one.
+fn read_line(
+    alloc: Global,
+    schema: &Schema,
+    count: usize,
+    line: &[u8],
+) -> Result<Option<Statement>, LineFault>
+    ensures accepted { OnOk result (first (line_faults schema.now count line.now) ≡ None) }
+    ensures statement { IfOk result (λ s. s ≡ line_statement schema.now line.now) }
+    ensures refused { IfErr result (λ e. Refuses e (first (line_faults schema.now count line.now))) }
+{
+    let holds_one = is_statement(line);
+    if holds_one && 65535 <= count {
+        return Err(LineFault::Refused(Cause::TooMuch));
+    }
+    if !is_allowed(line) {
+        return Err(LineFault::Refused(Cause::LineNotAllowed));
+    }
+    if !holds_one {
+        return Ok(None);
+    }
+    Ok(Some(read_statement(alloc, schema, line)?))
+}
+
+/// Takes a line: its statement goes behind those before it.
+fn take_line(
+    alloc: Global,
+    schema: &Schema,
+    statements: &mut Vec<Statement>,
+    line: &[u8],
+) -> Result<(), LineFault>
+    ensures accepted { OnOk result (first (line_faults schema.now (length statements.old.items) line.now) ≡ None) }
+    ensures taken { OnOk result (statements.new.items ≡ statements.old.items ++ prepend (line_statement schema.now line.now) []) }
+    ensures refused { IfErr result (λ e. Refuses e (first (line_faults schema.now (length statements.old.items) line.now))) }
+{
+    match read_line(alloc, schema, statements.len(), line) {
+        Err(fault) => Err(fault),
+        Ok(None) => Ok(()),
+        Ok(Some(statement)) => {
+            statements.push(statement)?;
+            Ok(())
+        }
+    }
+}
+
+fn at_line(number: u64, fault: LineFault) -> ScriptFault
+    ensures { result ≡ at_line number fault }
+{
+    match fault {
+        LineFault::Refused(cause) => ScriptFault::Refused {
+            line: number,
+            cause,
+        },
+        LineFault::Memory => ScriptFault::Memory,
+    }
+}
+
+/// Reads a script of this schema: its statements, one a line, in their order. The text may hold any bytes. What is
+/// refused is refused for its first fault; `Memory` is the answer where a growth was refused before a fault was met.
+pub fn read_script(
+    alloc: Global,
+    schema: &Schema,
+    text: &[u8],
+) -> Result<Vec<Statement>, ScriptFault>
+    ensures accepted { OnOk result (refusal schema.now text.now ≡ None) }
+    ensures statements { IfOk result (λ v. v.items ≡ script schema.now text.now) }
+    ensures refused { IfErr result (λ e. RefusesScript e (refusal schema.now text.now)) }
+{
+    if text.len() > 1_048_576 {
+        return Err(ScriptFault::Refused {
+            line: 1,
+            cause: Cause::TooMuch,
+        });
+    }
+    let mut statements = Vec::new(alloc);
+    let mut number: u64 = 1;
+    let mut left = Lines { rest: text };
+    while let Some(line) = left.next() {
+        if let Err(fault) = take_line(alloc, schema, &mut statements, trimmed(line)) {
+            return Err(at_line(number, fault));
+        }
+        number += 1;
+    }
+    Ok(statements)
+}

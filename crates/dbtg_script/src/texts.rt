@@ -1,0 +1,105 @@
+//! The printed texts: answers and units.
+
+ghost use Rattle.dbtg_script.specs.Texts.{answer_text, answers_text, current_text, found_text, unit_text, units_text};
+ghost use Rattle.dbtg_unit.specs.Codes.{status_code};
+ghost use Rattle.std.specs.Prelude.{◌≡◌, ◌++◌, ◌<◌, IfOk, OnOk, codes, decimal, option_map};
+
+use crate::print::{
+    push_current, push_currents, push_items, push_kept, push_number, push_places, push_spaced_key,
+    push_status,
+};
+use dbtg_cells::{DbKey, Value};
+use dbtg_schema::{Row, Schema};
+use dbtg_unit::{Entry, Statement, Status, Unit};
+use std::alloc::{AllocError, Global};
+
+fn push_found(
+    out: &mut Vec<u8>,
+    schema: &Schema,
+    key: Option<DbKey>,
+    items: Option<&Row<Value>>,
+) -> Result<(), AllocError>
+    ensures { OnOk result (out.new.items ≡ out.old.items ++ found_text schema.now key (option_map (λ r. r.now) items.entry)) }
+{
+    match key {
+        None => Ok(()),
+        Some(key) => {
+            push_spaced_key(out, schema, &key)?;
+            match items {
+                None => Ok(()),
+                Some(values) => push_items(out, values.as_slice(), schema.items(key.rtype)),
+            }
+        }
+    }
+}
+
+fn status_code(status: Status, statement: &Statement) -> u16
+    ensures value { result ≡ status_code statement.now status }
+    ensures four { result < 10000 }
+{
+    status.code(statement)
+}
+
+fn push_answer(out: &mut Vec<u8>, schema: &Schema, entry: &Entry) -> Result<(), AllocError>
+    ensures { OnOk result (out.new.items ≡ out.old.items ++ answer_text schema.now entry.now) }
+{
+    push_number(out, entry.ticket)?;
+    out.push(b' ')?;
+    push_number(out, entry.unit as u64)?;
+    out.push(b' ')?;
+    push_status(out, status_code(entry.answer.status, &entry.statement))?;
+    push_found(out, schema, entry.answer.key, entry.answer.items.as_ref())?;
+    out.push(b'\n')?;
+    Ok(())
+}
+
+/// A line for each entry of a history: its ticket, unit and answer.
+pub fn answers_text(
+    alloc: Global,
+    schema: &Schema,
+    history: &[Entry],
+) -> Result<Vec<u8>, AllocError>
+    ensures { IfOk result (λ text. text.items ≡ answers_text schema.now history.now) }
+{
+    let mut out = Vec::new(alloc);
+    for entry in history {
+        push_answer(&mut out, schema, entry)?;
+    }
+    Ok(out)
+}
+
+fn push_unit_front(out: &mut Vec<u8>, schema: &Schema, unit: &Unit) -> Result<(), AllocError>
+    ensures { OnOk result (out.new.items ≡ out.old.items ++ codes "UNIT " ++ decimal unit.now.number ++ codes " RUN" ++ current_text schema.now unit.now.currency.run_unit) }
+{
+    out.extend_from_slice(b"UNIT ")?;
+    push_number(out, unit.number as u64)?;
+    out.extend_from_slice(b" RUN")?;
+    push_current(out, schema, unit.currency.run_unit)?;
+    Ok(())
+}
+
+fn push_unit(out: &mut Vec<u8>, schema: &Schema, unit: &Unit) -> Result<(), AllocError>
+    ensures { OnOk result (out.new.items ≡ out.old.items ++ unit_text schema.now unit.now) }
+{
+    push_unit_front(out, schema, unit)?;
+    out.extend_from_slice(b" RECORD")?;
+    push_currents(out, schema, unit.currency.types.as_slice())?;
+    out.extend_from_slice(b" SET")?;
+    push_places(out, schema, unit.currency.sets.as_slice())?;
+    out.extend_from_slice(b" AREA")?;
+    push_currents(out, schema, unit.currency.areas.as_slice())?;
+    push_kept(out, schema, unit.kept.as_slice())?;
+    out.push(b'\n')?;
+    Ok(())
+}
+
+/// A line for each unit: its currents, and what it keeps.
+pub fn units_text(alloc: Global, schema: &Schema, units: &[Unit]) -> Result<Vec<u8>, AllocError>
+    ensures { IfOk result (λ text. text.items ≡ units_text schema.now units.now) }
+{
+    let mut out = Vec::new(alloc);
+    for unit in units {
+        push_unit(&mut out, schema, unit)?;
+    }
+    Ok(out)
+}
