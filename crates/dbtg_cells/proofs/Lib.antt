@@ -7,4 +7,5 @@ mod ChainLemmas
 mod RingLemmas
 mod Places
 mod RingReads
+mod NumberLemmas
 pub mod PlacedLaws

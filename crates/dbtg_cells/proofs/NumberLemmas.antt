@@ -1,0 +1,218 @@
+-- The numbering of cells.
+use Rattle.std.proofs.Common.{◌≡◌, ◌==◌, ◌+◌, ℕ, zero, suc, Bool, true, false, not, cond, ◌&&◌, ◌||◌, List, [], ◌∷◌, ◌++◌, Option, Some, None, map, length, get_or, slice_get, refl, sym, ap, ◌∙◌, arith}
+use Rattle.std.specs.Prelude.{position, is_some, is_none, nat_lt, nat_le, option_map, option_and_then, unwrap_or}
+use Rattle.std.specs.List.{list_any, flat_map, range_with_len, position_or_len}
+use Rattle.std.proofs.lemmas.Bool.Decides.{nat_tests}
+use Rattle.std.proofs.lemmas.List.Quantifiers.{position-Some}
+use Rattle.std.proofs.lemmas.Option.{slice_get-get_or}
+use Rattle.dbtg_schema.specs.Lists.{Lists}
+use Rattle.dbtg_schema.specs.Lookups.{some_and}
+use Rattle.dbtg_schema.specs.Structure.{is_system, owner_type, owns, set_numbers}
+use Rattle.dbtg_cells.specs.declared.name.CellName.{CellName}
+use Rattle.dbtg_cells.specs.declared.name.CellName.TheVariants.{Usage, Extent, Ring, Slot}
+use Rattle.dbtg_cells.specs.Names.{name_eq}
+use Rattle.dbtg_cells.specs.CellNumbers.{cells_in_order, rings_of, slots_of, is_cell, cell_number}
+use Rattle.dbtg_cells.proofs.KeyLemmas.{name_eq-same}
+use Rattle.dbtg_cells.proofs.PlainLemmas.{any-map}
+
+pub stands-at : (c : CellName) (cells : List CellName) (n : ℕ) → position (name_eq c) cells ≡ Some n → slice_get cells n ≡ Some c
+stands-at c cells n e =
+    let at = position-Some (name_eq c) cells n c e in
+    slice_get-get_or cells n c at.0 ∙ ap Some (sym (name_eq-same c (get_or cells n c) at.1))
+
+lt-suc : (m n : ℕ) → nat_lt (1 + m) (suc n) ≡ nat_lt m n
+lt-suc m n = grind (arith, nat_tests)
+
+lt-zero : (n : ℕ) → nat_lt 0 (suc n) ≡ true
+lt-zero n = grind (arith, nat_tests)
+
+or-nothing : (b : Bool) → b || false ≡ b
+or-nothing true = refl
+or-nothing false = refl
+
+and-nothing : (b : Bool) → b && false ≡ false
+and-nothing true = refl
+and-nothing false = refl
+
+module _ {X : Type 0} (p : X → Bool) where
+  within-any : (xs : List X) → nat_lt (position_or_len p xs) (length xs) ≡ list_any p xs
+  within-any [] = refl
+  within-any (x ∷ xs) = by (p x) (within-any xs)
+    where
+      by : (b : Bool) → nat_lt (position_or_len p xs) (length xs) ≡ list_any p xs → nat_lt (cond (not b) (1 + position_or_len p xs) 0) (length (x ∷ xs)) ≡ b || list_any p xs
+      by true rest = lt-zero (length xs)
+      by false rest = lt-suc (position_or_len p xs) (length xs) ∙ rest
+
+  position-any : (xs : List X) → is_some (position p xs) ≡ list_any p xs
+  position-any xs = by (nat_lt (position_or_len p xs) (length xs)) ∙ within-any xs
+    where
+      by : (b : Bool) → is_some (cond b (Some (position_or_len p xs)) None) ≡ b
+      by true = refl
+      by false = refl
+
+  any-append : (xs ys : List X) → list_any p (xs ++ ys) ≡ list_any p xs || list_any p ys
+  any-append [] ys = refl
+  any-append (x ∷ xs) ys = by (p x) (any-append xs ys)
+    where
+      by : (b : Bool) → list_any p (xs ++ ys) ≡ list_any p xs || list_any p ys → b || list_any p (xs ++ ys) ≡ (b || list_any p xs) || list_any p ys
+      by true rest = refl
+      by false rest = rest
+
+  any-flat : (f : ℕ → List X) (ns : List ℕ) → list_any p (flat_map f ns) ≡ list_any (λ n. list_any p (f n)) ns
+  any-flat f [] = refl
+  any-flat f (n ∷ ns) = any-append (f n) (flat_map f ns) ∙ ap (λ b. list_any p (f n) || b) (any-flat f ns)
+
+any-same : (p q : ℕ → Bool) (ns : List ℕ) → ((n : ℕ) → p n ≡ q n) → list_any p ns ≡ list_any q ns
+any-same p q [] same = refl
+any-same p q (n ∷ ns) same = λ i. same n i || any-same p q ns same i
+
+any-none : (p : ℕ → Bool) (ns : List ℕ) → ((n : ℕ) → p n ≡ false) → list_any p ns ≡ false
+any-none p [] none = refl
+any-none p (n ∷ ns) none = λ i. none n i || any-none p ns none i
+
+any-and : (b : Bool) (p : ℕ → Bool) (ns : List ℕ) → list_any (λ n. b && p n) ns ≡ b && list_any p ns
+any-and true p ns = refl
+any-and false p ns = any-none (λ n. false) ns (λ n. refl)
+
+any-in_range : (q a n : ℕ) → list_any (λ x. q == x) (range_with_len a n) ≡ nat_le a q && nat_lt q (a + n)
+any-in_range q a zero = grind (arith, nat_tests)
+any-in_range q a (suc n) = ap (λ b. (q == a) || b) (any-in_range q (a + 1) n) ∙ grind (arith, nat_tests)
+
+any-below : (q n : ℕ) → list_any (λ x. q == x) (range_with_len 0 n) ≡ nat_lt q n
+any-below q n = any-in_range q 0 n ∙ grind (arith, nat_tests)
+
+any-numbered : (q n : ℕ) → list_any (λ x. q == x) (range_with_len 1 n) ≡ nat_lt 0 q && nat_le q n
+any-numbered q n = any-in_range q 1 n ∙ grind (arith, nat_tests)
+
+any-chosen : (q : ℕ) (p : ℕ → Bool) (ns : List ℕ) → list_any (λ n. (q == n) && p n) ns ≡ list_any (λ n. q == n) ns && p q
+any-chosen q p [] = refl
+any-chosen q p (n ∷ ns) = ap (λ b. ((q == n) && p n) || b) (any-chosen q p ns) ∙ by (q == n) refl
+  where
+    by : (b : Bool) → (q == n) ≡ b → (b && p n) || (list_any (λ n. q == n) ns && p q) ≡ (b || list_any (λ n. q == n) ns) && p q
+    by true e = let same : q ≡ n = grind (arith, nat_tests) in ap (λ z. p z || (list_any (λ n. q == n) ns && p q)) (sym same) ∙ absorbed (p q) _
+      where
+        absorbed : (b c : Bool) → b || (c && b) ≡ b
+        absorbed true c = refl
+        absorbed false c = and-nothing c
+    by false e = refl
+
+none-mapped : (c : CellName) (f : ℕ → CellName) (ns : List ℕ) → ((n : ℕ) → name_eq c (f n) ≡ false) → list_any (name_eq c) (map f ns) ≡ false
+none-mapped c f ns none = any-map f (name_eq c) ns ∙ any-none (λ n. name_eq c (f n)) ns none
+
+none-flat : (c : CellName) (f : ℕ → List CellName) (ns : List ℕ) → ((n : ℕ) → list_any (name_eq c) (f n) ≡ false) → list_any (name_eq c) (flat_map f ns) ≡ false
+none-flat c f ns none = any-flat (name_eq c) f ns ∙ any-none (λ n. list_any (name_eq c) (f n)) ns none
+
+within : {X : Type 0} (p : Option X → Bool) → p None ≡ false → (s : ℕ) (xs : List X) → nat_lt s (length xs) && p (slice_get xs s) ≡ p (slice_get xs s)
+within p none s [] = ap (λ b. nat_lt s 0 && b) none ∙ and-nothing (nat_lt s 0) ∙ sym none
+within p none zero (x ∷ xs) = ap (λ b. b && p (Some x)) (lt-zero (length xs))
+within p none (suc s) (x ∷ xs) =
+    let on : nat_lt (suc s) (suc (length xs)) ≡ nat_lt s (length xs) = grind (arith, nat_tests) in
+    ap (λ b. b && p (slice_get xs s)) on ∙ within p none s xs
+
+module _ (schema : Lists) (capacity : ℕ) where
+  no-ring : (c : CellName) → ((s : ℕ) (o : Option (ℕ × ℕ)) → name_eq c (Ring s o) ≡ false) → (s : ℕ) → list_any (name_eq c) (rings_of schema capacity s) ≡ false
+  no-ring c none s = by (is_system schema s) (owner_type schema s)
+    where
+      by : (b : Bool) (o : Option ℕ) → list_any (name_eq c) (cond b (Ring s None ∷ []) (unwrap_or (option_map (λ t. map (λ n. Ring s (Some (t, n))) (range_with_len 1 capacity)) o) [])) ≡ false
+      by true o = ap (λ b. b || false) (none s None)
+      by false None = refl
+      by false (Some t) = none-mapped c (λ n. Ring s (Some (t, n))) (range_with_len 1 capacity) (λ n. none s (Some (t, n)))
+
+  system-ring : (s t : ℕ) → list_any (name_eq (Ring s None)) (rings_of schema capacity t) ≡ (s == t) && is_system schema t
+  system-ring s t = by (is_system schema t) (owner_type schema t)
+    where
+      by : (b : Bool) (o : Option ℕ) → list_any (name_eq (Ring s None)) (cond b (Ring t None ∷ []) (unwrap_or (option_map (λ u. map (λ n. Ring t (Some (u, n))) (range_with_len 1 capacity)) o) [])) ≡ (s == t) && b
+      by true o = or-nothing ((s == t) && true)
+      by false None = sym (and-nothing (s == t))
+      by false (Some u) = none-mapped (Ring s None) (λ n. Ring t (Some (u, n))) (range_with_len 1 capacity) (λ n. and-nothing (s == t)) ∙ sym (and-nothing (s == t))
+
+  owned-ring : (s t : ℕ) (p : ℕ × ℕ) → list_any (name_eq (Ring s (Some p))) (rings_of schema capacity t) ≡ (s == t) && (owns schema t p.0 && (nat_lt 0 p.1 && nat_le p.1 capacity))
+  owned-ring s t p = by (λ set. set.owner) (slice_get schema.sets t)
+    where
+      here : Bool
+      here = nat_lt 0 p.1 && nat_le p.1 capacity
+
+      listed : (o : Option ℕ) → list_any (name_eq (Ring s (Some p))) (cond (is_none o) (Ring t None ∷ []) (unwrap_or (option_map (λ u. map (λ n. Ring t (Some (u, n))) (range_with_len 1 capacity)) o) [])) ≡ (s == t) && (some_and (λ u. u == p.0) o && here)
+      listed None = or-nothing ((s == t) && false)
+      listed (Some u) =
+          let turned : (p.0 == u) ≡ (u == p.0) = grind (arith, nat_tests) in
+          any-map (λ n. Ring t (Some (u, n))) (name_eq (Ring s (Some p))) (range_with_len 1 capacity)
+          ∙ any-and (s == t) (λ n. (p.0 == u) && (p.1 == n)) (range_with_len 1 capacity)
+          ∙ ap (λ b. (s == t) && b) (any-and (p.0 == u) (λ n. p.1 == n) (range_with_len 1 capacity) ∙ (λ i. turned i && any-numbered p.1 capacity i))
+
+      by : {X : Type 0} (owner : X → Option ℕ) (g : Option X) → list_any (name_eq (Ring s (Some p))) (cond (some_and (λ x. is_none (owner x)) g) (Ring t None ∷ []) (unwrap_or (option_map (λ u. map (λ n. Ring t (Some (u, n))) (range_with_len 1 capacity)) (option_and_then owner g)) [])) ≡ (s == t) && (some_and (λ u. u == p.0) (option_and_then owner g) && here)
+      by owner None = sym (and-nothing (s == t))
+      by owner (Some x) = listed (owner x)
+
+  slot-any : (t n u : ℕ) → list_any (name_eq (Slot t n)) (slots_of capacity u) ≡ (t == u) && (nat_lt 0 n && nat_le n capacity)
+  slot-any t n u =
+      any-map (Slot u) (name_eq (Slot t n)) (range_with_len 1 capacity)
+      ∙ any-and (t == u) (λ m. n == m) (range_with_len 1 capacity)
+      ∙ ap (λ b. (t == u) && b) (any-numbered n capacity)
+
+  abbrev areas : List ℕ
+  areas = range_with_len 0 (length schema.areas)
+
+  abbrev types : List ℕ
+  types = range_with_len 0 (length schema.types)
+
+  parts : (c : CellName) (a b d e : Bool) → list_any (name_eq c) (map Usage areas) ≡ a → list_any (name_eq c) (map Extent types) ≡ b → list_any (name_eq c) (flat_map (rings_of schema capacity) (set_numbers schema)) ≡ d → list_any (name_eq c) (flat_map (slots_of capacity) types) ≡ e → list_any (name_eq c) (cells_in_order schema capacity) ≡ a || (b || (d || e))
+  parts c a b d e usage extent ring slot =
+      any-append (name_eq c) (map Usage areas) _
+      ∙ (λ i. usage i || (any-append (name_eq c) (map Extent types) _ ∙ (λ j. extent j || (any-append (name_eq c) (flat_map (rings_of schema capacity) (set_numbers schema)) (flat_map (slots_of capacity) types) ∙ (λ k. ring k || slot k)) j)) i)
+
+  no-slot : (c : CellName) → ((t n : ℕ) → name_eq c (Slot t n) ≡ false) → list_any (name_eq c) (flat_map (slots_of capacity) types) ≡ false
+  no-slot c none = none-flat c (slots_of capacity) types (λ t. none-mapped c (Slot t) (range_with_len 1 capacity) (none t))
+
+  pub is-cell : (c : CellName) → list_any (name_eq c) (cells_in_order schema capacity) ≡ is_cell schema capacity c
+  is-cell (Usage a) =
+      parts (Usage a) (nat_lt a (length schema.areas)) false false false
+        (any-map Usage (name_eq (Usage a)) areas ∙ any-below a (length schema.areas))
+        (none-mapped (Usage a) Extent types (λ t. refl))
+        (none-flat (Usage a) (rings_of schema capacity) (set_numbers schema) (no-ring (Usage a) (λ s o. refl)))
+        (no-slot (Usage a) (λ t n. refl))
+      ∙ or-nothing (nat_lt a (length schema.areas))
+  is-cell (Extent t) =
+      parts (Extent t) false (nat_lt t (length schema.types)) false false
+        (none-mapped (Extent t) Usage areas (λ a. refl))
+        (any-map Extent (name_eq (Extent t)) types ∙ any-below t (length schema.types))
+        (none-flat (Extent t) (rings_of schema capacity) (set_numbers schema) (no-ring (Extent t) (λ s o. refl)))
+        (no-slot (Extent t) (λ u n. refl))
+      ∙ or-nothing (nat_lt t (length schema.types))
+  is-cell (Ring s None) =
+      parts (Ring s None) false false (is_system schema s) false
+        (none-mapped (Ring s None) Usage areas (λ a. refl))
+        (none-mapped (Ring s None) Extent types (λ t. refl))
+        (any-flat (name_eq (Ring s None)) (rings_of schema capacity) (set_numbers schema)
+         ∙ any-same (λ t. list_any (name_eq (Ring s None)) (rings_of schema capacity t)) (λ t. (s == t) && is_system schema t) (set_numbers schema) (system-ring s)
+         ∙ any-chosen s (is_system schema) (set_numbers schema)
+         ∙ ap (λ b. b && is_system schema s) (any-below s (length schema.sets))
+         ∙ within (λ g. some_and (λ set. is_none set.owner) g) refl s schema.sets)
+        (no-slot (Ring s None) (λ t n. refl))
+      ∙ or-nothing (is_system schema s)
+  is-cell (Ring s (Some p)) =
+      parts (Ring s (Some p)) false false (owned s) false
+        (none-mapped (Ring s (Some p)) Usage areas (λ a. refl))
+        (none-mapped (Ring s (Some p)) Extent types (λ t. refl))
+        (any-flat (name_eq (Ring s (Some p))) (rings_of schema capacity) (set_numbers schema)
+         ∙ any-same (λ t. list_any (name_eq (Ring s (Some p))) (rings_of schema capacity t)) (λ t. (s == t) && owned t) (set_numbers schema) (λ t. owned-ring s t p)
+         ∙ any-chosen s owned (set_numbers schema)
+         ∙ ap (λ b. b && owned s) (any-below s (length schema.sets))
+         ∙ within (λ g. some_and (λ u. u == p.0) (option_and_then (λ set. set.owner) g) && (nat_lt 0 p.1 && nat_le p.1 capacity)) refl s schema.sets)
+        (no-slot (Ring s (Some p)) (λ t n. refl))
+      ∙ or-nothing (owned s)
+    where
+      owned : ℕ → Bool
+      owned t = owns schema t p.0 && (nat_lt 0 p.1 && nat_le p.1 capacity)
+  is-cell (Slot t n) =
+      parts (Slot t n) false false false (nat_lt t (length schema.types) && (nat_lt 0 n && nat_le n capacity))
+        (none-mapped (Slot t n) Usage areas (λ a. refl))
+        (none-mapped (Slot t n) Extent types (λ u. refl))
+        (none-flat (Slot t n) (rings_of schema capacity) (set_numbers schema) (no-ring (Slot t n) (λ s o. refl)))
+        (any-flat (name_eq (Slot t n)) (slots_of capacity) types
+         ∙ any-same (λ u. list_any (name_eq (Slot t n)) (slots_of capacity u)) (λ u. (t == u) && (nat_lt 0 n && nat_le n capacity)) types (slot-any t n)
+         ∙ any-chosen t (λ u. nat_lt 0 n && nat_le n capacity) types
+         ∙ ap (λ b. b && (nat_lt 0 n && nat_le n capacity)) (any-below t (length schema.types)))
+
+  pub has-number : (c : CellName) → is_some (cell_number schema capacity c) ≡ is_cell schema capacity c
+  has-number c = position-any (name_eq c) (cells_in_order schema capacity) ∙ is-cell c
