@@ -22,6 +22,8 @@ mod places;
 mod reach;
 mod see;
 mod statement;
+#[cfg(test)]
+mod tests;
 mod unit;
 
 pub use apply::edit_cell;
