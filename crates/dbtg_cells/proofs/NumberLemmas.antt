@@ -168,52 +168,52 @@ module _ (schema : Lists) (capacity : ℕ) where
   pub is-cell : (c : CellName) → list_any (name_eq c) (cells_in_order schema capacity) ≡ is_cell schema capacity c
   is-cell (Usage a) =
       parts (Usage a) (nat_lt a (length schema.areas)) false false false
-        (any-map Usage (name_eq (Usage a)) areas ∙ any-below a (length schema.areas))
-        (none-mapped (Usage a) Extent types (λ t. refl))
-        (none-flat (Usage a) (rings_of schema capacity) (set_numbers schema) (no-ring (Usage a) (λ s o. refl)))
-        (no-slot (Usage a) (λ t n. refl))
+      (any-map Usage (name_eq (Usage a)) areas ∙ any-below a (length schema.areas))
+      (none-mapped (Usage a) Extent types (λ t. refl))
+      (none-flat (Usage a) (rings_of schema capacity) (set_numbers schema) (no-ring (Usage a) (λ s o. refl)))
+      (no-slot (Usage a) (λ t n. refl))
       ∙ or-nothing (nat_lt a (length schema.areas))
   is-cell (Extent t) =
       parts (Extent t) false (nat_lt t (length schema.types)) false false
-        (none-mapped (Extent t) Usage areas (λ a. refl))
-        (any-map Extent (name_eq (Extent t)) types ∙ any-below t (length schema.types))
-        (none-flat (Extent t) (rings_of schema capacity) (set_numbers schema) (no-ring (Extent t) (λ s o. refl)))
-        (no-slot (Extent t) (λ u n. refl))
+      (none-mapped (Extent t) Usage areas (λ a. refl))
+      (any-map Extent (name_eq (Extent t)) types ∙ any-below t (length schema.types))
+      (none-flat (Extent t) (rings_of schema capacity) (set_numbers schema) (no-ring (Extent t) (λ s o. refl)))
+      (no-slot (Extent t) (λ u n. refl))
       ∙ or-nothing (nat_lt t (length schema.types))
   is-cell (Ring s None) =
       parts (Ring s None) false false (is_system schema s) false
-        (none-mapped (Ring s None) Usage areas (λ a. refl))
-        (none-mapped (Ring s None) Extent types (λ t. refl))
-        (any-flat (name_eq (Ring s None)) (rings_of schema capacity) (set_numbers schema)
-         ∙ any-same (λ t. list_any (name_eq (Ring s None)) (rings_of schema capacity t)) (λ t. (s == t) && is_system schema t) (set_numbers schema) (system-ring s)
-         ∙ any-chosen s (is_system schema) (set_numbers schema)
-         ∙ ap (λ b. b && is_system schema s) (any-below s (length schema.sets))
-         ∙ within (λ g. some_and (λ set. is_none set.owner) g) refl s schema.sets)
-        (no-slot (Ring s None) (λ t n. refl))
+      (none-mapped (Ring s None) Usage areas (λ a. refl))
+      (none-mapped (Ring s None) Extent types (λ t. refl))
+      (any-flat (name_eq (Ring s None)) (rings_of schema capacity) (set_numbers schema)
+      ∙ any-same (λ t. list_any (name_eq (Ring s None)) (rings_of schema capacity t)) (λ t. (s == t) && is_system schema t) (set_numbers schema) (system-ring s)
+      ∙ any-chosen s (is_system schema) (set_numbers schema)
+      ∙ ap (λ b. b && is_system schema s) (any-below s (length schema.sets))
+      ∙ within (λ g. some_and (λ set. is_none set.owner) g) refl s schema.sets)
+      (no-slot (Ring s None) (λ t n. refl))
       ∙ or-nothing (is_system schema s)
   is-cell (Ring s (Some p)) =
       parts (Ring s (Some p)) false false (owned s) false
-        (none-mapped (Ring s (Some p)) Usage areas (λ a. refl))
-        (none-mapped (Ring s (Some p)) Extent types (λ t. refl))
-        (any-flat (name_eq (Ring s (Some p))) (rings_of schema capacity) (set_numbers schema)
-         ∙ any-same (λ t. list_any (name_eq (Ring s (Some p))) (rings_of schema capacity t)) (λ t. (s == t) && owned t) (set_numbers schema) (λ t. owned-ring s t p)
-         ∙ any-chosen s owned (set_numbers schema)
-         ∙ ap (λ b. b && owned s) (any-below s (length schema.sets))
-         ∙ within (λ g. some_and (λ u. u == p.0) (option_and_then (λ set. set.owner) g) && (nat_lt 0 p.1 && nat_le p.1 capacity)) refl s schema.sets)
-        (no-slot (Ring s (Some p)) (λ t n. refl))
+      (none-mapped (Ring s (Some p)) Usage areas (λ a. refl))
+      (none-mapped (Ring s (Some p)) Extent types (λ t. refl))
+      (any-flat (name_eq (Ring s (Some p))) (rings_of schema capacity) (set_numbers schema)
+      ∙ any-same (λ t. list_any (name_eq (Ring s (Some p))) (rings_of schema capacity t)) (λ t. (s == t) && owned t) (set_numbers schema) (λ t. owned-ring s t p)
+      ∙ any-chosen s owned (set_numbers schema)
+      ∙ ap (λ b. b && owned s) (any-below s (length schema.sets))
+      ∙ within (λ g. some_and (λ u. u == p.0) (option_and_then (λ set. set.owner) g) && (nat_lt 0 p.1 && nat_le p.1 capacity)) refl s schema.sets)
+      (no-slot (Ring s (Some p)) (λ t n. refl))
       ∙ or-nothing (owned s)
     where
       owned : ℕ → Bool
       owned t = owns schema t p.0 && (nat_lt 0 p.1 && nat_le p.1 capacity)
   is-cell (Slot t n) =
       parts (Slot t n) false false false (nat_lt t (length schema.types) && (nat_lt 0 n && nat_le n capacity))
-        (none-mapped (Slot t n) Usage areas (λ a. refl))
-        (none-mapped (Slot t n) Extent types (λ u. refl))
-        (none-flat (Slot t n) (rings_of schema capacity) (set_numbers schema) (no-ring (Slot t n) (λ s o. refl)))
-        (any-flat (name_eq (Slot t n)) (slots_of capacity) types
-         ∙ any-same (λ u. list_any (name_eq (Slot t n)) (slots_of capacity u)) (λ u. (t == u) && (nat_lt 0 n && nat_le n capacity)) types (slot-any t n)
-         ∙ any-chosen t (λ u. nat_lt 0 n && nat_le n capacity) types
-         ∙ ap (λ b. b && (nat_lt 0 n && nat_le n capacity)) (any-below t (length schema.types)))
+      (none-mapped (Slot t n) Usage areas (λ a. refl))
+      (none-mapped (Slot t n) Extent types (λ u. refl))
+      (none-flat (Slot t n) (rings_of schema capacity) (set_numbers schema) (no-ring (Slot t n) (λ s o. refl)))
+      (any-flat (name_eq (Slot t n)) (slots_of capacity) types
+      ∙ any-same (λ u. list_any (name_eq (Slot t n)) (slots_of capacity u)) (λ u. (t == u) && (nat_lt 0 n && nat_le n capacity)) types (slot-any t n)
+      ∙ any-chosen t (λ u. nat_lt 0 n && nat_le n capacity) types
+      ∙ ap (λ b. b && (nat_lt 0 n && nat_le n capacity)) (any-below t (length schema.types)))
 
   pub has-number : (c : CellName) → is_some (cell_number schema capacity c) ≡ is_cell schema capacity c
   has-number c = position-any (name_eq c) (cells_in_order schema capacity) ∙ is-cell c
@@ -314,15 +314,15 @@ module _ (schema : Lists) (capacity : ℕ) where
   once-cell : (c : CellName) → once (name_eq c) (cells_in_order schema capacity) ≡ true
   once-cell (Usage a) =
       once-behind (name_eq (Usage a)) (map Usage (areas schema capacity)) _
-        (any-append (name_eq (Usage a)) (map Extent (types schema capacity)) _
-         ∙ (λ i. none-mapped (Usage a) Extent (types schema capacity) (λ t. refl) i || any-append (name_eq (Usage a)) (flat_map (rings_of schema capacity) (set_numbers schema)) (flat_map (slots_of capacity) (types schema capacity)) i)
-         ∙ (λ i. none-flat (Usage a) (rings_of schema capacity) (set_numbers schema) (no-ring schema capacity (Usage a) (λ s o. refl)) i || no-slot schema capacity (Usage a) (λ t n. refl) i))
+      (any-append (name_eq (Usage a)) (map Extent (types schema capacity)) _
+      ∙ (λ i. none-mapped (Usage a) Extent (types schema capacity) (λ t. refl) i || any-append (name_eq (Usage a)) (flat_map (rings_of schema capacity) (set_numbers schema)) (flat_map (slots_of capacity) (types schema capacity)) i)
+      ∙ (λ i. none-flat (Usage a) (rings_of schema capacity) (set_numbers schema) (no-ring schema capacity (Usage a) (λ s o. refl)) i || no-slot schema capacity (Usage a) (λ t n. refl) i))
       ∙ once-map (name_eq (Usage a)) Usage a 0 (length schema.areas) (λ t e. e)
   once-cell (Extent t) =
       once-before (name_eq (Extent t)) (map Usage (areas schema capacity)) _ (none-mapped (Extent t) Usage (areas schema capacity) (λ a. refl))
       ∙ once-behind (name_eq (Extent t)) (map Extent (types schema capacity)) _
-        (any-append (name_eq (Extent t)) (flat_map (rings_of schema capacity) (set_numbers schema)) (flat_map (slots_of capacity) (types schema capacity))
-         ∙ (λ i. none-flat (Extent t) (rings_of schema capacity) (set_numbers schema) (no-ring schema capacity (Extent t) (λ s o. refl)) i || no-slot schema capacity (Extent t) (λ u n. refl) i))
+      (any-append (name_eq (Extent t)) (flat_map (rings_of schema capacity) (set_numbers schema)) (flat_map (slots_of capacity) (types schema capacity))
+      ∙ (λ i. none-flat (Extent t) (rings_of schema capacity) (set_numbers schema) (no-ring schema capacity (Extent t) (λ s o. refl)) i || no-slot schema capacity (Extent t) (λ u n. refl) i))
       ∙ once-map (name_eq (Extent t)) Extent t 0 (length schema.types) (λ u e. e)
   once-cell (Ring s o) =
       once-before (name_eq (Ring s o)) (map Usage (areas schema capacity)) _ (none-mapped (Ring s o) Usage (areas schema capacity) (λ a. refl))
@@ -338,8 +338,8 @@ module _ (schema : Lists) (capacity : ℕ) where
       ∙ once-before (name_eq (Slot t n)) (map Extent (types schema capacity)) _ (none-mapped (Slot t n) Extent (types schema capacity) (λ a. refl))
       ∙ once-before (name_eq (Slot t n)) (flat_map (rings_of schema capacity) (set_numbers schema)) _ (none-flat (Slot t n) (rings_of schema capacity) (set_numbers schema) (no-ring schema capacity (Slot t n) (λ s o. refl)))
       ∙ once-flat (name_eq (Slot t n)) (slots_of capacity) t 0 (length schema.types)
-          (λ u. once-map (name_eq (Slot t n)) (Slot u) n 1 capacity (λ m e. ap (λ b. (t == u) && b) e ∙ and-nothing (t == u)))
-          (λ u e. slot-any schema capacity t n u ∙ ap (λ b. b && (nat_lt 0 n && nat_le n capacity)) e)
+      (λ u. once-map (name_eq (Slot t n)) (Slot u) n 1 capacity (λ m e. ap (λ b. (t == u) && b) e ∙ and-nothing (t == u)))
+      (λ u e. slot-any schema capacity t n u ∙ ap (λ b. b && (nat_lt 0 n && nat_le n capacity)) e)
 
   pub numbered-at : (number : ℕ) (c : CellName) → slice_get (cells_in_order schema capacity) number ≡ Some c → cell_number schema capacity c ≡ Some number
   numbered-at number c at =
