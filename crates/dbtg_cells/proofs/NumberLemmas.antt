@@ -1,10 +1,11 @@
 -- The numbering of cells.
-use Rattle.std.proofs.Common.{◌≡◌, ◌==◌, ◌+◌, ℕ, zero, suc, Bool, true, false, not, cond, ◌&&◌, ◌||◌, List, [], ◌∷◌, ◌++◌, Option, Some, None, map, length, get_or, slice_get, refl, sym, ap, ◌∙◌, arith}
+use Rattle.std.proofs.Common.{◌≡◌, ◌==◌, ◌+◌, ℕ, zero, suc, Bool, true, false, not, cond, ◌&&◌, ◌||◌, List, [], ◌∷◌, ◌++◌, Option, Some, None, map, length, get_or, slice_get, refl, sym, ap, ◌∙◌, ◌<◌, arith, true≢false}
 use Rattle.std.specs.Prelude.{position, is_some, is_none, nat_lt, nat_le, option_map, option_and_then, unwrap_or}
 use Rattle.std.specs.List.{list_any, flat_map, range_with_len, position_or_len}
 use Rattle.std.proofs.lemmas.Bool.Decides.{nat_tests}
 use Rattle.std.proofs.lemmas.List.Quantifiers.{position-Some}
-use Rattle.std.proofs.lemmas.Option.{slice_get-get_or}
+use Rattle.std.proofs.lemmas.Option.{slice_get-get_or, none-some, same_Some}
+use Rattle.std.proofs.lemmas.Map.Keys.{any_passes_from_place}
 use Rattle.dbtg_schema.specs.Lists.{Lists}
 use Rattle.dbtg_schema.specs.Lookups.{some_and}
 use Rattle.dbtg_schema.specs.Structure.{is_system, owner_type, owns, set_numbers}
@@ -12,7 +13,7 @@ use Rattle.dbtg_cells.specs.declared.name.CellName.{CellName}
 use Rattle.dbtg_cells.specs.declared.name.CellName.TheVariants.{Usage, Extent, Ring, Slot}
 use Rattle.dbtg_cells.specs.Names.{name_eq}
 use Rattle.dbtg_cells.specs.CellNumbers.{cells_in_order, rings_of, slots_of, is_cell, cell_number}
-use Rattle.dbtg_cells.proofs.KeyLemmas.{name_eq-same}
+use Rattle.dbtg_cells.proofs.KeyLemmas.{name_eq-same, name_eq-refl}
 use Rattle.dbtg_cells.proofs.PlainLemmas.{any-map}
 
 pub stands-at : (c : CellName) (cells : List CellName) (n : ℕ) → position (name_eq c) cells ≡ Some n → slice_get cells n ≡ Some c
@@ -216,3 +217,132 @@ module _ (schema : Lists) (capacity : ℕ) where
 
   pub has-number : (c : CellName) → is_some (cell_number schema capacity c) ≡ is_cell schema capacity c
   has-number c = position-any (name_eq c) (cells_in_order schema capacity) ∙ is-cell c
+
+-- at most one passes
+abbrev once : {X : Type 0} → (X → Bool) → List X → Bool
+once p [] = true
+once p (x ∷ xs) = cond (p x) (not (list_any p xs)) (once p xs)
+
+module _ {X : Type 0} (p : X → Bool) where
+  once-none : (xs : List X) → list_any p xs ≡ false → once p xs ≡ true
+  once-none [] none = refl
+  once-none (x ∷ xs) none = by (p x) none (once-none xs)
+    where
+      by : (b : Bool) → b || list_any p xs ≡ false → (list_any p xs ≡ false → once p xs ≡ true) → cond b (not (list_any p xs)) (once p xs) ≡ true
+      by true h rest = absurd (true≢false h)
+      by false h rest = rest h
+
+  once-before : (xs ys : List X) → list_any p xs ≡ false → once p (xs ++ ys) ≡ once p ys
+  once-before [] ys none = refl
+  once-before (x ∷ xs) ys none = by (p x) none (once-before xs ys)
+    where
+      by : (b : Bool) → b || list_any p xs ≡ false → (list_any p xs ≡ false → once p (xs ++ ys) ≡ once p ys) → cond b (not (list_any p (xs ++ ys))) (once p (xs ++ ys)) ≡ once p ys
+      by true h rest = absurd (true≢false h)
+      by false h rest = rest h
+
+  once-behind : (xs ys : List X) → list_any p ys ≡ false → once p (xs ++ ys) ≡ once p xs
+  once-behind [] ys none = once-none ys none
+  once-behind (x ∷ xs) ys none =
+      let there : list_any p (xs ++ ys) ≡ list_any p xs = any-append p xs ys ∙ ap (λ b. list_any p xs || b) none ∙ or-nothing (list_any p xs) in
+      λ i. cond (p x) (not (there i)) (once-behind xs ys none i)
+
+  -- the one that passes stands where the first does
+  once-at : (xs : List X) (n : ℕ) (x : X) → once p xs ≡ true → slice_get xs n ≡ Some x → p x ≡ true → position_or_len p xs ≡ n
+  once-at [] n x one at passes = absurd (none-some x at)
+  once-at (y ∷ ys) zero x one at passes =
+      let same : p y ≡ true = ap p (same_Some y x at) ∙ passes in
+      ap (λ b. cond (not b) (1 + position_or_len p ys) 0) same
+  once-at (y ∷ ys) (suc n) x one at passes = by (p y) one (λ h. once-at ys n x h at passes)
+    where
+      by : (b : Bool) → cond b (not (list_any p ys)) (once p ys) ≡ true → (once p ys ≡ true → position_or_len p ys ≡ n) → cond (not b) (1 + position_or_len p ys) 0 ≡ suc n
+      by true h rest = absurd (true≢false (sym h ∙ ap not (any_passes_from_place p ys n x at passes)))
+      by false h rest = let here = rest h in omega (arith, here)
+
+  once-flat : (f : ℕ → List X) (s a n : ℕ) → ((t : ℕ) → once p (f t) ≡ true) → ((t : ℕ) → (s == t) ≡ false → list_any p (f t) ≡ false) → once p (flat_map f (range_with_len a n)) ≡ true
+  once-flat f s a zero one other = refl
+  once-flat f s a (suc n) one other = by (s == a) refl (once-flat f s (a + 1) n one other)
+    where
+      later : (b m : ℕ) → s < b → list_any (λ t. list_any p (f t)) (range_with_len b m) ≡ false
+      later b zero l = refl
+      later b (suc m) l = let apart : (s == b) ≡ false = grind (arith, nat_tests) in λ i. other b apart i || later (b + 1) m (omega arith) i
+
+      by : (b : Bool) → (s == a) ≡ b → once p (flat_map f (range_with_len (a + 1) n)) ≡ true → once p (f a ++ flat_map f (range_with_len (a + 1) n)) ≡ true
+      by true e rest =
+          let same : s < a + 1 = grind (arith, nat_tests) in
+          once-behind (f a) (flat_map f (range_with_len (a + 1) n)) (any-flat p f (range_with_len (a + 1) n) ∙ later (a + 1) n same) ∙ one a
+      by false e rest = once-before (f a) (flat_map f (range_with_len (a + 1) n)) (other a e) ∙ rest
+
+  once-map : (f : ℕ → X) (q a n : ℕ) → ((t : ℕ) → (q == t) ≡ false → p (f t) ≡ false) → once p (map f (range_with_len a n)) ≡ true
+  once-map f q a zero other = refl
+  once-map f q a (suc n) other = by (q == a) refl (once-map f q (a + 1) n other)
+    where
+      later : (b m : ℕ) → q < b → list_any p (map f (range_with_len b m)) ≡ false
+      later b zero l = refl
+      later b (suc m) l = let apart : (q == b) ≡ false = grind (arith, nat_tests) in λ i. other b apart i || later (b + 1) m (omega arith) i
+
+      by : (b : Bool) → (q == a) ≡ b → once p (map f (range_with_len (a + 1) n)) ≡ true → cond (p (f a)) (not (list_any p (map f (range_with_len (a + 1) n)))) (once p (map f (range_with_len (a + 1) n))) ≡ true
+      by true e rest =
+          let same : q < a + 1 = grind (arith, nat_tests) in
+          let none = later (a + 1) n same in
+          (λ i. cond (p (f a)) (not (none i)) (once-none (map f (range_with_len (a + 1) n)) none i)) ∙ both (p (f a))
+        where
+          both : (b : Bool) → cond b true true ≡ true
+          both true = refl
+          both false = refl
+      by false e rest = ap (λ b. cond b (not (list_any p (map f (range_with_len (a + 1) n)))) (once p (map f (range_with_len (a + 1) n)))) (other a e) ∙ rest
+
+module _ (schema : Lists) (capacity : ℕ) where
+  once-ring : (c : CellName) (t : ℕ) → once (name_eq c) (rings_of schema capacity t) ≡ true
+  once-ring c t = by (is_system schema t) (owner_type schema t)
+    where
+      by : (b : Bool) (o : Option ℕ) → once (name_eq c) (cond b (Ring t None ∷ []) (unwrap_or (option_map (λ u. map (λ n. Ring t (Some (u, n))) (range_with_len 1 capacity)) o) [])) ≡ true
+      by true o = single (name_eq c (Ring t None))
+        where
+          single : (b : Bool) → cond b true true ≡ true
+          single true = refl
+          single false = refl
+      by false None = refl
+      by false (Some u) = owned c
+        where
+          owned : (c : CellName) → once (name_eq c) (map (λ n. Ring t (Some (u, n))) (range_with_len 1 capacity)) ≡ true
+          owned (Ring s (Some p)) = once-map (name_eq (Ring s (Some p))) (λ n. Ring t (Some (u, n))) p.1 1 capacity (λ n e. ap (λ b. (s == t) && ((p.0 == u) && b)) e ∙ ap (λ b. (s == t) && b) (and-nothing (p.0 == u)) ∙ and-nothing (s == t))
+          owned (Ring s None) = once-none (name_eq (Ring s None)) (map (λ n. Ring t (Some (u, n))) (range_with_len 1 capacity)) (none-mapped (Ring s None) (λ n. Ring t (Some (u, n))) (range_with_len 1 capacity) (λ n. and-nothing (s == t)))
+          owned (Usage a) = once-none (name_eq (Usage a)) (map (λ n. Ring t (Some (u, n))) (range_with_len 1 capacity)) (none-mapped (Usage a) (λ n. Ring t (Some (u, n))) (range_with_len 1 capacity) (λ n. refl))
+          owned (Extent r) = once-none (name_eq (Extent r)) (map (λ n. Ring t (Some (u, n))) (range_with_len 1 capacity)) (none-mapped (Extent r) (λ n. Ring t (Some (u, n))) (range_with_len 1 capacity) (λ n. refl))
+          owned (Slot r m) = once-none (name_eq (Slot r m)) (map (λ n. Ring t (Some (u, n))) (range_with_len 1 capacity)) (none-mapped (Slot r m) (λ n. Ring t (Some (u, n))) (range_with_len 1 capacity) (λ n. refl))
+
+  once-cell : (c : CellName) → once (name_eq c) (cells_in_order schema capacity) ≡ true
+  once-cell (Usage a) =
+      once-behind (name_eq (Usage a)) (map Usage (areas schema capacity)) _
+      (any-append (name_eq (Usage a)) (map Extent (types schema capacity)) _
+      ∙ (λ i. none-mapped (Usage a) Extent (types schema capacity) (λ t. refl) i || any-append (name_eq (Usage a)) (flat_map (rings_of schema capacity) (set_numbers schema)) (flat_map (slots_of capacity) (types schema capacity)) i)
+      ∙ (λ i. none-flat (Usage a) (rings_of schema capacity) (set_numbers schema) (no-ring schema capacity (Usage a) (λ s o. refl)) i || no-slot schema capacity (Usage a) (λ t n. refl) i))
+      ∙ once-map (name_eq (Usage a)) Usage a 0 (length schema.areas) (λ t e. e)
+  once-cell (Extent t) =
+      once-before (name_eq (Extent t)) (map Usage (areas schema capacity)) _ (none-mapped (Extent t) Usage (areas schema capacity) (λ a. refl))
+      ∙ once-behind (name_eq (Extent t)) (map Extent (types schema capacity)) _
+      (any-append (name_eq (Extent t)) (flat_map (rings_of schema capacity) (set_numbers schema)) (flat_map (slots_of capacity) (types schema capacity))
+      ∙ (λ i. none-flat (Extent t) (rings_of schema capacity) (set_numbers schema) (no-ring schema capacity (Extent t) (λ s o. refl)) i || no-slot schema capacity (Extent t) (λ u n. refl) i))
+      ∙ once-map (name_eq (Extent t)) Extent t 0 (length schema.types) (λ u e. e)
+  once-cell (Ring s o) =
+      once-before (name_eq (Ring s o)) (map Usage (areas schema capacity)) _ (none-mapped (Ring s o) Usage (areas schema capacity) (λ a. refl))
+      ∙ once-before (name_eq (Ring s o)) (map Extent (types schema capacity)) _ (none-mapped (Ring s o) Extent (types schema capacity) (λ a. refl))
+      ∙ once-behind (name_eq (Ring s o)) (flat_map (rings_of schema capacity) (set_numbers schema)) (flat_map (slots_of capacity) (types schema capacity)) (no-slot schema capacity (Ring s o) (λ u n. refl))
+      ∙ once-flat (name_eq (Ring s o)) (rings_of schema capacity) s 0 (length schema.sets) (once-ring (Ring s o)) (λ t e. elsewhere o t e)
+    where
+      elsewhere : (o : Option (ℕ × ℕ)) (t : ℕ) → (s == t) ≡ false → list_any (name_eq (Ring s o)) (rings_of schema capacity t) ≡ false
+      elsewhere None t e = system-ring schema capacity s t ∙ ap (λ b. b && is_system schema t) e
+      elsewhere (Some p) t e = owned-ring schema capacity s t p ∙ ap (λ b. b && (owns schema t p.0 && (nat_lt 0 p.1 && nat_le p.1 capacity))) e
+  once-cell (Slot t n) =
+      once-before (name_eq (Slot t n)) (map Usage (areas schema capacity)) _ (none-mapped (Slot t n) Usage (areas schema capacity) (λ a. refl))
+      ∙ once-before (name_eq (Slot t n)) (map Extent (types schema capacity)) _ (none-mapped (Slot t n) Extent (types schema capacity) (λ a. refl))
+      ∙ once-before (name_eq (Slot t n)) (flat_map (rings_of schema capacity) (set_numbers schema)) _ (none-flat (Slot t n) (rings_of schema capacity) (set_numbers schema) (no-ring schema capacity (Slot t n) (λ s o. refl)))
+      ∙ once-flat (name_eq (Slot t n)) (slots_of capacity) t 0 (length schema.types)
+      (λ u. once-map (name_eq (Slot t n)) (Slot u) n 1 capacity (λ m e. ap (λ b. (t == u) && b) e ∙ and-nothing (t == u)))
+      (λ u e. slot-any schema capacity t n u ∙ ap (λ b. b && (nat_lt 0 n && nat_le n capacity)) e)
+
+  pub numbered-at : (number : ℕ) (c : CellName) → slice_get (cells_in_order schema capacity) number ≡ Some c → cell_number schema capacity c ≡ Some number
+  numbered-at number c at =
+      let place : position_or_len (name_eq c) (cells_in_order schema capacity) ≡ number = once-at (name_eq c) (cells_in_order schema capacity) number c (once-cell c) at (name_eq-refl c) in
+      let inside : nat_lt number (length (cells_in_order schema capacity)) ≡ true = ap (λ n. nat_lt n (length (cells_in_order schema capacity))) (sym place) ∙ within-any (name_eq c) (cells_in_order schema capacity) ∙ any_passes_from_place (name_eq c) (cells_in_order schema capacity) number c at (name_eq-refl c) in
+      (λ i. cond (nat_lt (place i) (length (cells_in_order schema capacity))) (Some (place i)) None) ∙ ap (λ b. cond b (Some number) None) inside

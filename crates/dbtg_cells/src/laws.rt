@@ -13,3 +13,8 @@ pub fn cells_have_numbers()
 pub fn a_cell_stands_at_its_number()
     ensures { (schema : Lists) (capacity number : ℕ) (name : CellName) → cell_number schema capacity name ≡ Some number → cell_at schema capacity number ≡ Some name }
 {}
+
+/// The cell that stands at a number has that number: no cell stands twice.
+pub fn each_cell_stands_once()
+    ensures { (schema : Lists) (capacity number : ℕ) (name : CellName) → cell_at schema capacity number ≡ Some name → cell_number schema capacity name ≡ Some number }
+{}

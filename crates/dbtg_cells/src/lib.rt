@@ -15,7 +15,7 @@ mod value;
 pub use cell::Cell;
 pub use extent::{Extent, Number};
 pub use key::{DbKey, Owner, Value, key_below, owner_below, same_key, same_owner};
-pub use laws::{a_cell_stands_at_its_number, cells_have_numbers};
+pub use laws::{a_cell_stands_at_its_number, cells_have_numbers, each_cell_stands_once};
 pub use name::{CellName, name_below, same_name};
 pub use plain::PlainRing;
 pub use ring::{Occurrence, Ring};
