@@ -13,6 +13,7 @@ rings_of schema capacity s =
     cond (is_system schema s) (Ring s None ∷ [])
     (unwrap_or (option_map (λ t. map (λ n. Ring s (Some (t, n))) (range_with_len 1 capacity)) (owner_type schema s)) [])
 
+-- the slots of a record type, by number
 abbrev pub slots_of : ℕ → ℕ → List CellName
 slots_of capacity t = map (Slot t) (range_with_len 1 capacity)
 
@@ -24,6 +25,7 @@ cells_in_order schema capacity =
     ++ (flat_map (rings_of schema capacity) (set_numbers schema)
     ++ flat_map (slots_of capacity) (range_with_len 0 (length schema.types))))
 
+-- how many cells there are
 abbrev pub cell_count : Lists → ℕ → ℕ
 cell_count schema capacity = length (cells_in_order schema capacity)
 

@@ -5,6 +5,7 @@ use Rattle.dbtg_cells.specs.declared.key.DbKey.{DbKey}
 use Rattle.dbtg_cells.specs.declared.ring.Node.{Node}
 use Rattle.dbtg_cells.specs.Members.{Entry}
 
+-- the places of a ring in memory, each with a node or none
 abbrev pub Slots : Type 0
 Slots = List (Option Node)
 
@@ -13,22 +14,28 @@ pub record Link : Type 0 where
   pub at : ℕ
   pub member : Entry
 
+-- the node at a place
 abbrev pub slot : Slots → ℕ → Option Node
 slot s i = slice_index_or s i None
 
+-- the key of the node at a place
 abbrev pub key_at : Slots → ℕ → Option DbKey
 key_at s i = option_map (λ n. n.member.0) (slot s i)
 
+-- the node at a place is linked, and no reserved one
 abbrev pub linked_at : Slots → ℕ → Bool
 linked_at s i = option_map_or (λ n. n.linked) (slot s i) false
 
+-- a linked node between two others
 abbrev pub node_of : Link → Option ℕ → Option ℕ → Node
 node_of e p q = record { member = e.member; linked = true; next = q; prior = p }
 
+-- the place of the first of these links, or what follows them
 abbrev pub head_at : List Link → Option ℕ → Option ℕ
 head_at [] q = q
 head_at (e ∷ es) q = Some e.at
 
+-- the place of the last of these links, or what stands before them
 abbrev pub last_at : Option ℕ → List Link → Option ℕ
 last_at p [] = p
 last_at p (e ∷ es) = last_at (Some e.at) es

@@ -14,15 +14,19 @@ abbrev pub put_if : Option ℕ → (Node → Node) → Slots → Slots
 put_if None f s = s
 put_if (Some i) f s = put i f s
 
+-- a node with another next one
 abbrev pub with_next : Option ℕ → Node → Node
 with_next q n = record { member = n.member; linked = n.linked; next = q; prior = n.prior }
 
+-- a node with another prior one
 abbrev pub with_prior : Option ℕ → Node → Node
 with_prior p n = record { member = n.member; linked = n.linked; next = n.next; prior = p }
 
+-- a node that is linked, with its member
 abbrev pub as_linked : Entry → Option ℕ → Option ℕ → Node → Node
 as_linked m p q n = record { member = m; linked = true; next = q; prior = p }
 
+-- a node that is reserved alone
 abbrev pub as_unlinked : Node → Node
 as_unlinked n = record { member = n.member; linked = false; next = n.next; prior = n.prior }
 

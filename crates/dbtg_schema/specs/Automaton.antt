@@ -11,6 +11,7 @@ use Rattle.dbtg_schema.specs.declared.automaton.Keyword.TheVariants as keyword
 use Rattle.dbtg_schema.specs.Forms.{nothing, one, either, many, some, ◌▹◌}
 use Rattle.dbtg_schema.specs.SchemaGrammar.{Kind, key, name, picture, Form, Start, say, period, area, location, item, rec, order, member, set, schema}
 
+-- what is left of the grammar in a state of the reader
 abbrev pub rest_of : State → Form
 rest_of state.Opening = schema
 rest_of state.SchemaNameWord = ((say (codes "NAME")) ▹ ((one name role.SchemaName) ▹ (period ▹ ((some area) ▹ ((rec ▹ (many rec)) ▹ (many set))))))
@@ -119,5 +120,6 @@ view_kind code.Picture = picture
 abbrev pub view_start : code_start.Start → Start
 view_start s = record { kind = view_kind s.kind; role = s.role; rest = rest_of s.next }
 
+-- the starts of a row of the table, as contracts see them
 abbrev pub view_starts : List code_start.Start → List Start
 view_starts ss = map view_start ss

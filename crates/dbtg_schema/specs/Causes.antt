@@ -3,6 +3,7 @@ use Rattle.std.specs.Prelude.{ℕ}
 use Rattle.dbtg_schema.specs.declared.fault.Cause.{Cause}
 use Rattle.dbtg_schema.specs.declared.fault.Cause.TheVariants as cause
 
+-- the number by which a cause is printed
 abbrev pub cause_number : Cause → ℕ
 cause_number cause.ByteNotAllowed = 1
 cause_number cause.TextTooLong = 2

@@ -19,6 +19,7 @@ f ▹ g = both f g
 abbrev pub some : {K R : Type 0} → Form K R → Form K R
 some f = f ▹ many f
 
+-- a form or nothing
 abbrev pub maybe : {K R : Type 0} → Form K R → Form K R
 maybe f = either f nothing
 
@@ -44,6 +45,7 @@ followed (both f h) g = both (both f h) g
 followed (either f h) g = both (either f h) g
 followed (many f) g = both (many f) g
 
+-- a start, and what follows the form that it begins
 abbrev pub followed_by : {K R : Type 0} → Form K R → Start K R → Start K R
 followed_by g s = record s { rest = followed s.rest g }
 
@@ -60,6 +62,7 @@ pub record Labelled (W R : Type 0) : Type 0 where
   pub role : R
   pub word : W
 
+-- a word with its role
 abbrev pub labelled : {W R : Type 0} → R → W → Labelled W R
 labelled r w = record { role = r; word = w }
 
@@ -68,6 +71,7 @@ abbrev pub start_with : {K R W : Type 0} → (K → W → Bool) → W → List (
 start_with fits w [] = None
 start_with fits w (s ∷ ss) = if fits s.kind w then Some s else start_with fits w ss
 
+-- where a start fits, what is made of it; else the other
 abbrev pub by_start : {K R X : Type 0} → Option (Start K R) → (Start K R → X) → X → X
 by_start (Some s) wanted other = wanted s
 by_start None wanted other = other

@@ -7,6 +7,7 @@ use Rattle.dbtg_schema.specs.SchemaGrammar.{Labelled}
 
 -- roles, numbered: two roles are the same where their numbers are
 
+-- roles by number, so that two can be compared
 abbrev pub number : Role → ℕ
 number role.Plain = 0
 number role.SchemaName = 1

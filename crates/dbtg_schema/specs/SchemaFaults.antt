@@ -33,6 +33,7 @@ items_of n ws = named role.ItemName (record_named n (entries role.RecordEntry ws
 abbrev pub when : Bool → Fault → List Fault
 when b f = if b then f ∷ [] else []
 
+-- a fault with its line
 abbrev pub fault : Cause → ℕ → Fault
 fault cause line = record { line = line; cause = cause }
 
@@ -88,9 +89,11 @@ line_of (w ∷ ws) = w.word.line
 abbrev pub this_member : List Labelled → List Labelled
 this_member ws = since role.MemberEntry ws
 
+-- the words from the last SET entry on
 abbrev pub this_set : List Labelled → List Labelled
 this_set ws = since role.SetEntry ws
 
+-- the record type that the last MEMBER names
 abbrev pub member_type : List Labelled → List ℕ
 member_type ws = first_named role.MemberName (this_member ws)
 
@@ -149,11 +152,13 @@ at_word ws w = ended ws w.role ++ when (is_surplus ws w.role) (fault OverLimit w
 abbrev pub is_allowed : ℕ → Bool
 is_allowed b = (nat_le 32 b && nat_le b 126) || b == 9 || b == 13 || b == 10
 
+-- a name is wanted
 abbrev pub is_name_kind : Kind → Bool
 is_name_kind name = true
 is_name_kind (key k) = false
 is_name_kind picture = false
 
+-- a picture is wanted
 abbrev pub is_picture_kind : Kind → Bool
 is_picture_kind picture = true
 is_picture_kind (key k) = false

@@ -30,15 +30,19 @@ has r ws = list_any (is r) ws
 abbrev pub number_of : List ℕ → List (List ℕ) → ℕ
 number_of name names = unwrap_or (place_of name names) 0
 
+-- the area that an AREA entry says
 abbrev pub area_from : List Labelled → Area
 area_from e = record { name = first_named role.AreaName e }
 
+-- all areas, in the order of the text
 abbrev pub areas_from : List Labelled → List Area
 areas_from ws = map area_from (entries role.AreaEntry ws)
 
+-- the item that an ITEM entry says
 abbrev pub item_from : List Labelled → Item
 item_from e = record { name = first_named role.ItemName e; picture = unwrap_or (spelled_picture (first_named role.Picture e)) (Number 1) }
 
+-- the items of a RECORD entry
 abbrev pub items_from : List Labelled → List Item
 items_from e = map item_from (entries role.ItemEntry e)
 
@@ -46,9 +50,11 @@ items_from e = map item_from (entries role.ItemEntry e)
 abbrev pub calc_items_from : List Item → List Labelled → List ℕ
 calc_items_from items e = map (λ n. number_of n (map (λ i. i.name) items)) (named role.CalcItem e)
 
+-- the CALC clause of a RECORD entry, where it has one
 abbrev pub calc_from : List Item → List Labelled → Option Calc
 calc_from items e = if has role.CalcItem e then Some (record { items = calc_items_from items e; duplicates_allowed = not (has role.Unique e) }) else None
 
+-- the record type that a RECORD entry says
 abbrev pub record_type_from : List Area → List Labelled → RecordType
 record_type_from areas e = record {
   name = first_named role.RecordName e;
@@ -61,9 +67,11 @@ record_type_from areas e = record {
 abbrev pub types_from : List Area → List Labelled → List RecordType
 types_from areas ws = map (record_type_from areas) (entries role.RecordEntry (until role.SetEntry ws))
 
+-- what becomes of equal sort keys
 abbrev pub duplicates_from : List Labelled → Duplicates
 duplicates_from e = if has role.DuplicatesFirst e then duplicates.First else (if has role.DuplicatesLast e then duplicates.Last else duplicates.NotAllowed)
 
+-- the order that a SET entry says
 abbrev pub order_from : List Labelled → Order
 order_from e =
     if has role.Sorted e then order.Sorted (has role.Ascending e) (duplicates_from e)
@@ -72,6 +80,7 @@ order_from e =
     else (if has role.OrderNext e then order.Next
     else order.Prior)))
 
+-- the membership class that a MEMBER sentence says
 abbrev pub class_from : List Labelled → Class
 class_from e =
     if has role.Mandatory e then (if has role.Automatic e then MandatoryAutomatic else MandatoryManual)
@@ -81,6 +90,7 @@ class_from e =
 abbrev pub items_at : List RecordType → ℕ → List Item
 items_at types t = unwrap_or (option_map (λ r. r.items) (slice_get types t)) []
 
+-- the key item of a MEMBER sentence, where it has one
 abbrev pub key_from : List RecordType → ℕ → List Labelled → Option ℕ
 key_from types t e = if has role.KeyItem e then Some (number_of (first_named role.KeyItem e) (map (λ i. i.name) (items_at types t))) else None
 
@@ -88,6 +98,7 @@ key_from types t e = if has role.KeyItem e then Some (number_of (first_named rol
 abbrev pub type_named : List RecordType → Role → List Labelled → ℕ
 type_named types r e = number_of (first_named r e) (map (λ r. r.name) types)
 
+-- the member clause that a MEMBER sentence says
 abbrev pub member_from : List RecordType → List Labelled → Member
 member_from types e = record {
   rtype = type_named types role.MemberName e;
@@ -95,9 +106,11 @@ member_from types e = record {
   key = key_from types (type_named types role.MemberName e) e;
 }
 
+-- the owner type that a SET entry says, none for SYSTEM
 abbrev pub owner_from : List RecordType → List Labelled → Option ℕ
 owner_from types e = if has role.OwnerName e then Some (type_named types role.OwnerName e) else None
 
+-- the set that a SET entry says
 abbrev pub set_from : List RecordType → List Labelled → SetType
 set_from types e = record {
   name = first_named role.SetName e;
@@ -106,6 +119,7 @@ set_from types e = record {
   members = map (member_from types) (entries role.MemberEntry e);
 }
 
+-- all sets, in the order of the text
 abbrev pub sets_from : List RecordType → List Labelled → List SetType
 sets_from types ws = map (set_from types) (entries role.SetEntry ws)
 

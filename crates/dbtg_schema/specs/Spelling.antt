@@ -5,6 +5,7 @@ use Rattle.std.specs.Str.{bytes_eq}
 use Rattle.dbtg_schema.specs.declared.shape.Picture.{Picture}
 use Rattle.dbtg_schema.specs.declared.shape.Picture.TheVariants.{Number, Text}
 
+-- a word is one of these
 abbrev pub among : List ℕ → List (List ℕ) → Bool
 among w ws = list_any (bytes_eq w) ws
 
@@ -19,12 +20,15 @@ reserved =
     ∷ codes "ALL" ∷ codes "USAGE-MODE" ∷ codes "PROTECTED" ∷ codes "EXCLUSIVE" ∷ codes "RETRIEVAL" ∷ codes "UPDATE" ∷ codes "RUN-UNIT" ∷ codes "DUPLICATE" ∷ codes "SUPPRESS"
     ∷ codes "KEEP" ∷ codes "FREE" ∷ []
 
+-- A to Z
 abbrev pub is_capital : ℕ → Bool
 is_capital b = nat_le 65 b && nat_le b 90
 
+-- 0 to 9
 abbrev pub is_digit : ℕ → Bool
 is_digit b = nat_le 48 b && nat_le b 57
 
+-- a byte that may stand in a name
 abbrev pub is_name_byte : ℕ → Bool
 is_name_byte b = is_capital b || is_digit b || b == 45
 
@@ -46,6 +50,7 @@ of_size c n =
     else (if c == 88 && nat_le 1 n && nat_le n 64 then Some (Text n)
     else None)
 
+-- a picture of a length within the limit of its kind
 abbrev pub sized : ℕ → List ℕ → Option ℕ → Option Picture
 sized c w (Some n) = of_size c n
 sized c w None = if list_all (λ b. b == c) w then of_size c (length w + 1) else None
@@ -55,5 +60,6 @@ abbrev pub spelled_picture : List ℕ → Option Picture
 spelled_picture [] = None
 spelled_picture (c ∷ w) = sized c w (in_parentheses w)
 
+-- a word that spells a picture
 abbrev pub is_picture : List ℕ → Bool
 is_picture w = is_some (spelled_picture w)

@@ -17,6 +17,7 @@ abbrev pub distinct : {X : Type 0} → (X → X → Bool) → List X → Bool
 distinct same [] = true
 distinct same (x ∷ xs) = not (list_any (same x) xs) && distinct same xs
 
+-- two numbers are one
 abbrev pub same_number : ℕ → ℕ → Bool
 same_number m n = m == n
 
@@ -31,6 +32,7 @@ pub record IsCalc (items : ℕ) (calc : Calc) : Type 0 where
   pub items_limit : length calc.items ≤ 4
   pub in_range : All (λ i. i < items) calc.items
 
+-- a record type: its area, its items with their pictures, its CALC clause
 pub record IsRecordType (schema : Lists) (r : RecordType) : Type 0 where
   pub area : r.area < length schema.areas
   pub some_item : 0 < length r.items
@@ -38,6 +40,7 @@ pub record IsRecordType (schema : Lists) (r : RecordType) : Type 0 where
   pub pictures : All (λ i. IsPicture i.picture) r.items
   pub calc : IfSome r.calc (λ c. IsCalc (length r.items) c)
 
+-- the order is by a sort key
 abbrev pub is_sorted : Order → Bool
 is_sorted (Sorted ascending duplicates) = true
 is_sorted order = false
@@ -46,6 +49,7 @@ is_sorted order = false
 abbrev pub key_picture_of : Lists → Member → Option Picture
 key_picture_of schema m = option_and_then (λ i. picture_of schema m.rtype i) m.key
 
+-- a set: its owner type, its members and their key items
 pub record IsSetType (schema : Lists) (set : SetType) : Type 0 where
   pub owner : IfSome set.owner (λ o. o < length schema.types)
   pub some_member : 0 < length set.members
@@ -53,6 +57,7 @@ pub record IsSetType (schema : Lists) (set : SetType) : Type 0 where
   pub member_types : All (λ m. m.rtype < length schema.types) set.members
   pub key_items : All (λ m. IfSome m.key (λ i. i < length (item_list schema m.rtype))) set.members
 
+-- a schema: at most 8 areas, 16 record types and 16 sets, at least one area and one record type
 pub record IsSchema (schema : Lists) : Type 0 where
   pub some_area : 0 < length schema.areas
   pub areas_limit : length schema.areas ≤ 8

@@ -3,6 +3,7 @@ use Rattle.std.specs.Prelude.{ℕ, ◌+◌, Bool, not, ◌&&◌, ◌||◌, List,
 use Rattle.std.specs.Str.{bytes_eq}
 use Rattle.dbtg_schema.specs.declared.scanner.Word as code
 
+-- a word with the line on which it begins
 pub record Word : Type 0 where
   pub text : List ℕ
   pub line : ℕ
@@ -15,9 +16,11 @@ view w = record { text = w.text.now; line = w.line }
 abbrev pub is_gap : ℕ → Bool
 is_gap b = b == 32 || b == 9 || b == 13 || b == 10 || b == 44 || b == 59
 
+-- a byte that belongs to a word
 abbrev pub is_letter : ℕ → Bool
 is_letter b = not (is_gap b) && not (b == 46)
 
+-- the line behind a byte
 abbrev pub line_after : ℕ → ℕ → ℕ
 line_after b line = if b == 10 then line + 1 else line
 

@@ -41,6 +41,7 @@ pub record ImageIsOfHistory (schema : Lists) (capacity : ℕ) (opening : Sequent
   pub has : (c : CellName) → ImageHas (network schema capacity) opening s c (cell schema capacity (replay (network schema capacity) opening s.history).database c)
   pub only : (c : CellName) (v : CellValue) → ImageHas (network schema capacity) opening s c v → v ≡ cell schema capacity (replay (network schema capacity) opening s.history).database c
 
+-- what a lawful state shows of each cell is what the database of its history has
 abbrev pub EveryImageIsOfItsHistory : Lists → ℕ → Type 0
 EveryImageIsOfItsHistory schema capacity =
     (opening : SequentialState (network schema capacity)) (s : State (network schema capacity)) →

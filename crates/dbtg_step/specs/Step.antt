@@ -19,6 +19,7 @@ unfoldable pub any_other : {X : Type 0} → (X → Bool) → ℕ → List X → 
 any_other p zero xs = list_any p xs
 any_other p (suc i) xs = any_but p i xs
 
+-- something is there
 abbrev pub is_nonempty : {X : Type 0} → List X → Bool
 is_nonempty [] = false
 is_nonempty (x ∷ xs) = true

@@ -20,9 +20,11 @@ abbrev pub count : {X : Type 0} → (X → Bool) → List X → ℕ
 count p [] = 0
 count p (x ∷ xs) = cond (p x) 1 0 + count p xs
 
+-- the area is held
 abbrev pub holds_area : List ℕ → ℕ → Bool
 holds_area areas a = list_any (λ b. eqb b a) areas
 
+-- the cell is held
 abbrev pub holds_cell : List (HeldCell CellName CellValue) → CellName → Bool
 holds_cell cells c = list_any (λ (h : HeldCell CellName CellValue). name_eq c h.name) cells
 

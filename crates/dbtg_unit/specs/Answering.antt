@@ -29,5 +29,6 @@ pub record IsAnswered (db : Database) (unit : Unit) (statement : Statement) (out
   pub key : is_some outcome.answer.key ≡ (is_done outcome.answer.status && gives_key statement)
   pub items : is_some outcome.answer.items ≡ (is_done outcome.answer.status && gives_items statement)
 
+-- every statement, on every database, is answered as it should be
 abbrev pub EachIsAnswered : Type 0
 EachIsAnswered = (schema : Lists) (capacity : ℕ) (db : Database) (unit : Unit) (statement : Statement) → IsAnswered db unit statement (effect schema capacity db unit statement)

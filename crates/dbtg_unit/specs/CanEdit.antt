@@ -40,6 +40,7 @@ CanPlace (Sorted ascending duplicates) position key occurrence = IsTrue (is_some
 abbrev pub HasNextVersion : Option Stored → Type 0
 HasNextVersion slot = (r : Stored) → slot ≡ Some r → r.version + 1 < 2 ^ 64
 
+-- an edit can be made of a cell; of a cell of another kind it changes nothing
 abbrev pub CanEdit : Edit → Cell → Type 0
 CanEdit (EnterUser unit mode) (Usage v) = 0 < v.room
 CanEdit (EnterNumber n calc) (Extent v) = IsTrue (some_and is_free (entry_of n v.numbers))

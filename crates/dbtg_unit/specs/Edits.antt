@@ -23,9 +23,11 @@ use Rattle.dbtg_unit.specs.declared.edit.CellEdit.{CellEdit}
 abbrev pub entered : List Value → Number → Number
 entered calc n = record { last = n.last + 1; calc = Some calc }
 
+-- a number live no more
 abbrev pub vacated : Number → Number
 vacated n = record { last = n.last; calc = None }
 
+-- a live number with other CALC values
 abbrev pub revalued : List Value → Number → Number
 revalued calc n = record { last = n.last; calc = Some calc }
 
@@ -39,10 +41,12 @@ abbrev pub after_key : Option DbKey → Spot (DbKey × Option Value)
 after_key None = Front
 after_key (Some p) = After (λ m. key_eq p m.0)
 
+-- directly before the member in the position, or last where the position is the owner
 abbrev pub before_key : Option DbKey → Spot (DbKey × Option Value)
 before_key None = Back
 before_key (Some p) = Before (λ m. key_eq p m.0)
 
+-- where a member with a sort key goes in a ring, by the order of its set
 abbrev pub member_spot : Order → Option DbKey → Option Value → Spot (DbKey × Option Value)
 member_spot First position key = Front
 member_spot Last position key = Back
@@ -50,6 +54,7 @@ member_spot Next position key = after_key position
 member_spot Prior position key = before_key position
 member_spot (Sorted ascending duplicates) position key = Among (λ m. comes_before ascending duplicates m.1 key)
 
+-- an occurrence with its members changed
 abbrev pub with_members : (List (DbKey × Option Value) → List (DbKey × Option Value)) → Occurrence → Occurrence
 with_members change r = record { owner = r.owner; members = change r.members }
 
@@ -57,12 +62,15 @@ with_members change r = record { owner = r.owner; members = change r.members }
 abbrev pub members_without : DbKey → List (DbKey × Option Value) → List (DbKey × Option Value)
 members_without k = filter (λ m. not (key_eq k m.0))
 
+-- a stored record with other items
 abbrev pub with_stored_items : List Value → Stored → Stored
 with_stored_items items r = record { generation = r.generation; version = r.version; items = items; owners = r.owners }
 
+-- a stored record with this owner in a set, or none
 abbrev pub with_owner : ℕ → Option Owner → Stored → Stored
 with_owner s o r = record { generation = r.generation; version = r.version; items = r.items; owners = slice_set r.owners s o }
 
+-- a stored record in its next version
 abbrev pub with_next_version : Stored → Stored
 with_next_version r = record { generation = r.generation; version = r.version + 1; items = r.items; owners = r.owners }
 

@@ -35,11 +35,13 @@ ring_edits s (Some o) edits = map (λ edit. record { name = Ring s (place_of o);
 abbrev pub placed_at : Lists → ℕ → DbKey → Option Value → Place → Edit
 placed_at schema s m key place = PlaceMember (order_of schema s) place.at m key
 
+-- the edits by which m joins the current occurrence of a set
 abbrev pub joining_edits : Lists → Unit → ℕ → DbKey → Option Value → List CellEdit
 joining_edits schema unit s m key =
     ring_edits s (option_map (λ place. place.owner) (place_in schema unit s))
     (unwrap_or (option_map (λ place. placed_at schema s m key place ∷ []) (place_in schema unit s)) [])
 
+-- an edit of the slot of a key
 abbrev pub slot_edit : DbKey → Edit → CellEdit
 slot_edit k edit = record { name = slot_name k; edit = edit }
 
@@ -48,6 +50,7 @@ abbrev pub first_owners : Lists → Unit → ℕ → List (Option Owner)
 first_owners schema unit t =
     map (λ s. if list_any (λ s'. s' == s) (automatic_sets schema t) then option_map (λ place. place.owner) (place_in schema unit s) else None) (set_numbers schema)
 
+-- STORE of k: its number, its places in the automatic sets, the occurrences that it owns, its slot
 abbrev pub store_edits : Lists → Unit → DbKey → List Value → List CellEdit
 store_edits schema unit k items =
     record { name = Extent k.rtype; edit = EnterNumber k.number (calc_items schema k.rtype items) }
@@ -55,6 +58,7 @@ store_edits schema unit k items =
     ++ (flat_map (λ s. record { name = Ring s (Some (k.rtype, k.number)); edit = OpenRing (Rec k) } ∷ []) (filter (λ s. owns schema s k.rtype) (set_numbers schema))
     ++ slot_edit k (Fill k.generation items (first_owners schema unit k.rtype)) ∷ []))
 
+-- INSERT of k: its place, its owner, its version
 abbrev pub insert_edits : Lists → Database → Unit → ℕ → DbKey → List CellEdit
 insert_edits schema db unit s k =
     joining_edits schema unit s k (key_item schema s k.rtype (items_of db k))
@@ -62,6 +66,7 @@ insert_edits schema db unit s k =
     ∷ slot_edit k RaiseVersion
     ∷ []
 
+-- REMOVE of k: out of its list, no owner, its version
 abbrev pub remove_edits : Lists → ℕ → Database → ℕ → DbKey → List CellEdit
 remove_edits schema capacity db s k =
     ring_edits s (owner_of schema capacity db s k) (TakeOut k ∷ []) ++ slot_edit k (ChangeOwner s None) ∷ slot_edit k RaiseVersion ∷ []
@@ -72,6 +77,7 @@ replacing_edits schema capacity db unit k items s =
     ring_edits s (owner_of schema capacity db s k)
     (ReplaceMember (order_of schema s) (option_and_then (λ place. place.at) (place_in schema unit s)) k (key_item schema s k.rtype items) ∷ [])
 
+-- MODIFY of k: its CALC values where one is named, its places anew, its items, its version
 abbrev pub modify_edits : Lists → ℕ → Database → Unit → List Change → DbKey → List CellEdit
 modify_edits schema capacity db unit changes k =
     let items = changed_items changes (items_of db k) in
@@ -94,6 +100,7 @@ edits_of schema capacity db unit (Remove s) = edits_of_current unit.currency.run
 edits_of schema capacity db unit (Modify t changes) = edits_of_current unit.currency.run_unit (modify_edits schema capacity db unit changes)
 edits_of schema capacity db unit _ = []
 
+-- the statement is a DELETE
 abbrev pub is_delete : Statement → Bool
 is_delete (Delete option) = true
 is_delete _ = false

@@ -20,6 +20,7 @@ pub record GoesForward (db new : Database) : Type 0 where
   pub generations : (t n : ℕ) → db.last t n ≤ new.last t n
   pub spent : (k : DbKey) → is_spent db k ≡ true → is_spent new k ≡ true
 
+-- every statement goes forward from every legal database
 abbrev pub EachGoesForward : Type 0
 EachGoesForward = (schema : Lists) (capacity : ℕ) (db : Database) (unit : Unit) (statement : Statement) → GoesForward db (effect schema capacity db unit statement).database
 
@@ -32,5 +33,6 @@ pub record ReplayGoesForward (schema : Lists) (capacity : ℕ) (state : State) (
   pub generations : (t n : ℕ) → state.database.last t n ≤ (replay schema capacity state entries).database.last t n
   pub spent : (k : DbKey) → is_spent state.database k ≡ true → is_spent (replay schema capacity state entries).database k ≡ true
 
+-- so does every history
 abbrev pub EachReplayGoesForward : Type 0
 EachReplayGoesForward = (schema : Lists) (capacity : ℕ) (state : State) (entries : List Entry) → ReplayGoesForward schema capacity state entries

@@ -25,6 +25,7 @@ abbrev pub compares : Order → Option Value → Option Value → Bool
 compares (Sorted ascending duplicates) a b = comparable a b
 compares _ a b = true
 
+-- some member has the same sort key
 abbrev pub has_equal : (DbKey → Option Value) → DbKey → List DbKey → Bool
 has_equal key m = list_any (λ x. option_value_eq (key x) (key m))
 

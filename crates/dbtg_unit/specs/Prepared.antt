@@ -50,6 +50,7 @@ unit_edited schema (Forget k) unit = record unit { kept = forgotten k unit.kept 
 unit_edited schema ForgetAll unit = record unit { kept = [] }
 unit_edited schema (LoseCurrent k) unit = record unit { currency = record unit.currency { run_unit = None }; kept = forgotten k unit.kept }
 
+-- the unit after a plan: the new versions are noted, and then its own change
 abbrev pub unit_after : Lists → Plan → Unit → Unit
 unit_after schema plan unit = unit_edited schema plan.unit (record unit { kept = renoted_at plan.versions unit.kept })
 
@@ -64,6 +65,7 @@ guesses_edited _ guesses = guesses
 abbrev pub values_of : List (CellName × Cell) → List (CellName × CellValue)
 values_of = map (λ e. (e.0, shown e.1))
 
+-- the held cells after these edits
 abbrev pub edited_values : List CellEdit → List (CellName × CellValue) → List (CellName × CellValue)
 edited_values edits = map (λ e. (e.0, edited_at e.0 edits e.1))
 

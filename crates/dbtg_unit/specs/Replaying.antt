@@ -22,6 +22,7 @@ pub record ReplaysOneMore (schema : Lists) (capacity : ℕ) (state : State) (his
   -- leaves each other unit as it was
   pub others : (number : ℕ) → entry.unit ≢ number → unit_of (replay schema capacity state (history ++ entry ∷ [])) number ≡ unit_of (replay schema capacity state history) number
 
+-- of every history with one entry more
 abbrev pub EachReplaysOneMore : Type 0
 EachReplaysOneMore = (schema : Lists) (capacity : ℕ) (state : State) (history : List Entry) (entry : Entry) → ReplaysOneMore schema capacity state history entry
 
@@ -34,5 +35,6 @@ pub record IsDetermined (schema : Lists) (capacity : ℕ) (state : State) (histo
   pub state_is : replay schema capacity state history ≡ state_after schema capacity state (statements_of history)
   pub answers_are : AnswersHold schema capacity state history → map (λ e. Some e.answer) history ≡ answers schema capacity state (statements_of history)
 
+-- histories of the same statements by the same units lead to the same state, with the same answers
 abbrev pub StatementsDetermine : Type 0
 StatementsDetermine = (schema : Lists) (capacity : ℕ) (state : State) (history : List Entry) → IsDetermined schema capacity state history
