@@ -9,6 +9,10 @@ use dbtg_cells::{Cell, CellName, DbKey, Owner, Usage};
 use dbtg_schema::{AreaNo, RecordNo, Row};
 use std::test::*;
 
+mod cells;
+mod copies;
+mod units;
+
 fn key(number: u32, generation: u8) -> DbKey {
     DbKey {
         rtype: RecordNo::new(0),

@@ -1,0 +1,30 @@
+//! What is in hand: guesses, and more areas than are held in place.
+
+use super::key;
+use crate::held::Held;
+use dbtg_cells::Owner;
+use dbtg_schema::{AreaNo, Row, SetNo};
+use std::test::*;
+
+#[test]
+fn guesses(rt: HostRuntime) -> Result<(), Fail> {
+    let guesses = Row::of(Vec::from_slice(rt.alloc(), &[Some(Owner::System), None])?);
+    let mut held = Held::new(rt.alloc(), guesses);
+    assert_eq!(rt; held.guess(SetNo::new(0)), Some(Owner::System));
+    held.set_guess(SetNo::new(1), Some(Owner::Rec(key(7, 2))));
+    let wanted = [Some(Owner::System), Some(Owner::Rec(key(7, 2)))];
+    assert_eq!(rt; held.guesses(), wanted.as_slice());
+    Ok(())
+}
+
+#[test]
+fn areas_beyond_those_in_place(rt: HostRuntime) -> Result<(), Fail> {
+    let mut held = Held::new(rt.alloc(), Row::of(Vec::new(rt.alloc())));
+    for a in 0..12 {
+        held.push_area(AreaNo::new(a))?;
+    }
+    assert!(rt; held.has(AreaNo::new(11)) && !held.has(AreaNo::new(12)));
+    assert_eq!(rt; held.pop_area(), Some(AreaNo::new(11)));
+    assert!(rt; !held.has(AreaNo::new(11)));
+    Ok(())
+}
