@@ -1,11 +1,12 @@
 //! Public calls, made with memory to spare, and the lists worked out in docs/profile.
 
 use super::*;
-use dbtg_schema::{AreaNo, RecordNo, Row, SetNo};
-use std::alloc::AllocError;
+use dbtg_schema::{AreaNo, Duplicates, RecordNo, Row, SetNo};
+use std::alloc::{AllocError, Global};
 use std::process::Abort;
 use std::test::*;
 
+mod both_rings;
 mod extent;
 mod slot;
 mod usage;
@@ -46,7 +47,12 @@ fn keys_and_owners_are_ordered(rt: HostRuntime) {
 #[test]
 fn names_are_ordered(rt: HostRuntime) {
     assert!(rt; name_below(system_ring(), owned_ring()));
-    assert!(rt; name_below(CellName::Usage(AreaNo::new(9)), CellName::Extent(RecordNo::new(0))));
+    assert!(rt;
+        name_below(
+            CellName::Usage(AreaNo::new(9)),
+            CellName::Extent(RecordNo::new(0))
+        )
+    );
     assert!(rt; name_below(CellName::Extent(RecordNo::new(9)), system_ring()));
     assert!(rt; name_below(owned_ring(), CellName::Slot(RecordNo::new(0), 1)));
     assert!(rt; same_name(owned_ring(), owned_ring()));

@@ -6,7 +6,10 @@ use super::*;
 fn holds(rt: &HostRuntime, slot: &Slot, number: u64) -> Result<bool, AllocError> {
     let wanted = row(rt, number)?;
     match slot.record() {
-        Some(record) => Ok(same_values(copy_items(&record.items, rt.alloc())?.as_slice(), wanted.as_slice())),
+        Some(record) => Ok(same_values(
+            copy_items(&record.items, rt.alloc())?.as_slice(),
+            wanted.as_slice(),
+        )),
         None => Ok(false),
     }
 }

@@ -20,9 +20,15 @@ fn modes_conflict_as_in_the_table(rt: HostRuntime) {
     for (mode, row) in [
         (Mode::Retrieval, [false, false, false, false, true, true]),
         (Mode::Update, [false, false, true, true, true, true]),
-        (Mode::ProtectedRetrieval, [false, true, false, true, true, true]),
+        (
+            Mode::ProtectedRetrieval,
+            [false, true, false, true, true, true],
+        ),
         (Mode::ProtectedUpdate, [false, true, true, true, true, true]),
-        (Mode::ExclusiveRetrieval, [true, true, true, true, true, true]),
+        (
+            Mode::ExclusiveRetrieval,
+            [true, true, true, true, true, true],
+        ),
         (Mode::ExclusiveUpdate, [true, true, true, true, true, true]),
     ] {
         assert!(rt; conflicts(mode) == row, "{mode:?}");
