@@ -9,6 +9,8 @@ mod name;
 mod plain;
 mod ring;
 mod slot;
+#[cfg(test)]
+mod tests;
 mod usage;
 mod value;
 

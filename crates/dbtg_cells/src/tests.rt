@@ -1,0 +1,60 @@
+//! Public calls, made with memory to spare, and the lists worked out in docs/profile.
+
+use super::*;
+use dbtg_schema::{AreaNo, Duplicates, RecordNo, Row, SetNo};
+use std::alloc::{AllocError, Global};
+use std::process::Abort;
+use std::test::*;
+
+mod both_rings;
+mod extent;
+mod slot;
+mod usage;
+
+fn key(number: u32, generation: u8) -> DbKey {
+    DbKey {
+        rtype: RecordNo::new(2),
+        number,
+        generation,
+    }
+}
+
+/// A row of one number.
+fn row(rt: &HostRuntime, number: u64) -> Result<Row<Value>, AllocError> {
+    Ok(Row::of(vec![in rt.alloc(); Value::Num(number)]?))
+}
+
+fn system_ring() -> CellName {
+    CellName::Ring(SetNo::new(1), None)
+}
+
+fn owned_ring() -> CellName {
+    CellName::Ring(SetNo::new(1), Some((RecordNo::new(0), 1)))
+}
+
+// Keys go by type, number, generation, and SYSTEM stands before every record.
+#[test]
+fn keys_and_owners_are_ordered(rt: HostRuntime) {
+    assert!(rt; key_below(key(1, 2), key(2, 1)));
+    assert!(rt; key_below(key(1, 1), key(1, 2)));
+    assert!(rt; !key_below(key(1, 2), key(1, 2)));
+    assert!(rt; !same_key(key(1, 2), key(1, 1)));
+    assert!(rt; owner_below(Owner::System, Owner::Rec(key(1, 1))));
+    assert!(rt; same_owner(Owner::System, Owner::System));
+}
+
+// Names go by kind, and then by what they name; the ring of SYSTEM stands before a record's.
+#[test]
+fn names_are_ordered(rt: HostRuntime) {
+    assert!(rt; name_below(system_ring(), owned_ring()));
+    assert!(rt;
+        name_below(
+            CellName::Usage(AreaNo::new(9)),
+            CellName::Extent(RecordNo::new(0))
+        )
+    );
+    assert!(rt; name_below(CellName::Extent(RecordNo::new(9)), system_ring()));
+    assert!(rt; name_below(owned_ring(), CellName::Slot(RecordNo::new(0), 1)));
+    assert!(rt; same_name(owned_ring(), owned_ring()));
+    assert!(rt; !same_name(owned_ring(), system_ring()));
+}
