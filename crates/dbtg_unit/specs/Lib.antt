@@ -36,3 +36,5 @@ pub mod Locality
 pub mod Prepared
 pub mod CanEdit
 pub mod Lends
+pub mod InHand
+pub mod Making

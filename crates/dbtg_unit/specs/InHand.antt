@@ -1,0 +1,56 @@
+-- What is read off the cells in hand.
+-- k is a key, s a set, o an owner, t a record type, a an area, c the name of a cell.
+use Rattle.std.specs.Prelude.{ℕ, ◌==◌, List, [], Option, Some, None, if◌then◌else◌}
+use Rattle.dbtg_cells.specs.declared.cell.Cell.{Cell}
+use Rattle.dbtg_cells.specs.declared.cell.Cell.TheVariants.{Usage as UsageCell, Extent as ExtentCell, Ring as RingCell, Slot as SlotCell}
+use Rattle.dbtg_cells.specs.declared.extent.Number.{Number}
+use Rattle.dbtg_cells.specs.declared.key.DbKey.{DbKey}
+use Rattle.dbtg_cells.specs.declared.key.Owner.{Owner}
+use Rattle.dbtg_cells.specs.declared.name.CellName.TheVariants.{Usage, Extent, Ring}
+use Rattle.dbtg_cells.specs.declared.ring.Occurrence.{Occurrence}
+use Rattle.dbtg_cells.specs.declared.slot.Stored.{Stored}
+use Rattle.dbtg_cells.specs.declared.usage.Mode.{Mode}
+use Rattle.dbtg_cells.specs.Keys.{owner_eq}
+use Rattle.dbtg_unit.specs.CellNames.{place_of, slot_name}
+use Rattle.dbtg_unit.specs.Hands.{Hands, cell_of}
+
+-- the record of this generation in a slot
+abbrev pub stored_of : ℕ → Option Cell → Option Stored
+stored_of generation (Some (SlotCell (Some stored))) = if stored.generation == generation then Some stored else None
+stored_of generation _ = None
+
+-- the record k in hand; none where its slot is not in hand, or has no record or another
+abbrev pub stored_in : Hands → DbKey → Option Stored
+stored_in hands k = stored_of k.generation (cell_of (slot_name k) hands.cells)
+
+-- the occurrence where it is o's
+abbrev pub of_owner : Owner → Option Occurrence → Option Occurrence
+of_owner o None = None
+of_owner o (Some occurrence) = if owner_eq occurrence.owner o then Some occurrence else None
+
+-- the occurrence of o in a ring
+abbrev pub occurrence_of : Owner → Option Cell → Option Occurrence
+occurrence_of o (Some (RingCell ring)) = of_owner o ring.occurrence
+occurrence_of o _ = None
+
+-- the occurrence of o in set s in hand; none where its ring is not in hand, or has no owner or another
+abbrev pub occurrence_in : Hands → ℕ → Owner → Option Occurrence
+occurrence_in hands s o = occurrence_of o (cell_of (Ring s (place_of o)) hands.cells)
+
+-- the numbers of an extent
+abbrev pub numbers_of : Option Cell → List Number
+numbers_of (Some (ExtentCell extent)) = extent.numbers
+numbers_of _ = []
+
+-- the numbers of record type t in hand; none where its extent is not in hand
+abbrev pub numbers_in : Hands → ℕ → List Number
+numbers_in hands t = numbers_of (cell_of (Extent t) hands.cells)
+
+-- who has an area open, by its usage cell
+abbrev pub users_of : Option Cell → List (ℕ × Mode)
+users_of (Some (UsageCell usage)) = usage.users
+users_of _ = []
+
+-- who has area a open, by the cells in hand; nobody where its usage cell is not in hand
+abbrev pub users_in : Hands → ℕ → List (ℕ × Mode)
+users_in hands a = users_of (cell_of (Usage a) hands.cells)

@@ -1,0 +1,58 @@
+-- When what a statement has prepared can be made: without memory, and without a refusal.
+-- e is an edit of a cell, x and y cells, db a database.
+use Rattle.std.specs.Prelude.{◌≡◌, ℕ, ◌<◌, ◌+◌, ◌^◌, true, List, [], ◌∷◌, Option, Some, ⊤}
+use Rattle.dbtg_schema.specs.Lists.{Lists}
+use Rattle.dbtg_schema.specs.Sound.{IsSound}
+use Rattle.dbtg_cells.specs.declared.cell.Cell.{Cell}
+use Rattle.dbtg_cells.specs.declared.cell.Cell.TheVariants.{Slot as SlotCell}
+use Rattle.dbtg_cells.specs.declared.name.CellName.{CellName}
+use Rattle.dbtg_cells.specs.declared.slot.Stored.{Stored}
+use Rattle.dbtg_cells.specs.Cells.{shown}
+use Rattle.dbtg_unit.specs.declared.edit.CellEdit.{CellEdit}
+use Rattle.dbtg_unit.specs.declared.held.Need.TheVariants.{Ready}
+use Rattle.dbtg_unit.specs.declared.statement.Statement.{Statement}
+use Rattle.dbtg_unit.specs.declared.unit.Unit.{Unit}
+use Rattle.dbtg_unit.specs.Base.{Database}
+use Rattle.dbtg_unit.specs.Belongs.{IsUnitOf, IsWithin}
+use Rattle.dbtg_unit.specs.CanEdit.{CanEdit}
+use Rattle.dbtg_unit.specs.Edits.{edited}
+use Rattle.dbtg_unit.specs.Fits.{fits}
+use Rattle.dbtg_unit.specs.Hands.{Hands, cell_of}
+use Rattle.dbtg_unit.specs.Lends.{with_cell}
+use Rattle.dbtg_unit.specs.Local.{Agrees}
+use Rattle.dbtg_unit.specs.Needs.{need}
+use Rattle.dbtg_unit.specs.Prepared.{Plan, IsPrepared, values_of}
+
+-- each edit in turn can be made of the held cell of its name, whatever cell shows what the edits before it made of that one
+abbrev pub CanMake : List CellEdit → List (CellName × Cell) → Type 0
+CanMake [] cells = ⊤
+CanMake (e ∷ es) cells =
+    (x : Cell) → cell_of e.name cells ≡ Some x → CanEdit e.edit x × ((y : Cell) → shown y ≡ edited e.edit (shown x) → CanMake es (with_cell e.name y cells))
+
+-- the statement needs nothing more on any database that agrees with what is held
+abbrev pub IsReady : Lists → ℕ → Unit → Hands → Statement → Type 0
+IsReady schema capacity unit hands statement = (db : Database) → Agrees schema capacity db hands unit → need schema capacity db unit hands statement ≡ Ready
+
+-- no held record is at the greatest version
+abbrev pub HaveNextVersions : List (CellName × Cell) → Type 0
+HaveNextVersions cells = (c : CellName) (stored : Stored) → cell_of c cells ≡ Some (SlotCell (Some stored)) → stored.version + 1 < 2 ^ 64
+
+-- what a caller knows of a statement that it prepares
+pub record MayPrepare (schema : Lists) (capacity : ℕ) (unit : Unit) (hands : Hands) (statement : Statement) : Type 0 where
+  pub sound : IsSound schema
+  pub fits : fits schema statement ≡ true
+  pub of_schema : IsUnitOf schema unit
+  pub within : IsWithin capacity unit
+  pub ready : IsReady schema capacity unit hands statement
+  pub versions : HaveNextVersions hands.cells
+
+-- the same areas, the same guesses, and the same cells, each of which shows what it did
+pub record ShowsTheSame (old new : Hands) : Type 0 where
+  pub areas : new.areas ≡ old.areas
+  pub cells : values_of new.cells ≡ values_of old.cells
+  pub guesses : new.guesses ≡ old.guesses
+
+-- the plan is the statement's effect on every database that agrees with what is held, and can be made there
+pub record CanFinish (schema : Lists) (capacity : ℕ) (unit : Unit) (hands : Hands) (statement : Statement) (plan : Plan) : Type 0 where
+  pub prepared : IsPrepared schema capacity unit hands statement plan
+  pub can_make : (db : Database) → Agrees schema capacity db hands unit → CanMake plan.cells hands.cells
