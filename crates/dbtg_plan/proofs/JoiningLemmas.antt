@@ -1,9 +1,9 @@
 -- What is read off the ring of the current owner decides a placing as the database does, and where it does not refuse, the
 -- new member can be placed.
-use Rattle.std.proofs.Common.{◌≡◌, refl, sym, ◌∙◌, ap, subst, ℕ, Bool, true, false, not, ◌&&◌, ◌||◌, List, [], ◌∷◌, Option, Some, None, map}
-use Rattle.std.specs.Prelude.{is_none, is_some, unwrap_or}
+use Rattle.std.proofs.Common.{◌≡◌, refl, ◌∙◌, ap, ℕ, Bool, true, false, ◌&&◌, ◌||◌, List, [], ◌∷◌, Option, Some, None, map}
+use Rattle.std.specs.Prelude.{is_none, is_some}
 use Rattle.std.specs.List.{list_any, list_all}
-use Rattle.std.proofs.lemmas.Bool.{and_parts, and_from, false≢true, true≢false, not-false}
+use Rattle.std.proofs.lemmas.Bool.{false≢true, true≢false, not-false}
 use Rattle.std.proofs.lemmas.List.Folds.{list_all-map}
 use Rattle.dbtg_schema.specs.Lists.{Lists}
 use Rattle.dbtg_schema.specs.Lookups.{first_cause}
@@ -14,22 +14,25 @@ use Rattle.dbtg_schema.specs.declared.shape.Order.TheVariants.{First, Last, Next
 use Rattle.dbtg_cells.specs.declared.key.DbKey.{DbKey}
 use Rattle.dbtg_cells.specs.declared.key.Owner.{Owner}
 use Rattle.dbtg_cells.specs.declared.key.Value.{Value}
+use Rattle.dbtg_cells.specs.declared.name.CellName.TheVariants.{Ring}
 use Rattle.dbtg_cells.specs.declared.ring.Occurrence.{Occurrence}
-use Rattle.dbtg_cells.specs.Keys.{is_member, option_value_eq}
+use Rattle.dbtg_cells.specs.Keys.{option_value_eq}
 use Rattle.dbtg_cells.specs.Members.{Entry, keys_in, members_in}
-use Rattle.dbtg_unit.specs.declared.unit.Cause.{Cause}
 use Rattle.dbtg_unit.specs.declared.unit.Cause.TheVariants.{Deleted, DuplicatesNotAllowed, PositionLost}
 use Rattle.dbtg_unit.specs.declared.unit.Place.{Place}
 use Rattle.dbtg_unit.specs.declared.unit.Unit.{Unit}
-use Rattle.dbtg_unit.specs.Base.{Database, is_live, items_of, key_item, members_of, sort_key}
-use Rattle.dbtg_unit.specs.CanEdit.{CanPlace, IsPosition, parts_by}
+use Rattle.dbtg_unit.specs.Base.{Database, items_of, key_item, members_of, sort_key}
+use Rattle.dbtg_unit.specs.CellNames.{place_of}
+use Rattle.dbtg_unit.specs.CanEdit.{CanPlace, IsPosition}
 use Rattle.dbtg_unit.specs.Effect.{place_checks, refuses_equal, uses_position}
 use Rattle.dbtg_unit.specs.Fits.{values_fit}
 use Rattle.dbtg_unit.specs.Found.{is_lost}
 use Rattle.dbtg_unit.specs.Hands.{Hands}
 use Rattle.dbtg_unit.specs.Legal.{Legal, pairwise, keys_in_order}
+use Rattle.dbtg_unit.specs.Local.{Agrees, holds}
 use Rattle.dbtg_unit.specs.Placing.{comparable, compares}
 use Rattle.dbtg_unit.proofs.CheckLemmas.{passes_check}
+use Rattle.dbtg_unit.proofs.InHandLemmas.{entries_in_hand, listed_in_hand}
 use Rattle.dbtg_unit.proofs.PlacingOrder.{divided, pairwise-weaker}
 use Rattle.dbtg_unit.proofs.RingsLemmas.{all-members}
 use Rattle.dbtg_unit.proofs.SortKeyLemmas.{keys_compare}
@@ -111,3 +114,29 @@ module _ (schema : Lists) (db : Database) (s : ℕ) (place : Place) (occurrence 
       (ap (pairwise (λ (x y : Entry). keys_in_order (order_of schema s) x.1 y.1)) members
       ∙ pairwise-map (λ k. (k, sort_key schema db s k)) (λ (x y : Entry). keys_in_order (order_of schema s) x.1 y.1) (members_of db s place.owner)
       ∙ legal.sorted s place.owner)
+
+same-none : {X Y : Type 0} (a : Option X) (b : Option Y) → is_some a ≡ is_some b → is_none b ≡ is_none a
+same-none None None h = refl
+same-none None (Some y) h = absurd (false≢true h)
+same-none (Some x) None h = absurd (true≢false h)
+same-none (Some x) (Some y) h = refl
+
+-- JOINING THE CURRENT OCCURRENCE
+
+module _ (schema : Lists) (capacity : ℕ) (db : Database) (hands : Hands) (unit : Unit) (agrees : Agrees schema capacity db hands unit) (s : ℕ)
+    (held : holds hands.cells (Ring s (place_of (joined_place schema unit s).owner)) ≡ true) where
+  there : is_none (joined_occurrence schema unit hands s) ≡ is_none (db.lists s (joined_place schema unit s).owner)
+  there = same-none (db.lists s (joined_place schema unit s).owner) (joined_occurrence schema unit hands s) (listed_in_hand schema capacity db hands unit agrees s (joined_place schema unit s).owner held)
+
+  members : members_in (joined_occurrence schema unit hands s) ≡ map (λ k. (k, sort_key schema db s k)) (members_of db s (joined_place schema unit s).owner)
+  members = entries_in_hand schema capacity db hands unit agrees s (joined_place schema unit s).owner held
+
+  -- the checks of the ring in hand are those of the database
+  pub place_checks-in_hand : (key : Option Value) → place_checks_in schema unit hands s key ≡ place_checks schema db unit s key
+  place_checks-in_hand key = checks-are schema db s (joined_place schema unit s) (joined_occurrence schema unit hands s) there members key
+
+  -- where they pass, a record that can be a member can be placed
+  pub can-join-in_hand : IsSound schema → (t : ℕ) (items : List Value) → is_some (member_clause schema s t) ≡ true → values_fit (pictures schema t) items ≡ true
+      → first_cause (place_checks_in schema unit hands s (key_item schema s t items)) ≡ None
+      → CanPlace (order_of schema s) (joined_place schema unit s).at (key_item schema s t items) (joined_occurrence schema unit hands s)
+  can-join-in_hand = can-join schema db s (joined_place schema unit s) (joined_occurrence schema unit hands s) there members capacity agrees.legal
