@@ -73,3 +73,4 @@ pub mod AlikeReading
 pub mod AlikeMoves
 pub mod AlikeRemove
 pub mod AlikeInsert
+pub mod MakingLemmas
