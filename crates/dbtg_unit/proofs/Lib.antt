@@ -74,3 +74,5 @@ pub mod AlikeMoves
 pub mod AlikeRemove
 pub mod AlikeInsert
 pub mod InHandLemmas
+pub mod ExtentInHand
+pub mod ReadyParts
