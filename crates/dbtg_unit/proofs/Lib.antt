@@ -74,3 +74,6 @@ pub mod AlikeMoves
 pub mod AlikeRemove
 pub mod AlikeInsert
 pub mod MakingLemmas
+pub mod InHandLemmas
+pub mod ExtentInHand
+pub mod ReadyParts
