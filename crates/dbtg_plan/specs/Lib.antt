@@ -1,2 +1,4 @@
 pub mod Joining
 pub mod Plans
+pub mod Inserting
+pub mod Removing
