@@ -1,0 +1,2 @@
+pub mod CalcInHand
+pub mod NumberSteps

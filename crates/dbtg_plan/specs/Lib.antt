@@ -1,0 +1,2 @@
+pub mod Calc
+pub mod Store
