@@ -1,2 +1,3 @@
 pub mod CalcInHand
 pub mod NumberSteps
+pub mod JoiningLemmas

@@ -1,2 +1,3 @@
 pub mod Calc
 pub mod Store
+pub mod Joining
