@@ -1,3 +1,2 @@
-pub mod CalcInHand
 pub mod NumberSteps
 pub mod JoiningLemmas
