@@ -1,2 +1,3 @@
 pub mod NumberSteps
 pub mod JoiningLemmas
+pub mod PlanLemmas

@@ -1,3 +1,4 @@
 pub mod Calc
 pub mod Store
 pub mod Joining
+pub mod Plans
