@@ -1,3 +1,4 @@
 pub mod NumberSteps
 pub mod JoiningLemmas
 pub mod PlanLemmas
+pub mod StoreInHand

@@ -1,12 +1,11 @@
 -- STORE, read off the cells in hand, is STORE on each database that agrees with them.
-use Rattle.std.proofs.Common.{◌≡◌, refl, sym, ◌∙◌, ap, subst, ℕ, ◌≤◌, Bool, true, false, cond, not, ◌||◌, List, [], ◌∷◌, ◌++◌, Option, Some, None, eqb, inl, inr, map}
-use Rattle.std.specs.Prelude.{filter, is_none, is_some, if◌then◌else◌, option_map, unwrap_or}
-use Rattle.std.specs.List.{find, flat_map, list_any}
-use Rattle.std.proofs.lemmas.Bool.{cases_Bool, eq-eqb, false≢true}
+use Rattle.std.proofs.Common.{◌≡◌, refl, sym, ◌∙◌, ap, subst, ℕ, ◌≤◌, Bool, true, false, cond, not, List, [], ◌∷◌, ◌++◌, Option, Some, None, eqb, inl, inr}
+use Rattle.std.specs.Prelude.{is_none, is_some, if◌then◌else◌, option_map, unwrap_or}
+use Rattle.std.specs.List.{flat_map, list_any}
+use Rattle.std.proofs.lemmas.Bool.{cases_Bool, eq-eqb}
 use Rattle.dbtg_schema.specs.Lists.{Lists}
 use Rattle.dbtg_schema.specs.Lookups.{first_cause, some_and}
 use Rattle.dbtg_schema.specs.Structure.{automatic_sets, is_automatic, member_clause, owns, set_numbers}
-use Rattle.dbtg_cells.specs.declared.extent.Number.{Number}
 use Rattle.dbtg_cells.specs.declared.key.DbKey.{DbKey}
 use Rattle.dbtg_cells.specs.declared.key.Owner.{Owner}
 use Rattle.dbtg_cells.specs.declared.key.Owner.TheVariants.{System}
@@ -14,7 +13,6 @@ use Rattle.dbtg_cells.specs.declared.key.Value.{Value}
 use Rattle.dbtg_cells.specs.declared.name.CellName.{CellName}
 use Rattle.dbtg_cells.specs.declared.name.CellName.TheVariants.{Extent, Ring}
 use Rattle.dbtg_cells.specs.Names.{name_eq}
-use Rattle.dbtg_unit.specs.declared.statement.Statement.{Statement}
 use Rattle.dbtg_unit.specs.declared.statement.Statement.TheVariants.{Store}
 use Rattle.dbtg_unit.specs.declared.statement.Suppress.{Suppress}
 use Rattle.dbtg_unit.specs.declared.unit.Cause.{Cause}
@@ -24,8 +22,8 @@ use Rattle.dbtg_unit.specs.declared.unit.Unit.{Unit}
 use Rattle.dbtg_unit.specs.Base.{Database, is_live, key_at, key_item}
 use Rattle.dbtg_unit.specs.CellNames.{place_of, slot_name}
 use Rattle.dbtg_unit.specs.Checks.{refused_at_once}
-use Rattle.dbtg_unit.specs.EditsOf.{edits_of, first_owners, store_edits}
-use Rattle.dbtg_unit.specs.Effect.{Outcome, calc_taken, connected_in, effect, effect_on_cells, free_number, new_key, place_checks, refused, store_checks, stored, unless_refused, with_new}
+use Rattle.dbtg_unit.specs.EditsOf.{first_owners, store_edits}
+use Rattle.dbtg_unit.specs.Effect.{Outcome, calc_taken, connected_in, effect, free_number, new_key, place_checks, store_checks, stored, unless_refused, with_new}
 use Rattle.dbtg_unit.specs.Guesses.{guesses_after}
 use Rattle.dbtg_unit.specs.Hands.{Hands}
 use Rattle.dbtg_unit.specs.InHand.{numbers_in}
@@ -35,12 +33,11 @@ use Rattle.dbtg_unit.specs.Making.{MayPrepare}
 use Rattle.dbtg_unit.specs.Needs.{cells_of, current_owner, ring_names, store_cells, store_rings}
 use Rattle.dbtg_unit.specs.Prepared.{IsEffect}
 use Rattle.dbtg_unit.specs.Units.{owners_of, place_in, seen_with}
-use Rattle.dbtg_unit.proofs.CheckLemmas.{number_passes}
 use Rattle.dbtg_unit.proofs.EffectEdits.{store_found}
 use Rattle.dbtg_unit.proofs.ExtentInHand.{free_in_hand, new_key_in_hand, taken_in_hand}
 use Rattle.dbtg_unit.proofs.InHandLemmas.{numbers_in_hand}
 use Rattle.dbtg_unit.proofs.LegalEffect.{none_at, passed, some_from}
-use Rattle.dbtg_unit.proofs.LiveKeys.{In, any_in, in_flat_map, in_left, in_right, of_filter}
+use Rattle.dbtg_unit.proofs.LiveKeys.{In, any_in, in_flat_map, in_left, of_filter}
 use Rattle.dbtg_unit.proofs.LocalReady.{holds_any, legal_after}
 use Rattle.dbtg_unit.proofs.ReadyParts.{prepared_has_all}
 use Rattle.dbtg_unit.proofs.StoreCells.{owners-first}
