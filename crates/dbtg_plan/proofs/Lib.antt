@@ -1,2 +1,3 @@
 pub mod JoiningLemmas
 pub mod PlanLemmas
+pub mod MissingLemmas

@@ -2,3 +2,5 @@
 #![tactic(auto)]
 
 mod joining;
+mod missing;
+mod outcomes;
