@@ -2,3 +2,4 @@ pub mod NumberSteps
 pub mod JoiningLemmas
 pub mod PlanLemmas
 pub mod StoreInHand
+pub mod MissingLemmas

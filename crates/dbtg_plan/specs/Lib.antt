@@ -2,3 +2,4 @@ pub mod Calc
 pub mod Store
 pub mod Joining
 pub mod Plans
+pub mod Missing
