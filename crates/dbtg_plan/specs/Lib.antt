@@ -1,4 +1,7 @@
+pub mod Calc
+pub mod Store
 pub mod Joining
 pub mod Plans
 pub mod Inserting
 pub mod Removing
+pub mod Missing
