@@ -6,3 +6,4 @@ pub mod InsertingLemmas
 pub mod RemovingLemmas
 pub mod StoreInHand
 pub mod MissingLemmas
+pub mod VersionLemmas

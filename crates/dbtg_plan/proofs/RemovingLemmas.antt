@@ -11,7 +11,9 @@ use Rattle.dbtg_schema.specs.Structure.{set_numbers}
 use Rattle.dbtg_cells.specs.declared.key.DbKey.{DbKey}
 use Rattle.dbtg_cells.specs.declared.key.Owner.{Owner}
 use Rattle.dbtg_cells.specs.declared.name.CellName.TheVariants.{Ring}
+use Rattle.dbtg_cells.specs.declared.ring.Occurrence.{Occurrence}
 use Rattle.dbtg_cells.specs.Keys.{key_eq, is_member, owner_eq}
+use Rattle.dbtg_cells.specs.Members.{keys_in}
 use Rattle.dbtg_unit.specs.declared.edit.CellEdit.{CellEdit}
 use Rattle.dbtg_unit.specs.declared.edit.Edit.TheVariants.{ChangeOwner, RaiseVersion, TakeOut}
 use Rattle.dbtg_unit.specs.declared.statement.Statement.TheVariants.{Remove}
@@ -27,19 +29,20 @@ use Rattle.dbtg_unit.specs.Guesses.{guesses_after, noted_guesses}
 use Rattle.dbtg_unit.specs.Hands.{Hands}
 use Rattle.dbtg_unit.specs.InHand.{occurrence_in, owner_in, stored_in, version_in}
 use Rattle.dbtg_unit.specs.Local.{Agrees, holds}
-use Rattle.dbtg_unit.specs.Making.{MayPrepare}
+use Rattle.dbtg_unit.specs.Making.{CanFinish, CanMake, MayPrepare}
 use Rattle.dbtg_unit.specs.Needs.{is_wrong_guess, ring_names, slot_names}
 use Rattle.dbtg_unit.specs.Prepared.{IsEffect, IsPrepared, unit_after}
-use Rattle.dbtg_unit.proofs.InHandLemmas.{listed_in_hand, live_in_hand, own_in_hand, owner_in_hand, version_in_hand}
+use Rattle.dbtg_unit.proofs.InHandLemmas.{listed_in_hand, live_in_hand, members_in_hand, own_in_hand, owner_in_hand, version_in_hand}
 use Rattle.dbtg_unit.proofs.KeyLemmas.{same_owner}
 use Rattle.dbtg_unit.proofs.LiveKeys.{In, in_left, in_range, in_right, some_and_is}
+use Rattle.dbtg_unit.proofs.MakingLemmas.{can_make-raised, leaves-owner}
 use Rattle.dbtg_unit.proofs.OwnersFound.{owner_has, some_list}
 use Rattle.dbtg_unit.proofs.ReadyParts.{prepared_has_all}
-use Rattle.dbtg_plan.specs.Plans.{on_current_plan, unless_refusal}
+use Rattle.dbtg_plan.specs.Plans.{on_current_plan, refusal, unless_refusal}
 use Rattle.dbtg_plan.specs.Removing.{own_occurrence, remove_checks_in, remove_plan, removing}
 use Rattle.dbtg_plan.proofs.InsertingLemmas.{own-passed, some-from-none, version-raised}
 use Rattle.dbtg_plan.proofs.PlanLemmas.{done-is_effect, effect-on_cells, noted-renoted, refusal-is_effect}
-use Rattle.dbtg_plan.proofs.RingEdits.{ring-held, slot-held}
+use Rattle.dbtg_plan.proofs.RingEdits.{can-edit-ring, free-owner, ring-held, slot-held}
 
 none-from-some : {X : Type 0} (o : Option X) → is_some o ≡ true → is_none o ≡ false
 none-from-some None h = absurd (false≢true h)
@@ -163,3 +166,32 @@ module _ (schema : Lists) (capacity : ℕ) (unit : Unit) (hands : Hands) (s : �
 
   pub remove-is_prepared : IsPrepared schema capacity unit hands (Remove s) (remove_plan unit hands s)
   remove-is_prepared = record { held = all-held; effects = is-effect }
+
+  -- THAT IT CAN BE MADE
+
+  module _ (k : DbKey) (current : unit.currency.run_unit ≡ Some k) (free : first_cause (remove_checks_in unit hands s k) ≡ None) where
+    can-make : (db : Database) → Agrees schema capacity db hands unit → CanMake (removing hands s k).cells hands.cells
+    can-make db agrees = by_owner (owner_in hands s k) refl (own-passed hands unit k (is_none (own_occurrence hands s k)) NotMember [] free).1 where
+      by_owner : (q : Option Owner) → owner_in hands s k ≡ q → is_none (option_and_then (occurrence_in hands s) q) ≡ false
+          → CanMake (ring_edits s q (TakeOut k ∷ []) ++ slot_edit k (ChangeOwner s None) ∷ slot_edit k RaiseVersion ∷ []) hands.cells
+      by_owner None e h = absurd (true≢false h)
+      by_owner (Some o) e h =
+          can_make-raised (record { name = Ring s (place_of o); edit = TakeOut k } ∷ []) (slot_name k) (ChangeOwner s None) hands.cells refl refl
+          (can-edit-ring hands s o (TakeOut k) (some-from-none (occurrence_in hands s o) h) (λ v there is.
+          ap (λ (r : Option Occurrence). is_member k (keys_in r)) is
+          ∙ ap (is_member k) (sym (members_in_hand schema capacity db hands unit agrees s o (ring_held db agrees k current o e)))
+          ∙ owner-has db agrees k current o e), tt)
+          (λ x there. free-owner s None x) (leaves-owner s None) may.versions
+
+    -- a REMOVE that nothing refuses
+    pub remove-can_finish : CanFinish schema capacity unit hands (Remove s) (removing hands s k)
+    remove-can_finish = record {
+      prepared = subst (IsPrepared schema capacity unit hands (Remove s))
+          (ap (λ (r : Option DbKey). on_current_plan r (remove_checks_in unit hands s) (removing hands s)) current ∙ ap (λ (c : Option Cause). unless_refusal c (removing hands s k)) free)
+          remove-is_prepared;
+      can_make = can-make;
+    }
+
+  -- a REMOVE that is refused
+  pub refused_remove-can_finish : (cause : Cause) → remove_plan unit hands s ≡ refusal cause → CanFinish schema capacity unit hands (Remove s) (refusal cause)
+  refused_remove-can_finish cause is = record { prepared = subst (IsPrepared schema capacity unit hands (Remove s)) is remove-is_prepared; can_make = λ db agrees. tt }

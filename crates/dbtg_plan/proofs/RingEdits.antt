@@ -14,6 +14,7 @@ use Rattle.dbtg_cells.specs.Keys.{owner_eq}
 use Rattle.dbtg_cells.specs.Names.{name_eq}
 use Rattle.dbtg_cells.specs.Shown.{RingView}
 use Rattle.dbtg_unit.specs.declared.edit.Edit.{Edit}
+use Rattle.dbtg_unit.specs.declared.edit.Edit.TheVariants.{ChangeOwner}
 use Rattle.dbtg_unit.specs.CanEdit.{CanEdit}
 use Rattle.dbtg_unit.specs.CellNames.{place_of, slot_name}
 use Rattle.dbtg_unit.specs.Hands.{Hands, cell_of}
@@ -55,3 +56,10 @@ can-edit-ring hands s o edit there can x is = by_cell x is (subst (λ (c : Optio
   by_cell (UsageCell v) is h = absurd (false≢true h)
   by_cell (ExtentCell v) is h = absurd (false≢true h)
   by_cell (SlotCell v) is h = absurd (false≢true h)
+
+-- the owner in a slot can always be changed
+pub free-owner : (s : ℕ) (o : Option Owner) (x : Cell) → CanEdit (ChangeOwner s o) x
+free-owner s o (UsageCell v) = tt
+free-owner s o (ExtentCell v) = tt
+free-owner s o (RingCell v) = tt
+free-owner s o (SlotCell v) = tt

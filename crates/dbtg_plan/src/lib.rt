@@ -3,5 +3,7 @@
 
 mod calc;
 mod joining;
+mod members;
 mod missing;
 mod outcomes;
+mod removing;
