@@ -3,3 +3,5 @@ pub mod JoiningLemmas
 pub mod PlanLemmas
 pub mod StoreInHand
 pub mod MissingLemmas
+pub mod StoreMaking
+pub mod StoreFinish
