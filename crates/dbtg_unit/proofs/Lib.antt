@@ -73,3 +73,6 @@ pub mod AlikeReading
 pub mod AlikeMoves
 pub mod AlikeRemove
 pub mod AlikeInsert
+pub mod ManyEdits
+pub mod DeleteCells
+pub mod EveryEdit
