@@ -76,3 +76,7 @@ pub mod AlikeInsert
 pub mod ManyEdits
 pub mod DeleteCells
 pub mod EveryEdit
+pub mod MakingLemmas
+pub mod InHandLemmas
+pub mod ExtentInHand
+pub mod ReadyParts

@@ -1,6 +1,7 @@
 -- What is read off the cells in hand.
--- k is a key, s a set, o an owner, t a record type, a an area, c the name of a cell.
-use Rattle.std.specs.Prelude.{ℕ, ◌==◌, List, [], Option, Some, None, if◌then◌else◌}
+-- k is a key, s a set, o an owner, t a record type, n a number, v a version, r a stored record, a an area, c the name of a cell.
+use Rattle.std.specs.Prelude.{ℕ, ◌+◌, Bool, not, ◌==◌, List, [], ◌∷◌, Option, Some, None, is_some, option_map, option_and_then, unwrap_or, if◌then◌else◌}
+use Rattle.dbtg_schema.specs.Lookups.{at, some_and}
 use Rattle.dbtg_cells.specs.declared.cell.Cell.{Cell}
 use Rattle.dbtg_cells.specs.declared.cell.Cell.TheVariants.{Usage as UsageCell, Extent as ExtentCell, Ring as RingCell, Slot as SlotCell}
 use Rattle.dbtg_cells.specs.declared.extent.Number.{Number}
@@ -10,9 +11,15 @@ use Rattle.dbtg_cells.specs.declared.name.CellName.TheVariants.{Usage, Extent, R
 use Rattle.dbtg_cells.specs.declared.ring.Occurrence.{Occurrence}
 use Rattle.dbtg_cells.specs.declared.slot.Stored.{Stored}
 use Rattle.dbtg_cells.specs.declared.usage.Mode.{Mode}
+use Rattle.dbtg_cells.specs.declared.key.Value.{Value}
 use Rattle.dbtg_cells.specs.Keys.{owner_eq}
+use Rattle.dbtg_cells.specs.Numbers.{entry_of, last_of}
+use Rattle.dbtg_unit.specs.declared.unit.Unit.{Unit}
+use Rattle.dbtg_unit.specs.declared.unit.Cause.{Cause}
+use Rattle.dbtg_unit.specs.declared.unit.Cause.TheVariants.{ChangedByAnother, Deleted}
 use Rattle.dbtg_unit.specs.CellNames.{place_of, slot_name}
 use Rattle.dbtg_unit.specs.Hands.{Hands, cell_of}
+use Rattle.dbtg_unit.specs.Units.{kept_version}
 
 -- the record of this generation in a slot
 abbrev pub stored_of : ℕ → Option Cell → Option Stored
@@ -54,3 +61,34 @@ users_of _ = []
 -- who has area a open, by the cells in hand; nobody where its usage cell is not in hand
 abbrev pub users_in : Hands → ℕ → List (ℕ × Mode)
 users_in hands a = users_of (cell_of (Usage a) hands.cells)
+
+-- the items of the record k in hand
+abbrev pub items_in : Hands → DbKey → List Value
+items_in hands k = unwrap_or (option_map (λ r. r.items) (stored_in hands k)) []
+
+-- its version
+abbrev pub version_in : Hands → DbKey → ℕ
+version_in hands k = unwrap_or (option_map (λ r. r.version) (stored_in hands k)) 0
+
+-- its owner in set s
+abbrev pub owner_in : Hands → ℕ → DbKey → Option Owner
+owner_in hands s k = option_and_then (λ r. at r.owners s) (stored_in hands k)
+
+-- the latest key of number n of record type t
+abbrev pub key_of : List Number → ℕ → ℕ → DbKey
+key_of numbers t n = record { rtype = t; number = n; generation = last_of n numbers }
+
+-- the next one
+abbrev pub next_key_of : List Number → ℕ → ℕ → DbKey
+next_key_of numbers t n = record { rtype = t; number = n; generation = last_of n numbers + 1 }
+
+-- the CALC values of the record k in an extent's numbers
+abbrev pub values_of_key : List Number → DbKey → Option (List Value)
+values_of_key numbers k = option_and_then (λ e. if e.last == k.generation then e.calc else None) (entry_of k.number numbers)
+
+-- the checks of the current of run-unit: it is deleted; it is kept, with another version than it has
+abbrev pub own_checks_in : Hands → Unit → DbKey → List (Bool × Cause)
+own_checks_in hands unit k =
+    (not (is_some (stored_in hands k)), Deleted)
+    ∷ (some_and (λ v. not (v == version_in hands k)) (kept_version unit k), ChangedByAnother)
+    ∷ []
