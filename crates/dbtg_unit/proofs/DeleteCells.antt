@@ -27,7 +27,7 @@ use Rattle.dbtg_unit.specs.Cells.{cell, number_of, owner_at, ring_of, slot_of}
 use Rattle.dbtg_unit.specs.Edits.{edited, edited_at, vacated, with_members}
 use Rattle.dbtg_unit.specs.EditsOf.{closing_edits, delete_edits, leave_number, leaving_edits, left_behind, losing_edits, lost_sets, ring_edits, slot_edit, staying_owner}
 use Rattle.dbtg_unit.specs.Effect.{deleted, is_gone, next_version}
-use Rattle.dbtg_unit.specs.Erasing.{doomed_in_turn, with_those}
+use Rattle.dbtg_unit.specs.Erasing.{doomed_in_turn, members_of_all}
 use Rattle.dbtg_unit.specs.Legal.{Legal, differ, pairwise}
 use Rattle.dbtg_unit.specs.Units.{owners_of}
 use Rattle.dbtg_unit.proofs.CellNameLemmas.{name_eq-refl, same_name, same_place, place_eq-refl}
@@ -59,7 +59,7 @@ module _ (schema : Lists) (capacity : ℕ) (db : Database) (unit : Unit) (option
   turn = doomed_in_turn schema capacity db option k
 
   abbrev left : List DbKey
-  left = left_behind schema db turn
+  left = left_behind (members_of_all schema db) turn
 
   abbrev taken_out : DbKey → Bool
   taken_out = is_taken_out schema capacity db unit option k
@@ -85,7 +85,7 @@ module _ (schema : Lists) (capacity : ℕ) (db : Database) (unit : Unit) (option
   -- WHO IS LEFT BEHIND
 
   abbrev all_members : DbKey → List DbKey
-  all_members d = flat_map (λ s. members_of db s (Rec d)) (set_numbers schema)
+  all_members = members_of_all schema db
 
   -- the members of what goes that stay, each where it is listed
   staying_members : List DbKey
@@ -132,7 +132,7 @@ module _ (schema : Lists) (capacity : ℕ) (db : Database) (unit : Unit) (option
   -- THE PARTS OF THE EDITS
 
   abbrev leavings : List CellEdit
-  leavings = flat_map (leaving_edits schema capacity db turn) turn
+  leavings = flat_map (leaving_edits schema (owner_of schema capacity db) turn) turn
 
   abbrev closings : List CellEdit
   closings = flat_map (closing_edits schema) turn
@@ -141,7 +141,7 @@ module _ (schema : Lists) (capacity : ℕ) (db : Database) (unit : Unit) (option
   vacatings = map (λ d. slot_edit d Vacate) turn
 
   abbrev losings : List CellEdit
-  losings = flat_map (losing_edits schema capacity db turn) left
+  losings = flat_map (losing_edits schema (owner_of schema capacity db) turn) left
 
   in_parts : (c : CellName) (v : CellValue) → edited_at c (delete_edits schema capacity db option k) v ≡ edited_at c losings (edited_at c vacatings (edited_at c closings (edited_at c leavings (edited_at c (map leave_number turn) v))))
   in_parts c v =
@@ -151,7 +151,7 @@ module _ (schema : Lists) (capacity : ℕ) (db : Database) (unit : Unit) (option
       ∙ edited_at-append c vacatings losings _
 
   skips_leavings : (c : CellName) → ((s : ℕ) (q : Option (ℕ × ℕ)) → name_eq c (Ring s q) ≡ false) → Skips c leavings
-  skips_leavings c h = skips-flat c (leaving_edits schema capacity db turn) turn (λ d i. skips-flat c _ (set_numbers schema) (λ s j. of_owner s d (staying_owner turn (owner_of schema capacity db s d)))) where
+  skips_leavings c h = skips-flat c (leaving_edits schema (owner_of schema capacity db) turn) turn (λ d i. skips-flat c _ (set_numbers schema) (λ s j. of_owner s d (staying_owner turn (owner_of schema capacity db s d)))) where
     of_owner : (s : ℕ) (d : DbKey) (o : Option Owner) → Skips c (ring_edits s o (TakeOut d ∷ []))
     of_owner s d None v = refl
     of_owner s d (Some p) v = ap (λ b. cond b (edited (TakeOut d) v) v) (h s (place_of p))
@@ -159,14 +159,14 @@ module _ (schema : Lists) (capacity : ℕ) (db : Database) (unit : Unit) (option
   skips_closings : (c : CellName) → ((s : ℕ) (q : Option (ℕ × ℕ)) → name_eq c (Ring s q) ≡ false) → Skips c closings
   skips_closings c h = skips-flat c (closing_edits schema) turn (λ d i. skips-map c _ (filter (λ s. owns schema s d.rtype) (set_numbers schema)) (λ s. h s (Some (d.rtype, d.number))))
 
-  skips_losing : (c : CellName) (x : DbKey) → name_eq c (slot_name x) ≡ false → Skips c (losing_edits schema capacity db turn x)
+  skips_losing : (c : CellName) (x : DbKey) → name_eq c (slot_name x) ≡ false → Skips c (losing_edits schema (owner_of schema capacity db) turn x)
   skips_losing c x h v =
-      edited_at-append c (map (λ s. slot_edit x (ChangeOwner s None)) (lost_sets schema capacity db turn x)) (slot_edit x RaiseVersion ∷ []) v
-      ∙ ap (edited_at c (slot_edit x RaiseVersion ∷ [])) (skips-map c _ (lost_sets schema capacity db turn x) (λ s. h) v)
+      edited_at-append c (map (λ s. slot_edit x (ChangeOwner s None)) (lost_sets schema (owner_of schema capacity db) turn x)) (slot_edit x RaiseVersion ∷ []) v
+      ∙ ap (edited_at c (slot_edit x RaiseVersion ∷ [])) (skips-map c _ (lost_sets schema (owner_of schema capacity db) turn x) (λ s. h) v)
       ∙ ap (λ b. cond b (edited RaiseVersion v) v) h
 
   skips_losings : (c : CellName) → ((x : DbKey) → In x left → name_eq c (slot_name x) ≡ false) → Skips c losings
-  skips_losings c h = skips-flat c (losing_edits schema capacity db turn) left (λ x i. skips_losing c x (h x i))
+  skips_losings c h = skips-flat c (losing_edits schema (owner_of schema capacity db) turn) left (λ x i. skips_losing c x (h x i))
 
   -- THE CELLS
 
@@ -246,7 +246,7 @@ module _ (schema : Lists) (capacity : ℕ) (db : Database) (unit : Unit) (option
         (λ d. closes-map here (λ s'. Ring s' (Some (d.rtype, d.number))) (filter (λ s'. owns schema s' d.rtype) (set_numbers schema)))
 
     thins : Thins here leavings out
-    thins = thins-flat here (leaving_edits schema capacity db turn)
+    thins = thins-flat here (leaving_edits schema (owner_of schema capacity db) turn)
         (λ d m. list_any (λ s'. some_and (λ p. name_eq here (Ring s' (place_of p)) && key_eq d m) (staying_owner turn (owner_of schema capacity db s' d))) (set_numbers schema)) turn
         (λ d. thins-flat here (λ s'. ring_edits s' (staying_owner turn (owner_of schema capacity db s' d)) (TakeOut d ∷ []))
         (λ s' m. some_and (λ p. name_eq here (Ring s' (place_of p)) && key_eq d m) (staying_owner turn (owner_of schema capacity db s' d))) (set_numbers schema)
@@ -419,11 +419,11 @@ module _ (schema : Lists) (capacity : ℕ) (db : Database) (unit : Unit) (option
           ∙ not_left (false_from_ne_true _ (λ h. false≢true (sym (left_stays x h) ∙ g))) (SlotValue None))
 
       -- the owners of one that is left behind
-      owners_left : is_member x doom ≡ false → owners_of schema capacity new x ≡ map (λ s. cond (has_number s (lost_sets schema capacity db turn x)) None (owner_of schema capacity db s x)) (set_numbers schema)
+      owners_left : is_member x doom ≡ false → owners_of schema capacity new x ≡ map (λ s. cond (has_number s (lost_sets schema (owner_of schema capacity db) turn x)) None (owner_of schema capacity db s x)) (set_numbers schema)
       owners_left stays =
-          map-range_same (λ s. owner_of schema capacity new s x) (λ s. cond (has_number s (lost_sets schema capacity db turn x)) None (owner_of schema capacity db s x)) 0 (length schema.sets)
+          map-range_same (λ s. owner_of schema capacity new s x) (λ s. cond (has_number s (lost_sets schema (owner_of schema capacity db) turn x)) None (owner_of schema capacity db s x)) 0 (length schema.sets)
           (λ s low. owner_after x stays s ∙ ap (λ b. cond b None (owner_of schema capacity db s x)) (sym (lost_is s))) where
-            lost_is : (s : ℕ) → has_number s (lost_sets schema capacity db turn x) ≡ some_and (is_gone turn) (owner_of schema capacity db s x)
+            lost_is : (s : ℕ) → has_number s (lost_sets schema (owner_of schema capacity db) turn x) ≡ some_and (is_gone turn) (owner_of schema capacity db s x)
             lost_is s =
                 elim (cases_Bool (some_and (is_gone turn) (owner_of schema capacity db s x))) [
                   | inl e ↦
@@ -440,7 +440,7 @@ module _ (schema : Lists) (capacity : ℕ) (db : Database) (unit : Unit) (option
           let r = some_is (db.records x) (left_live x h) in
           let raised_record : new.records x ≡ Some (next_version r.0)
           = (λ i. cond (left_taken x h i) (option_map next_version (cond (stays i) None (db.records x))) (cond (stays i) None (db.records x))) ∙ ap (option_map next_version) r.1 in
-          let lost : List CellEdit = map (λ s. slot_edit x (ChangeOwner s None)) (lost_sets schema capacity db turn x) in
+          let lost : List CellEdit = map (λ s. slot_edit x (ChangeOwner s None)) (lost_sets schema (owner_of schema capacity db) turn x) in
           let raise : List CellEdit = slot_edit x RaiseVersion ∷ [] in
           let old = slot_of schema capacity db x r.0 in
           ap (λ o. SlotValue (option_map (slot_of schema capacity new x) o)) raised_record
@@ -448,11 +448,11 @@ module _ (schema : Lists) (capacity : ℕ) (db : Database) (unit : Unit) (option
           ∙ sym (slot_edited
           ∙ ap (λ b. edited_at slot losings (SlotValue (cond b None (option_map (slot_of schema capacity db x) (db.records x))))) (vacated_is ∙ stays)
           ∙ ap (λ o. edited_at slot losings (SlotValue (option_map (slot_of schema capacity db x) o))) r.1
-          ∙ edits-of_one slot (losing_edits schema capacity db turn) left x (SlotValue (Some old)) left_once h (λ y i other. skips_losing slot y (other_slot y i other))
+          ∙ edits-of_one slot (losing_edits schema (owner_of schema capacity db) turn) left x (SlotValue (Some old)) left_once h (λ y i other. skips_losing slot y (other_slot y i other))
           ∙ edited_at-append slot lost raise (SlotValue (Some old))
-          ∙ ap (edited_at slot raise) (owners-lost slot x (name_eq-refl slot) old (length schema.sets) (lost_sets schema capacity db turn x) (λ s. owner_of schema capacity db s x))
-          ∙ ap (λ b. cond b (edited RaiseVersion (SlotValue (Some (with_owners (map (λ s. cond (has_number s (lost_sets schema capacity db turn x)) None (owner_of schema capacity db s x)) (set_numbers schema)) old))))
-          (SlotValue (Some (with_owners (map (λ s. cond (has_number s (lost_sets schema capacity db turn x)) None (owner_of schema capacity db s x)) (set_numbers schema)) old)))) (name_eq-refl slot))
+          ∙ ap (edited_at slot raise) (owners-lost slot x (name_eq-refl slot) old (length schema.sets) (lost_sets schema (owner_of schema capacity db) turn x) (λ s. owner_of schema capacity db s x))
+          ∙ ap (λ b. cond b (edited RaiseVersion (SlotValue (Some (with_owners (map (λ s. cond (has_number s (lost_sets schema (owner_of schema capacity db) turn x)) None (owner_of schema capacity db s x)) (set_numbers schema)) old))))
+          (SlotValue (Some (with_owners (map (λ s. cond (has_number s (lost_sets schema (owner_of schema capacity db) turn x)) None (owner_of schema capacity db s x)) (set_numbers schema)) old)))) (name_eq-refl slot))
 
       -- a slot of a record that is not touched, or of none
       other_record : is_member x doom ≡ false → is_member x left ≡ false → cell schema capacity new slot ≡ edited_at slot (delete_edits schema capacity db option k) (cell schema capacity db slot)

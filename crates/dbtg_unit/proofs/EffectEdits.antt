@@ -28,7 +28,7 @@ use Rattle.dbtg_unit.specs.Base.{Database, is_live, items_of, key_at, key_item, 
 use Rattle.dbtg_unit.specs.Cells.{cell}
 use Rattle.dbtg_unit.specs.Checks.{lacks_current}
 use Rattle.dbtg_unit.specs.Edits.{edited_at}
-use Rattle.dbtg_unit.specs.EditsOf.{edits_of}
+use Rattle.dbtg_unit.specs.EditsOf.{edits_of, is_delete}
 use Rattle.dbtg_unit.specs.Effect.{Outcome, calc_taken, conflict, done, effect, effect_on_cells, free_number, inserted, insert_checks, modified, modify_checks, new_key, own_checks, place_checks, refused, removed, remove_checks, store_checks, stored, version_of}
 use Rattle.dbtg_unit.specs.Found.{found}
 use Rattle.dbtg_unit.specs.Legal.{Legal}
@@ -40,11 +40,6 @@ use Rattle.dbtg_unit.proofs.ModifyCells.{modify_makes}
 use Rattle.dbtg_unit.proofs.Outcomes.{of_unless, of_current, of_finding, of_effect}
 use Rattle.dbtg_unit.proofs.RemoveCells.{remove_makes}
 use Rattle.dbtg_unit.proofs.StoreCells.{store_makes}
-
--- the statement is a DELETE
-abbrev pub is_delete : Statement → Bool
-is_delete (Delete option) = true
-is_delete _ = false
 
 module _ (schema : Lists) (capacity : ℕ) (db : Database) (unit : Unit) (legal : Legal schema capacity db) where
   -- where the outcome is done and legal, its cells are the edited ones

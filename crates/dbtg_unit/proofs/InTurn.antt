@@ -24,7 +24,7 @@ use Rattle.dbtg_unit.proofs.PlacingOrder.{all_from_none}
 use Rattle.dbtg_unit.proofs.LiveKeys.{In, all_at, any_in, any_element, in_member, member_in, in_filter, of_filter, in_flat_map, of_flat_map, live_in_all}
 use Rattle.dbtg_unit.proofs.ErasedLemmas.{doomed_is_least_set}
 
-append-nil : {X : Type 0} (xs : List X) → xs ++ [] ≡ xs
+pub append-nil : {X : Type 0} (xs : List X) → xs ++ [] ≡ xs
 append-nil [] = refl
 append-nil (x ∷ xs) = ap (λ ys. x ∷ ys) (append-nil xs)
 
@@ -54,7 +54,7 @@ no_more (x ∷ xs) ys h g =
 
 -- WITH THOSE
 
-extends : (order xs : List DbKey) → (ys : List DbKey) × (with_those order xs ≡ order ++ ys)
+pub extends : (order xs : List DbKey) → (ys : List DbKey) × (with_those order xs ≡ order ++ ys)
 extends order [] = ([], sym (append-nil order))
 extends order (x ∷ xs) =
     elim (is_member x order) as (λ b. (ys : List DbKey) × (with_those (cond b order (order ++ x ∷ [])) xs ≡ order ++ ys)) [
@@ -89,7 +89,7 @@ all_pass p order (x ∷ xs) h g =
     all_pass p (cond (is_member x order) order (order ++ x ∷ [])) xs
     (elim (is_member x order) as (λ b. list_all p (cond b order (order ++ x ∷ [])) ≡ true) [ true ↦ h | false ↦ list_all-append p order (x ∷ []) ∙ and_from _ _ h (and_from _ _ gs.0 refl) ]) gs.1
 
-slice_get_front : {X : Type 0} (xs ys : List X) (j : ℕ) → j < length xs → slice_get (xs ++ ys) j ≡ slice_get xs j
+pub slice_get_front : {X : Type 0} (xs ys : List X) (j : ℕ) → j < length xs → slice_get (xs ++ ys) j ≡ slice_get xs j
 slice_get_front [] ys j h = absurd (omega arith)
 slice_get_front (x ∷ xs) ys zero h = refl
 slice_get_front (x ∷ xs) ys (suc j) h = slice_get_front xs ys j (omega arith)
@@ -233,3 +233,7 @@ module _ (schema : Lists) (capacity : ℕ) (db : Database) (legal : Legal schema
     pub met_once : pairwise differ (doomed_in_turn schema capacity db option k) ≡ true
     unfolding order
     met_once = turns.once
+
+    pub met_few : length (doomed_in_turn schema capacity db option k) ≤ length (all_keys schema capacity db)
+    unfolding order
+    met_few = enough
