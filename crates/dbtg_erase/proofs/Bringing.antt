@@ -52,15 +52,20 @@ find-second p (z ∷ xs) ys h =
 
 -- WORK LISTS
 
+still_at : (order news : List DbKey) (i : ℕ) (d : DbKey) → slice_get order i ≡ Some d → slice_get (with_those order news) i ≡ Some d
+still_at order news i d e =
+    let r = extends order news in
+    ap (λ zs. slice_get zs i) r.1 ∙ slice_get_front order r.0 i (slice_get_within order i d e) ∙ e
+
 module _ (taken : DbKey → List DbKey) where
   prefix : (n i : ℕ) (order : List DbKey) → (ys : List DbKey) × (brought taken n i order ≡ order ++ ys)
   prefix zero i order = ([], sym (append-nil order))
-  prefix (suc n) i order = by (slice_get order i) where
-    by : (d : Option DbKey) → (ys : List DbKey) × (brought taken n (suc i) (brought_from taken order d) ≡ order ++ ys)
-    by None = prefix n (suc i) order
-    by (Some d) =
+  prefix (suc n) i order = by (slice_get order i) (λ zs. prefix n (suc i) zs) where
+    by : (d : Option DbKey) → ((zs : List DbKey) → (ys : List DbKey) × (brought taken n (suc i) zs ≡ zs ++ ys)) → (ys : List DbKey) × (brought taken n (suc i) (brought_from taken order d) ≡ order ++ ys)
+    by None later = later order
+    by (Some d) later =
         let those = extends order (taken d) in
-        let rest = prefix n (suc i) (with_those order (taken d)) in
+        let rest = later (with_those order (taken d)) in
         (those.0 ++ rest.0, rest.1 ∙ ap (λ xs. xs ++ rest.0) those.1 ∙ append_assoc order those.0 rest.0)
 
   -- what stands in the list stays in its place
@@ -121,20 +126,16 @@ module _ (taken taken' : DbKey → List DbKey) (cells cells' : DbKey → List Ce
       let longer = no_shorter taken (suc m) i order in
       let short : length order ≤ i = omega arith in
       ended i (brought taken (suc m) i order) order order (stable taken (suc m) i order short) refl short
-  agree (suc m) (suc n) i order low high = by (slice_get order i) refl low high where
+  agree (suc m) (suc n) i order low high = by (slice_get order i) refl low high (λ zs. agree m n (suc i) zs) where
     by : (d : Option DbKey) → slice_get order i ≡ d → length (brought taken m (suc i) (brought_from taken order d)) ≤ i + suc m → length (brought taken m (suc i) (brought_from taken order d)) ≤ i + suc n
+        → ((zs : List DbKey) → length (brought taken m (suc i) zs) ≤ suc i + m → length (brought taken m (suc i) zs) ≤ suc i + n → Agree (suc i) (brought taken m (suc i) zs) (brought taken' n (suc i) zs))
         → Agree i (brought taken m (suc i) (brought_from taken order d)) (brought taken' n (suc i) (brought_from taken' order d))
-    by None e low high =
+    by None e low high later =
         let short = past i order e in
         let shorter : length order ≤ suc i = omega arith in
         ended i _ _ order (stable taken m (suc i) order shorter) (stable taken' n (suc i) order shorter) short
-    by (Some d) e low high =
+    by (Some d) e low high later =
         one_more i d _ _
-        (kept_at taken m (suc i) i (with_those order (taken d)) d (still taken d e)) (kept_at taken' n (suc i) i (with_those order (taken' d)) d (still taken' d e))
+        (kept_at taken m (suc i) i (with_those order (taken d)) d (still_at order (taken d) i d e)) (kept_at taken' n (suc i) i (with_those order (taken' d)) d (still_at order (taken' d) i d e))
         (λ h. subst (λ zs. Agree (suc i) (brought taken m (suc i) (with_those order (taken d))) (brought taken' n (suc i) (with_those order zs))) (brings d h)
-        (agree m n (suc i) (with_those order (taken d)) (omega arith) (omega arith)))
-
-    still : (t : DbKey → List DbKey) (d : DbKey) → slice_get order i ≡ Some d → slice_get (with_those order (t d)) i ≡ Some d
-    still t d e =
-        let r = extends order (t d) in
-        ap (λ zs. slice_get zs i) r.1 ∙ slice_get_front order r.0 i (slice_get_within order i d e) ∙ e
+        (later (with_those order (taken d)) (omega arith) (omega arith)))
