@@ -1,3 +1,5 @@
+pub mod NumberSteps
 pub mod JoiningLemmas
 pub mod PlanLemmas
+pub mod StoreInHand
 pub mod MissingLemmas
