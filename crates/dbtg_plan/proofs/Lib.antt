@@ -7,3 +7,5 @@ pub mod RemovingLemmas
 pub mod StoreInHand
 pub mod MissingLemmas
 pub mod VersionLemmas
+pub mod StoreMaking
+pub mod StoreFinish
