@@ -6,50 +6,59 @@ use Rattle.std.specs.List.{list_all}
 use Rattle.std.proofs.lemmas.Bool.{and_from, eq-eqb, false≢true, true≢false, not-false, ltb-true, or_left}
 use Rattle.dbtg_schema.specs.Lists.{Lists}
 use Rattle.dbtg_schema.specs.Lookups.{first_cause, some_and}
-use Rattle.dbtg_schema.specs.Structure.{member_clause, set_numbers}
+use Rattle.dbtg_schema.specs.Structure.{member_clause, order_of, pictures, set_numbers}
 use Rattle.dbtg_cells.specs.declared.key.DbKey.{DbKey}
 use Rattle.dbtg_cells.specs.declared.key.Owner.{Owner}
 use Rattle.dbtg_cells.specs.declared.key.Owner.TheVariants.{System}
 use Rattle.dbtg_cells.specs.declared.key.Value.{Value}
+use Rattle.dbtg_cells.specs.declared.cell.Cell.TheVariants.{Ring as RingCell}
 use Rattle.dbtg_cells.specs.declared.name.CellName.{CellName}
 use Rattle.dbtg_cells.specs.declared.name.CellName.TheVariants.{Ring}
+use Rattle.dbtg_cells.specs.declared.ring.Occurrence.{Occurrence}
 use Rattle.dbtg_cells.specs.Keys.{key_eq, is_member, owner_eq}
+use Rattle.dbtg_cells.specs.Members.{keys_in}
 use Rattle.dbtg_unit.specs.declared.edit.CellEdit.{CellEdit}
 use Rattle.dbtg_unit.specs.declared.edit.Edit.TheVariants.{ChangeOwner, RaiseVersion}
+use Rattle.dbtg_unit.specs.declared.statement.Statement.{Statement}
 use Rattle.dbtg_unit.specs.declared.statement.Statement.TheVariants.{Insert}
 use Rattle.dbtg_unit.specs.declared.unit.Cause.{Cause}
 use Rattle.dbtg_unit.specs.declared.unit.Cause.TheVariants.{AlreadyMember, ChangedByAnother, Deleted, NoCurrentOfRunUnit}
 use Rattle.dbtg_unit.specs.declared.unit.Place.{Place}
 use Rattle.dbtg_unit.specs.declared.unit.Unit.{Unit}
 use Rattle.dbtg_unit.specs.Base.{Database, Record, key_item, members_of, owner_of, sort_key}
+use Rattle.dbtg_unit.specs.CanEdit.{CanPlace}
 use Rattle.dbtg_unit.specs.CellNames.{place_of, slot_name}
 use Rattle.dbtg_unit.specs.Checks.{accepts_type, current_type, refused_at_once}
 use Rattle.dbtg_unit.specs.EditsOf.{edits_of, edits_of_current, insert_edits, placed_at, ring_edits, slot_edit}
 use Rattle.dbtg_unit.specs.Effect.{Outcome, connected_in, effect, insert_checks, inserted, next_version, on_current, place_checks, raised, unless_refused, version_of}
+use Rattle.dbtg_unit.specs.Fits.{values_fit}
 use Rattle.dbtg_unit.specs.Guesses.{guesses_after, noted_guesses}
 use Rattle.dbtg_unit.specs.Hands.{Hands}
-use Rattle.dbtg_unit.specs.InHand.{items_in, own_checks_in, owner_in, stored_in, version_in}
+use Rattle.dbtg_unit.specs.InHand.{items_in, occurrence_in, own_checks_in, owner_in, stored_in, version_in}
 use Rattle.dbtg_unit.specs.Legal.{Legal}
 use Rattle.dbtg_unit.specs.Local.{Agrees, holds}
-use Rattle.dbtg_unit.specs.Making.{MayPrepare}
+use Rattle.dbtg_unit.specs.Making.{CanEditHeld, CanFinish, CanMake, MayPrepare, ShowsTheSame}
 use Rattle.dbtg_unit.specs.Needs.{current_owner, ring_names, slot_names}
-use Rattle.dbtg_unit.specs.Prepared.{IsEffect, IsPrepared, unit_after}
+use Rattle.dbtg_unit.specs.Prepared.{IsEffect, IsPrepared, Plan, unit_after}
+use Rattle.dbtg_unit.specs.Reserving.{CanTakeMember, OfHeld}
 use Rattle.dbtg_unit.specs.Units.{place_in}
 use Rattle.dbtg_unit.proofs.CheckLemmas.{passes_check}
-use Rattle.dbtg_unit.proofs.InHandLemmas.{items_in_hand, live_in_hand, own_in_hand, owner_in_hand, version_in_hand}
+use Rattle.dbtg_unit.proofs.InHandLemmas.{items_in_hand, live_in_hand, members_in_hand, own_in_hand, owner_in_hand, version_in_hand}
 use Rattle.dbtg_unit.proofs.KeyLemmas.{key_eq-refl, owner_eq-refl}
 use Rattle.dbtg_unit.proofs.LegalEffect.{passed, some_from}
-use Rattle.dbtg_unit.proofs.LiveKeys.{In, in_left, in_range, in_right}
+use Rattle.dbtg_unit.proofs.LiveKeys.{In, in_left, in_range, in_right, member_nowhere, none_is}
 use Rattle.dbtg_unit.proofs.LocalReady.{legal_after}
+use Rattle.dbtg_unit.proofs.MakingLemmas.{can_make-raised, leaves-owner}
 use Rattle.dbtg_unit.proofs.OwnersFound.{owner_is}
 use Rattle.dbtg_unit.proofs.ReadyParts.{prepared_has_all}
+use Rattle.dbtg_unit.proofs.SameHands.{agrees-same, holds-same, occurrence_in-same, same-sym, versions-same}
 use Rattle.dbtg_unit.proofs.StoreLegal.{joins, member-connected}
 use Rattle.dbtg_plan.specs.Inserting.{insert_checks_in, insert_plan, inserting}
-use Rattle.dbtg_plan.specs.Joining.{joined_occurrence, joined_place, place_checks_in}
-use Rattle.dbtg_plan.specs.Plans.{on_current_plan, unless_refusal}
-use Rattle.dbtg_plan.proofs.JoiningLemmas.{place_checks-in_hand}
+use Rattle.dbtg_plan.specs.Joining.{joined_occurrence, joined_place, joining_edit, place_checks_in}
+use Rattle.dbtg_plan.specs.Plans.{on_current_plan, refusal, unless_refusal}
+use Rattle.dbtg_plan.proofs.JoiningLemmas.{can-join-in_hand, place_checks-in_hand}
 use Rattle.dbtg_plan.proofs.PlanLemmas.{done-is_effect, effect-on_cells, noted-renoted, refusal-is_effect}
-use Rattle.dbtg_plan.proofs.RingEdits.{ring-held, slot-held}
+use Rattle.dbtg_plan.proofs.RingEdits.{can-edit-ring, free-owner, ring-held, slot-held}
 
 -- what the record's own checks, a test and further checks have passed
 pub own-passed : (hands : Hands) (unit : Unit) (k : DbKey) (b : Bool) (cause : Cause) (rest : List (Bool × Cause)) → first_cause (own_checks_in hands unit k ++ (b, cause) ∷ rest) ≡ None
@@ -212,3 +221,77 @@ module _ (schema : Lists) (capacity : ℕ) (unit : Unit) (hands : Hands) (s : �
 
   pub insert-is_prepared : IsPrepared schema capacity unit hands (Insert s) (insert_plan schema unit hands s)
   insert-is_prepared = record { held = all-held; effects = is-effect }
+
+-- THAT IT CAN BE MADE
+
+-- what is prepared on some hands is prepared on hands that show the same
+pub prepared-same : (schema : Lists) (capacity : ℕ) (unit : Unit) (old new : Hands) (statement : Statement) (plan : Plan) → ShowsTheSame old new
+    → IsPrepared schema capacity unit old statement plan → IsPrepared schema capacity unit new statement plan
+prepared-same schema capacity unit old new statement plan same prepared = record {
+  held = (λ i. list_all (λ (e : CellEdit). holds-same old new same e.name i) plan.cells) ∙ prepared.held;
+  effects = λ db agrees.
+      subst (λ guesses. IsEffect schema capacity db unit guesses statement plan) (sym same.guesses)
+      (prepared.effects db (agrees-same schema capacity db unit new old (same-sym same) agrees));
+}
+
+module _ (schema : Lists) (capacity : ℕ) (unit : Unit) (old new : Hands) (s : ℕ) (may : MayPrepare schema capacity unit old (Insert s)) (passes : refused_at_once schema capacity unit (Insert s) ≡ None) (same : ShowsTheSame old new) where
+  abbrev ring_cell : CellName
+  ring_cell = Ring s (place_of (joined_place schema unit s).owner)
+
+  module _ (k : DbKey) (current : unit.currency.run_unit ≡ Some k) (free : first_cause (insert_checks_in schema unit old s k) ≡ None) (room : OfHeld ring_cell new.cells (CanTakeMember k)) where
+    own-free : (is_some (stored_in old k) ≡ true) × (is_some (owner_in old s k) ≡ false) × (first_cause (place_checks_in schema unit old s (key_item schema s k.rtype (items_in old k))) ≡ None)
+    own-free = own-passed old unit k (is_some (owner_in old s k)) AlreadyMember (place_checks_in schema unit old s (key_item schema s k.rtype (items_in old k))) free
+
+    occurrence-is : occurrence_in new s (joined_place schema unit s).owner ≡ joined_occurrence schema unit old s
+    occurrence-is = occurrence_in-same old new same s (joined_place schema unit s).owner
+
+    module _ (db : Database) (agrees : Agrees schema capacity db old unit) where
+      abbrev held-ring : holds old.cells ring_cell ≡ true
+      held-ring = ring_held schema capacity unit old s may passes db agrees
+
+      abbrev held-slot : holds old.cells (slot_name k) ≡ true
+      held-slot = slot_held schema capacity unit old s may passes db agrees k current
+
+      no-member : is_member k (keys_in (joined_occurrence schema unit old s)) ≡ false
+      no-member =
+          ap (is_member k) (sym (members_in_hand schema capacity db old unit agrees s (joined_place schema unit s).owner held-ring))
+          ∙ member_nowhere schema capacity db agrees.legal s k
+          (none_is (owner_of schema capacity db s k) (ap is_some (owner_in_hand schema capacity db old unit agrees k held-slot s (in_sets schema capacity unit old s may passes)) ∙ own-free.1)) (joined_place schema unit s).owner
+
+      can-place-here : CanPlace (order_of schema s) (joined_place schema unit s).at (key_item schema s k.rtype (items_in old k)) (joined_occurrence schema unit old s)
+      can-place-here =
+          can-join-in_hand schema capacity db old unit agrees s held-ring may.sound k.rtype (items_in old k) (clause schema capacity unit old s may passes k current)
+          (ap (values_fit (pictures schema k.rtype)) (sym (items_in_hand schema capacity db old unit agrees k held-slot))
+          ∙ agrees.legal.items k (live_in_hand schema capacity db old unit agrees k held-slot ∙ own-free.0))
+          own-free.2
+
+      ring-can : CanEditHeld (joining_edit schema unit s k (key_item schema s k.rtype (items_in old k))) new.cells
+      ring-can =
+          can-edit-ring new s (joined_place schema unit s).owner (placed_at schema s k (key_item schema s k.rtype (items_in old k)) (joined_place schema unit s))
+          (ap is_some occurrence-is ∙ some-from-none (joined_occurrence schema unit old s) (passes_check (is_none (joined_occurrence schema unit old s)) Deleted _ own-free.2).0)
+          (λ v there is. (
+            room (RingCell v) there (ap (λ (o : Option Occurrence). is_member k (keys_in o)) (is ∙ occurrence-is) ∙ no-member),
+            subst (CanPlace (order_of schema s) (joined_place schema unit s).at (key_item schema s k.rtype (items_in old k))) (sym (is ∙ occurrence-is)) can-place-here,
+          ))
+
+      can-make : CanMake (inserting schema unit old s k).cells new.cells
+      can-make =
+          can_make-raised (joining_edit schema unit s k (key_item schema s k.rtype (items_in old k)) ∷ []) (slot_name k) (ChangeOwner s (Some (joined_place schema unit s).owner)) new.cells refl refl
+          (ring-can, tt) (λ x there. free-owner s (Some (joined_place schema unit s).owner) x) (leaves-owner s (Some (joined_place schema unit s).owner))
+          (versions-same old new same may.versions)
+
+    -- an INSERT that nothing refuses
+    pub insert-can_finish : CanFinish schema capacity unit new (Insert s) (inserting schema unit old s k)
+    insert-can_finish = record {
+      prepared = prepared-same schema capacity unit old new (Insert s) (inserting schema unit old s k) same
+          (subst (IsPrepared schema capacity unit old (Insert s))
+          (ap (λ (r : Option DbKey). on_current_plan r (insert_checks_in schema unit old s) (inserting schema unit old s)) current ∙ ap (λ (c : Option Cause). unless_refusal c (inserting schema unit old s k)) free)
+          (insert-is_prepared schema capacity unit old s may passes));
+      can_make = λ db agrees. can-make db (agrees-same schema capacity db unit new old (same-sym same) agrees);
+    }
+
+-- an INSERT that is refused
+pub refused_insert-can_finish : (schema : Lists) (capacity : ℕ) (unit : Unit) (hands : Hands) (s : ℕ) → MayPrepare schema capacity unit hands (Insert s) → refused_at_once schema capacity unit (Insert s) ≡ None → (cause : Cause)
+    → insert_plan schema unit hands s ≡ refusal cause → CanFinish schema capacity unit hands (Insert s) (refusal cause)
+refused_insert-can_finish schema capacity unit hands s may passes cause is =
+    record { prepared = subst (IsPrepared schema capacity unit hands (Insert s)) is (insert-is_prepared schema capacity unit hands s may passes); can_make = λ db agrees. tt }

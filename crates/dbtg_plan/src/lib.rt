@@ -2,6 +2,7 @@
 #![tactic(auto)]
 
 mod calc;
+mod inserting;
 mod joining;
 mod members;
 mod missing;
