@@ -1,6 +1,6 @@
 -- What is prepared of an INSERT is its effect.
 -- k is a key, s a set, o an owner, db a database.
-use Rattle.std.proofs.Common.{◌≡◌, refl, sym, ◌∙◌, ap, subst, ℕ, ◌+◌, Bool, true, false, cond, not, ◌&&◌, ◌||◌, List, [], ◌∷◌, ◌++◌, length, Option, Some, None, eqb, inl, arith}
+use Rattle.std.proofs.Common.{◌≡◌, refl, sym, ◌∙◌, ap, subst, ℕ, ◌+◌, Bool, true, false, cond, not, List, [], ◌∷◌, ◌++◌, length, Option, Some, None, inl, arith}
 use Rattle.std.specs.Prelude.{is_none, is_some, option_map, unwrap_or, slice_set}
 use Rattle.std.specs.List.{list_all}
 use Rattle.std.proofs.lemmas.Bool.{and_from, eq-eqb, false≢true, true≢false, not-false, ltb-true, or_left}
@@ -8,7 +8,6 @@ use Rattle.dbtg_schema.specs.Lists.{Lists}
 use Rattle.dbtg_schema.specs.Lookups.{first_cause, some_and}
 use Rattle.dbtg_schema.specs.Structure.{member_clause, order_of, pictures, set_numbers}
 use Rattle.dbtg_cells.specs.declared.key.DbKey.{DbKey}
-use Rattle.dbtg_cells.specs.declared.key.Owner.{Owner}
 use Rattle.dbtg_cells.specs.declared.key.Owner.TheVariants.{System}
 use Rattle.dbtg_cells.specs.declared.key.Value.{Value}
 use Rattle.dbtg_cells.specs.declared.cell.Cell.TheVariants.{Ring as RingCell}
@@ -25,10 +24,10 @@ use Rattle.dbtg_unit.specs.declared.unit.Cause.{Cause}
 use Rattle.dbtg_unit.specs.declared.unit.Cause.TheVariants.{AlreadyMember, ChangedByAnother, Deleted, NoCurrentOfRunUnit}
 use Rattle.dbtg_unit.specs.declared.unit.Place.{Place}
 use Rattle.dbtg_unit.specs.declared.unit.Unit.{Unit}
-use Rattle.dbtg_unit.specs.Base.{Database, Record, key_item, members_of, owner_of, sort_key}
+use Rattle.dbtg_unit.specs.Base.{Database, Record, key_item, members_of, owner_of}
 use Rattle.dbtg_unit.specs.CanEdit.{CanPlace}
 use Rattle.dbtg_unit.specs.CellNames.{place_of, slot_name}
-use Rattle.dbtg_unit.specs.Checks.{accepts_type, current_type, refused_at_once}
+use Rattle.dbtg_unit.specs.Checks.{accepts_type, refused_at_once}
 use Rattle.dbtg_unit.specs.EditsOf.{edits_of, edits_of_current, insert_edits, placed_at, ring_edits, slot_edit}
 use Rattle.dbtg_unit.specs.Effect.{Outcome, connected_in, effect, insert_checks, inserted, next_version, on_current, place_checks, raised, unless_refused, version_of}
 use Rattle.dbtg_unit.specs.Fits.{values_fit}
@@ -52,7 +51,7 @@ use Rattle.dbtg_unit.proofs.MakingLemmas.{can_make-raised, leaves-owner}
 use Rattle.dbtg_unit.proofs.OwnersFound.{owner_is}
 use Rattle.dbtg_unit.proofs.ReadyParts.{prepared_has_all}
 use Rattle.dbtg_unit.proofs.SameHands.{agrees-same, holds-same, occurrence_in-same, same-sym, versions-same}
-use Rattle.dbtg_unit.proofs.StoreLegal.{joins, member-connected}
+use Rattle.dbtg_unit.proofs.StoreLegal.{member-connected}
 use Rattle.dbtg_plan.specs.Inserting.{insert_checks_in, insert_plan, inserting}
 use Rattle.dbtg_plan.specs.Joining.{joined_occurrence, joined_place, joining_edit, place_checks_in}
 use Rattle.dbtg_plan.specs.Plans.{on_current_plan, refusal, unless_refusal}

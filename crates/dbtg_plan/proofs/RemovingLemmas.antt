@@ -1,6 +1,6 @@
 -- What is prepared of a REMOVE is its effect.
 -- k is a key, s a set, o an owner, db a database.
-use Rattle.std.proofs.Common.{◌≡◌, refl, sym, ◌∙◌, ap, subst, ℕ, ◌+◌, Bool, true, false, cond, not, ◌&&◌, ◌||◌, List, [], ◌∷◌, ◌++◌, length, Option, Some, None, eqb, inl, arith}
+use Rattle.std.proofs.Common.{◌≡◌, refl, sym, ◌∙◌, ap, subst, ℕ, ◌+◌, Bool, true, false, cond, ◌&&◌, ◌||◌, List, [], ◌∷◌, ◌++◌, length, Option, Some, None, eqb, inl, arith}
 use Rattle.std.specs.Prelude.{is_none, is_some, option_and_then, option_map, slice_set}
 use Rattle.std.specs.List.{list_all, list_any}
 use Rattle.std.proofs.lemmas.Bool.{and_from, false≢true, true≢false, not-false, ltb-true, or_parts}
@@ -12,7 +12,7 @@ use Rattle.dbtg_cells.specs.declared.key.DbKey.{DbKey}
 use Rattle.dbtg_cells.specs.declared.key.Owner.{Owner}
 use Rattle.dbtg_cells.specs.declared.name.CellName.TheVariants.{Ring}
 use Rattle.dbtg_cells.specs.declared.ring.Occurrence.{Occurrence}
-use Rattle.dbtg_cells.specs.Keys.{key_eq, is_member, owner_eq}
+use Rattle.dbtg_cells.specs.Keys.{is_member, owner_eq}
 use Rattle.dbtg_cells.specs.Members.{keys_in}
 use Rattle.dbtg_unit.specs.declared.edit.CellEdit.{CellEdit}
 use Rattle.dbtg_unit.specs.declared.edit.Edit.TheVariants.{ChangeOwner, RaiseVersion, TakeOut}
@@ -27,7 +27,7 @@ use Rattle.dbtg_unit.specs.EditsOf.{edits_of, edits_of_current, remove_edits, ri
 use Rattle.dbtg_unit.specs.Effect.{Outcome, effect, on_current, remove_checks, removed, unless_refused, version_of, without}
 use Rattle.dbtg_unit.specs.Guesses.{guesses_after, noted_guesses}
 use Rattle.dbtg_unit.specs.Hands.{Hands}
-use Rattle.dbtg_unit.specs.InHand.{occurrence_in, owner_in, stored_in, version_in}
+use Rattle.dbtg_unit.specs.InHand.{occurrence_in, owner_in, version_in}
 use Rattle.dbtg_unit.specs.Local.{Agrees, holds}
 use Rattle.dbtg_unit.specs.Making.{CanFinish, CanMake, MayPrepare}
 use Rattle.dbtg_unit.specs.Needs.{is_wrong_guess, ring_names, slot_names}
@@ -176,11 +176,13 @@ module _ (schema : Lists) (capacity : ℕ) (unit : Unit) (hands : Hands) (s : �
           → CanMake (ring_edits s q (TakeOut k ∷ []) ++ slot_edit k (ChangeOwner s None) ∷ slot_edit k RaiseVersion ∷ []) hands.cells
       by_owner None e h = absurd (true≢false h)
       by_owner (Some o) e h =
-          can_make-raised (record { name = Ring s (place_of o); edit = TakeOut k } ∷ []) (slot_name k) (ChangeOwner s None) hands.cells refl refl
-          (can-edit-ring hands s o (TakeOut k) (some-from-none (occurrence_in hands s o) h) (λ v there is.
-          ap (λ (r : Option Occurrence). is_member k (keys_in r)) is
-          ∙ ap (is_member k) (sym (members_in_hand schema capacity db hands unit agrees s o (ring_held db agrees k current o e)))
-          ∙ owner-has db agrees k current o e), tt)
+          can_make-raised (record { name = Ring s (place_of o); edit = TakeOut k } ∷ []) (slot_name k) (ChangeOwner s None) hands.cells refl refl (
+            can-edit-ring hands s o (TakeOut k) (some-from-none (occurrence_in hands s o) h) (λ v there is.
+                ap (λ (r : Option Occurrence). is_member k (keys_in r)) is
+                ∙ ap (is_member k) (sym (members_in_hand schema capacity db hands unit agrees s o (ring_held db agrees k current o e)))
+                ∙ owner-has db agrees k current o e),
+            tt,
+          )
           (λ x there. free-owner s None x) (leaves-owner s None) may.versions
 
     -- a REMOVE that nothing refuses

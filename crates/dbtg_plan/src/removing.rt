@@ -97,12 +97,7 @@ fn edits_of(
     Ok(Row::of(edits))
 }
 
-fn removed(
-    alloc: Global,
-    set: SetNo,
-    held: &Held,
-    key: &DbKey,
-) -> Result<Prepared, AllocError>
+fn removed(alloc: Global, set: SetNo, held: &Held, key: &DbKey) -> Result<Prepared, AllocError>
     requires { HaveNextVersions held.now.cells }
     ensures { IfOk result (λ plan. plan ≡ removing held.now set key.now) }
 {
@@ -114,12 +109,7 @@ fn removed(
         key: None,
         items: None,
     };
-    Ok(Prepared::new(
-        answer,
-        edits,
-        Row::of(versions),
-        UnitEdit::Leave { set },
-    ))
+    Ok(Prepared::new(answer, edits, Row::of(versions), UnitEdit::Leave { set }))
 }
 
 /// What a REMOVE does that needs nothing more: out of the list of its owner, no owner there, the version.
