@@ -1,3 +1,5 @@
 pub mod Joining
 pub mod Plans
 pub mod Missing
+pub mod Keeping
+pub mod Opening

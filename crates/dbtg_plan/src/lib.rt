@@ -2,5 +2,7 @@
 #![tactic(auto)]
 
 mod joining;
+mod keeping;
 mod missing;
+mod opening;
 mod outcomes;
