@@ -1,6 +1,10 @@
+pub mod NumberSteps
 pub mod JoiningLemmas
 pub mod PlanLemmas
+pub mod StoreInHand
 pub mod MissingLemmas
 pub mod OutcomeLemmas
 pub mod KeepingLemmas
 pub mod OpeningLemmas
+pub mod StoreMaking
+pub mod StoreFinish

@@ -1,3 +1,5 @@
+pub mod Calc
+pub mod Store
 pub mod Joining
 pub mod Plans
 pub mod Missing

@@ -1,6 +1,7 @@
 //! Every statement but DELETE, on the cells that it holds: what it needs next, and what it does once it needs nothing more.
 #![tactic(auto)]
 
+mod calc;
 mod joining;
 mod keeping;
 mod missing;

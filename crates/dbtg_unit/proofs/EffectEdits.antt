@@ -1,4 +1,4 @@
--- The effect of a statement on the cells is its edits.
+-- The effect of a statement other than DELETE on the cells is its edits.
 use Rattle.std.proofs.Common.{◌≡◌, refl, sym, ◌∙◌, ap, subst, ℕ, ◌≤◌, Bool, true, false, cond, not, ◌&&◌, List, [], ◌∷◌, ◌++◌, Option, Some, None, eqb, ltb}
 use Rattle.std.specs.Prelude.{is_none, is_some, unwrap_or, filter}
 use Rattle.std.specs.List.{list_any, range_with_len}
@@ -28,8 +28,8 @@ use Rattle.dbtg_unit.specs.Base.{Database, is_live, items_of, key_at, key_item, 
 use Rattle.dbtg_unit.specs.Cells.{cell}
 use Rattle.dbtg_unit.specs.Checks.{lacks_current}
 use Rattle.dbtg_unit.specs.Edits.{edited_at}
-use Rattle.dbtg_unit.specs.EditsOf.{EffectIsItsEdits, edits_of, is_delete}
-use Rattle.dbtg_unit.specs.Effect.{Outcome, calc_taken, conflict, done, effect_on_cells, free_number, inserted, insert_checks, modified, modify_checks, new_key, own_checks, place_checks, refused, removed, remove_checks, store_checks, stored, version_of}
+use Rattle.dbtg_unit.specs.EditsOf.{edits_of, is_delete}
+use Rattle.dbtg_unit.specs.Effect.{Outcome, calc_taken, conflict, done, effect, effect_on_cells, free_number, inserted, insert_checks, modified, modify_checks, new_key, own_checks, place_checks, refused, removed, remove_checks, store_checks, stored, version_of}
 use Rattle.dbtg_unit.specs.Found.{found}
 use Rattle.dbtg_unit.specs.Legal.{Legal}
 use Rattle.dbtg_unit.specs.Units.{forgotten, noted, place_in, seen}
@@ -41,12 +41,18 @@ use Rattle.dbtg_unit.proofs.Outcomes.{of_unless, of_current, of_finding, of_effe
 use Rattle.dbtg_unit.proofs.RemoveCells.{remove_makes}
 use Rattle.dbtg_unit.proofs.StoreCells.{store_makes}
 
+-- what a STORE that passes has found: a number that no record has, and a current owner with a list in each automatic set
+pub record StoreFound (schema : Lists) (capacity : ℕ) (db : Database) (unit : Unit) (t : ℕ) : Type 0 where
+  pub counted : 1 ≤ unwrap_or (free_number capacity db t) 0
+  pub unused : is_live db (key_at db t (unwrap_or (free_number capacity db t) 0)) ≡ false
+  pub stands : (s : ℕ) → list_any (λ x. eqb x s) (automatic_sets schema t) ≡ true → (place : Place) × (place_in schema unit s ≡ Some place) × (is_some (db.lists s place.owner) ≡ true)
+
 module _ (schema : Lists) (capacity : ℕ) (db : Database) (unit : Unit) (legal : Legal schema capacity db) where
   -- where the outcome is done and legal, its cells are the edited ones
   abbrev pub Edited : List CellEdit → Outcome → Type 0
   Edited edits outcome = outcome.answer.status ≡ Done → Legal schema capacity outcome.database → (c : CellName) → cell schema capacity outcome.database c ≡ edited_at c edits (cell schema capacity db c)
 
-  no_refusal : (edits : List CellEdit) (cause : Cause) → Edited edits (refused db unit cause)
+  pub no_refusal : (edits : List CellEdit) (cause : Cause) → Edited edits (refused db unit cause)
   no_refusal edits cause is_done = absurd (never is_done) where
     never : Refused cause ≡ Done → ⊥
     never h = cc
@@ -84,34 +90,39 @@ module _ (schema : Lists) (capacity : ℕ) (db : Database) (unit : Unit) (legal 
       let same : place ≡ at.0 = ap (λ (p : Option Place). unwrap_or p (record { owner = System; at = None })) at.1 in
       (at.0, at.1, ap (λ (p : Place). is_some (db.lists s p.owner)) (sym same) ∙ ap is_some list.1)
 
+  pub store_found : (t : ℕ) (items : List Value) → list_any (λ s. is_none (place_in schema unit s)) (automatic_sets schema t) ≡ false
+      → first_cause (store_checks schema capacity db unit t items) ≡ None → StoreFound schema capacity db unit t
+  store_found t items placed checks =
+      let room = passes_check (is_none (free_number capacity db t)) NoRoom _ checks in
+      let unique = passes_check (calc_taken schema capacity db t items (λ k. false)) DuplicatesNotAllowed _ room.1 in
+      let n = some_from (free_number capacity db t) room.0 in
+      let number = unwrap_or (free_number capacity db t) 0 in
+      let is : n.0 ≡ number = ap (λ (o : Option ℕ). unwrap_or o 0) (sym n.1) in
+      let chosen = number_passes free n.0 (range_with_len 1 capacity) (first_has (filter free (range_with_len 1 capacity)) n.0 n.1) in
+      let within = number_within n.0 1 capacity chosen.0 in
+      let low = within.0 in
+      record {
+        counted = subst (λ (m : ℕ). 1 ≤ m) is low;
+        unused = subst (λ m. is_live db (key_at db t m) ≡ false) is (not-true _ (and_parts (not (is_live db (key_at db t n.0))) (ltb (db.last t n.0) 255) chosen.1).0);
+        stands = λ s h. placing s (key_item schema s t items) (none_at (λ s. is_none (place_in schema unit s)) s (automatic_sets schema t) h placed)
+            (passes-each (λ s. place_checks schema db unit s (key_item schema s t items)) (automatic_sets schema t) s h unique.1);
+      } where
+        free : ℕ → Bool
+        free n = not (is_live db (key_at db t n)) && ltb (db.last t n) 255
+
   of_store : (t : ℕ) (items : List Value) (suppress : Suppress) → lacks_current schema unit (Store t items suppress) ≡ false
       → Edited (edits_of schema capacity db unit (Store t items suppress)) (effect_on_cells schema capacity db unit (Store t items suppress))
   of_store t items suppress placed =
       of_unless db unit (Edited (edits_of schema capacity db unit (Store t items suppress))) (no_refusal (edits_of schema capacity db unit (Store t items suppress)))
       (first_cause (store_checks schema capacity db unit t items)) (stored schema capacity db unit (new_key db t (unwrap_or (free_number capacity db t) 0)) items suppress) made where
-        free : ℕ → Bool
-        free n = not (is_live db (key_at db t n)) && ltb (db.last t n) 255
-
         made : first_cause (store_checks schema capacity db unit t items) ≡ None → Edited (edits_of schema capacity db unit (Store t items suppress)) (stored schema capacity db unit (new_key db t (unwrap_or (free_number capacity db t) 0)) items suppress)
         made checks is_done lawful c =
-            let room = passes_check (is_none (free_number capacity db t)) NoRoom _ checks in
-            let unique = passes_check (calc_taken schema capacity db t items (λ k. false)) DuplicatesNotAllowed _ room.1 in
-            let n = some_from (free_number capacity db t) room.0 in
-            let number = unwrap_or (free_number capacity db t) 0 in
-            let is : n.0 ≡ number = ap (λ (o : Option ℕ). unwrap_or o 0) (sym n.1) in
-            let chosen = number_passes free n.0 (range_with_len 1 capacity) (first_has (filter free (range_with_len 1 capacity)) n.0 n.1) in
-            let within = number_within n.0 1 capacity chosen.0 in
-            let low = within.0 in
-            let unused = not-true _ (and_parts (not (is_live db (key_at db t n.0))) (ltb (db.last t n.0) 255) chosen.1).0 in
-            store_makes schema capacity db unit (new_key db t number) items legal (subst (λ (m : ℕ). 1 ≤ m) is low) refl
-            (subst (λ m. is_live db (key_at db t m) ≡ false) is unused)
-            (λ s h. placing s (key_item schema s t items) (none_at (λ s. is_none (place_in schema unit s)) s (automatic_sets schema t) h placed)
-            (passes-each (λ s. place_checks schema db unit s (key_item schema s t items)) (automatic_sets schema t) s h unique.1))
-            lawful c
+            let found = store_found t items placed checks in
+            store_makes schema capacity db unit (new_key db t (unwrap_or (free_number capacity db t) 0)) items legal found.counted refl found.unused found.stands lawful c
 
   -- STATEMENTS ABOUT THE CURRENT OF RUN-UNIT
 
-  alive : (k : DbKey) (checks : List (Bool × Cause)) → first_cause (own_checks db unit k ++ checks) ≡ None → (is_live db k ≡ true) × (first_cause checks ≡ None)
+  pub alive : (k : DbKey) (checks : List (Bool × Cause)) → first_cause (own_checks db unit k ++ checks) ≡ None → (is_live db k ≡ true) × (first_cause checks ≡ None)
   alive k checks h =
       let parts = passes-append (own_checks db unit k) checks h in
       (not-false _ (passes_check (not (is_live db k)) Deleted _ parts.0).0, parts.1)
@@ -164,7 +175,9 @@ module _ (schema : Lists) (capacity : ℕ) (db : Database) (unit : Unit) (legal 
   on_cells (Free true) other placed = λ is_done lawful c. refl
   on_cells (Free false) other placed = of_current db unit (Edited []) (no_refusal []) unit.currency.run_unit (λ k. []) (λ k. done db (record unit { kept = forgotten k unit.kept }) None None) (λ k is checks is_done lawful c. refl)
 
-pub effect_is_its_edits : EffectIsItsEdits
+pub effect_is_its_edits : (schema : Lists) (capacity : ℕ) (db : Database) (unit : Unit) (statement : Statement) → is_delete statement ≡ false
+    → Legal schema capacity db → Legal schema capacity (effect schema capacity db unit statement).database → (effect schema capacity db unit statement).answer.status ≡ Done
+    → (c : CellName) → cell schema capacity (effect schema capacity db unit statement).database c ≡ edited_at c (edits_of schema capacity db unit statement) (cell schema capacity db c)
 effect_is_its_edits schema capacity db unit statement other legal lawful is_done c =
     of_effect db unit (Edited schema capacity db unit legal (edits_of schema capacity db unit statement)) (no_refusal schema capacity db unit legal (edits_of schema capacity db unit statement)) schema capacity statement
     (λ passes_at_once. on_cells schema capacity db unit legal statement other (passed schema capacity unit statement passes_at_once).placed) is_done lawful c

@@ -22,6 +22,7 @@ mod owners;
 mod places;
 mod prepared;
 mod reach;
+mod reserving;
 mod see;
 mod statement;
 #[cfg(test)]
@@ -32,6 +33,7 @@ pub use apply::edit_cell;
 pub use areas::is_automatic_in;
 pub use changes::{is_rekeyed_in, names_calc, names_item};
 pub use checks::refused_at_once;
+pub use counts::{set_count, type_count};
 pub use edit::{CellEdit, Edit, UnitEdit};
 pub use held::{Held, Need};
 pub use in_hand::{numbers, occurrence, own_refusal, stored, usage};
@@ -48,6 +50,7 @@ pub use legality::{
 };
 pub use order::{has_area, next_area};
 pub use owners::Owners;
-pub use prepared::{Prepared, finish};
+pub use prepared::{Prepared, finish, has_next_versions};
+pub use reserving::{reserve_member, reserve_user};
 pub use statement::{Change, Erase, Form, Statement, Suppress, Which};
 pub use unit::{Answer, Cause, Currency, Entry, Place, Status, Unit};
