@@ -1,9 +1,9 @@
 -- OPEN and CLOSE by the cells in hand are those of each database that agrees.
 -- a is an area, c the name of a cell, x and y cells.
-use Rattle.std.proofs.Common.{◌≡◌, refl, sym, ◌∙◌, ap, subst, ℕ, Bool, true, false, cond, not, ◌||◌, List, [], ◌∷◌, ◌++◌, Some, None, eqb, inl, inr}
+use Rattle.std.proofs.Common.{◌≡◌, refl, sym, ◌∙◌, ap, ℕ, Bool, true, false, cond, not, ◌||◌, List, [], ◌∷◌, ◌++◌, Some, None, eqb, inl}
 use Rattle.std.specs.Prelude.{◌==◌, filter, slice_set, if◌then◌else◌}
 use Rattle.std.specs.List.{list_any}
-use Rattle.std.proofs.lemmas.Bool.{and_from, cases_Bool, false≢true}
+use Rattle.std.proofs.lemmas.Bool.{and_from, false≢true}
 use Rattle.dbtg_schema.specs.Lists.{Lists}
 use Rattle.dbtg_schema.specs.Lookups.{first_cause}
 use Rattle.dbtg_cells.specs.declared.cell.Cell.{Cell}
@@ -11,8 +11,6 @@ use Rattle.dbtg_cells.specs.declared.cell.Cell.TheVariants.{Usage as UsageCell, 
 use Rattle.dbtg_cells.specs.declared.name.CellName.{CellName}
 use Rattle.dbtg_cells.specs.declared.name.CellName.TheVariants.{Usage, Extent, Ring, Slot}
 use Rattle.dbtg_cells.specs.declared.usage.Mode.{Mode}
-use Rattle.dbtg_cells.specs.Cells.{shown}
-use Rattle.dbtg_cells.specs.Names.{name_eq}
 use Rattle.dbtg_cells.specs.Shown.{UsageValue}
 use Rattle.dbtg_cells.specs.Users.{left_by}
 use Rattle.dbtg_unit.specs.declared.edit.Edit.{Edit}
@@ -26,18 +24,17 @@ use Rattle.dbtg_unit.specs.Cells.{cell}
 use Rattle.dbtg_unit.specs.Checks.{refused_at_once}
 use Rattle.dbtg_unit.specs.Edits.{edited, edited_at}
 use Rattle.dbtg_unit.specs.Effect.{conflict, done}
-use Rattle.dbtg_unit.specs.Hands.{Hands, cell_of}
+use Rattle.dbtg_unit.specs.Hands.{Hands}
 use Rattle.dbtg_unit.specs.InHand.{users_in}
-use Rattle.dbtg_unit.specs.Lends.{holding, with_cell}
 use Rattle.dbtg_unit.specs.Local.{Agrees, holds}
 use Rattle.dbtg_unit.specs.Making.{CanFinish, MayPrepare, ShowsTheSame}
-use Rattle.dbtg_unit.specs.Prepared.{IsEffect, values_of}
+use Rattle.dbtg_unit.specs.Prepared.{IsEffect}
+use Rattle.dbtg_unit.specs.Reserving.{CanTakeUser, OfHeld}
 use Rattle.dbtg_unit.proofs.InHandLemmas.{users_in_hand}
-use Rattle.dbtg_unit.proofs.MakingLemmas.{Held, cell_of-here, cell_of-further, with_cell-here, with_cell-further, written_over}
 use Rattle.dbtg_unit.proofs.ReadyParts.{prepared_has_all}
 use Rattle.dbtg_unit.proofs.SameHands.{holds-same, may_prepare-same, users_in-same}
 use Rattle.dbtg_plan.specs.Missing.{is_missing}
-use Rattle.dbtg_plan.specs.Opening.{HasRoomForUser, HoldsRoomForUser, close_plan, open_plan}
+use Rattle.dbtg_plan.specs.Opening.{close_plan, open_plan}
 use Rattle.dbtg_plan.specs.Plans.{refusal, unless_refusal}
 use Rattle.dbtg_plan.proofs.MissingLemmas.{is_held, not_missing}
 use Rattle.dbtg_plan.proofs.OutcomeLemmas.{makes-effect, makes-unless, no_cells-can_finish}
@@ -46,28 +43,9 @@ or_parts : (b d : Bool) → b || d ≡ false → (b ≡ false) × (d ≡ false)
 or_parts true d h = absurd (false≢true (sym h))
 or_parts false d h = (refl, h)
 
--- ROOM
-
--- a cell that shows the same, written in place of one, changes no value
-values_kept : (c : CellName) (y : Cell) (cells : Held) → ((x : Cell) → cell_of c cells ≡ Some x → shown y ≡ shown x) → values_of (with_cell c y cells) ≡ values_of cells
-values_kept c y [] same = refl
-values_kept c y (e ∷ es) same =
-    elim (cases_Bool (name_eq c e.0)) [
-      | inl here ↦ ap values_of (with_cell-here c y e es here) ∙ ap (λ v. (e.0, v) ∷ values_of es) (same e.1 (cell_of-here c e es here))
-      | inr other ↦ ap values_of (with_cell-further c y e es other) ∙ ap (λ vs. (e.0, shown e.1) ∷ vs) (values_kept c y es (λ x there. same x (cell_of-further c e es other ∙ there)))
-    ]
-
--- the hands with such a cell show the same
-pub holding_shows_the_same : (c : CellName) (hands : Hands) (y : Cell) → ((x : Cell) → cell_of c hands.cells ≡ Some x → shown y ≡ shown x) → ShowsTheSame hands (holding c hands y)
-holding_shows_the_same c hands y same = record { areas = refl; cells = values_kept c y hands.cells same; guesses = refl }
-
--- and hold room where the cell has it
-pub holding_has_room : (a : ℕ) (hands : Hands) (y : Cell) → HasRoomForUser y → HoldsRoomForUser a (holding (Usage a) hands y).cells
-holding_has_room a hands y room x there = subst HasRoomForUser (sym (written_over (Usage a) x y hands.cells there).0) room
-
 -- EDITS OF A USAGE CELL
 
-can_enter : (number : ℕ) (mode : Mode) (x : Cell) → HasRoomForUser x → CanEdit (EnterUser number mode) x
+can_enter : (number : ℕ) (mode : Mode) (x : Cell) → CanTakeUser x → CanEdit (EnterUser number mode) x
 can_enter number mode (UsageCell v) room = room
 can_enter number mode (ExtentCell v) room = tt
 can_enter number mode (RingCell v) room = tt
@@ -123,7 +101,7 @@ module _ (schema : Lists) (capacity : ℕ) (unit : Unit) (a : ℕ) where
 
     -- else done, once there is room for its entry
     pub open_finishes : (old new : Hands) → MayPrepare schema capacity unit old (OpenArea a mode) → is_missing old (Usage a) || list_any (λ e. conflict e.1 mode) (users_in old a) ≡ false
-        → ShowsTheSame old new → HoldsRoomForUser a new.cells → CanFinish schema capacity unit new (OpenArea a mode) (open_plan unit a mode)
+        → ShowsTheSame old new → OfHeld (Usage a) new.cells CanTakeUser → CanFinish schema capacity unit new (OpenArea a mode) (open_plan unit a mode)
     open_finishes old new may h same room =
         let there = or_parts (is_missing old (Usage a)) (list_any (λ e. conflict e.1 mode) (users_in old a)) h in
         let free : list_any (λ e. conflict e.1 mode) (users_in new a) ≡ false = ap (list_any (λ e. conflict e.1 mode)) (users_in-same old new same a) ∙ there.1 in

@@ -1,16 +1,12 @@
 -- OPEN and CLOSE, by the cells in hand.
 -- a is an area, x a cell.
-use Rattle.std.specs.Prelude.{◌≡◌, ℕ, ◌<◌, List, [], ◌∷◌, Option, Some, None, ⊤}
-use Rattle.dbtg_cells.specs.declared.cell.Cell.{Cell}
-use Rattle.dbtg_cells.specs.declared.cell.Cell.TheVariants.{Usage as UsageCell}
-use Rattle.dbtg_cells.specs.declared.name.CellName.{CellName}
+use Rattle.std.specs.Prelude.{ℕ, [], ◌∷◌, Option, Some, None}
 use Rattle.dbtg_cells.specs.declared.name.CellName.TheVariants.{Usage}
 use Rattle.dbtg_cells.specs.declared.usage.Mode.{Mode}
 use Rattle.dbtg_unit.specs.declared.edit.Edit.{Edit}
 use Rattle.dbtg_unit.specs.declared.edit.Edit.TheVariants.{EnterUser, LeaveUser}
 use Rattle.dbtg_unit.specs.declared.edit.UnitEdit.TheVariants.{SetMode}
 use Rattle.dbtg_unit.specs.declared.unit.Unit.{Unit}
-use Rattle.dbtg_unit.specs.Hands.{cell_of}
 use Rattle.dbtg_unit.specs.Prepared.{Plan}
 use Rattle.dbtg_plan.specs.Plans.{done_answer}
 
@@ -25,12 +21,3 @@ open_plan unit a mode = mode_plan a (EnterUser unit.number mode) (Some mode)
 -- CLOSE of area a
 abbrev pub close_plan : Unit → ℕ → Plan
 close_plan unit a = mode_plan a (LeaveUser unit.number) None
-
--- a usage cell has room for one more run-unit
-abbrev pub HasRoomForUser : Cell → Type 0
-HasRoomForUser (UsageCell v) = 0 < v.room
-HasRoomForUser _ = ⊤
-
--- the usage cell of area a has it, where it is held
-abbrev pub HoldsRoomForUser : ℕ → List (CellName × Cell) → Type 0
-HoldsRoomForUser a cells = (x : Cell) → cell_of (Usage a) cells ≡ Some x → HasRoomForUser x

@@ -1,20 +1,20 @@
 //! OPEN and CLOSE: what is done with the usage cell of an area.
-ghost use Rattle.std.specs.Prelude.{◌≡◌, ◌||◌, IfOk, None, OnOk};
+ghost use Rattle.std.specs.Prelude.{◌≡◌, ◌||◌, IfOk, None};
 ghost use Rattle.std.specs.List.{list_any};
-ghost use Rattle.dbtg_cells.specs.Cells.{shown};
 ghost use Rattle.dbtg_unit.specs.Checks.{refused_at_once};
 ghost use Rattle.dbtg_unit.specs.Effect.{conflict};
 ghost use Rattle.dbtg_unit.specs.InHand.{users_in};
 ghost use Rattle.dbtg_unit.specs.Making.{CanFinish, MayPrepare, ShowsTheSame};
 ghost use Rattle.dbtg_plan.specs.Missing.{is_missing};
-ghost use Rattle.dbtg_plan.specs.Opening.{HasRoomForUser, HoldsRoomForUser, close_plan, mode_plan, open_plan};
+ghost use Rattle.dbtg_plan.specs.Opening.{close_plan, mode_plan, open_plan};
 
 use crate::missing::is_missing;
 use crate::outcomes::refused;
-use dbtg_cells::{Cell, CellName, Mode};
+use dbtg_cells::{CellName, Mode};
 use dbtg_schema::{AreaNo, Row, Schema};
 use dbtg_unit::{
-    Answer, Cause, CellEdit, Edit, Held, Prepared, Statement, Status, Unit, UnitEdit, usage,
+    Answer, Cause, CellEdit, Edit, Held, Prepared, Statement, Status, Unit, UnitEdit, reserve_user,
+    usage,
 };
 use std::alloc::{AllocError, Global};
 
@@ -32,26 +32,6 @@ fn is_closed_to(held: &Held, area: AreaNo, mode: Mode) -> bool
     ensures { result ≡ (is_missing held.now (CellName.Usage area) || list_any (λ e. conflict e.1 mode) (users_in held.now area)) }
 {
     is_missing(held, &CellName::Usage(area)) || conflicts(held, area, mode)
-}
-
-fn reserve_user(cell: &mut Cell) -> Result<(), AllocError>
-    ensures shown { shown cell.new ≡ shown cell.old }
-    ensures room { OnOk result (HasRoomForUser cell.new) }
-{
-    match cell {
-        Cell::Usage(usage) => usage.reserve_user(),
-        _ => Ok(()),
-    }
-}
-
-fn reserve_entry(held: &mut Held, area: AreaNo) -> Result<(), AllocError>
-    ensures shows { ShowsTheSame held.old held.new }
-    ensures room { OnOk result (HoldsRoomForUser area held.new.cells) }
-{
-    match held.cell_mut(&CellName::Usage(area)) {
-        Some(cell) => reserve_user(cell),
-        None => Ok(()),
-    }
 }
 
 fn set_mode(
@@ -94,7 +74,7 @@ pub(crate) fn prepare_open(
     if is_closed_to(held, area, mode) {
         return Ok(refused(alloc, Cause::UsageConflict));
     }
-    reserve_entry(held, area)?;
+    reserve_user(held, &CellName::Usage(area))?;
     let edit = Edit::EnterUser {
         unit: unit.number,
         mode,

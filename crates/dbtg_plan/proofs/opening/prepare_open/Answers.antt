@@ -15,8 +15,8 @@ returns-then-is_closed_to-clause-prepared c =
 pub returns-clause-prepared : goal.returns-clause-prepared
 returns-clause-prepared c =
     IfOk-weaker c.set_mode.result (λ (plan : Plan). plan ≡ open_plan c.args.unit.now c.args.area c.args.mode)
-    (λ (plan : Plan). CanFinish c.args.schema.now c.args.capacity c.args.unit.now c.reserve_entry.new.held (OpenArea c.args.area c.args.mode) plan)
-    (λ plan is. subst (λ (p : Plan). CanFinish c.args.schema.now c.args.capacity c.args.unit.now c.reserve_entry.new.held (OpenArea c.args.area c.args.mode) p) (sym is)
-    (open_finishes c.args.schema.now c.args.capacity c.args.unit.now c.args.area c.args.mode c.requires.passes c.args.held.now c.reserve_entry.new.held c.requires.may
-    (sym c.is_closed_to.ensures ∙ c.if-is_closed_to.false) c.in_ok-reserve_entry.ensures.shows c.in_ok-reserve_entry.ensures.room))
+    (λ (plan : Plan). CanFinish c.args.schema.now c.args.capacity c.args.unit.now c.reserve_user.new.held (OpenArea c.args.area c.args.mode) plan)
+    (λ plan is. subst (λ (p : Plan). CanFinish c.args.schema.now c.args.capacity c.args.unit.now c.reserve_user.new.held (OpenArea c.args.area c.args.mode) p) (sym is)
+    (open_finishes c.args.schema.now c.args.capacity c.args.unit.now c.args.area c.args.mode c.requires.passes c.args.held.now c.reserve_user.new.held c.requires.may
+    (sym c.is_closed_to.ensures ∙ c.if-is_closed_to.false) c.in_ok-reserve_user.ensures.same c.in_ok-reserve_user.ensures.room))
     c.set_mode.ensures
