@@ -7,5 +7,8 @@ pub mod RemovingLemmas
 pub mod StoreInHand
 pub mod MissingLemmas
 pub mod VersionLemmas
+pub mod OutcomeLemmas
+pub mod KeepingLemmas
+pub mod OpeningLemmas
 pub mod StoreMaking
 pub mod StoreFinish

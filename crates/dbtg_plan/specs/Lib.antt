@@ -5,3 +5,5 @@ pub mod Plans
 pub mod Inserting
 pub mod Removing
 pub mod Missing
+pub mod Keeping
+pub mod Opening

@@ -4,7 +4,9 @@
 mod calc;
 mod inserting;
 mod joining;
+mod keeping;
 mod members;
 mod missing;
+mod opening;
 mod outcomes;
 mod removing;
