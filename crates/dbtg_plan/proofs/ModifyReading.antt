@@ -26,7 +26,7 @@ use Rattle.dbtg_unit.specs.Cells.{ring_of, slot_of}
 use Rattle.dbtg_unit.specs.EditsOf.{modify_edits, replacing_edits, ring_edits, slot_edit}
 use Rattle.dbtg_unit.specs.Effect.{calc_taken, replaced_sets, changed_items, modify_checks, names_calc, option_value_eq, own_checks, refuses_equal, version_of, with_items, with_its_items, without}
 use Rattle.dbtg_unit.specs.Hands.{Hands}
-use Rattle.dbtg_unit.specs.InHand.{occurrence_in, owner_in}
+use Rattle.dbtg_unit.specs.InHand.{numbers_in, occurrence_in, owner_in}
 use Rattle.dbtg_unit.specs.Local.{Agrees, holds}
 use Rattle.dbtg_unit.specs.CellNames.{place_of, slot_name}
 use Rattle.dbtg_cells.specs.declared.name.CellName.TheVariants.{Ring}
@@ -37,7 +37,8 @@ use Rattle.dbtg_unit.specs.Units.{kept_version, place_in}
 use Rattle.dbtg_unit.proofs.KeyLemmas.{key_eq-refl}
 use Rattle.dbtg_unit.proofs.LiveKeys.{In, member_of_owner, of_range, some_is}
 use Rattle.dbtg_unit.proofs.TwoDatabases.{any_agrees, flat_map_agrees}
-use Rattle.dbtg_plan.specs.Modifying.{calc_edits_in, calc_taken_in, is_numbered_in, is_rekeyed, is_replaced, modify_checks_in, modify_edits_in, occurrence_with, replacing_edits_in, sort_key_taken}
+use Rattle.dbtg_plan.specs.Modifying.{calc_edits_in, is_numbered_in, is_rekeyed, is_replaced, modify_checks_in, modify_edits_in, occurrence_with, replacing_edits_in, sort_key_taken}
+use Rattle.dbtg_plan.specs.Calc.{calc_taken_in}
 use Rattle.dbtg_plan.proofs.Kept.{and_agrees, any-filter, any-kept, any-map, cond_agrees, first_cause-any, flat_map-kept}
 
 module _ (schema : Lists) (capacity : ℕ) (db : Database) (hands : Hands) (unit : Unit) (agrees : Agrees schema capacity db hands unit)
@@ -148,7 +149,7 @@ module _ (schema : Lists) (capacity : ℕ) (db : Database) (hands : Hands) (unit
 
       -- where they hold of the CALC values, they are those of the database
       pub checks_read : (calc : names_calc schema k.rtype changes ≡ true → is_live db k ≡ true
-          → (is_numbered_in hands k ≡ true) × ((items : List Value) → calc_taken_in schema hands k items ≡ calc_taken schema capacity db k.rtype items (key_eq k)))
+          → (is_numbered_in hands k ≡ true) × ((items : List Value) → calc_taken_in schema (numbers_in hands k.rtype) k.rtype items (Some k.number) ≡ calc_taken schema capacity db k.rtype items (key_eq k)))
           → first_cause (modify_checks_in schema hands unit changes k (changed_items changes (items_of db k))) ≡ first_cause (modify_checks schema capacity db unit changes k)
       checks_read calc =
           ap (λ own. first_cause (own ++ rest_in)) (own_in_hand schema capacity db hands unit agrees k held)
@@ -162,7 +163,7 @@ module _ (schema : Lists) (capacity : ℕ) (db : Database) (hands : Hands) (unit
             rest_in : List (Bool × Cause)
             rest_in =
                 (named && not (is_numbered_in hands k), Deleted)
-                ∷ (named && calc_taken_in schema hands k items, DuplicatesNotAllowed)
+                ∷ (named && calc_taken_in schema (numbers_in hands k.rtype) k.rtype items (Some k.number), DuplicatesNotAllowed)
                 ∷ (list_any (sort_key_taken schema hands changes k items) (set_numbers schema), DuplicatesNotAllowed)
                 ∷ []
 
@@ -178,5 +179,5 @@ module _ (schema : Lists) (capacity : ℕ) (db : Database) (hands : Hands) (unit
             same : is_live db k ≡ true → first_cause rest_in ≡ first_cause rest
             same live =
                 let known : (named && not (is_numbered_in hands k)) ≡ false = and_agrees named (not (is_numbered_in hands k)) false (λ h. ap not (calc h live).0) ∙ and_false named in
-                let taken : (named && calc_taken_in schema hands k items) ≡ (named && calc_taken schema capacity db k.rtype items (key_eq k)) = and_agrees named _ _ (λ h. (calc h live).1 items) in
+                let taken : (named && calc_taken_in schema (numbers_in hands k.rtype) k.rtype items (Some k.number)) ≡ (named && calc_taken schema capacity db k.rtype items (key_eq k)) = and_agrees named _ _ (λ h. (calc h live).1 items) in
                 λ i. cond (known i) (Some Deleted) (cond (taken i) (Some DuplicatesNotAllowed) (keys_taken_read items live i))

@@ -4,13 +4,13 @@ use Rattle.std.specs.Prelude.{ℕ, ◌+◌, Bool, true, false, not, ◌&&◌, �
 use Rattle.std.specs.List.{list_any, flat_map}
 use Rattle.dbtg_schema.specs.Lists.{Lists}
 use Rattle.dbtg_schema.specs.Lookups.{first_cause, some_and}
-use Rattle.dbtg_schema.specs.Structure.{calc_of, member_clause, order_of, set_numbers}
+use Rattle.dbtg_schema.specs.Structure.{member_clause, order_of, set_numbers}
 use Rattle.dbtg_cells.specs.declared.key.DbKey.{DbKey}
 use Rattle.dbtg_cells.specs.declared.key.Value.{Value}
 use Rattle.dbtg_cells.specs.declared.name.CellName.TheVariants.{Extent}
 use Rattle.dbtg_cells.specs.declared.ring.Occurrence.{Occurrence}
 use Rattle.dbtg_cells.specs.Members.{has_sort_key, members_in}
-use Rattle.dbtg_cells.specs.Numbers.{entry_of, has_values, is_number_left_out, is_used, numbers_where}
+use Rattle.dbtg_cells.specs.Numbers.{entry_of, is_used}
 use Rattle.dbtg_unit.specs.declared.edit.CellEdit.{CellEdit}
 use Rattle.dbtg_unit.specs.declared.edit.Edit.TheVariants.{ChangeItems, ChangeNumber, RaiseVersion, ReplaceMember}
 use Rattle.dbtg_unit.specs.declared.edit.UnitEdit.TheVariants.{Same}
@@ -26,6 +26,7 @@ use Rattle.dbtg_unit.specs.Hands.{Hands}
 use Rattle.dbtg_unit.specs.InHand.{items_in, numbers_in, occurrence_in, own_checks_in, owner_in, version_in}
 use Rattle.dbtg_unit.specs.Prepared.{Plan}
 use Rattle.dbtg_unit.specs.Units.{place_in}
+use Rattle.dbtg_plan.specs.Calc.{calc_taken_in}
 
 -- the occurrence of set s in hand that has the record
 abbrev pub occurrence_with : Hands → ℕ → DbKey → Option Occurrence
@@ -36,12 +37,6 @@ occurrence_with hands s k = option_and_then (occurrence_in hands s) (owner_in ha
 -- its number is in use
 abbrev pub is_numbered_in : Hands → DbKey → Bool
 is_numbered_in hands k = some_and is_used (entry_of k.number (numbers_in hands k.rtype))
-
--- another record has the CALC values of these items, where their duplicates are not allowed
-abbrev pub calc_taken_in : Lists → Hands → DbKey → List Value → Bool
-calc_taken_in schema hands k items =
-    some_and (λ calc. not calc.duplicates_allowed && list_any (λ n. not (is_number_left_out (Some k.number) n)) (numbers_where (has_values (calc_items schema k.rtype items)) (numbers_in hands k.rtype)))
-    (calc_of schema k.rtype)
 
 -- set s is sorted by an item that is named
 abbrev pub is_rekeyed : Lists → List Change → ℕ → ℕ → Bool
@@ -62,7 +57,7 @@ abbrev pub modify_checks_in : Lists → Hands → Unit → List Change → DbKey
 modify_checks_in schema hands unit changes k items =
     own_checks_in hands unit k
     ++ (names_calc schema k.rtype changes && not (is_numbered_in hands k), Deleted)
-    ∷ (names_calc schema k.rtype changes && calc_taken_in schema hands k items, DuplicatesNotAllowed)
+    ∷ (names_calc schema k.rtype changes && calc_taken_in schema (numbers_in hands k.rtype) k.rtype items (Some k.number), DuplicatesNotAllowed)
     ∷ (list_any (sort_key_taken schema hands changes k items) (set_numbers schema), DuplicatesNotAllowed)
     ∷ []
 
