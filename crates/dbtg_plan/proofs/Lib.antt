@@ -1,3 +1,4 @@
 pub mod Kept
 pub mod ModifyReading
 pub mod ModifyPlan
+pub mod JoiningLemmas

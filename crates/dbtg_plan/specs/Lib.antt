@@ -1,2 +1,3 @@
 pub mod Calc
 pub mod Modifying
+pub mod Joining

@@ -19,6 +19,7 @@ mod legality;
 mod order;
 mod owners;
 mod places;
+mod prepared;
 mod reach;
 mod see;
 mod statement;
@@ -45,5 +46,6 @@ pub use legality::{
 };
 pub use order::{has_area, next_area};
 pub use owners::Owners;
+pub use prepared::{Prepared, finish};
 pub use statement::{Change, Erase, Form, Statement, Suppress, Which};
 pub use unit::{Answer, Cause, Currency, Entry, Place, Status, Unit};
