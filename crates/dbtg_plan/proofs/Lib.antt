@@ -2,3 +2,6 @@ pub mod Kept
 pub mod ModifyReading
 pub mod ModifyPlan
 pub mod JoiningLemmas
+pub mod ModifyMaking
+pub mod ModifyReady
+pub mod PlanLemmas

@@ -19,7 +19,6 @@ use Rattle.dbtg_unit.specs.declared.statement.Statement.{Statement}
 use Rattle.dbtg_unit.specs.declared.statement.Statement.TheVariants.{Modify}
 use Rattle.dbtg_unit.specs.declared.unit.Cause.{Cause}
 use Rattle.dbtg_unit.specs.declared.unit.Cause.TheVariants.{Deleted}
-use Rattle.dbtg_unit.specs.declared.unit.Status.TheVariants.{Done}
 use Rattle.dbtg_unit.specs.declared.unit.Unit.{Unit}
 use Rattle.dbtg_unit.specs.Base.{Database, Record, is_live, items_of, owner_of}
 use Rattle.dbtg_unit.specs.CellNames.{place_of, slot_name}
@@ -30,24 +29,19 @@ use Rattle.dbtg_unit.specs.EditsOf.{modify_edits}
 use Rattle.dbtg_unit.specs.Effect.{Outcome, calc_taken, changed_items, effect, modified, modify_checks, names_calc, next_version, on_current, renoted, unless_refused, version_of, with_its_items}
 use Rattle.dbtg_unit.specs.Guesses.{guesses_after}
 use Rattle.dbtg_unit.specs.Hands.{Hands}
-use Rattle.dbtg_unit.specs.InHand.{items_in, numbers_in, version_in}
-use Rattle.dbtg_unit.specs.Kept.{entry_again}
 use Rattle.dbtg_unit.specs.Legal.{Legal}
 use Rattle.dbtg_unit.specs.Local.{Agrees, holds}
-use Rattle.dbtg_unit.specs.Making.{MayPrepare}
 use Rattle.dbtg_unit.specs.Needs.{cells_of, is_stale, is_wrong_guess, ring_names, slot_names}
 use Rattle.dbtg_unit.specs.Prepared.{IsEffect, Plan, guesses_edited, unit_after}
 use Rattle.dbtg_unit.proofs.CheckLemmas.{passes_check}
-use Rattle.dbtg_unit.proofs.InHandLemmas.{items_in_hand, version_in_hand}
 use Rattle.dbtg_unit.proofs.ItemLemmas.{set_number}
 use Rattle.dbtg_unit.proofs.KeyLemmas.{key_eq-refl, same_key, same_owner}
 use Rattle.dbtg_unit.proofs.LiveKeys.{In, any_element, any_in, in_filter, in_flat_map, in_left, in_right, member_of_owner, some_and_is}
 use Rattle.dbtg_unit.proofs.LocalReady.{legal_after, ready_has}
 use Rattle.dbtg_unit.proofs.ModifyCells.{modify_makes}
-use Rattle.dbtg_unit.proofs.TwoDatabases.{map_agrees}
-use Rattle.dbtg_plan.specs.Calc.{calc_taken_in}
-use Rattle.dbtg_plan.specs.Modifying.{is_numbered_in, is_rekeyed, modify_plan, modify_plan_of, unless_refused as unless_refused_plan}
-use Rattle.dbtg_plan.proofs.ModifyReading.{checks_read, edits_read}
+use Rattle.dbtg_plan.specs.Modifying.{is_rekeyed}
+use Rattle.dbtg_plan.specs.Plans.{done_answer, unless_refusal}
+use Rattle.dbtg_plan.proofs.PlanLemmas.{effect-on_cells, noted-renoted}
 
 -- the member clause of a set in which a key item is named
 pub rekeyed_clause : (schema : Lists) (changes : List Change) (t s : ℕ) → is_rekeyed schema changes t s ≡ true → is_some (member_clause schema s t) ≡ true
@@ -113,10 +107,10 @@ module _ (schema : Lists) (capacity : ℕ) (db : Database) (hands : Hands) (unit
   new = modified schema capacity db unit changes k
 
   -- the plan, as the database has it
-  abbrev done_plan : Plan
+  abbrev pub done_plan : Plan
   done_plan =
       record {
-        answer = record { status = Done; key = None; items = None };
+        answer = done_answer;
         cells = modify_edits schema capacity db unit changes k;
         versions = (k, version_of db k + 1) ∷ [];
         unit = Same;
@@ -137,30 +131,23 @@ module _ (schema : Lists) (capacity : ℕ) (db : Database) (hands : Hands) (unit
         of_record (Some r) h = refl
 
   unit_is : is_live db k ≡ true → unit_after schema done_plan unit ≡ new.unit
-  unit_is live =
-      ap (λ (kept : List (DbKey × ℕ)). record unit { kept = kept })
-      (map_agrees (entry_again k (version_of db k + 1)) (λ (e : DbKey × ℕ). if key_eq k e.0 then (e.0, version_of new.database e.0) else e) unit.kept (λ e i. entry e)) where
-        entry : (e : DbKey × ℕ) → entry_again k (version_of db k + 1) e ≡ (if key_eq k e.0 then (e.0, version_of new.database e.0) else e)
-        entry e =
-            elim (cases_Bool (key_eq k e.0)) [
-              | inl h ↦ ap (λ (v : ℕ). if key_eq k e.0 then (e.0, v) else e) (sym (version_now live) ∙ ap (version_of new.database) (same_key k e.0 h))
-              | inr h ↦ cond-false (key_eq k e.0) (e.0, version_of db k + 1) e h ∙ sym (cond-false (key_eq k e.0) (e.0, version_of new.database e.0) e h)
-            ]
+  unit_is live = ap (λ (kept : List (DbKey × ℕ)). record unit { kept = kept }) (noted-renoted k (version_of db k + 1) new.database (version_now live) unit.kept)
 
   effect_is : refused_at_once schema capacity unit statement ≡ None → unit.currency.run_unit ≡ Some k
       → effect schema capacity db unit statement ≡ unless_refused db unit (first_cause (modify_checks schema capacity db unit changes k)) new
-  unfolding effect
-  effect_is passes current = λ i. unless_refused db unit (passes i) (on_current db unit (current i) (modify_checks schema capacity db unit changes) (modified schema capacity db unit changes))
+  effect_is passes current =
+      effect-on_cells schema capacity db unit statement passes
+      ∙ ap (λ (o : Option DbKey). on_current db unit o (modify_checks schema capacity db unit changes) (modified schema capacity db unit changes)) current
 
   matches : Legal schema capacity db → (first_cause (modify_checks schema capacity db unit changes k) ≡ None → Legal schema capacity new.database) → (o : Option Cause) → first_cause (modify_checks schema capacity db unit changes k) ≡ o
-      → Matches (unless_refused_plan o done_plan) (unless_refused db unit o new)
+      → Matches (unless_refusal o done_plan) (unless_refused db unit o new)
   matches legal lawful (Some cause) e = (refl, refl, refl, λ c. refl)
   matches legal lawful None e =
       let live : is_live db k ≡ true = not-false _ (passes_check (not (is_live db k)) Deleted _ e).0 in
       (refl, unit_is live, refl, λ c. modify_makes schema capacity db unit changes k legal live (lawful e) c)
 
-  is_effect : (plan : Plan) → refused_at_once schema capacity unit statement ≡ None → unit.currency.run_unit ≡ Some k → Legal schema capacity db → Legal schema capacity (effect schema capacity db unit statement).database
-      → plan ≡ unless_refused_plan (first_cause (modify_checks schema capacity db unit changes k)) done_plan → IsEffect schema capacity db unit hands.guesses statement plan
+  pub is_effect : (plan : Plan) → refused_at_once schema capacity unit statement ≡ None → unit.currency.run_unit ≡ Some k → Legal schema capacity db → Legal schema capacity (effect schema capacity db unit statement).database
+      → plan ≡ unless_refusal (first_cause (modify_checks schema capacity db unit changes k)) done_plan → IsEffect schema capacity db unit hands.guesses statement plan
   is_effect plan passes current legal lawful same =
       let is = effect_is passes current in
       let cause = first_cause (modify_checks schema capacity db unit changes k) in

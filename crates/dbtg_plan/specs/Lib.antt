@@ -1,3 +1,4 @@
 pub mod Calc
 pub mod Modifying
 pub mod Joining
+pub mod Plans

@@ -3,7 +3,7 @@
 use Rattle.std.specs.Prelude.{ℕ, ◌+◌, Bool, true, false, not, ◌&&◌, ◌==◌, List, [], ◌∷◌, ◌++◌, Option, Some, None, is_some, map, option_and_then, if◌then◌else◌}
 use Rattle.std.specs.List.{list_any, flat_map}
 use Rattle.dbtg_schema.specs.Lists.{Lists}
-use Rattle.dbtg_schema.specs.Lookups.{first_cause, some_and}
+use Rattle.dbtg_schema.specs.Lookups.{some_and}
 use Rattle.dbtg_schema.specs.Structure.{member_clause, order_of, set_numbers}
 use Rattle.dbtg_cells.specs.declared.key.DbKey.{DbKey}
 use Rattle.dbtg_cells.specs.declared.key.Value.{Value}
@@ -16,8 +16,7 @@ use Rattle.dbtg_unit.specs.declared.edit.Edit.TheVariants.{ChangeItems, ChangeNu
 use Rattle.dbtg_unit.specs.declared.edit.UnitEdit.TheVariants.{Same}
 use Rattle.dbtg_unit.specs.declared.statement.Change.{Change}
 use Rattle.dbtg_unit.specs.declared.unit.Cause.{Cause}
-use Rattle.dbtg_unit.specs.declared.unit.Cause.TheVariants.{Deleted, DuplicatesNotAllowed, NoCurrentOfRunUnit}
-use Rattle.dbtg_unit.specs.declared.unit.Status.TheVariants.{Done, Refused}
+use Rattle.dbtg_unit.specs.declared.unit.Cause.TheVariants.{Deleted, DuplicatesNotAllowed}
 use Rattle.dbtg_unit.specs.declared.unit.Unit.{Unit}
 use Rattle.dbtg_unit.specs.Base.{calc_items, key_item}
 use Rattle.dbtg_unit.specs.EditsOf.{ring_edits, slot_edit}
@@ -27,6 +26,7 @@ use Rattle.dbtg_unit.specs.InHand.{items_in, numbers_in, occurrence_in, own_chec
 use Rattle.dbtg_unit.specs.Prepared.{Plan}
 use Rattle.dbtg_unit.specs.Units.{place_in}
 use Rattle.dbtg_plan.specs.Calc.{calc_taken_in}
+use Rattle.dbtg_plan.specs.Plans.{done_answer, on_current_plan}
 
 -- the occurrence of set s in hand that has the record
 abbrev pub occurrence_with : Hands → ℕ → DbKey → Option Occurrence
@@ -84,26 +84,18 @@ modify_edits_in schema hands unit changes k items =
 
 -- THE PLAN
 
--- refused for a cause: nothing is changed
-abbrev pub refusal : Cause → Plan
-refusal cause = record { answer = record { status = Refused cause; key = None; items = None }; cells = []; versions = []; unit = Same }
-
--- refused for the first cause, if there is one, and else this plan
-abbrev pub unless_refused : Option Cause → Plan → Plan
-unless_refused (Some cause) plan = refusal cause
-unless_refused None plan = plan
-
--- done, with the next version of k
-abbrev pub modify_plan_of : Lists → Hands → Unit → List Change → DbKey → List Value → Plan
-modify_plan_of schema hands unit changes k items =
-    unless_refused (first_cause (modify_checks_in schema hands unit changes k items)) (record {
-      answer = record { status = Done; key = None; items = None };
+-- the record with its changes, in its next version
+abbrev pub modified_plan : Lists → Hands → Unit → List Change → DbKey → List Value → Plan
+modified_plan schema hands unit changes k items =
+    record {
+      answer = done_answer;
       cells = modify_edits_in schema hands unit changes k items;
       versions = (k, version_in hands k + 1) ∷ [];
       unit = Same;
-    })
+    }
 
 -- MODIFY of the current of run-unit
-abbrev pub modify_plan : Lists → Hands → Unit → List Change → Option DbKey → Plan
-modify_plan schema hands unit changes None = refusal NoCurrentOfRunUnit
-modify_plan schema hands unit changes (Some k) = modify_plan_of schema hands unit changes k (changed_items changes (items_in hands k))
+abbrev pub modify_plan : Lists → Hands → Unit → List Change → Plan
+modify_plan schema hands unit changes =
+    let items : DbKey → List Value = λ k. changed_items changes (items_in hands k) in
+    on_current_plan unit.currency.run_unit (λ k. modify_checks_in schema hands unit changes k (items k)) (λ k. modified_plan schema hands unit changes k (items k))
