@@ -13,6 +13,7 @@ mod edit;
 mod entries;
 mod fits;
 mod held;
+mod in_hand;
 mod kept;
 mod laws;
 mod legality;
@@ -33,6 +34,7 @@ pub use changes::{is_rekeyed_in, names_calc, names_item};
 pub use checks::refused_at_once;
 pub use edit::{CellEdit, Edit, UnitEdit};
 pub use held::{Held, Need};
+pub use in_hand::{numbers, occurrence, own_refusal, stored, usage};
 pub use kept::Kept;
 pub use laws::{
     cells_determine, delete_stays_in_its_areas, doomed_is_least, doomed_is_least_set,
