@@ -1,6 +1,7 @@
 pub mod Kept
 pub mod ModifyReading
 pub mod ModifyPlan
+pub mod NumberSteps
 pub mod JoiningLemmas
 pub mod ModifyMaking
 pub mod ModifyReady
