@@ -32,6 +32,7 @@ pub use apply::edit_cell;
 pub use areas::is_automatic_in;
 pub use changes::{is_rekeyed_in, names_calc, names_item};
 pub use checks::refused_at_once;
+pub use counts::{set_count, type_count};
 pub use edit::{CellEdit, Edit, UnitEdit};
 pub use held::{Held, Need};
 pub use in_hand::{numbers, occurrence, own_refusal, stored, usage};
