@@ -6,3 +6,5 @@ pub mod JoiningLemmas
 pub mod ModifyMaking
 pub mod ModifyReady
 pub mod PlanLemmas
+pub mod StoreInHand
+pub mod MissingLemmas

@@ -35,11 +35,16 @@ first_passes test a (x ∷ xs) n h =
           (suc r.0, omega arith, r.2, r.3, r.4)
     ]
 
--- a free number has a generation left
-pub free_is_unspent : (xs : List Number) (n : ℕ) → first (numbers_where is_free xs) ≡ Some n → last_of n xs < 255
-free_is_unspent xs n h =
+-- a free number has a free entry
+pub free_entry : (xs : List Number) (n : ℕ) → first (numbers_where is_free xs) ≡ Some n → (e : Number) × (entry_of n xs ≡ Some e) × (is_free e ≡ true)
+free_entry xs n h =
     let r = first_passes is_free 1 xs n h in
     let is : suc r.0 ≡ n = (let at : n ≡ 1 + r.0 = r.1 in omega arith) in
-    let low : r.2.last < 255 = ltb-true r.2.last 255 (and_parts (is_none r.2.calc) (nat_lt r.2.last 255) r.4).1 in
-    let entry : entry_of n xs ≡ Some r.2 = subst (λ (m : ℕ). entry_of m xs ≡ Some r.2) is r.3 in
-    rw entry low
+    (r.2, subst (λ (m : ℕ). entry_of m xs ≡ Some r.2) is r.3, r.4)
+
+-- and a generation left
+pub free_is_unspent : (xs : List Number) (n : ℕ) → first (numbers_where is_free xs) ≡ Some n → last_of n xs < 255
+free_is_unspent xs n h =
+    let r = free_entry xs n h in
+    let low : r.0.last < 255 = ltb-true r.0.last 255 (and_parts (is_none r.0.calc) (nat_lt r.0.last 255) r.2).1 in
+    rw (r.1) low

@@ -3,3 +3,4 @@ pub mod Modifying
 pub mod Store
 pub mod Joining
 pub mod Plans
+pub mod Missing

@@ -3,3 +3,5 @@
 
 mod calc;
 mod joining;
+mod missing;
+mod outcomes;
