@@ -5,6 +5,7 @@ pub mod NumberSteps
 pub mod JoiningLemmas
 pub mod ModifyMaking
 pub mod ModifyReady
+pub mod SetSteps
 pub mod PlanLemmas
 pub mod StoreInHand
 pub mod MissingLemmas

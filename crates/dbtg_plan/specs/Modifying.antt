@@ -52,14 +52,19 @@ sort_key_taken schema hands changes k items s =
     is_replaced schema hands changes k s
     && (refuses_equal (order_of schema s) && list_any (has_sort_key (Some k) (key_item schema s k.rtype items)) (members_in (occurrence_with hands s k)))
 
--- the record's own checks; CALC values taken by another; a sort key taken by another
+-- where a CALC item is named: the number is in use; its values are not taken by another
+abbrev pub calc_checks_in : Lists → Hands → List Change → DbKey → List Value → List (Bool × Cause)
+calc_checks_in schema hands changes k items =
+    (names_calc schema k.rtype changes && not (is_numbered_in hands k), Deleted)
+    ∷ (names_calc schema k.rtype changes && calc_taken_in schema (numbers_in hands k.rtype) k.rtype items (Some k.number), DuplicatesNotAllowed)
+    ∷ []
+
+-- the record's own checks; its CALC values; a sort key taken by another
 abbrev pub modify_checks_in : Lists → Hands → Unit → List Change → DbKey → List Value → List (Bool × Cause)
 modify_checks_in schema hands unit changes k items =
     own_checks_in hands unit k
-    ++ (names_calc schema k.rtype changes && not (is_numbered_in hands k), Deleted)
-    ∷ (names_calc schema k.rtype changes && calc_taken_in schema (numbers_in hands k.rtype) k.rtype items (Some k.number), DuplicatesNotAllowed)
-    ∷ (list_any (sort_key_taken schema hands changes k items) (set_numbers schema), DuplicatesNotAllowed)
-    ∷ []
+    ++ (calc_checks_in schema hands changes k items
+    ++ (list_any (sort_key_taken schema hands changes k items) (set_numbers schema), DuplicatesNotAllowed) ∷ [])
 
 -- EDITS
 

@@ -4,4 +4,5 @@
 mod calc;
 mod joining;
 mod missing;
+mod modifying;
 mod outcomes;
