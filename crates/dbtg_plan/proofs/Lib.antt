@@ -9,3 +9,5 @@ pub mod SetSteps
 pub mod PlanLemmas
 pub mod StoreInHand
 pub mod MissingLemmas
+pub mod StoreMaking
+pub mod StoreFinish
