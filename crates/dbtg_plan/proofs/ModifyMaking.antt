@@ -8,7 +8,7 @@ use Rattle.std.proofs.lemmas.Option.{none-some, same_Some}
 use Rattle.dbtg_schema.specs.Lists.{Lists}
 use Rattle.dbtg_schema.specs.Lookups.{first_cause, some_and}
 use Rattle.dbtg_schema.specs.Sound.{IsSound, IsSoundSet}
-use Rattle.dbtg_schema.specs.Structure.{member_clause, order_of, pictures, set_numbers}
+use Rattle.dbtg_schema.specs.Structure.{order_of, pictures, set_numbers}
 use Rattle.dbtg_schema.specs.WellFormed.{is_sorted}
 use Rattle.dbtg_schema.specs.declared.shape.Member.{Member}
 use Rattle.dbtg_schema.specs.declared.shape.Order.{Order}
@@ -16,7 +16,6 @@ use Rattle.dbtg_schema.specs.declared.shape.Order.TheVariants.{First, Last, Next
 use Rattle.dbtg_schema.specs.declared.shape.SetType.{SetType}
 use Rattle.dbtg_cells.specs.declared.cell.Cell.{Cell}
 use Rattle.dbtg_cells.specs.declared.cell.Cell.TheVariants.{Usage as UsageCell, Extent as ExtentCell, Ring as RingCell, Slot as SlotCell}
-use Rattle.dbtg_cells.specs.declared.extent.Number.{Number}
 use Rattle.dbtg_cells.specs.declared.key.DbKey.{DbKey}
 use Rattle.dbtg_cells.specs.declared.key.Owner.{Owner}
 use Rattle.dbtg_cells.specs.declared.key.Value.{Value}
@@ -29,15 +28,14 @@ use Rattle.dbtg_cells.specs.Keys.{is_member, owner_eq}
 use Rattle.dbtg_cells.specs.Members.{Entry, has_key, keys_in, members_in, with_members, without_key}
 use Rattle.dbtg_cells.specs.Names.{name_eq, place_eq}
 use Rattle.dbtg_cells.specs.Numbers.{entry_of, is_used}
-use Rattle.dbtg_cells.specs.Shown.{CellValue, SlotValue}
+use Rattle.dbtg_cells.specs.Shown.{SlotValue}
 use Rattle.dbtg_unit.specs.declared.edit.CellEdit.{CellEdit}
 use Rattle.dbtg_unit.specs.declared.edit.Edit.{Edit}
 use Rattle.dbtg_unit.specs.declared.edit.Edit.TheVariants.{ChangeItems, ChangeNumber, RaiseVersion, ReplaceMember}
 use Rattle.dbtg_unit.specs.declared.statement.Change.{Change}
-use Rattle.dbtg_unit.specs.declared.unit.Cause.{Cause}
 use Rattle.dbtg_unit.specs.declared.unit.Cause.TheVariants.{ChangedByAnother, Deleted}
 use Rattle.dbtg_unit.specs.declared.unit.Unit.{Unit}
-use Rattle.dbtg_unit.specs.Base.{Database, calc_items, is_live, items_of, key_item, members_of, owner_of, sort_key}
+use Rattle.dbtg_unit.specs.Base.{Database, calc_items, key_item, members_of, owner_of, sort_key}
 use Rattle.dbtg_unit.specs.CanEdit.{CanEdit, CanPlace}
 use Rattle.dbtg_unit.specs.CellNames.{place_of, slot_name}
 use Rattle.dbtg_unit.specs.Edits.{edited, with_stored_items}
@@ -46,22 +44,22 @@ use Rattle.dbtg_unit.specs.Effect.{names_calc, uses_position}
 use Rattle.dbtg_unit.specs.Fits.{values_fit}
 use Rattle.dbtg_unit.specs.Found.{is_lost}
 use Rattle.dbtg_unit.specs.Hands.{Hands, cell_of}
-use Rattle.dbtg_unit.specs.InHand.{numbers_in, numbers_of, occurrence_in, occurrence_of, of_owner, owner_in, stored_in, stored_of, version_in}
+use Rattle.dbtg_unit.specs.InHand.{numbers_of, occurrence_in, occurrence_of, of_owner, owner_in, stored_in, stored_of}
 use Rattle.dbtg_unit.specs.Legal.{keys_in_order, pairwise}
 use Rattle.dbtg_unit.specs.Lends.{with_cell}
 use Rattle.dbtg_unit.specs.Local.{Agrees, holds}
 use Rattle.dbtg_unit.specs.Making.{CanMake, HaveNextVersions, ShowsEdited}
 use Rattle.dbtg_unit.specs.Placing.{compares}
-use Rattle.dbtg_unit.specs.Units.{kept_version, place_in}
+use Rattle.dbtg_unit.specs.Units.{place_in}
 use Rattle.dbtg_unit.proofs.CheckLemmas.{passes_check}
 use Rattle.dbtg_unit.proofs.Determined.{slot_in}
 use Rattle.dbtg_unit.proofs.InHandLemmas.{entries_in_hand, members_in_hand, owner_in_hand}
-use Rattle.dbtg_unit.proofs.LiveKeys.{In, member_of_owner}
+use Rattle.dbtg_unit.proofs.LiveKeys.{member_of_owner}
 use Rattle.dbtg_unit.proofs.MakingLemmas.{cell_of-further, cell_of-here, with_cell-further, with_cell-here}
 use Rattle.dbtg_unit.proofs.PlacedLemmas.{all-filter, pairwise-filter}
 use Rattle.dbtg_unit.proofs.ReadingCells.{same_name}
 use Rattle.dbtg_unit.proofs.SortKeyLemmas.{at_entry}
-use Rattle.dbtg_plan.specs.Modifying.{calc_edits_in, is_numbered_in, is_rekeyed, is_replaced, modify_checks_in, modify_edits_in, occurrence_with, replacing_edits_in}
+use Rattle.dbtg_plan.specs.Modifying.{calc_edits_in, is_numbered_in, is_rekeyed, is_replaced, modify_checks_in, modify_edits_in, replacing_edits_in}
 use Rattle.dbtg_plan.proofs.JoiningLemmas.{can-place, members-compare, pairwise-map}
 use Rattle.dbtg_plan.proofs.ModifyPlan.{rekeyed_clause, rekeyed_number}
 use Rattle.dbtg_plan.proofs.ModifyReading.{occurrence_there}
@@ -247,16 +245,17 @@ module _ (schema : Lists) (capacity : ℕ) (db : Database) (hands : Hands) (unit
       let compare : Entry → Bool = λ e. compares (order_of schema s) e.1 (key_item schema s k.rtype items) in
       let stand : Entry → Entry → Bool = λ x y. keys_in_order (order_of schema s) x.1 y.1 in
       let kinds : list_all compare (members_in occurrence) ≡ true =
-          ap (list_all compare) entries ∙ list_all-map compare (λ x. (x, sort_key schema db s x)) (members_of db s o)
-          ∙ members-compare schema capacity db agrees.legal sound s k.rtype o items (rekeyed_clause schema changes k.rtype s named) fit in
+      ap (list_all compare) entries ∙ list_all-map compare (λ x. (x, sort_key schema db s x)) (members_of db s o)
+      ∙ members-compare schema capacity db agrees.legal sound s k.rtype o items (rekeyed_clause schema changes k.rtype s named) fit in
       let stands : pairwise stand (members_in occurrence) ≡ true =
-          ap (pairwise stand) entries ∙ pairwise-map (λ x. (x, sort_key schema db s x)) stand (members_of db s o) ∙ agrees.legal.sorted s o in
-      (ap (is_member k) (sym (members_in_hand schema capacity db hands unit agrees s o held)) ∙ member_of_owner schema capacity db agrees.legal s o k is,
-      can-place (order_of schema s) (position_at s) (key_item schema s k.rtype items) (with_members (without_key k) occurrence)
-      (there occurrence (occurrence_there schema capacity db hands unit agrees changes k slot rings s o named is))
-      (ap (λ b. b && is_lost (position_at s) (keys_in (with_members (without_key k) occurrence))) (rekeyed_sorted schema sound changes k.rtype s named))
-      (ap (list_all compare) (less occurrence) ∙ all-filter compare (λ (e : Entry). not (has_key k e)) (members_in occurrence) kinds)
-      (ap (pairwise stand) (less occurrence) ∙ pairwise-filter stand (λ (e : Entry). not (has_key k e)) (members_in occurrence) stands)) where
+      ap (pairwise stand) entries ∙ pairwise-map (λ x. (x, sort_key schema db s x)) stand (members_of db s o) ∙ agrees.legal.sorted s o in (
+        ap (is_member k) (sym (members_in_hand schema capacity db hands unit agrees s o held)) ∙ member_of_owner schema capacity db agrees.legal s o k is,
+        can-place (order_of schema s) (position_at s) (key_item schema s k.rtype items) (with_members (without_key k) occurrence)
+            (there occurrence (occurrence_there schema capacity db hands unit agrees changes k slot rings s o named is))
+            (ap (λ b. b && is_lost (position_at s) (keys_in (with_members (without_key k) occurrence))) (rekeyed_sorted schema sound changes k.rtype s named))
+            (ap (list_all compare) (less occurrence) ∙ all-filter compare (λ (e : Entry). not (has_key k e)) (members_in occurrence) kinds)
+            (ap (pairwise stand) (less occurrence) ∙ pairwise-filter stand (λ (e : Entry). not (has_key k e)) (members_in occurrence) stands),
+      ) where
         there : (r : Option Occurrence) → is_some r ≡ true → is_none (with_members (without_key k) r) ≡ false
         there None h = absurd (false≢true h)
         there (Some r) h = refl
@@ -300,9 +299,10 @@ module _ (schema : Lists) (capacity : ℕ) (db : Database) (hands : Hands) (unit
     by_case true None e is = next cells (later s cells u)
     by_case true (Some o) e is =
         let named = (and_parts _ _ e).0 in
-        let owned = owner_in_hand schema capacity db hands unit agrees k slot s (rekeyed_number schema changes k.rtype s named) ∙ is in
-        (λ x h. ring_can s o named owned x (sym (u.later_rings s (place_of o) (omega arith)) ∙ h),
-        λ y shows. next (with_cell (Ring s (place_of o)) y cells) (touched s (place_of o) y cells u))
+        let owned = owner_in_hand schema capacity db hands unit agrees k slot s (rekeyed_number schema changes k.rtype s named) ∙ is in (
+          λ x h. ring_can s o named owned x (sym (u.later_rings s (place_of o) (omega arith)) ∙ h),
+          λ y shows. next (with_cell (Ring s (place_of o)) y cells) (touched s (place_of o) y cells u),
+        )
 
   rings_can : (from n : ℕ) (rest : List CellEdit) (cells : Held) → Untouched from cells → ((next : Held) → Untouched (from + n) next → CanMake rest next)
       → CanMake (flat_map (replacing_edits_in schema hands unit changes k items) (range_with_len from n) ++ rest) cells
@@ -331,8 +331,10 @@ module _ (schema : Lists) (capacity : ℕ) (db : Database) (hands : Hands) (unit
     by_name : (b : Bool) → names_calc schema k.rtype changes ≡ b
         → CanMake (cond b (record { name = Extent k.rtype; edit = ChangeNumber k.number (calc_items schema k.rtype items) } ∷ []) [] ++ rest) hands.cells
     by_name false e = others hands.cells (record { later_rings = λ s q low. refl; own_slot = refl })
-    by_name true e =
-        (extent_can e, λ y shows. others (with_cell (Extent k.rtype) y hands.cells) (record {
-          later_rings = λ s q low. cell_of-other (Ring s q) (Extent k.rtype) y hands.cells refl;
-          own_slot = cell_of-other (slot_name k) (Extent k.rtype) y hands.cells refl;
-        }))
+    by_name true e = (
+      extent_can e,
+      λ y shows. others (with_cell (Extent k.rtype) y hands.cells) (record {
+        later_rings = λ s q low. cell_of-other (Ring s q) (Extent k.rtype) y hands.cells refl;
+        own_slot = cell_of-other (slot_name k) (Extent k.rtype) y hands.cells refl;
+      }),
+    )

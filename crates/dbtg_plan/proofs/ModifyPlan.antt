@@ -1,18 +1,17 @@
 -- What is prepared of a MODIFY is its effect on every database that agrees with what is held.
-use Rattle.std.proofs.Common.{◌≡◌, refl, sym, ◌∙◌, ap, subst, ℕ, ◌+◌, Bool, true, false, cond, not, ◌&&◌, List, [], ◌∷◌, ◌++◌, Option, Some, None, inl, inr, eqb, map}
-use Rattle.std.specs.Prelude.{is_some, option_map, option_and_then, unwrap_or, if◌then◌else◌}
+use Rattle.std.proofs.Common.{◌≡◌, refl, sym, ◌∙◌, ap, subst, ℕ, ◌+◌, Bool, true, false, cond, not, ◌&&◌, List, [], ◌∷◌, ◌++◌, Option, Some, None, inl, eqb, map}
+use Rattle.std.specs.Prelude.{is_some, option_map, unwrap_or}
 use Rattle.std.specs.List.{list_any, flat_map}
-use Rattle.std.proofs.lemmas.Bool.{and_parts, and_from, cases_Bool, cond-false, eqb-true, false≢true, false_from_ne_true, not-false}
+use Rattle.std.proofs.lemmas.Bool.{and_from, eqb-true, false≢true, false_from_ne_true, not-false}
 use Rattle.dbtg_schema.specs.Lists.{Lists}
 use Rattle.dbtg_schema.specs.Lookups.{at, first_cause, some_and}
 use Rattle.dbtg_schema.specs.Structure.{member_clause, rekeyed_sets, set_numbers}
 use Rattle.dbtg_schema.specs.declared.shape.Member.{Member}
 use Rattle.dbtg_cells.specs.declared.key.DbKey.{DbKey}
 use Rattle.dbtg_cells.specs.declared.key.Owner.{Owner}
-use Rattle.dbtg_cells.specs.declared.key.Value.{Value}
 use Rattle.dbtg_cells.specs.declared.name.CellName.{CellName}
 use Rattle.dbtg_cells.specs.declared.name.CellName.TheVariants.{Extent, Ring}
-use Rattle.dbtg_cells.specs.Keys.{key_eq, owner_eq}
+use Rattle.dbtg_cells.specs.Keys.{owner_eq}
 use Rattle.dbtg_unit.specs.declared.edit.UnitEdit.TheVariants.{Same}
 use Rattle.dbtg_unit.specs.declared.statement.Change.{Change}
 use Rattle.dbtg_unit.specs.declared.statement.Statement.{Statement}
@@ -26,7 +25,7 @@ use Rattle.dbtg_unit.specs.Cells.{cell}
 use Rattle.dbtg_unit.specs.Checks.{refused_at_once}
 use Rattle.dbtg_unit.specs.Edits.{edited_at}
 use Rattle.dbtg_unit.specs.EditsOf.{modify_edits}
-use Rattle.dbtg_unit.specs.Effect.{Outcome, calc_taken, changed_items, effect, modified, modify_checks, names_calc, next_version, on_current, renoted, unless_refused, version_of, with_its_items}
+use Rattle.dbtg_unit.specs.Effect.{Outcome, changed_items, effect, modified, modify_checks, names_calc, next_version, on_current, unless_refused, version_of, with_its_items}
 use Rattle.dbtg_unit.specs.Guesses.{guesses_after}
 use Rattle.dbtg_unit.specs.Hands.{Hands}
 use Rattle.dbtg_unit.specs.Legal.{Legal}
@@ -35,9 +34,8 @@ use Rattle.dbtg_unit.specs.Needs.{cells_of, is_stale, is_wrong_guess, ring_names
 use Rattle.dbtg_unit.specs.Prepared.{IsEffect, Plan, guesses_edited, unit_after}
 use Rattle.dbtg_unit.proofs.CheckLemmas.{passes_check}
 use Rattle.dbtg_unit.proofs.ItemLemmas.{set_number}
-use Rattle.dbtg_unit.proofs.KeyLemmas.{key_eq-refl, same_key, same_owner}
+use Rattle.dbtg_unit.proofs.KeyLemmas.{key_eq-refl, same_owner}
 use Rattle.dbtg_unit.proofs.LiveKeys.{In, any_element, any_in, in_filter, in_flat_map, in_left, in_right, member_of_owner, some_and_is}
-use Rattle.dbtg_unit.proofs.LocalReady.{legal_after, ready_has}
 use Rattle.dbtg_unit.proofs.ModifyCells.{modify_makes}
 use Rattle.dbtg_plan.specs.Modifying.{is_rekeyed}
 use Rattle.dbtg_plan.specs.Plans.{done_answer, unless_refusal}

@@ -1,8 +1,8 @@
 -- What is prepared of a MODIFY that is ready can be done.
-use Rattle.std.proofs.Common.{◌≡◌, refl, sym, ◌∙◌, ap, subst, ℕ, ◌+◌, Bool, true, false, cond, not, ◌&&◌, List, [], ◌∷◌, ◌++◌, Option, Some, None, eqb}
+use Rattle.std.proofs.Common.{◌≡◌, refl, sym, ◌∙◌, ap, subst, ℕ, ◌+◌, true, false, cond, ◌&&◌, List, [], ◌∷◌, Option, Some, None, eqb}
 use Rattle.std.specs.Prelude.{is_none, is_some, option_and_then}
 use Rattle.std.specs.List.{list_all}
-use Rattle.std.proofs.lemmas.Bool.{and_parts, false≢true, not-false}
+use Rattle.std.proofs.lemmas.Bool.{and_parts, false≢true}
 use Rattle.dbtg_schema.specs.Lists.{Lists}
 use Rattle.dbtg_schema.specs.Lookups.{first_cause, some_and}
 use Rattle.dbtg_schema.specs.Structure.{pictures}
@@ -13,7 +13,6 @@ use Rattle.dbtg_cells.specs.Keys.{key_eq}
 use Rattle.dbtg_cells.specs.Numbers.{entry_of, is_used}
 use Rattle.dbtg_unit.specs.declared.edit.UnitEdit.TheVariants.{Same}
 use Rattle.dbtg_unit.specs.declared.statement.Change.{Change}
-use Rattle.dbtg_unit.specs.declared.statement.Statement.{Statement}
 use Rattle.dbtg_unit.specs.declared.statement.Statement.TheVariants.{Modify}
 use Rattle.dbtg_unit.specs.declared.unit.Cause.{Cause}
 use Rattle.dbtg_unit.specs.declared.unit.Cause.TheVariants.{NoCurrentOfRunUnit}
@@ -24,7 +23,7 @@ use Rattle.dbtg_unit.specs.Checks.{needs_current, refused_at_once}
 use Rattle.dbtg_unit.specs.Effect.{calc_taken, changed_items, modify_checks, names_calc}
 use Rattle.dbtg_unit.specs.Fits.{change_fits, distinct_items, is_type, values_fit}
 use Rattle.dbtg_unit.specs.Hands.{Hands}
-use Rattle.dbtg_unit.specs.InHand.{items_in, numbers_in, version_in}
+use Rattle.dbtg_unit.specs.InHand.{items_in, numbers_in}
 use Rattle.dbtg_unit.specs.Local.{Agrees, holds}
 use Rattle.dbtg_unit.specs.Making.{CanFinish, CanMake, MayPrepare}
 use Rattle.dbtg_unit.specs.Prepared.{IsEffect, Plan}
@@ -70,9 +69,10 @@ module _ (schema : Lists) (capacity : ℕ) (unit : Unit) (hands : Hands) (change
         → (is_numbered_in hands k ≡ true) × ((items : List Value) → calc_taken_in schema (numbers_in hands k.rtype) k.rtype items (Some k.number) ≡ calc_taken schema capacity db k.rtype items (key_eq k))
     calc_read named live =
         let numbers = numbers_in hands k.rtype in
-        let are = numbers_in_hand schema capacity db hands unit agrees k.rtype (extent_held schema capacity db hands unit agrees changes k current has.cells has.fresh named) in
-        (used (entry_of k.number numbers) (sym (live_by_extent schema capacity db agrees.legal k.rtype numbers are k refl) ∙ live),
-        λ items. sym (taken_by_another schema capacity db agrees.legal k.rtype numbers are items k refl live)) where
+        let are = numbers_in_hand schema capacity db hands unit agrees k.rtype (extent_held schema capacity db hands unit agrees changes k current has.cells has.fresh named) in (
+          used (entry_of k.number numbers) (sym (live_by_extent schema capacity db agrees.legal k.rtype numbers are k refl) ∙ live),
+          λ items. sym (taken_by_another schema capacity db agrees.legal k.rtype numbers are items k refl live),
+        ) where
           used : (o : Option Number) → is_some (option_and_then (λ (e : Number). cond (eqb e.last k.generation) e.calc None) o) ≡ true → some_and is_used o ≡ true
           used None h = h
           used (Some e) h = (elim (eqb e.last k.generation) as (λ b. is_some (cond b e.calc None) ≡ true → is_some e.calc ≡ true) [ true ↦ λ h. h | false ↦ λ h. absurd (false≢true h) ]) h
@@ -117,7 +117,7 @@ module _ (schema : Lists) (capacity : ℕ) (unit : Unit) (hands : Hands) (change
       record {
         prepared = record {
           held = by_cause (λ p. list_all (λ e. holds hands.cells e.name) p.cells ≡ true) (λ p none. ap (list_all (λ e. holds hands.cells e.name)) none)
-          (λ e p made. ap (list_all (λ e. holds hands.cells e.name)) made ∙ edits_held schema hands unit changes k items_now e);
+              (λ e p made. ap (list_all (λ e. holds hands.cells e.name)) made ∙ edits_held schema hands unit changes k items_now e);
           effects = effect_read;
         };
         can_make = can_make;

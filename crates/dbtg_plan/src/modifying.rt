@@ -25,8 +25,8 @@ use crate::outcomes::refused;
 use dbtg_cells::{CellName, DbKey, Extent, Owner, Ring, Value, copy_items};
 use dbtg_schema::{Duplicates, Order, RecordNo, Row, Schema, SetNo};
 use dbtg_unit::{
-    Answer, Cause, CellEdit, Change, Edit, Held, Prepared, Status, Unit, UnitEdit,
-    is_rekeyed_in, names_calc, numbers, occurrence, own_refusal, set_count, stored,
+    Answer, Cause, CellEdit, Change, Edit, Held, Prepared, Status, Unit, UnitEdit, is_rekeyed_in,
+    names_calc, numbers, occurrence, own_refusal, set_count, stored,
 };
 use std::alloc::{AllocError, Global};
 
@@ -180,13 +180,7 @@ fn ring_with<'a>(held: &'a Held, set: SetNo, key: &DbKey) -> Option<&'a Ring>
     }
 }
 
-fn is_replaced(
-    schema: &Schema,
-    held: &Held,
-    changes: &[Change],
-    key: &DbKey,
-    set: SetNo,
-) -> bool
+fn is_replaced(schema: &Schema, held: &Held, changes: &[Change], key: &DbKey, set: SetNo) -> bool
     ensures { result ≡ is_replaced schema.now held.now changes.now key.now set }
 {
     is_rekeyed_in(schema, set, key.rtype, changes) && ring_with(held, set, key).is_some()
@@ -481,12 +475,7 @@ fn modified(
         key: None,
         items: None,
     };
-    Ok(Prepared::new(
-        answer,
-        edits,
-        Row::of(versions),
-        UnitEdit::Same,
-    ))
+    Ok(Prepared::new(answer, edits, Row::of(versions), UnitEdit::Same))
 }
 
 fn plan_of(
@@ -503,15 +492,7 @@ fn plan_of(
         return Ok(refused(alloc, Cause::NoCurrentOfRunUnit));
     };
     let items = changed(alloc, held, &key, changes)?;
-    match refusal(
-        alloc,
-        schema,
-        unit,
-        changes,
-        held,
-        &key,
-        items.as_slice(),
-    )? {
+    match refusal(alloc, schema, unit, changes, held, &key, items.as_slice())? {
         Some(cause) => Ok(refused(alloc, cause)),
         None => modified(alloc, schema, unit, changes, held, &key, items),
     }

@@ -1,4 +1,4 @@
-use Rattle.std.proofs.Common.{◌≡◌, ◌∙◌, sym, ap, ℕ, Bool, List, Option, cond, length, None, arith}
+use Rattle.std.proofs.Common.{◌≡◌, ◌∙◌, sym, ap, ℕ, Bool, List, cond, length, None, arith}
 use Rattle.dbtg_schema.specs.Lookups.{at}
 use Rattle.dbtg_cells.specs.declared.name.CellName.{CellName}
 use Rattle.dbtg_unit.specs.Needs.{ring_names}
@@ -12,7 +12,7 @@ returns-then-is_some c =
     let rings : ℕ → List CellName = λ s. ring_names s (at c.args.held.now.guesses s) in
     let is_wanted : ℕ → Bool = λ s. is_rekeyed c.args.schema.now c.args.changes.now c.args.rtype s in
     let here : c.missing_ring_of-name.result ≡ cond (is_wanted c.loop-s.s) (first_missing c.args.held.now (rings c.loop-s.s)) None =
-        c.missing_ring_of-name.ensures ∙ ap (λ s. cond (is_wanted s) (first_missing c.args.held.now (rings s)) None) c.new.ensures in
+    c.missing_ring_of-name.ensures ∙ ap (λ s. cond (is_wanted s) (first_missing c.args.held.now (rings s)) None) c.new.ensures in
     sym (found_here (is_missing c.args.held.now) rings is_wanted (length c.args.schema.now.sets) c.loop-s.s (omega (arith, c.set_count-s-end.ensures)) c.missing_ring_of-name.result here (sym c.is_some.ensures ∙ c.if-is_some.true))
     ∙ c.loop-s.invariant
 
@@ -21,7 +21,7 @@ loop-s-preserved c =
     let rings : ℕ → List CellName = λ s. ring_names s (at c.args.held.now.guesses s) in
     let is_wanted : ℕ → Bool = λ s. is_rekeyed c.args.schema.now c.args.changes.now c.args.rtype s in
     let here : c.missing_ring_of-name.result ≡ cond (is_wanted c.loop-s.s) (first_missing c.args.held.now (rings c.loop-s.s)) None =
-        c.missing_ring_of-name.ensures ∙ ap (λ s. cond (is_wanted s) (first_missing c.args.held.now (rings s)) None) c.new.ensures in
+    c.missing_ring_of-name.ensures ∙ ap (λ s. cond (is_wanted s) (first_missing c.args.held.now (rings s)) None) c.new.ensures in
     sym (found_later (is_missing c.args.held.now) rings is_wanted (length c.args.schema.now.sets) c.loop-s.s (omega (arith, c.set_count-s-end.ensures)) c.missing_ring_of-name.result here (sym c.is_some.ensures ∙ c.if-is_some.false))
     ∙ c.loop-s.invariant
 

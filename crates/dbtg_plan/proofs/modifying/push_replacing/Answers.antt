@@ -1,4 +1,4 @@
-use Rattle.std.proofs.Common.{◌≡◌, ◌∙◌, sym, ap, ℕ, ◌+◌, List, ◌++◌, append_assoc, append-nil, drop, length, arith}
+use Rattle.std.proofs.Common.{◌∙◌, sym, ap, ℕ, ◌+◌, List, ◌++◌, append_assoc, append-nil, drop, length, arith}
 use Rattle.std.specs.List.{flat_map, range_with_len}
 use Rattle.dbtg_unit.specs.declared.edit.CellEdit.{CellEdit}
 use Rattle.dbtg_plan.specs.Modifying.{replacing_edits_in}
