@@ -9,5 +9,8 @@ pub mod SetSteps
 pub mod PlanLemmas
 pub mod StoreInHand
 pub mod MissingLemmas
+pub mod OutcomeLemmas
+pub mod KeepingLemmas
+pub mod OpeningLemmas
 pub mod StoreMaking
 pub mod StoreFinish

@@ -1,12 +1,12 @@
 -- The edits of a STORE can be made of the cells in hand.
 -- e and f are edits, s a set, o an owner, x a cell.
-use Rattle.std.proofs.Common.{◌≡◌, ◌≢◌, refl, sym, ◌∙◌, ap, subst, ℕ, ◌+◌, ◌≤◌, Bool, true, false, cond, not, ◌&&◌, List, [], ◌∷◌, ◌++◌, Option, Some, None, eqb, inl, inr, length, map, ⊎_elim}
-use Rattle.std.specs.Prelude.{filter, is_none, is_some, IsTrue, option_map, unwrap_or, ⊤}
+use Rattle.std.proofs.Common.{◌≡◌, ◌≢◌, refl, sym, ◌∙◌, ap, subst, ℕ, ◌≤◌, Bool, true, false, cond, not, ◌&&◌, List, [], ◌∷◌, ◌++◌, Option, Some, None, eqb, inl, inr, length, map, ⊎_elim}
+use Rattle.std.specs.Prelude.{filter, is_none, is_some, IsTrue, option_map, unwrap_or}
 use Rattle.std.specs.List.{flat_map, list_all, list_any, range_with_len}
-use Rattle.std.proofs.lemmas.Bool.{and_from, and_parts, cases_Bool, eq-eqb, eqb-true, false_from_ne_true, false≢true}
-use Rattle.std.proofs.lemmas.Option.{none-some, same_Some}
+use Rattle.std.proofs.lemmas.Bool.{and_from, and_parts, cases_Bool, eq-eqb, false_from_ne_true, false≢true}
+use Rattle.std.proofs.lemmas.Option.{none-some}
 use Rattle.dbtg_schema.specs.Lists.{Lists}
-use Rattle.dbtg_schema.specs.Lookups.{first, first_cause, some_and}
+use Rattle.dbtg_schema.specs.Lookups.{first_cause, some_and}
 use Rattle.dbtg_schema.specs.Sound.{IsSound}
 use Rattle.dbtg_schema.specs.Structure.{automatic_sets, is_automatic, member_clause, order_of, owns, pictures, set_numbers}
 use Rattle.dbtg_cells.specs.declared.cell.Cell.{Cell}
@@ -23,7 +23,7 @@ use Rattle.dbtg_cells.specs.Cells.{shown}
 use Rattle.dbtg_cells.specs.Keys.{owner_eq}
 use Rattle.dbtg_cells.specs.Members.{has_room}
 use Rattle.dbtg_cells.specs.Names.{name_eq, place_eq}
-use Rattle.dbtg_cells.specs.Numbers.{entry_of, is_free, numbers_where}
+use Rattle.dbtg_cells.specs.Numbers.{entry_of, is_free}
 use Rattle.dbtg_cells.specs.Shown.{RingValue, RingView}
 use Rattle.dbtg_unit.specs.declared.edit.CellEdit.{CellEdit}
 use Rattle.dbtg_unit.specs.declared.edit.Edit.TheVariants.{EnterNumber, Fill, OpenRing, PlaceMember}
@@ -39,7 +39,6 @@ use Rattle.dbtg_unit.specs.Effect.{calc_taken, free_number, new_key, place_check
 use Rattle.dbtg_unit.specs.Fits.{values_fit}
 use Rattle.dbtg_unit.specs.Hands.{Hands, cell_of}
 use Rattle.dbtg_unit.specs.InHand.{numbers_in, numbers_of, occurrence_of, of_owner}
-use Rattle.dbtg_unit.specs.Legal.{pairwise}
 use Rattle.dbtg_unit.specs.Local.{Agrees, holds}
 use Rattle.dbtg_unit.specs.Making.{CanMake}
 use Rattle.dbtg_unit.specs.Needs.{current_owner, ring_names, store_rings}
@@ -279,7 +278,7 @@ module _ (schema : Lists) (capacity : ℕ) (db : Database) (hands : Hands) (unit
           let is : joined_occurrence schema unit hands s ≡ v.occurrence = read ∙ owned-is (joined_place schema unit s).owner v.occurrence (ap is_some (sym read ∙ present.1)) in (
             rooms s i v there,
             subst (CanPlace (order_of schema s) (joined_place schema unit s).at (key_item schema s t items)) is
-            (can-join-in_hand schema capacity db hands unit agrees s held sound t items (ap is_some clause.1) fit checks),
+                (can-join-in_hand schema capacity db hands unit agrees s held sound t items (ap is_some clause.1) fit checks),
           )
 
     each-joined : (s : ℕ) → In s (automatic_sets schema t) → EachCanEdit (joining schema unit k items s) hands.cells
@@ -292,12 +291,14 @@ module _ (schema : Lists) (capacity : ℕ) (db : Database) (hands : Hands) (unit
           (subst (λ (p : Place). (x : Cell) → cell_of (Ring s (place_of p.owner)) hands.cells ≡ Some x → CanEdit (placed_at schema s k (key_item schema s t items) p) x) same (joined-made s i), tt)
 
     each-made : EachCanEdit (store_edits schema unit k items) hands.cells
-    each-made =
-        (extent-made, each-append (flat_map (joining schema unit k items) (automatic_sets schema t)) (flat_map (opening schema unit k items) (owned schema unit k items) ++ filling schema unit k items) hands.cells
-        (each-in (joining schema unit k items) (automatic_sets schema t) hands.cells each-joined)
-        (each-append (flat_map (opening schema unit k items) (owned schema unit k items)) (filling schema unit k items) hands.cells
-        (each-in (opening schema unit k items) (owned schema unit k items) hands.cells (λ s i. (opened-made s, tt)))
-        ((λ x there. tt), tt)))
+    each-made = (
+      extent-made,
+      each-append (flat_map (joining schema unit k items) (automatic_sets schema t)) (flat_map (opening schema unit k items) (owned schema unit k items) ++ filling schema unit k items) hands.cells
+          (each-in (joining schema unit k items) (automatic_sets schema t) hands.cells each-joined)
+          (each-append (flat_map (opening schema unit k items) (owned schema unit k items)) (filling schema unit k items) hands.cells
+          (each-in (opening schema unit k items) (owned schema unit k items) hands.cells (λ s i. (opened-made s, tt)))
+          ((λ x there. tt), tt)),
+    )
 
   -- THEIR CELLS ARE DISTINCT
 

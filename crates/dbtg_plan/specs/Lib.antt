@@ -4,3 +4,5 @@ pub mod Store
 pub mod Joining
 pub mod Plans
 pub mod Missing
+pub mod Keeping
+pub mod Opening

@@ -3,6 +3,8 @@
 
 mod calc;
 mod joining;
+mod keeping;
 mod missing;
 mod modifying;
+mod opening;
 mod outcomes;
