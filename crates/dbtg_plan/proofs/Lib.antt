@@ -1,5 +1,11 @@
+pub mod Kept
+pub mod ModifyReading
+pub mod ModifyPlan
 pub mod NumberSteps
 pub mod JoiningLemmas
+pub mod ModifyMaking
+pub mod ModifyReady
+pub mod SetSteps
 pub mod PlanLemmas
 pub mod RingEdits
 pub mod InsertingLemmas

@@ -1,4 +1,5 @@
 pub mod Calc
+pub mod Modifying
 pub mod Store
 pub mod Joining
 pub mod Plans

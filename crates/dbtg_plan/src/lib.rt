@@ -7,6 +7,7 @@ mod joining;
 mod keeping;
 mod members;
 mod missing;
+mod modifying;
 mod opening;
 mod outcomes;
 mod removing;
