@@ -9,3 +9,4 @@ mod Places
 mod RingReads
 mod NumberLemmas
 pub mod PlacedLaws
+pub mod PlaceNumbers

@@ -73,4 +73,7 @@ pub mod AlikeReading
 pub mod AlikeMoves
 pub mod AlikeRemove
 pub mod AlikeInsert
+pub mod MakingLemmas
 pub mod InHandLemmas
+pub mod ExtentInHand
+pub mod ReadyParts

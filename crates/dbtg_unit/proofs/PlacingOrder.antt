@@ -81,7 +81,7 @@ across up FirstAmongEqual x y m c d h g = not_so _ (λ l. clash d (key_below-tra
 across up NotAllowed x y m c d h g = key_below-trans up x m y h g
 
 -- in a list in order, those that come before a new member stand before the others
-divided : (up : Bool) (duplicates : Duplicates) (x y m : Option Value) → comparable x m ≡ true → comparable y m ≡ true → keys_in_order (Sorted up duplicates) x y ≡ true
+pub divided : (up : Bool) (duplicates : Duplicates) (x y m : Option Value) → comparable x m ≡ true → comparable y m ≡ true → keys_in_order (Sorted up duplicates) x y ≡ true
     → (comes_before up duplicates x m || not (comes_before up duplicates y m)) ≡ true
 divided up LastAmongEqual x y m j k h =
     elim (cases_Bool (key_below up m x)) [

@@ -1,6 +1,6 @@
 -- When what a statement has prepared can be made: without memory, and without a refusal.
 -- e is an edit of a cell, x and y cells, db a database.
-use Rattle.std.specs.Prelude.{◌≡◌, ℕ, ◌<◌, ◌+◌, ◌^◌, true, List, [], ◌∷◌, Option, Some, ⊤}
+use Rattle.std.specs.Prelude.{◌≡◌, ℕ, ◌<◌, ◌+◌, ◌^◌, true, List, [], ◌∷◌, Some, ⊤}
 use Rattle.dbtg_schema.specs.Lists.{Lists}
 use Rattle.dbtg_schema.specs.Sound.{IsSound}
 use Rattle.dbtg_cells.specs.declared.cell.Cell.{Cell}
@@ -18,16 +18,27 @@ use Rattle.dbtg_unit.specs.CanEdit.{CanEdit}
 use Rattle.dbtg_unit.specs.Edits.{edited}
 use Rattle.dbtg_unit.specs.Fits.{fits}
 use Rattle.dbtg_unit.specs.Hands.{Hands, cell_of}
-use Rattle.dbtg_unit.specs.Lends.{with_cell}
+use Rattle.dbtg_unit.specs.Lends.{holding, with_cell}
 use Rattle.dbtg_unit.specs.Local.{Agrees}
 use Rattle.dbtg_unit.specs.Needs.{need}
 use Rattle.dbtg_unit.specs.Prepared.{Plan, IsPrepared, values_of}
 
+-- the edit can be made of the held cell of its name, where one is held
+abbrev pub CanEditHeld : CellEdit → List (CellName × Cell) → Type 0
+CanEditHeld e cells = (x : Cell) → cell_of e.name cells ≡ Some x → CanEdit e.edit x
+
+-- y shows what the edit makes of the held cell of its name, where one is held
+abbrev pub ShowsEdited : CellEdit → List (CellName × Cell) → Cell → Type 0
+ShowsEdited e cells y = (x : Cell) → cell_of e.name cells ≡ Some x → shown y ≡ edited e.edit (shown x)
+
 -- each edit in turn can be made of the held cell of its name, whatever cell shows what the edits before it made of that one
 abbrev pub CanMake : List CellEdit → List (CellName × Cell) → Type 0
 CanMake [] cells = ⊤
-CanMake (e ∷ es) cells =
-    (x : Cell) → cell_of e.name cells ≡ Some x → CanEdit e.edit x × ((y : Cell) → shown y ≡ edited e.edit (shown x) → CanMake es (with_cell e.name y cells))
+CanMake (e ∷ es) cells = CanEditHeld e cells × ((y : Cell) → ShowsEdited e cells y → CanMake es (with_cell e.name y cells))
+
+-- the hands after an edit of the held cell of its name
+abbrev pub IsMade : CellEdit → Hands → Hands → Type 0
+IsMade e old new = (y : Cell) × ShowsEdited e old.cells y × (new ≡ holding e.name old y)
 
 -- the statement needs nothing more on any database that agrees with what is held
 abbrev pub IsReady : Lists → ℕ → Unit → Hands → Statement → Type 0

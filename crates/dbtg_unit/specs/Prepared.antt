@@ -1,13 +1,14 @@
 -- What a statement has prepared before it is done: its answer, the changes of the cells that it holds, and the change of
 -- its unit.
 -- Letters: s a set, a an area, k a key, e an entry or an edit, c the name of a cell.
-use Rattle.std.specs.Prelude.{◌≡◌, ℕ, true, List, [], ◌∷◌, Option, Some, None, slice_set, map}
+use Rattle.std.specs.Prelude.{◌≡◌, ℕ, true, List, [], ◌∷◌, Option, Some, None, cond, slice_set, map}
 use Rattle.std.specs.List.{list_all}
 use Rattle.dbtg_schema.specs.Lists.{Lists}
 use Rattle.dbtg_cells.specs.declared.key.DbKey.{DbKey}
 use Rattle.dbtg_cells.specs.declared.key.Owner.{Owner}
 use Rattle.dbtg_cells.specs.declared.name.CellName.{CellName}
 use Rattle.dbtg_cells.specs.declared.cell.Cell.{Cell}
+use Rattle.dbtg_cells.specs.Names.{name_eq}
 use Rattle.dbtg_cells.specs.Shown.{CellValue}
 use Rattle.dbtg_cells.specs.Cells.{shown}
 use Rattle.dbtg_unit.specs.declared.edit.CellEdit.{CellEdit}
@@ -18,7 +19,7 @@ use Rattle.dbtg_unit.specs.declared.unit.Answer.{Answer}
 use Rattle.dbtg_unit.specs.declared.unit.Unit.{Unit}
 use Rattle.dbtg_unit.specs.Base.{Database}
 use Rattle.dbtg_unit.specs.Cells.{cell}
-use Rattle.dbtg_unit.specs.Edits.{edited_at}
+use Rattle.dbtg_unit.specs.Edits.{edited, edited_at}
 use Rattle.dbtg_unit.specs.Effect.{effect, moved}
 use Rattle.dbtg_unit.specs.Guesses.{guesses_after}
 use Rattle.dbtg_unit.specs.Hands.{Hands}
@@ -65,9 +66,15 @@ guesses_edited _ guesses = guesses
 abbrev pub values_of : List (CellName × Cell) → List (CellName × CellValue)
 values_of = map (λ e. (e.0, shown e.1))
 
--- the held cells after these edits
+-- what the held cells show after an edit of the one of its name
+abbrev pub value_edited : CellEdit → List (CellName × CellValue) → List (CellName × CellValue)
+value_edited e [] = []
+value_edited e (v ∷ vs) = cond (name_eq e.name v.0) ((v.0, edited e.edit v.1) ∷ vs) (v ∷ value_edited e vs)
+
+-- and after these edits, in their order
 abbrev pub edited_values : List CellEdit → List (CellName × CellValue) → List (CellName × CellValue)
-edited_values edits = map (λ e. (e.0, edited_at e.0 edits e.1))
+edited_values [] values = values
+edited_values (e ∷ es) values = edited_values es (value_edited e values)
 
 -- on this database the plan is the statement's effect: answer, unit, guesses and each cell; and the new database is legal
 pub record IsEffect (schema : Lists) (capacity : ℕ) (db : Database) (unit : Unit) (guesses : List (Option Owner)) (statement : Statement) (plan : Plan) : Type 0 where

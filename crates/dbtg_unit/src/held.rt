@@ -9,9 +9,10 @@ ghost use Rattle.dbtg_schema.specs.Lookups.{at};
 ghost use Rattle.dbtg_unit.specs.Hands.{cell_of};
 ghost use Rattle.dbtg_unit.specs.Lends.{LendsCell};
 
-use crate::entries::{entry_at, set_entry};
+use crate::entries::entry_at;
+use crate::owners::Owners;
 use dbtg_cells::{Cell, CellName, Owner, same_name};
-use dbtg_schema::{AreaNo, Row, SetNo};
+use dbtg_schema::{AreaNo, SetNo};
 use smallvec::SmallVec;
 use std::alloc::{AllocError, AllocFailed, Global};
 use std::marker::Model;
@@ -24,7 +25,7 @@ pub enum Need {
     /// This cell.
     Take(CellName),
     /// Other guesses: the true owner in each set where its guess is wrong.
-    Stale(Row<Option<Owner>>),
+    Stale(Owners),
     /// Nothing more.
     Ready,
 }
@@ -35,7 +36,7 @@ pub struct Held {
     areas: SmallVec<u8, 8>,
     names: SmallVec<CellName, 8>,
     cells: SmallVec<Cell, 8>,
-    guesses: Row<Option<Owner>>,
+    guesses: Owners,
 }
 
 impl Model for Held {
@@ -80,7 +81,7 @@ fn cell_at(cells: &[Cell], at: usize) -> Option<&Cell>
 
 impl Held {
     /// Empty hands with these guesses.
-    pub fn new(alloc: Global, guesses: Row<Option<Owner>>) -> Self
+    pub fn new(alloc: Global, guesses: Owners) -> Self
         ensures { result ≡ record { areas = []; cells = []; guesses = guesses } }
     {
         Self {
@@ -179,10 +180,17 @@ impl Held {
         self.guesses.as_slice()
     }
 
+    /// Guesses these owners, by set.
+    pub fn set_guesses(&mut self, guesses: Owners)
+        ensures { self.new ≡ record self.old { guesses = guesses } }
+    {
+        self.guesses = guesses;
+    }
+
     /// Guesses another owner in a set.
     pub fn set_guess(&mut self, set: SetNo, owner: Option<Owner>)
         ensures { self.new ≡ record self.old { guesses = slice_set self.old.guesses set owner } }
     {
-        set_entry(&mut self.guesses, set.index() as usize, owner);
+        self.guesses.set(set.index() as usize, owner);
     }
 }

@@ -13,12 +13,14 @@ mod edit;
 mod entries;
 mod fits;
 mod held;
+mod in_hand;
 mod kept;
 mod laws;
 mod legality;
 mod order;
 mod owners;
 mod places;
+mod prepared;
 mod reach;
 mod see;
 mod statement;
@@ -32,6 +34,7 @@ pub use changes::{is_rekeyed_in, names_calc, names_item};
 pub use checks::refused_at_once;
 pub use edit::{CellEdit, Edit, UnitEdit};
 pub use held::{Held, Need};
+pub use in_hand::{numbers, occurrence, own_refusal, stored, usage};
 pub use kept::Kept;
 pub use laws::{
     cells_determine, delete_stays_in_its_areas, doomed_is_least, doomed_is_least_set,
@@ -45,5 +48,6 @@ pub use legality::{
 };
 pub use order::{has_area, next_area};
 pub use owners::Owners;
+pub use prepared::{Prepared, finish};
 pub use statement::{Change, Erase, Form, Statement, Suppress, Which};
 pub use unit::{Answer, Cause, Currency, Entry, Place, Status, Unit};

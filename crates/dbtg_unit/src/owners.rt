@@ -1,5 +1,5 @@
 //! An owner or none for each set of a schema, in place. Nothing here takes memory.
-ghost use Rattle.std.specs.Prelude.{◌≡◌, ◌≤◌, ◌<◌, length, slice_set, replicate, None};
+ghost use Rattle.std.specs.Prelude.{◌≡◌, ◌≤◌, ◌<◌, slice_set, replicate, None};
 
 use dbtg_cells::Owner;
 use std::marker::Model;
@@ -50,10 +50,12 @@ impl Owners {
         &self.entries[..self.len]
     }
 
+    /// Notes the owner in a set; where there is no entry of it nothing changes.
     pub fn set(&mut self, set: usize, owner: Option<Owner>)
-        requires { set < length self.old }
         ensures { self.new ≡ slice_set self.old set owner }
     {
-        set_entry(&mut self.entries, set, owner);
+        if set < self.len {
+            set_entry(&mut self.entries, set, owner);
+        }
     }
 }

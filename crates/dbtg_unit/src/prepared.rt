@@ -1,13 +1,14 @@
 //! What a statement has prepared, and how it is done: without memory and without a refusal.
-ghost use Rattle.std.specs.Prelude.{◌≡◌};
-ghost use Rattle.dbtg_unit.specs.Making.{CanMake};
-ghost use Rattle.dbtg_unit.specs.Prepared.{edited_values, guesses_edited, unit_after, values_of};
+ghost use Rattle.std.specs.Prelude.{◌≡◌, slice_set};
+ghost use Rattle.dbtg_unit.specs.Making.{CanEditHeld, CanMake, IsMade};
+ghost use Rattle.dbtg_unit.specs.Prepared.{edited_values, guesses_edited, renoted_at, unit_after, unit_edited, values_of};
 
+use crate::apply::edit_cell;
 use crate::edit::{CellEdit, UnitEdit};
 use crate::held::Held;
 use crate::unit::{Answer, Unit};
-use dbtg_cells::DbKey;
-use dbtg_schema::{Row, Schema};
+use dbtg_cells::{DbKey, Mode};
+use dbtg_schema::{AreaNo, Row, Schema};
 use std::marker::Model;
 
 /// What a statement has prepared: its answer, the changes of the cells that it holds in their order, the new versions of the
@@ -53,7 +54,76 @@ impl Prepared {
     }
 }
 
-/// Makes what was prepared of the cells in hand, of the guesses and of the unit.
+fn edit_held(held: &mut Held, edit: CellEdit)
+    requires { CanEditHeld edit held.old.cells }
+    ensures { IsMade edit held.old held.new }
+{
+    let CellEdit { name, edit } = edit;
+    match held.cell_mut(&name) {
+        Some(cell) => edit_cell(cell, edit),
+        None => {}
+    }
+}
+
+fn edit_cells(held: &mut Held, edits: Row<CellEdit>)
+    requires { CanMake edits held.old.cells }
+    ensures areas { held.new.areas ≡ held.old.areas }
+    ensures cells { values_of held.new.cells ≡ edited_values edits (values_of held.old.cells) }
+    ensures guesses { held.new.guesses ≡ held.old.guesses }
+{
+    for edit in edits.into_vec() {
+        edit_held(held, edit);
+    }
+}
+
+fn note_versions(unit: &mut Unit, versions: &[(DbKey, u64)])
+    ensures { unit.new ≡ record unit.old { kept = renoted_at versions.now unit.old.kept } }
+{
+    for version in versions {
+        unit.renote(version.0, version.1);
+    }
+}
+
+fn set_mode(unit: &mut Unit, area: AreaNo, mode: Option<Mode>)
+    ensures { unit.new ≡ record unit.old { modes = slice_set unit.old.modes area mode } }
+{
+    match mode {
+        Some(mode) => unit.open(area, mode),
+        None => unit.close(area),
+    }
+}
+
+fn change_unit(schema: &Schema, change: UnitEdit, held: &mut Held, unit: &mut Unit)
+    ensures held { held.new ≡ record held.old { guesses = guesses_edited change held.old.guesses } }
+    ensures unit { unit.new ≡ unit_edited schema.now change unit.old }
+{
+    match change {
+        UnitEdit::Same => {}
+        UnitEdit::See {
+            key,
+            owners,
+            suppress,
+        } => {
+            unit.see(schema, key, owners.as_slice(), &suppress);
+            held.set_guesses(owners);
+        }
+        UnitEdit::Move { set, place } => {
+            held.set_guess(set, Some(place.owner));
+            unit.move_to(set, place);
+        }
+        UnitEdit::Leave { set } => held.set_guess(set, None),
+        UnitEdit::SetMode { area, mode } => set_mode(unit, area, mode),
+        UnitEdit::Keep { kept } => unit.keep(kept),
+        UnitEdit::Forget { key } => unit.forget(key),
+        UnitEdit::ForgetAll => unit.forget_all(),
+        UnitEdit::LoseCurrent { key } => {
+            unit.clear_run_unit();
+            unit.forget(key);
+        }
+    }
+}
+
+/// Makes what was prepared of the cells in hand, of the guesses and of the unit. It takes no memory and cannot fail.
 pub fn finish(schema: &Schema, prepared: Prepared, held: &mut Held, unit: &mut Unit) -> Answer
     requires { CanMake prepared.cells held.old.cells }
     ensures answer { result ≡ prepared.answer }
@@ -62,5 +132,14 @@ pub fn finish(schema: &Schema, prepared: Prepared, held: &mut Held, unit: &mut U
     ensures guesses { held.new.guesses ≡ guesses_edited prepared.unit held.old.guesses }
     ensures unit { unit.new ≡ unit_after schema.now prepared unit.old }
 {
-    todo!()
+    let Prepared {
+        answer,
+        cells,
+        versions,
+        unit: change,
+    } = prepared;
+    edit_cells(held, cells);
+    note_versions(unit, versions.as_slice());
+    change_unit(schema, change, held, unit);
+    answer
 }

@@ -6,7 +6,7 @@ use crate::owners::Owners;
 use crate::statement::{Form, Statement, Suppress};
 use crate::unit::{Cause, Status};
 use dbtg_cells::{Cell, CellName, DbKey, Owner, Usage};
-use dbtg_schema::{AreaNo, RecordNo, Row};
+use dbtg_schema::{AreaNo, RecordNo};
 use std::test::*;
 
 mod cells;
@@ -75,7 +75,7 @@ fn kept_key_has_its_version(rt: HostRuntime) -> Result<(), Fail> {
 #[test]
 fn held_gives_back_what_it_took(rt: HostRuntime) -> Result<(), Fail> {
     let area = AreaNo::new(1);
-    let mut held = Held::new(rt.alloc(), Row::of(Vec::new(rt.alloc())));
+    let mut held = Held::new(rt.alloc(), Owners::none(0));
     held.push_area(area)?;
     assert!(rt; held.has(area));
     assert_eq!(rt; held.pop_area(), Some(area));

@@ -1,0 +1,85 @@
+//! How a record joins the current occurrence of a set: why it may not, and at which place it does.
+ghost use Rattle.std.specs.Prelude.{◌≡◌, ◌&&◌};
+ghost use Rattle.std.specs.List.{list_any};
+ghost use Rattle.std.specs.Option.{option_to_list};
+ghost use Rattle.dbtg_schema.specs.Lookups.{first_cause};
+ghost use Rattle.dbtg_cells.specs.Keys.{option_value_eq};
+ghost use Rattle.dbtg_cells.specs.Members.{keys_in, members_in};
+ghost use Rattle.dbtg_unit.specs.EditsOf.{joining_edits};
+ghost use Rattle.dbtg_unit.specs.Effect.{refuses_equal, uses_position};
+ghost use Rattle.dbtg_unit.specs.Found.{is_lost};
+ghost use Rattle.dbtg_plan.specs.Joining.{checks_at, joined_place};
+
+use dbtg_cells::{CellName, DbKey, Owner, Ring, Value};
+use dbtg_schema::{Duplicates, Order, Schema, SetNo};
+use dbtg_unit::{Cause, CellEdit, Edit, Place, Unit};
+
+/// The current of a set; SYSTEM where there is none.
+pub(crate) fn joined_place(schema: &Schema, unit: &Unit, set: SetNo) -> Place
+    ensures { result ≡ joined_place schema.now unit.now set }
+{
+    match unit.place_in(schema, set) {
+        Some(place) => place,
+        None => {
+            Place {
+                owner: Owner::System,
+                at: None,
+            }
+        }
+    }
+}
+
+fn is_position_lost(at: Option<DbKey>, ring: &Ring) -> bool
+    ensures { result ≡ is_lost at (keys_in ring.now.occurrence) }
+{
+    match at {
+        Some(key) => !ring.contains(key),
+        None => false,
+    }
+}
+
+// Is the position lost, where the order goes by it?
+fn loses_position(order: Order, at: Option<DbKey>, ring: &Ring) -> bool
+    ensures { result ≡ (uses_position order && is_lost at (keys_in ring.now.occurrence)) }
+{
+    match order {
+        Order::Next => is_position_lost(at, ring),
+        Order::Prior => is_position_lost(at, ring),
+        _ => false,
+    }
+}
+
+// Is the sort key taken, where the order refuses equal ones?
+fn takes_twice(order: Order, sort_key: &Option<Value>, ring: &Ring) -> bool
+    ensures { result ≡ (refuses_equal order && list_any (λ e. option_value_eq e.1 sort_key.now) (members_in ring.now.occurrence)) }
+{
+    match order {
+        Order::Sorted {
+            ascending: _,
+            duplicates: Duplicates::NotAllowed,
+        } => ring.has_sort_key(sort_key, None),
+        _ => false,
+    }
+}
+
+fn refusal_at(
+    schema: &Schema,
+    set: SetNo,
+    place: Place,
+    ring: &Ring,
+    sort_key: &Option<Value>,
+) -> Option<Cause>
+    ensures { result ≡ first_cause (checks_at schema.now set place ring.now.occurrence sort_key.now) }
+{
+    let order = schema.order_of(set);
+    if !ring.is_present() {
+        return Some(Cause::Deleted);
+    }
+    if loses_position(order, place.at, ring) {
+        return Some(Cause::PositionLost);
+    }
+    if takes_twice(order, sort_key, ring) {
+        return Some(Cause::DuplicatesNotAllowed);
+    }
+    None
+}

@@ -1,0 +1,93 @@
+//! What is read off the cells in hand. Nothing here takes memory.
+ghost use Rattle.std.specs.Prelude.{◌≡◌, [], is_some, option_and_then, option_copied, option_map, unwrap_or};
+ghost use Rattle.dbtg_schema.specs.Lookups.{first_cause};
+ghost use Rattle.dbtg_unit.specs.CellNames.{place_of};
+ghost use Rattle.dbtg_unit.specs.InHand.{numbers_in, occurrence_in, own_checks_in, stored_in, users_in};
+
+use crate::held::Held;
+use crate::unit::{Cause, Unit};
+use dbtg_cells::{Cell, CellName, DbKey, Extent, Owner, Ring, Stored, Usage, same_owner};
+use dbtg_schema::{AreaNo, RecordNo, SetNo};
+
+// How an owner names a ring.
+fn ring_name(set: SetNo, owner: &Owner) -> CellName
+    ensures { result ≡ CellName.Ring set (place_of owner.now) }
+{
+    match owner {
+        Owner::System => CellName::Ring(set, None),
+        Owner::Rec(key) => CellName::Ring(set, Some((key.rtype, key.number))),
+    }
+}
+
+/// The record of a key, if its slot is in hand and has that record.
+pub fn stored<'a>(held: &'a Held, key: &DbKey) -> Option<&'a Stored>
+    ensures { option_copied result ≡ stored_in held.now key.now }
+{
+    match held.cell(&CellName::Slot(key.rtype, key.number)) {
+        Some(Cell::Slot(slot)) => match slot.record() {
+            Some(stored) => {
+                if stored.generation == key.generation {
+                    Some(stored)
+                } else {
+                    None
+                }
+            }
+            None => None,
+        },
+        _ => None,
+    }
+}
+
+/// The ring of an owner in a set, if it is in hand and has that owner's occurrence.
+pub fn occurrence<'a>(held: &'a Held, set: SetNo, owner: &Owner) -> Option<&'a Ring>
+    ensures there { is_some result ≡ is_some (occurrence_in held.now set owner.now) }
+    ensures value { option_and_then (λ r. r.occurrence) (option_copied result) ≡ occurrence_in held.now set owner.now }
+{
+    match held.cell(&ring_name(set, owner)) {
+        Some(Cell::Ring(ring)) => match ring.owner() {
+            Some(own) => {
+                if same_owner(own, *owner) {
+                    Some(ring)
+                } else {
+                    None
+                }
+            }
+            None => None,
+        },
+        _ => None,
+    }
+}
+
+/// The extent of a record type, if it is in hand.
+pub fn numbers(held: &Held, rtype: RecordNo) -> Option<&Extent>
+    ensures { unwrap_or (option_map (λ e. e.numbers) (option_copied result)) [] ≡ numbers_in held.now rtype }
+{
+    match held.cell(&CellName::Extent(rtype)) {
+        Some(Cell::Extent(extent)) => Some(extent),
+        _ => None,
+    }
+}
+
+/// The usage cell of an area, if it is in hand.
+pub fn usage(held: &Held, area: AreaNo) -> Option<&Usage>
+    ensures { unwrap_or (option_map (λ u. u.users) (option_copied result)) [] ≡ users_in held.now area }
+{
+    match held.cell(&CellName::Usage(area)) {
+        Some(Cell::Usage(usage)) => Some(usage),
+        _ => None,
+    }
+}
+
+/// Why a statement about a unit's current of run-unit is refused for the record itself: it is deleted, or it was changed since the
+/// unit kept it.
+pub fn own_refusal(held: &Held, unit: &Unit, key: &DbKey) -> Option<Cause>
+    ensures { result ≡ first_cause (own_checks_in held.now unit.now key.now) }
+{
+    let Some(stored) = stored(held, key) else {
+        return Some(Cause::Deleted);
+    };
+    match unit.kept_version(*key) {
+        Some(version) if version != stored.version => Some(Cause::ChangedByAnother),
+        _ => None,
+    }
+}
