@@ -1,4 +1,5 @@
 //! Every statement but DELETE, on the cells that it holds: what it needs next, and what it does once it needs nothing more.
 #![tactic(auto)]
 
+mod finding;
 mod joining;

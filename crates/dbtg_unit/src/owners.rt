@@ -44,6 +44,16 @@ impl Owners {
         }
     }
 
+    /// These owners, the first sixteen where there are more.
+    pub fn of(owners: &[Option<Owner>]) -> Self
+        ensures { result ≡ take 16 owners.now }
+    {
+        let len = owners.len().min(SETS);
+        let mut entries = [None; SETS];
+        entries[..len].copy_from_slice(&owners[..len]);
+        Self { entries, len }
+    }
+
     pub fn as_slice(&self) -> &[Option<Owner>]
         ensures { result.now ≡ self.now }
     {
