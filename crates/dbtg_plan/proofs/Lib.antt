@@ -1,2 +1,5 @@
 pub mod JoiningLemmas
 pub mod PlanLemmas
+pub mod MissingCells
+pub mod NumberedKeys
+pub mod FindingLemmas

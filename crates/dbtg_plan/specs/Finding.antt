@@ -1,6 +1,6 @@
 -- What a FIND finds, read off the cells in hand.
 -- k is a key, n a number, p a position, v a value, s a set, r and t record types, a an area.
-use Rattle.std.specs.Prelude.{ℕ, ◌+◌, ◌-◌, Bool, true, false, not, ◌&&◌, ◌==◌, nat_lt, List, [], ◌∷◌, ◌++◌, Option, Some, None, Result, Ok, Err, is_none, is_some, map, filter, length, option_map, option_and_then, unwrap_or, if◌then◌else◌}
+use Rattle.std.specs.Prelude.{ℕ, ◌+◌, ◌-◌, take, Bool, true, false, not, ◌&&◌, ◌==◌, nat_lt, List, [], ◌∷◌, ◌++◌, Option, Some, None, Result, Ok, Err, is_none, is_some, map, filter, length, option_map, option_and_then, unwrap_or, if◌then◌else◌}
 use Rattle.std.specs.List.{find, list_any, range_with_len, flat_map}
 use Rattle.dbtg_schema.specs.Lists.{Lists}
 use Rattle.dbtg_schema.specs.Lookups.{at, first, first_cause, some_and}
@@ -16,14 +16,14 @@ use Rattle.dbtg_cells.specs.Keys.{has_type, key_lt, value_eq}
 use Rattle.dbtg_cells.specs.Members.{keys_in, members_in}
 use Rattle.dbtg_cells.specs.Names.{name_eq}
 use Rattle.dbtg_cells.specs.Numbers.{has_values, is_used, last_of, numbers_where}
-use Rattle.dbtg_unit.specs.declared.edit.UnitEdit.TheVariants.{Same, See}
+use Rattle.dbtg_unit.specs.declared.edit.UnitEdit.TheVariants.{See}
 use Rattle.dbtg_unit.specs.declared.statement.Form.{Form}
 use Rattle.dbtg_unit.specs.declared.statement.Form.TheVariants.{Key, CurrentOfUnit, CurrentOfType, CurrentOfSet, CurrentOfArea, InSet, InArea, OwnerOf, Calc, NextDuplicate, Sorted}
 use Rattle.dbtg_unit.specs.declared.statement.Suppress.{Suppress}
 use Rattle.dbtg_unit.specs.declared.statement.Which.{Which}
 use Rattle.dbtg_unit.specs.declared.unit.Cause.{Cause}
 use Rattle.dbtg_unit.specs.declared.unit.Cause.TheVariants.{Deleted, End, NoneSatisfies, PositionLost}
-use Rattle.dbtg_unit.specs.declared.unit.Status.TheVariants.{Done, Refused}
+use Rattle.dbtg_unit.specs.declared.unit.Status.TheVariants.{Done}
 use Rattle.dbtg_unit.specs.declared.unit.Unit.{Unit}
 use Rattle.dbtg_unit.specs.CellNames.{slot_name}
 use Rattle.dbtg_unit.specs.Found.{chosen, chosen_by_key, found_unless, is_lost, needs_position, with_current}
@@ -32,6 +32,8 @@ use Rattle.dbtg_unit.specs.InHand.{key_of, numbers_in, occurrence_in, stored_in,
 use Rattle.dbtg_unit.specs.Needs.{current_owner, found_slot, ring_names, slot_names}
 use Rattle.dbtg_unit.specs.Prepared.{Plan}
 use Rattle.dbtg_unit.specs.Units.{key_of_owner, key_of_place, place_in}
+use Rattle.dbtg_plan.specs.Missing.{first_missing}
+use Rattle.dbtg_plan.specs.Plans.{done_plan, refusal}
 
 -- the record k in hand, or this cause where it is not there
 abbrev pub stored_or : Cause → Hands → DbKey → Result DbKey Cause
@@ -130,10 +132,6 @@ cells_to_find schema unit (Calc r values) = Extent r ∷ []
 cells_to_find schema unit (NextDuplicate r) = Extent r ∷ []
 cells_to_find schema unit (Sorted v s) = ring_names s (current_owner schema unit s)
 
--- the first of some cells that is not in hand
-abbrev pub first_missing : Hands → List CellName → Option CellName
-first_missing hands = find (λ c. not (list_any (λ e. name_eq c e.0) hands.cells))
-
 -- the first cell that is not in hand, of those by which it is found and then the slot of what is found
 abbrev pub next_cell_in : Lists → Unit → Hands → Form → Option CellName
 next_cell_in schema unit hands form = first_missing hands (cells_to_find schema unit form ++ found_slot (found_in schema unit hands form))
@@ -144,6 +142,5 @@ owners_in hands k = unwrap_or (option_map (λ r. r.owners) (stored_in hands k)) 
 
 -- what is done with what is found
 abbrev pub plan_of_found : Hands → Suppress → Result DbKey Cause → Plan
-plan_of_found hands suppress (Ok k) =
-    record { answer = record { status = Done; key = Some k; items = None }; cells = []; versions = []; unit = See k (owners_in hands k) suppress }
-plan_of_found hands suppress (Err cause) = record { answer = record { status = Refused cause; key = None; items = None }; cells = []; versions = []; unit = Same }
+plan_of_found hands suppress (Ok k) = done_plan (See k (take 16 (owners_in hands k)) suppress) (Some k) None
+plan_of_found hands suppress (Err cause) = refusal cause

@@ -10,7 +10,8 @@ pub(crate) fn area_count(schema: &Schema) -> u8
     schema.areas().len() as u8
 }
 
-pub(crate) fn type_count(schema: &Schema) -> u8
+/// The number of record types.
+pub fn type_count(schema: &Schema) -> u8
     ensures count { result ≡ length schema.now.types }
     ensures limit { result ≤ 16 }
 {
@@ -18,7 +19,8 @@ pub(crate) fn type_count(schema: &Schema) -> u8
     schema.types().len() as u8
 }
 
-pub(crate) fn set_count(schema: &Schema) -> u8
+/// The number of sets.
+pub fn set_count(schema: &Schema) -> u8
     ensures { result ≡ length schema.now.sets }
 {
     schema.is_well_formed();

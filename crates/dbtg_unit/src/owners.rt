@@ -1,5 +1,5 @@
 //! An owner or none for each set of a schema, in place. Nothing here takes memory.
-ghost use Rattle.std.specs.Prelude.{◌≡◌, ◌≤◌, ◌<◌, slice_set, replicate, None};
+ghost use Rattle.std.specs.Prelude.{◌≡◌, ◌≤◌, ◌<◌, slice_set, replicate, take, None};
 
 use dbtg_cells::Owner;
 use std::marker::Model;

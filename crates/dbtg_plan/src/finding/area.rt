@@ -7,10 +7,12 @@ ghost use Rattle.dbtg_unit.specs.Belongs.{IsWithin};
 ghost use Rattle.dbtg_unit.specs.Fits.{which_fits};
 ghost use Rattle.dbtg_unit.specs.Found.{chosen_by_key, found_unless};
 ghost use Rattle.dbtg_unit.specs.declared.unit.Cause.TheVariants.{End};
-ghost use Rattle.dbtg_plan.specs.Finding.{area_keys_in, first_missing, is_above, is_below, is_wanted, keys_wanted};
+ghost use Rattle.dbtg_plan.specs.Missing.{first_missing};
+ghost use Rattle.dbtg_plan.specs.Finding.{area_keys_in, is_above, is_below, is_wanted, keys_wanted};
 
 use crate::finding::current::of_area;
 use crate::finding::numbered;
+use crate::missing::is_missing;
 use dbtg_cells::{CellName, DbKey};
 use dbtg_schema::{AreaNo, RecordNo, Schema};
 use dbtg_unit::{Cause, Held, Unit, Which, numbers, type_count};
@@ -266,7 +268,7 @@ pub(crate) fn missing_extent(
     for t in 0..type_count(schema) {
         let rtype = RecordNo::new(t);
         let name = CellName::Extent(rtype);
-        if is_wanted(schema, &named, area, rtype) && held.cell(&name).is_none() {
+        if is_wanted(schema, &named, area, rtype) && is_missing(held, &name) {
             return Some(name);
         }
     }

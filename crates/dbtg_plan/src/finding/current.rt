@@ -2,6 +2,7 @@
 ghost use Rattle.std.specs.Prelude.{◌≡◌, option_and_then};
 ghost use Rattle.dbtg_schema.specs.Lookups.{at};
 ghost use Rattle.dbtg_unit.specs.Found.{with_current};
+ghost use Rattle.dbtg_unit.specs.Needs.{current_owner};
 ghost use Rattle.dbtg_unit.specs.Units.{key_of_owner, place_in};
 ghost use Rattle.dbtg_unit.specs.declared.unit.Cause.TheVariants.{Deleted};
 ghost use Rattle.dbtg_plan.specs.Finding.{stored_or};
@@ -44,15 +45,22 @@ pub(crate) fn of_area(unit: &Unit, area: AreaNo) -> Option<DbKey>
     entry_at(unit.currency.areas.as_slice(), area.index() as usize)
 }
 
-/// The record that owns the current occurrence of a set.
-pub(crate) fn owner_in(schema: &Schema, unit: &Unit, set: SetNo) -> Option<DbKey>
-    ensures { result ≡ option_and_then (λ place. key_of_owner place.owner) (place_in schema.now unit.now set) }
+/// The owner of the current occurrence of a set.
+pub(crate) fn owner_in(schema: &Schema, unit: &Unit, set: SetNo) -> Option<Owner>
+    ensures { result ≡ current_owner schema.now unit.now set }
 {
     match unit.place_in(schema, set) {
-        Some(place) => match place.owner {
-            Owner::System => None,
-            Owner::Rec(key) => Some(key),
-        },
+        Some(place) => Some(place.owner),
         None => None,
+    }
+}
+
+/// The record that owns the current occurrence of a set.
+pub(crate) fn owner_key(schema: &Schema, unit: &Unit, set: SetNo) -> Option<DbKey>
+    ensures { result ≡ option_and_then (λ place. key_of_owner place.owner) (place_in schema.now unit.now set) }
+{
+    match owner_in(schema, unit, set) {
+        Some(Owner::Rec(key)) => Some(key),
+        _ => None,
     }
 }
