@@ -58,9 +58,10 @@ can-place First position key occurrence there found kinds stand = there-is occur
 can-place Last position key occurrence there found kinds stand = there-is occurrence there
 can-place Next position key occurrence there found kinds stand = is-position position occurrence (there-is occurrence there) found
 can-place Prior position key occurrence there found kinds stand = is-position position occurrence (there-is occurrence there) found
-can-place (Sorted up duplicates) position key occurrence there found kinds stand =
-    (there-is occurrence there,
-    pairwise-weaker (λ (x y : Entry). keys_in_order (Sorted up duplicates) x.1 y.1) _ (λ (e : Entry). comparable e.1 key) (members_in occurrence) (λ x y j k h. divided up duplicates x.1 y.1 key j k h) kinds stand)
+can-place (Sorted up duplicates) position key occurrence there found kinds stand = (
+  there-is occurrence there,
+  pairwise-weaker (λ (x y : Entry). keys_in_order (Sorted up duplicates) x.1 y.1) _ (λ (e : Entry). comparable e.1 key) (members_in occurrence) (λ x y j k h. divided up duplicates x.1 y.1 key j k h) kinds stand,
+)
 
 -- WHAT A LEGAL DATABASE HAS IN A RING
 

@@ -1,5 +1,9 @@
+pub mod NumberSteps
 pub mod JoiningLemmas
 pub mod PlanLemmas
 pub mod MissingCells
 pub mod NumberedKeys
 pub mod FindingLemmas
+pub mod StoreInHand
+pub mod MissingLemmas
+pub mod FindPlans

@@ -2,6 +2,8 @@
 use Rattle.std.specs.Prelude.{Bool, List, [], Option, Some, None}
 use Rattle.dbtg_schema.specs.Lookups.{first_cause}
 use Rattle.dbtg_cells.specs.declared.key.DbKey.{DbKey}
+use Rattle.dbtg_cells.specs.declared.key.Value.{Value}
+use Rattle.dbtg_unit.specs.declared.edit.UnitEdit.{UnitEdit}
 use Rattle.dbtg_unit.specs.declared.edit.UnitEdit.TheVariants.{Same}
 use Rattle.dbtg_unit.specs.declared.unit.Answer.{Answer}
 use Rattle.dbtg_unit.specs.declared.unit.Cause.{Cause}
@@ -26,3 +28,7 @@ unless_refusal None plan = plan
 abbrev pub on_current_plan : Option DbKey → (DbKey → List (Bool × Cause)) → (DbKey → Plan) → Plan
 on_current_plan None checks plan = refusal NoCurrentOfRunUnit
 on_current_plan (Some k) checks plan = unless_refusal (first_cause (checks k)) (plan k)
+
+-- done, with this change of the unit alone, and with a key and items for the answer, or none
+abbrev pub done_plan : UnitEdit → Option DbKey → Option (List Value) → Plan
+done_plan change key items = record { answer = record { status = Done; key = key; items = items }; cells = []; versions = []; unit = change }

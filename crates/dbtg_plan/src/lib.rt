@@ -1,5 +1,8 @@
 //! Every statement but DELETE, on the cells that it holds: what it needs next, and what it does once it needs nothing more.
 #![tactic(auto)]
 
+mod calc;
 mod finding;
 mod joining;
+mod missing;
+mod outcomes;

@@ -41,6 +41,12 @@ use Rattle.dbtg_unit.proofs.Outcomes.{of_unless, of_current, of_finding, of_effe
 use Rattle.dbtg_unit.proofs.RemoveCells.{remove_makes}
 use Rattle.dbtg_unit.proofs.StoreCells.{store_makes}
 
+-- what a STORE that passes has found: a number that no record has, and a current owner with a list in each automatic set
+pub record StoreFound (schema : Lists) (capacity : ℕ) (db : Database) (unit : Unit) (t : ℕ) : Type 0 where
+  pub counted : 1 ≤ unwrap_or (free_number capacity db t) 0
+  pub unused : is_live db (key_at db t (unwrap_or (free_number capacity db t) 0)) ≡ false
+  pub stands : (s : ℕ) → list_any (λ x. eqb x s) (automatic_sets schema t) ≡ true → (place : Place) × (place_in schema unit s ≡ Some place) × (is_some (db.lists s place.owner) ≡ true)
+
 module _ (schema : Lists) (capacity : ℕ) (db : Database) (unit : Unit) (legal : Legal schema capacity db) where
   -- where the outcome is done and legal, its cells are the edited ones
   abbrev pub Edited : List CellEdit → Outcome → Type 0
@@ -84,30 +90,35 @@ module _ (schema : Lists) (capacity : ℕ) (db : Database) (unit : Unit) (legal 
       let same : place ≡ at.0 = ap (λ (p : Option Place). unwrap_or p (record { owner = System; at = None })) at.1 in
       (at.0, at.1, ap (λ (p : Place). is_some (db.lists s p.owner)) (sym same) ∙ ap is_some list.1)
 
+  pub store_found : (t : ℕ) (items : List Value) → list_any (λ s. is_none (place_in schema unit s)) (automatic_sets schema t) ≡ false
+      → first_cause (store_checks schema capacity db unit t items) ≡ None → StoreFound schema capacity db unit t
+  store_found t items placed checks =
+      let room = passes_check (is_none (free_number capacity db t)) NoRoom _ checks in
+      let unique = passes_check (calc_taken schema capacity db t items (λ k. false)) DuplicatesNotAllowed _ room.1 in
+      let n = some_from (free_number capacity db t) room.0 in
+      let number = unwrap_or (free_number capacity db t) 0 in
+      let is : n.0 ≡ number = ap (λ (o : Option ℕ). unwrap_or o 0) (sym n.1) in
+      let chosen = number_passes free n.0 (range_with_len 1 capacity) (first_has (filter free (range_with_len 1 capacity)) n.0 n.1) in
+      let within = number_within n.0 1 capacity chosen.0 in
+      let low = within.0 in
+      record {
+        counted = subst (λ (m : ℕ). 1 ≤ m) is low;
+        unused = subst (λ m. is_live db (key_at db t m) ≡ false) is (not-true _ (and_parts (not (is_live db (key_at db t n.0))) (ltb (db.last t n.0) 255) chosen.1).0);
+        stands = λ s h. placing s (key_item schema s t items) (none_at (λ s. is_none (place_in schema unit s)) s (automatic_sets schema t) h placed)
+            (passes-each (λ s. place_checks schema db unit s (key_item schema s t items)) (automatic_sets schema t) s h unique.1);
+      } where
+        free : ℕ → Bool
+        free n = not (is_live db (key_at db t n)) && ltb (db.last t n) 255
+
   of_store : (t : ℕ) (items : List Value) (suppress : Suppress) → lacks_current schema unit (Store t items suppress) ≡ false
       → Edited (edits_of schema capacity db unit (Store t items suppress)) (effect_on_cells schema capacity db unit (Store t items suppress))
   of_store t items suppress placed =
       of_unless db unit (Edited (edits_of schema capacity db unit (Store t items suppress))) (no_refusal (edits_of schema capacity db unit (Store t items suppress)))
       (first_cause (store_checks schema capacity db unit t items)) (stored schema capacity db unit (new_key db t (unwrap_or (free_number capacity db t) 0)) items suppress) made where
-        free : ℕ → Bool
-        free n = not (is_live db (key_at db t n)) && ltb (db.last t n) 255
-
         made : first_cause (store_checks schema capacity db unit t items) ≡ None → Edited (edits_of schema capacity db unit (Store t items suppress)) (stored schema capacity db unit (new_key db t (unwrap_or (free_number capacity db t) 0)) items suppress)
         made checks is_done lawful c =
-            let room = passes_check (is_none (free_number capacity db t)) NoRoom _ checks in
-            let unique = passes_check (calc_taken schema capacity db t items (λ k. false)) DuplicatesNotAllowed _ room.1 in
-            let n = some_from (free_number capacity db t) room.0 in
-            let number = unwrap_or (free_number capacity db t) 0 in
-            let is : n.0 ≡ number = ap (λ (o : Option ℕ). unwrap_or o 0) (sym n.1) in
-            let chosen = number_passes free n.0 (range_with_len 1 capacity) (first_has (filter free (range_with_len 1 capacity)) n.0 n.1) in
-            let within = number_within n.0 1 capacity chosen.0 in
-            let low = within.0 in
-            let unused = not-true _ (and_parts (not (is_live db (key_at db t n.0))) (ltb (db.last t n.0) 255) chosen.1).0 in
-            store_makes schema capacity db unit (new_key db t number) items legal (subst (λ (m : ℕ). 1 ≤ m) is low) refl
-            (subst (λ m. is_live db (key_at db t m) ≡ false) is unused)
-            (λ s h. placing s (key_item schema s t items) (none_at (λ s. is_none (place_in schema unit s)) s (automatic_sets schema t) h placed)
-            (passes-each (λ s. place_checks schema db unit s (key_item schema s t items)) (automatic_sets schema t) s h unique.1))
-            lawful c
+            let found = store_found t items placed checks in
+            store_makes schema capacity db unit (new_key db t (unwrap_or (free_number capacity db t) 0)) items legal found.counted refl found.unused found.stands lawful c
 
   -- STATEMENTS ABOUT THE CURRENT OF RUN-UNIT
 

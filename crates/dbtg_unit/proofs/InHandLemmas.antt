@@ -37,7 +37,7 @@ use Rattle.dbtg_unit.proofs.ReadingCells.{held_is, held_cell, list_in, record_at
 -- READING ONE CELL
 
 -- of a record, by what the slot shows
-stored_shows : (k : DbKey) (x : Cell) → stored_of k.generation (Some x) ≡ option_and_then (λ (r : Stored). cond (eqb r.generation k.generation) (Some r) None) (slot_in (shown x))
+pub stored_shows : (k : DbKey) (x : Cell) → stored_of k.generation (Some x) ≡ option_and_then (λ (r : Stored). cond (eqb r.generation k.generation) (Some r) None) (slot_in (shown x))
 stored_shows k (SlotCell None) = refl
 stored_shows k (SlotCell (Some stored)) = refl
 stored_shows k (UsageCell u) = refl
@@ -48,7 +48,7 @@ record_of : (k : DbKey) (slot : Option Stored) → record_at slot k ≡ option_m
 record_of k None = refl
 record_of k (Some r) = elim (eqb r.generation k.generation) as (λ b. cond b (Some (record_in r)) None ≡ option_map record_in (cond b (Some r) None)) [ true ↦ refl | false ↦ refl ]
 
-occurrence_shows : (o : Owner) (x : Cell) → occurrence_of o (Some x) ≡ of_owner o (ring_in (shown x))
+pub occurrence_shows : (o : Owner) (x : Cell) → occurrence_of o (Some x) ≡ of_owner o (ring_in (shown x))
 occurrence_shows o (RingCell r) = refl
 occurrence_shows o (UsageCell u) = refl
 occurrence_shows o (ExtentCell e) = refl
@@ -59,13 +59,13 @@ list_of o None = refl
 list_of o (Some r) =
     elim (owner_eq r.owner o) as (λ b. cond b (Some (map (λ (e : DbKey × Option Value). e.0) r.members)) None ≡ option_map (λ (r : Occurrence). map (λ (e : DbKey × Option Value). e.0) r.members) (cond b (Some r) None)) [ true ↦ refl | false ↦ refl ]
 
-numbers_show : (x : Cell) → numbers_of (Some x) ≡ extent_in (shown x)
+pub numbers_show : (x : Cell) → numbers_of (Some x) ≡ extent_in (shown x)
 numbers_show (ExtentCell e) = refl
 numbers_show (UsageCell u) = refl
 numbers_show (RingCell r) = refl
 numbers_show (SlotCell s) = refl
 
-users_show : (x : Cell) → users_of (Some x) ≡ usage_in (shown x)
+pub users_show : (x : Cell) → users_of (Some x) ≡ usage_in (shown x)
 users_show (UsageCell u) = refl
 users_show (ExtentCell e) = refl
 users_show (RingCell r) = refl

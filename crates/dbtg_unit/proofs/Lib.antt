@@ -77,3 +77,4 @@ pub mod MakingLemmas
 pub mod InHandLemmas
 pub mod ExtentInHand
 pub mod ReadyParts
+pub mod SameHands

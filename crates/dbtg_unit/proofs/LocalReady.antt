@@ -46,7 +46,8 @@ ready_parts None (Some c) stale owners h = cc
 ready_parts None None true owners h = cc
 ready_parts None None false owners h = (refl, refl)
 
-holds_any : (cells : List (CellName × Cell)) (c : CellName) → list_any (λ e. name_eq c e.0) cells ≡ holds cells c
+-- a cell is held where its name is among those in hand
+pub holds_any : (cells : List (CellName × Cell)) (c : CellName) → list_any (λ e. name_eq c e.0) cells ≡ holds cells c
 holds_any [] c = refl
 holds_any (e ∷ es) c = elim (name_eq c e.0) as (λ b. (b || list_any (λ e. name_eq c e.0) es) ≡ cond b true (holds es c)) [ true ↦ refl | false ↦ holds_any es c ]
 

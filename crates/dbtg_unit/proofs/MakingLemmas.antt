@@ -1,18 +1,29 @@
 -- What is held while edits are made of it.
 -- e is an edit of a cell, c and d names of cells, x and y cells, db a database.
-use Rattle.std.proofs.Common.{◌≡◌, refl, sym, ◌∙◌, ap, subst, true, false, cond, List, [], ◌∷◌, Some, None, inl, inr}
-use Rattle.std.proofs.lemmas.Bool.{cases_Bool}
+use Rattle.std.proofs.Common.{◌≡◌, refl, sym, ◌∙◌, ap, subst, ℕ, ◌+◌, ◌<◌, Bool, true, false, cond, not, List, [], ◌∷◌, ◌++◌, Option, Some, None, inl, inr}
+use Rattle.std.specs.Prelude.{◌^◌, ⊤}
+use Rattle.std.specs.List.{flat_map, list_all}
+use Rattle.std.proofs.lemmas.Bool.{and_parts, cases_Bool, false_from_ne_true, false≢true}
 use Rattle.dbtg_cells.specs.declared.cell.Cell.{Cell}
-use Rattle.dbtg_cells.specs.declared.cell.Cell.TheVariants.{Slot}
+use Rattle.dbtg_cells.specs.declared.cell.Cell.TheVariants.{Usage, Extent, Ring, Slot}
+use Rattle.dbtg_cells.specs.declared.key.Owner.{Owner}
+use Rattle.dbtg_cells.specs.declared.key.Value.{Value}
 use Rattle.dbtg_cells.specs.declared.name.CellName.{CellName}
+use Rattle.dbtg_cells.specs.declared.slot.Stored.{Stored}
 use Rattle.dbtg_cells.specs.Cells.{shown}
 use Rattle.dbtg_cells.specs.Names.{name_eq}
+use Rattle.dbtg_cells.specs.Shown.{SlotValue}
 use Rattle.dbtg_unit.specs.declared.edit.CellEdit.{CellEdit}
-use Rattle.dbtg_unit.specs.Edits.{edited}
+use Rattle.dbtg_unit.specs.declared.edit.Edit.{Edit}
+use Rattle.dbtg_unit.specs.declared.edit.Edit.TheVariants.{ChangeItems, ChangeOwner, RaiseVersion}
+use Rattle.dbtg_unit.specs.CanEdit.{CanEdit}
+use Rattle.dbtg_unit.specs.Edits.{edited, with_owner, with_stored_items}
 use Rattle.dbtg_unit.specs.Hands.{Hands, cell_of}
+use Rattle.dbtg_unit.specs.Legal.{pairwise}
 use Rattle.dbtg_unit.specs.Lends.{with_cell}
-use Rattle.dbtg_unit.specs.Making.{CanMake, IsMade, ShowsEdited}
+use Rattle.dbtg_unit.specs.Making.{CanEditHeld, CanMake, HaveNextVersions, IsMade, ShowsEdited}
 use Rattle.dbtg_unit.specs.Prepared.{edited_values, value_edited, values_of}
+use Rattle.dbtg_unit.proofs.CellNameLemmas.{name_eq-refl, same_name}
 
 abbrev pub Held : Type 0
 Held = List (CellName × Cell)
@@ -40,6 +51,39 @@ with_cell-none c y (e ∷ es) h =
       | inl same ↦ let found = sym (cell_of-here c e es same) ∙ h in cc
       | inr other ↦ with_cell-further c y e es other ∙ ap (λ l. e ∷ l) (with_cell-none c y es (sym (cell_of-further c e es other) ∙ h))
     ]
+
+-- a written cell is there where one was, and others stay
+pub cell_of-written : (c : CellName) (x y : Cell) (cells : Held) → cell_of c cells ≡ Some x → cell_of c (with_cell c y cells) ≡ Some y
+cell_of-written c x y [] h = cc
+cell_of-written c x y (e ∷ es) h =
+    elim (cases_Bool (name_eq c e.0)) [
+      | inl same ↦ ap (cell_of c) (with_cell-here c y e es same) ∙ cell_of-here c (e.0, y) es same
+      | inr other ↦
+          ap (cell_of c) (with_cell-further c y e es other) ∙ cell_of-further c e (with_cell c y es) other
+          ∙ cell_of-written c x y es (sym (cell_of-further c e es other) ∙ h)
+    ]
+
+pub cell_of-other : (c d : CellName) (y : Cell) (cells : Held) → name_eq d c ≡ false → cell_of d (with_cell c y cells) ≡ cell_of d cells
+cell_of-other c d y [] other = refl
+cell_of-other c d y (e ∷ es) other =
+    elim (cases_Bool (name_eq c e.0)) [
+      | inl same ↦
+          let at_d : name_eq d e.0 ≡ false = ap (name_eq d) (sym (same_name c e.0 same)) ∙ other in
+          ap (cell_of d) (with_cell-here c y e es same) ∙ cell_of-further d (e.0, y) es at_d ∙ sym (cell_of-further d e es at_d)
+      | inr differs ↦
+          ap (cell_of d) (with_cell-further c y e es differs)
+          ∙ ap (cond (name_eq d e.0) (Some e.1)) (cell_of-other c d y es other)
+    ]
+
+-- what is there after a cell was written in its place
+pub written_over : (c : CellName) (x y : Cell) (cells : Held) → cell_of c (with_cell c y cells) ≡ Some x → (x ≡ y) × ((old : Cell) × (cell_of c cells ≡ Some old))
+written_over c x y cells h = was (cell_of c cells) refl where
+  was : (o : Option Cell) → cell_of c cells ≡ o → (x ≡ y) × ((old : Cell) × (cell_of c cells ≡ Some old))
+  was None none = let there = sym none ∙ ap (cell_of c) (sym (with_cell-none c y cells none)) ∙ h in absurd (cc)
+  was (Some old) some = let there = sym h ∙ cell_of-written c old y cells some in (cc, (old, some))
+
+pub name_eq-flip : (c d : CellName) → name_eq c d ≡ false → name_eq d c ≡ false
+name_eq-flip c d h = false_from_ne_true _ (λ e. false≢true (sym h ∙ ap (name_eq c) (same_name d c e) ∙ name_eq-refl c))
 
 -- a written cell shows what the edit makes of it
 pub values-with_cell : (e : CellEdit) (y : Cell) (cells : Held) → ShowsEdited e cells y → values_of (with_cell e.name y cells) ≡ value_edited e (values_of cells)
@@ -77,3 +121,109 @@ made_first e es old new can made =
       areas = ap (λ h. h.areas) made.2;
       guesses = ap (λ h. h.guesses) made.2;
     }
+
+-- EDITS IN TURN
+
+-- each of the edits can be made of what is held now
+abbrev pub EachCanEdit : List CellEdit → Held → Type 0
+EachCanEdit [] cells = ⊤
+EachCanEdit (e ∷ es) cells = CanEditHeld e cells × EachCanEdit es cells
+
+-- no edit is of this name, and no two are of one name
+abbrev pub are_of_others : CellName → List CellEdit → Bool
+are_of_others c = list_all (λ e. not (name_eq c e.name))
+
+abbrev pub are_distinct : List CellEdit → Bool
+are_distinct = pairwise (λ e f. not (name_eq e.name f.name))
+
+pub each-append : (es fs : List CellEdit) (cells : Held) → EachCanEdit es cells → EachCanEdit fs cells → EachCanEdit (es ++ fs) cells
+each-append [] fs cells each further = further
+each-append (e ∷ es) fs cells each further = (each.0, each-append es fs cells each.1 further)
+
+pub each-flat_map : {X : Type 0} (edits : X → List CellEdit) (xs : List X) (cells : Held) → ((x : X) → EachCanEdit (edits x) cells) → EachCanEdit (flat_map edits xs) cells
+each-flat_map edits [] cells each = tt
+each-flat_map edits (x ∷ xs) cells each = each-append (edits x) (flat_map edits xs) cells (each x) (each-flat_map edits xs cells each)
+
+pub is_false : (b : Bool) → not b ≡ true → b ≡ false
+is_false true h = sym h
+is_false false h = refl
+
+-- edits of other cells can still be made once one is written
+each-with_cell : (c : CellName) (y : Cell) (es : List CellEdit) (cells : Held) → are_of_others c es ≡ true → EachCanEdit es cells → EachCanEdit es (with_cell c y cells)
+each-with_cell c y [] cells others each = tt
+each-with_cell c y (e ∷ es) cells others each =
+    let hs = and_parts _ _ others in
+    let other : name_eq e.name c ≡ false = name_eq-flip c e.name (is_false _ hs.0) in (
+      λ x there. each.0 x (sym (cell_of-other c e.name y cells other) ∙ there),
+      each-with_cell c y es cells hs.1 each.1,
+    )
+
+-- edits of distinct cells can be made in turn where each can be made of what is held now
+pub can_make-distinct : (es : List CellEdit) (cells : Held) → are_distinct es ≡ true → EachCanEdit es cells → CanMake es cells
+can_make-distinct [] cells once each = tt
+can_make-distinct (e ∷ es) cells once each =
+    let hs = and_parts _ _ once in
+    (each.0, λ y shows. can_make-distinct es (with_cell e.name y cells) hs.1 (each-with_cell e.name y es cells hs.0 each.1))
+
+-- what is held after edits in turn
+abbrev pub AreMade : List CellEdit → Held → Held → Type 0
+AreMade [] old new = new ≡ old
+AreMade (e ∷ es) old new = (y : Cell) × ShowsEdited e old y × AreMade es (with_cell e.name y old) new
+
+-- edits, and then others that can be made of what they leave
+pub can_make-append : (es fs : List CellEdit) (cells : Held) → CanMake es cells → ((new : Held) → AreMade es cells new → CanMake fs new) → CanMake (es ++ fs) cells
+can_make-append [] fs cells can further = further cells refl
+can_make-append (e ∷ es) fs cells can further =
+    (can.0, λ y shows. can_make-append es fs (with_cell e.name y cells) (can.1 y shows) (λ new made. further new (y, shows, made)))
+
+-- the cells that no edit is of stay
+pub cell_of-made : (c : CellName) (es : List CellEdit) (old new : Held) → are_of_others c es ≡ true → AreMade es old new → cell_of c new ≡ cell_of c old
+cell_of-made c [] old new others made = ap (cell_of c) made
+cell_of-made c (e ∷ es) old new others made =
+    let hs = and_parts _ _ others in
+    cell_of-made c es (with_cell e.name made.0 old) new hs.1 made.2 ∙ cell_of-other e.name c made.0 old (is_false _ hs.0)
+
+-- THE LAST TWO EDITS OF A SLOT
+
+-- the edit leaves the version of a record as it is, and puts no record where there is none
+abbrev pub LeavesVersion : Edit → Type 0
+LeavesVersion edit = (x : Cell) (r : Stored) → SlotValue (Some r) ≡ edited edit (shown x) → (s : Stored) × (x ≡ Slot (Some s)) × (r.version ≡ s.version)
+
+pub leaves-items : (items : List Value) → LeavesVersion (ChangeItems items)
+leaves-items items (Usage v) r h = absurd (cc)
+leaves-items items (Extent v) r h = absurd (cc)
+leaves-items items (Ring v) r h = absurd (cc)
+leaves-items items (Slot None) r h = absurd (cc)
+leaves-items items (Slot (Some s)) r h = let same : r ≡ with_stored_items items s = cc in (s, refl, ap (λ q. q.version) same)
+
+pub leaves-owner : (s : ℕ) (o : Option Owner) → LeavesVersion (ChangeOwner s o)
+leaves-owner s o (Usage v) r h = absurd (cc)
+leaves-owner s o (Extent v) r h = absurd (cc)
+leaves-owner s o (Ring v) r h = absurd (cc)
+leaves-owner s o (Slot None) r h = absurd (cc)
+leaves-owner s o (Slot (Some t)) r h = let same : r ≡ with_owner s o t = cc in (t, refl, ap (λ q. q.version) same)
+
+-- a slot's version can be raised where a record in it has a next one
+can_raise : (x : Cell) → ((r : Stored) → x ≡ Slot (Some r) → r.version + 1 < 2 ^ 64) → CanEdit RaiseVersion x
+can_raise (Usage v) next = tt
+can_raise (Extent v) next = tt
+can_raise (Ring v) next = tt
+can_raise (Slot v) next = λ r h. next r (ap Slot h)
+
+-- edits of distinct cells, and last of another cell an edit and its next version
+pub can_make-raised : (es : List CellEdit) (c : CellName) (edit : Edit) (cells : Held) → are_distinct es ≡ true → are_of_others c es ≡ true → EachCanEdit es cells
+    → ((x : Cell) → cell_of c cells ≡ Some x → CanEdit edit x) → LeavesVersion edit → HaveNextVersions cells
+    → CanMake (es ++ record { name = c; edit = edit } ∷ record { name = c; edit = RaiseVersion } ∷ []) cells
+can_make-raised es c edit cells once others each can leaves next =
+    can_make-append es (record { name = c; edit = edit } ∷ record { name = c; edit = RaiseVersion } ∷ []) cells (can_make-distinct es cells once each)
+    (λ new made. let stays = cell_of-made c es cells new others made in (λ x there. can x (sym stays ∙ there), λ y shows. (λ z there. can_raise z (version new stays y shows z there), λ w shown_too. tt)))
+    where
+      version : (new : Held) → cell_of c new ≡ cell_of c cells → (y : Cell) → ShowsEdited (record { name = c; edit = edit }) new y → (z : Cell) → cell_of c (with_cell c y new) ≡ Some z
+          → (r : Stored) → z ≡ Slot (Some r) → r.version + 1 < 2 ^ 64
+      version new stays y shows z there r is =
+          let over = written_over c z y new there in
+          let old = over.1 in
+          let shown_is : SlotValue (Some r) ≡ edited edit (shown old.0) = ap shown (sym is ∙ over.0) ∙ shows old.0 old.1 in
+          let was = leaves old.0 r shown_is in
+          let bound : was.0.version + 1 < 2 ^ 64 = next c was.0 (sym stays ∙ old.1 ∙ ap Some was.1) in
+          subst (λ v. v + 1 < 2 ^ 64) (sym was.2) bound

@@ -21,7 +21,7 @@ use Rattle.dbtg_unit.specs.declared.edit.CellEdit.{CellEdit}
 use Rattle.dbtg_unit.specs.declared.unit.Place.{Place}
 use Rattle.dbtg_unit.specs.declared.unit.Unit.{Unit}
 use Rattle.dbtg_unit.specs.Base.{Database, Record, is_live, members_of, is_member, owner_of, sort_key, key_item, key_at, calc_items}
-use Rattle.dbtg_unit.specs.Units.{place_in}
+use Rattle.dbtg_unit.specs.Units.{owners_of, place_in}
 use Rattle.dbtg_unit.specs.Effect.{connected_in, with_new, is_current_owner, joined}
 use Rattle.dbtg_unit.specs.Legal.{Legal, has_occurrence}
 use Rattle.dbtg_unit.specs.Cells.{cell, owner_at, slot_of, ring_of, number_of}
@@ -145,6 +145,10 @@ module _ (schema : Lists) (capacity : ℕ) (db : Database) (unit : Unit) (k : Db
             ∙ ap (λ b. cond b (option_map (λ place. place.owner) (place_in schema unit s)) None) (sym e)
       ]
 
+  -- the owners of k are those as STORE connects it
+  pub owners-first : Legal schema capacity new → owners_of schema capacity new k ≡ first_owners schema unit k.rtype
+  owners-first legal_new = λ i. map (λ s. owner-here legal_new s i) (set_numbers schema)
+
   -- THE EXTENT
 
   number-else : (t n : ℕ) → is_its_number t n ≡ false → number_of schema new t n ≡ number_of schema db t n
@@ -218,7 +222,7 @@ module _ (schema : Lists) (capacity : ℕ) (db : Database) (unit : Unit) (k : Db
       ] (not_in s place.owner)
 
   -- no owner of a list has k's number in the database before
-  owner-not_k : (s : ℕ) (o : Owner) → is_some (db.lists s o) ≡ true → place_eq (Some (k.rtype, k.number)) (place_of o) ≡ false
+  pub owner-not_k : (s : ℕ) (o : Owner) → is_some (db.lists s o) ≡ true → place_eq (Some (k.rtype, k.number)) (place_of o) ≡ false
   owner-not_k s o present =
       false_from_ne_true _ (λ h.
       let named : place_of o ≡ Some (k.rtype, k.number) = sym (same_place (Some (k.rtype, k.number)) (place_of o) h) in
@@ -337,7 +341,7 @@ module _ (schema : Lists) (capacity : ℕ) (db : Database) (unit : Unit) (k : Db
             ∙ ap (λ b. cond b (Some (record { owner = Rec k; members = [] })) None) (sym e)
       ]
 
-  own_ring-before : (s : ℕ) → cell schema capacity db (Ring s (Some (k.rtype, k.number))) ≡ RingValue None
+  pub own_ring-before : (s : ℕ) → cell schema capacity db (Ring s (Some (k.rtype, k.number))) ≡ RingValue None
   unfolding cell
   own_ring-before s =
       let o = Rec (key_at db k.rtype k.number) in

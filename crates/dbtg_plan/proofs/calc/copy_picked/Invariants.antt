@@ -1,0 +1,6 @@
+use Rattle.std.proofs.Common.{◌≡◌, take}
+use Rattle.dbtg_unit.specs.Base.{picked}
+use Rattle.dbtg_plan.proofs.calc.copy_picked.Given as goal
+
+abbrev pub invariant-loop-number : goal.invariant-loop-number
+invariant-loop-number l = l.copies.items ≡ picked (take l.number-index l.numbers) l.items

@@ -1,0 +1,77 @@
+-- STORE, read off the cells in hand.
+-- k is the key of the new record, s a set, t its record type, c the name of a cell.
+use Rattle.std.specs.Prelude.{ℕ, Bool, true, false, not, List, [], ◌∷◌, ◌++◌, Option, Some, None, is_some, if◌then◌else◌}
+use Rattle.std.specs.List.{find, flat_map, list_any}
+use Rattle.dbtg_schema.specs.Lists.{Lists}
+use Rattle.dbtg_schema.specs.Lookups.{first_cause}
+use Rattle.dbtg_schema.specs.Structure.{automatic_sets}
+use Rattle.dbtg_cells.specs.declared.extent.Number.{Number}
+use Rattle.dbtg_cells.specs.declared.key.DbKey.{DbKey}
+use Rattle.dbtg_cells.specs.declared.key.Value.{Value}
+use Rattle.dbtg_cells.specs.declared.name.CellName.{CellName}
+use Rattle.dbtg_cells.specs.declared.name.CellName.TheVariants.{Extent}
+use Rattle.dbtg_cells.specs.Names.{name_eq}
+use Rattle.dbtg_unit.specs.declared.edit.UnitEdit.TheVariants.{See}
+use Rattle.dbtg_unit.specs.declared.statement.Suppress.{Suppress}
+use Rattle.dbtg_unit.specs.declared.unit.Cause.{Cause}
+use Rattle.dbtg_unit.specs.declared.unit.Cause.TheVariants.{DuplicatesNotAllowed, NoRoom}
+use Rattle.dbtg_unit.specs.declared.unit.Status.TheVariants.{Done}
+use Rattle.dbtg_unit.specs.declared.unit.Unit.{Unit}
+use Rattle.dbtg_unit.specs.Base.{key_item}
+use Rattle.dbtg_unit.specs.CellNames.{slot_name}
+use Rattle.dbtg_unit.specs.EditsOf.{first_owners, store_edits}
+use Rattle.dbtg_unit.specs.Hands.{Hands}
+use Rattle.dbtg_unit.specs.InHand.{numbers_in}
+use Rattle.dbtg_unit.specs.Needs.{store_rings}
+use Rattle.dbtg_unit.specs.Prepared.{Plan}
+use Rattle.dbtg_plan.specs.Calc.{calc_taken_in, fresh_key}
+use Rattle.dbtg_plan.specs.Joining.{place_checks_in}
+use Rattle.dbtg_plan.specs.Plans.{refusal, unless_refusal}
+
+-- WHAT IT NEEDS
+
+-- the first of these cells that is not in hand
+abbrev pub wanted : Hands → List CellName → Option CellName
+wanted hands = find (λ c. not (list_any (λ e. name_eq c e.0) hands.cells))
+
+-- its cells beside its extent; none where there is no key, or its CALC items are taken
+abbrev pub cells_of_key : Lists → Unit → Option DbKey → Bool → List CellName
+cells_of_key schema unit None taken = []
+cells_of_key schema unit (Some k) true = []
+cells_of_key schema unit (Some k) false = store_rings schema unit k ++ slot_name k ∷ []
+
+-- its cells, by the numbers of its type
+abbrev pub store_cells_in : Lists → Unit → List Number → ℕ → List Value → List CellName
+store_cells_in schema unit numbers t items = Extent t ∷ cells_of_key schema unit (fresh_key numbers t) (calc_taken_in schema numbers t items None)
+
+-- the first of them that is not in hand
+abbrev pub wanted_of_store : Lists → Unit → Hands → ℕ → List Value → Option CellName
+wanted_of_store schema unit hands t items = wanted hands (store_cells_in schema unit (numbers_in hands t) t items)
+
+-- WHAT IT DOES
+
+-- the checks of a record that gets a key: its CALC items taken, then each automatic set
+abbrev pub store_checks_in : Lists → Unit → Hands → ℕ → List Value → List (Bool × Cause)
+store_checks_in schema unit hands t items =
+    (calc_taken_in schema (numbers_in hands t) t items None, DuplicatesNotAllowed)
+    ∷ flat_map (λ s. place_checks_in schema unit hands s (key_item schema s t items)) (automatic_sets schema t)
+
+-- k is stored, and seen
+abbrev pub stored_plan : Lists → Unit → List Value → Suppress → DbKey → Plan
+stored_plan schema unit items suppress k =
+    record {
+      answer = record { status = Done; key = Some k; items = None };
+      cells = store_edits schema unit k items;
+      versions = [];
+      unit = See k (first_owners schema unit k.rtype) suppress;
+    }
+
+-- refused where there is no key
+abbrev pub key_plan : Lists → Unit → Hands → ℕ → List Value → Suppress → Option DbKey → Plan
+key_plan schema unit hands t items suppress None = refusal NoRoom
+key_plan schema unit hands t items suppress (Some k) = unless_refusal (first_cause (store_checks_in schema unit hands t items)) (stored_plan schema unit items suppress k)
+
+-- all its cells are to be in hand
+abbrev pub store_plan : Lists → Unit → Hands → ℕ → List Value → Suppress → Plan
+store_plan schema unit hands t items suppress =
+    if is_some (wanted_of_store schema unit hands t items) then refusal NoRoom else key_plan schema unit hands t items suppress (fresh_key (numbers_in hands t) t)

@@ -1,0 +1,144 @@
+//! The CALC items of a record: whether another record has them, and which number a new one gets. Nothing here takes memory
+//! but the copies.
+ghost use Rattle.std.specs.Prelude.{◌≡◌, not, IfOk};
+ghost use Rattle.std.specs.List.{list_any, slice_index_or};
+ghost use Rattle.dbtg_cells.specs.Keys.{value_eq, values_eq};
+ghost use Rattle.dbtg_cells.specs.Numbers.{entry_of, has_values, is_number_left_out, numbers_where};
+ghost use Rattle.dbtg_schema.specs.Lookups.{some_and};
+ghost use Rattle.dbtg_unit.specs.Base.{calc_items, picked};
+ghost use Rattle.dbtg_plan.specs.Calc.{calc_taken_in, fresh_key};
+
+use dbtg_cells::{DbKey, Extent, Value, same_value};
+use dbtg_schema::{ItemNo, RecordNo, Row, Schema};
+use std::alloc::{AllocError, Global};
+
+fn is_item(value: &Value, items: &[Value], item: ItemNo) -> bool
+    ensures { result ≡ value_eq value.now (slice_index_or items.now item (Value.Num 0)) }
+{
+    match items.get(item.index() as usize) {
+        Some(own) => same_value(value, own),
+        None => same_value(value, &Value::Num(0)),
+    }
+}
+
+// Are the values those of the items with these numbers?
+fn are_items(values: &[Value], numbers: &[ItemNo], items: &[Value]) -> bool
+    ensures { result ≡ values_eq values.now (picked numbers.now items.now) }
+{
+    if values.len() != numbers.len() {
+        return false;
+    }
+    for (i, value) in values.iter().enumerate() {
+        if !is_item(value, items, numbers[i]) {
+            return false;
+        }
+    }
+    true
+}
+
+fn has_items(extent: &Extent, number: u32, numbers: &[ItemNo], items: &[Value]) -> bool
+    ensures { result ≡ some_and (has_values (picked numbers.now items.now)) (entry_of number extent.now.numbers) }
+{
+    match extent.values(number) {
+        Some(values) => are_items(values, numbers, items),
+        None => false,
+    }
+}
+
+fn is_other(number: u32, left_out: &Option<u32>) -> bool
+    ensures { result ≡ not (is_number_left_out left_out.now number) }
+{
+    match left_out {
+        Some(left) => *left != number,
+        None => true,
+    }
+}
+
+// Does a record have the items with these numbers, other than the one whose number is left out?
+fn any_has_items(
+    extent: &Extent,
+    numbers: &[ItemNo],
+    items: &[Value],
+    left_out: &Option<u32>,
+) -> bool
+    ensures { result ≡ list_any (λ n. not (is_number_left_out left_out.now n)) (numbers_where (has_values (picked numbers.now items.now)) extent.now.numbers) }
+{
+    for i in 0..extent.capacity() {
+        let number = i + 1;
+        if has_items(extent, number, numbers, items) & is_other(number, left_out) {
+            return true;
+        }
+    }
+    false
+}
+
+/// Does a record have the CALC items of these, where their duplicates are not allowed, other than the one whose number is
+/// left out?
+pub(crate) fn is_calc_taken(
+    schema: &Schema,
+    extent: &Extent,
+    rtype: RecordNo,
+    items: &[Value],
+    left_out: &Option<u32>,
+) -> bool
+    ensures { result ≡ calc_taken_in schema.now extent.now.numbers rtype items.now left_out.now }
+{
+    match schema.calc_of(rtype) {
+        Some(calc) => {
+            !calc.duplicates_allowed
+                && any_has_items(extent, calc.items.as_slice(), items, left_out)
+        }
+        None => false,
+    }
+}
+
+/// The key of a new record: the least free number of its type, in its next generation.
+pub(crate) fn fresh_key(extent: &Extent, rtype: RecordNo) -> Option<DbKey>
+    ensures { result ≡ fresh_key extent.now.numbers rtype }
+{
+    match extent.least_free() {
+        Some(number) => {
+            Some(DbKey {
+                rtype,
+                number,
+                generation: extent.generation(number) + 1,
+            })
+        }
+        None => None,
+    }
+}
+
+/// A copy of an item; 0 where there is none.
+pub(crate) fn copy_item(alloc: Global, items: &[Value], item: ItemNo) -> Result<Value, AllocError>
+    ensures { IfOk result (λ value. value ≡ slice_index_or items.now item (Value.Num 0)) }
+{
+    match items.get(item.index() as usize) {
+        Some(value) => value.copy(alloc),
+        None => Ok(Value::Num(0)),
+    }
+}
+
+fn copy_picked(alloc: Global, numbers: &[ItemNo], items: &[Value]) -> Result<Row<Value>, AllocError>
+    ensures { IfOk result (λ row. row ≡ picked numbers.now items.now) }
+{
+    let mut copies = Vec::with_capacity(alloc, numbers.len())?;
+    for number in numbers {
+        copies.push(copy_item(alloc, items, *number)?)?;
+    }
+    Ok(Row::of(copies))
+}
+
+/// Copies of the CALC items.
+pub(crate) fn copy_calc(
+    alloc: Global,
+    schema: &Schema,
+    rtype: RecordNo,
+    items: &[Value],
+) -> Result<Row<Value>, AllocError>
+    ensures { IfOk result (λ row. row ≡ calc_items schema.now rtype items.now) }
+{
+    match schema.calc_of(rtype) {
+        Some(calc) => copy_picked(alloc, calc.items.as_slice(), items),
+        None => copy_picked(alloc, &[], items),
+    }
+}

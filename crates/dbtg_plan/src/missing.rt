@@ -1,0 +1,51 @@
+//! The cells that are not in hand, in the order of taking. Nothing here takes memory.
+ghost use Rattle.std.specs.Prelude.{◌≡◌, [], ◌∷◌};
+ghost use Rattle.dbtg_unit.specs.Needs.{ring_names, slot_names};
+ghost use Rattle.dbtg_plan.specs.Missing.{first_missing, is_missing};
+
+use dbtg_cells::{CellName, DbKey, Owner};
+use dbtg_schema::SetNo;
+use dbtg_unit::Held;
+
+/// Is the cell of this name not in hand?
+#[tactic(auto, using(crate::proofs::MissingLemmas::missing_by_name))]
+pub(crate) fn is_missing(held: &Held, name: &CellName) -> bool
+    ensures { result ≡ is_missing held.now name.now }
+{
+    let cell = held.cell(name);
+    !cell.is_some()
+}
+
+/// This cell, if it is not in hand.
+pub(crate) fn missing(held: &Held, name: CellName) -> Option<CellName>
+    ensures { result ≡ first_missing held.now (name ∷ []) }
+{
+    if is_missing(held, &name) {
+        Some(name)
+    } else {
+        None
+    }
+}
+
+/// The slot of a key, if there is one and it is not in hand.
+pub(crate) fn missing_slot(held: &Held, key: Option<DbKey>) -> Option<CellName>
+    ensures { result ≡ first_missing held.now (slot_names key) }
+{
+    match key {
+        Some(key) => missing(held, CellName::Slot(key.rtype, key.number)),
+        None => None,
+    }
+}
+
+/// The ring of an owner, if there is one and it is not in hand.
+pub(crate) fn missing_ring(held: &Held, set: SetNo, owner: Option<Owner>) -> Option<CellName>
+    ensures { result ≡ first_missing held.now (ring_names set owner) }
+{
+    match owner {
+        Some(Owner::Rec(key)) => {
+            missing(held, CellName::Ring(set, Some((key.rtype, key.number))))
+        }
+        Some(Owner::System) => missing(held, CellName::Ring(set, None)),
+        None => None,
+    }
+}
