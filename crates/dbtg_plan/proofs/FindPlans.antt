@@ -1,10 +1,13 @@
 -- What a FIND takes next and what it prepares, off the cells in hand, is what it needs and does on each database that agrees with them.
 -- k is a key, s a set, r a record type, a an area, c the name of a cell, db a database.
 use Rattle.std.proofs.Common.{◌≡◌, refl, sym, ◌∙◌, ap, subst, ℕ, ◌+◌, ◌<◌, ◌≤◌, Bool, true, false, cond, not, ◌&&◌, List, [], ◌∷◌, ◌++◌, length, take, Option, Some, None, map, arith, inl, inr}
-use Rattle.std.specs.Prelude.{◌==◌, nat_lt, is_some, option_and_then, option_map, unwrap_or, filter, Result, Ok, Err, tt}
-use Rattle.std.specs.List.{find, list_any, range_with_len}
+use Rattle.std.specs.Prelude.{◌==◌, nat_lt, is_some, option_and_then, option_map, unwrap_or, filter, Result, Ok, Err}
+use Rattle.std.specs.List.{find, list_all, list_any, range_with_len}
 use Rattle.std.specs.Option.{option_or}
 use Rattle.std.proofs.lemmas.Bool.{and_parts}
+use Rattle.std.proofs.lemmas.Bool.Decides.{nat_tests}
+use Rattle.std.proofs.lemmas.List.{take_all}
+use Rattle.std.proofs.lemmas.List.FromFn.{length-map-range_with_len}
 use Rattle.dbtg_schema.specs.Lists.{Lists}
 use Rattle.dbtg_schema.specs.Structure.{area_of, set_numbers, types_in}
 use Rattle.dbtg_cells.specs.declared.key.DbKey.{DbKey}
@@ -12,6 +15,7 @@ use Rattle.dbtg_cells.specs.declared.key.Owner.{Owner}
 use Rattle.dbtg_cells.specs.declared.name.CellName.{CellName}
 use Rattle.dbtg_cells.specs.declared.name.CellName.TheVariants.{Extent}
 use Rattle.dbtg_cells.specs.declared.slot.Stored.{Stored}
+use Rattle.dbtg_unit.specs.declared.edit.CellEdit.{CellEdit}
 use Rattle.dbtg_unit.specs.declared.edit.UnitEdit.TheVariants.{See}
 use Rattle.dbtg_unit.specs.declared.statement.Form.{Form}
 use Rattle.dbtg_unit.specs.declared.statement.Form.TheVariants.{Key, CurrentOfUnit, CurrentOfType, CurrentOfSet, CurrentOfArea, InSet, InArea, OwnerOf, Calc, NextDuplicate, Sorted}
@@ -19,7 +23,7 @@ use Rattle.dbtg_unit.specs.declared.statement.Statement.TheVariants.{Find}
 use Rattle.dbtg_unit.specs.declared.statement.Suppress.{Suppress}
 use Rattle.dbtg_unit.specs.declared.unit.Cause.{Cause}
 use Rattle.dbtg_unit.specs.declared.unit.Unit.{Unit}
-use Rattle.dbtg_unit.specs.Base.{Database, is_live}
+use Rattle.dbtg_unit.specs.Base.{Database, is_live, owner_of}
 use Rattle.dbtg_unit.specs.Belongs.{IsUnitOf}
 use Rattle.dbtg_unit.specs.CellNames.{slot_name}
 use Rattle.dbtg_unit.specs.Cells.{cell}
@@ -31,14 +35,14 @@ use Rattle.dbtg_unit.specs.Guesses.{guesses_after}
 use Rattle.dbtg_unit.specs.Hands.{Hands}
 use Rattle.dbtg_unit.specs.InHand.{stored_in}
 use Rattle.dbtg_unit.specs.Local.{Agrees, holds}
-use Rattle.dbtg_unit.specs.Making.{CanFinish, MayPrepare}
+use Rattle.dbtg_unit.specs.Making.{CanFinish, CanMake, MayPrepare}
 use Rattle.dbtg_unit.specs.Needs.{find_cells, found_slot}
 use Rattle.dbtg_unit.specs.Prepared.{IsEffect, Plan}
 use Rattle.dbtg_unit.specs.Units.{owners_of, seen, seen_with}
 use Rattle.dbtg_unit.proofs.AlikeFind.{slot_of_found}
 use Rattle.dbtg_unit.proofs.FoundLemmas.{found_live}
 use Rattle.dbtg_unit.proofs.InHandLemmas.{live_in_hand, owners_in_hand}
-use Rattle.dbtg_unit.proofs.LiveKeys.{In, some_is}
+use Rattle.dbtg_unit.proofs.LiveKeys.{In, in_left, some_is}
 use Rattle.dbtg_unit.proofs.LocalReady.{all_held}
 use Rattle.dbtg_unit.proofs.ReadyParts.{prepared_has_all}
 use Rattle.dbtg_plan.specs.Finding.{cells_to_find, found_in, is_wanted, next_cell_in, owners_in, plan_of_found}
@@ -59,12 +63,24 @@ slot_again hands names result among =
       slot_held e (Err cause) is = refl
       slot_held e (Ok k) is = none_missing hands (slot_name k ∷ []) (λ c i. elim i [
         | inl same ↦ subst (λ (d : CellName). holds hands.cells d ≡ true) same (all_held hands.cells names e (slot_name k) (among k is))
-        | inr no ↦ absurd no
+        | inr j ↦ absurd j
       ])
 
       by_missing : (o : Option CellName) → first_missing hands names ≡ o → first_missing hands names ≡ option_or (first_missing hands names) (first_missing hands (found_slot result))
       by_missing (Some c) e = e ∙ ap (λ (o : Option CellName). option_or o (first_missing hands (found_slot result))) (sym e)
       by_missing None e = e ∙ sym (slot_held e result refl) ∙ ap (λ (o : Option CellName). option_or o (first_missing hands (found_slot result))) (sym e)
+
+-- by its parts
+pub next_first : (schema : Lists) (unit : Unit) (hands : Hands) (form : Form) (c : CellName) → Some c ≡ first_missing hands (cells_to_find schema unit form) → Some c ≡ next_cell_in schema unit hands form
+next_first schema unit hands form c is =
+    ap (λ (o : Option CellName). option_or o (first_missing hands (found_slot (found_in schema unit hands form)))) is
+    ∙ sym (missing-append hands (cells_to_find schema unit form) (found_slot (found_in schema unit hands form)))
+
+pub next_slot : (schema : Lists) (unit : Unit) (hands : Hands) (form : Form) (result : Result DbKey Cause) → None ≡ first_missing hands (cells_to_find schema unit form) → result ≡ found_in schema unit hands form
+    → first_missing hands (found_slot result) ≡ next_cell_in schema unit hands form
+next_slot schema unit hands form result none is =
+    (λ i. option_or (none i) (first_missing hands (found_slot (is i))))
+    ∙ sym (missing-append hands (cells_to_find schema unit form) (found_slot (found_in schema unit hands form)))
 
 module _ (schema : Lists) (capacity : ℕ) (db : Database) (hands : Hands) (unit : Unit) where
   extents_named : (r : Option ℕ) (a : ℕ) → if_named (λ t. is_type schema t && area_of schema t == a) r ≡ true
@@ -90,7 +106,7 @@ module _ (schema : Lists) (capacity : ℕ) (db : Database) (hands : Hands) (unit
   cells_are (CurrentOfArea a) fit = slot_here (CurrentOfArea a) refl
   cells_are (InSet which r s) fit = refl
   cells_are (InArea which r a) fit =
-      ap (λ types. first_missing hands (map Extent types ++ found_slot (found schema capacity db unit (InArea which r a)))) (extents_named r a (and_parts _ _ (and_parts _ _ fit).1).1)
+      ap (λ types. first_missing hands (map Extent types ++ found_slot (found schema capacity db unit (InArea which r a)))) (extents_named r a (and_parts _ _ fit).1)
   cells_are (OwnerOf s) fit = slot_here (OwnerOf s) refl
   cells_are (Calc r values) fit = refl
   cells_are (NextDuplicate r) fit = refl
@@ -136,7 +152,7 @@ module _ (schema : Lists) (capacity : ℕ) (unit : Unit) (hands : Hands) (form :
         let held = in_hand (slot_name k) (slot_of_found schema capacity db unit form k is) in
         let live = sym (live_in_hand schema capacity db hands unit agrees k held) ∙ found_live schema capacity db unit agrees.legal form k is in
         let stored = some_is (stored_in hands k) live in
-        let owners : owners_in hands k ≡ owners_of schema capacity db k = ap (λ (o : Option Stored). unwrap_or (option_map (λ (r : Stored). r.owners) o) []) stored.1 ∙ owners_in_hand schema capacity db hands unit agrees k stored.0 stored.1 in
+        let owners : owners_in hands k ≡ owners_of schema capacity db k = ap (λ (o : Option Stored). unwrap_or (option_map (λ (r : Stored). r.owners) o) []) stored.1 ∙ owners_in_hand schema capacity db hands unit agrees k held stored.0 stored.1 in
         let few = may.sound.limits.sets_limit in
         let long = length-map-range_with_len (λ s. owner_of schema capacity db s k) 0 (length schema.sets) in
         ap (take 16) owners ∙ take_all 16 (owners_of schema capacity db k) (omega arith)

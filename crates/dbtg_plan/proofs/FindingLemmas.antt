@@ -190,6 +190,9 @@ module _ (schema : Lists) (capacity : ℕ) (db : Database) (hands : Hands) (unit
     abbrev duplicate : DbKey → Result DbKey Cause
     duplicate k = found_unless (first_cause ((not (is_live db k), Deleted) ∷ [])) (first (filter (key_lt k) (with_calc schema capacity db r (calc_items schema r (items_of db k))))) End
 
+    abbrev next_equal : DbKey → Option (List Value) → Result DbKey Cause
+    next_equal k o = found_unless (first_cause ((is_none o, Deleted) ∷ [])) (option_map (key_of (numbers_in hands r) r) (first (filter (nat_lt k.number) (numbers_where (has_values (unwrap_or o [])) (numbers_in hands r))))) End
+
     duplicate_reads : (o : Option DbKey) → if_named (λ k. k.rtype == r) o ≡ true → with_current o duplicate ≡ with_current o (duplicate_found r (numbers_in hands r))
     duplicate_reads None typed = refl
     duplicate_reads (Some k) typed = by_values (values_of_key (numbers_in hands r) k) refl where
@@ -199,20 +202,17 @@ module _ (schema : Lists) (capacity : ℕ) (db : Database) (hands : Hands) (unit
       live : is_live db k ≡ is_some (values_of_key (numbers_in hands r) k)
       live = live_by_extent schema capacity db agrees.legal r (numbers_in hands r) are k is_r
 
-      abbrev next_of : Option (List Value) → Result DbKey Cause
-      next_of o = found_unless (first_cause ((is_none o, Deleted) ∷ [])) (option_map (key_of (numbers_in hands r) r) (first (filter (nat_lt k.number) (numbers_where (has_values (unwrap_or o [])) (numbers_in hands r))))) End
-
-      by_values : (o : Option (List Value)) → values_of_key (numbers_in hands r) k ≡ o → duplicate k ≡ next_of (values_of_key (numbers_in hands r) k)
+      by_values : (o : Option (List Value)) → values_of_key (numbers_in hands r) k ≡ o → duplicate k ≡ next_equal k (values_of_key (numbers_in hands r) k)
       by_values None e =
           ap (λ b. found_unless (first_cause ((not b, Deleted) ∷ [])) (first (filter (key_lt k) (with_calc schema capacity db r (calc_items schema r (items_of db k))))) End) (live ∙ ap is_some e)
-          ∙ ap next_of (sym e)
+          ∙ ap (next_equal k) (sym e)
       by_values (Some values) e =
           let live_now : is_live db k ≡ true = live ∙ ap is_some e in
           let items : calc_items schema r (items_of db k) ≡ values
           = calc_items_in_hand schema capacity db agrees.legal r (numbers_in hands r) are k is_r ∙ ap (λ (o : Option (List Value)). unwrap_or o (calc_items schema r [])) e in
           (λ i. found_unless (first_cause ((not (live_now i), Deleted) ∷ [])) (first (filter (key_lt k) (with_calc schema capacity db r (items i)))) End)
           ∙ ap (λ o. found_unless None o End) (next_reads k is_r live_now values)
-          ∙ ap next_of (sym e)
+          ∙ ap (next_equal k) (sym e)
 
   -- EVERY FORM
 
@@ -223,7 +223,7 @@ module _ (schema : Lists) (capacity : ℕ) (db : Database) (hands : Hands) (unit
   found_reads of_schema (CurrentOfSet s) fit held = current_reads (option_and_then key_of_place (place_in schema unit s)) held
   found_reads of_schema (CurrentOfArea a) fit held = current_reads (at unit.currency.areas a) held
   found_reads of_schema (InSet which r s) fit held = in_set_reads which r s (place_in schema unit s) held
-  found_reads of_schema (InArea which r a) fit held = ap (λ keys. found_unless None (chosen_by_key which (at unit.currency.areas a) keys) End) (area_reads r a (and_parts _ _ (and_parts _ _ fit).1).1 held)
+  found_reads of_schema (InArea which r a) fit held = ap (λ keys. found_unless None (chosen_by_key which (at unit.currency.areas a) keys) End) (area_reads r a (and_parts _ _ fit).1 held)
   found_reads of_schema (OwnerOf s) fit held = current_reads (option_and_then (λ (place : Place). key_of_owner place.owner) (place_in schema unit s)) held
   found_reads of_schema (Calc r values) fit held = ap (λ (o : Option DbKey). found_unless None o NoneSatisfies) (calc_reads r (held (Extent r) (inl refl)) values)
   found_reads of_schema (NextDuplicate r) fit held = duplicate_reads r (held (Extent r) (inl refl)) (at unit.currency.types r) (of_schema.of_types r)

@@ -7,3 +7,5 @@ pub mod FindingLemmas
 pub mod StoreInHand
 pub mod MissingLemmas
 pub mod FindPlans
+pub mod KeysInTurn
+pub mod ChosenKeys

@@ -76,7 +76,6 @@ fn missing_to_find(schema: &Schema, unit: &Unit, form: &Form, held: &Held) -> Op
     }
 }
 
-#[tactic(auto, using(crate::proofs::FindPlans::next_by_parts))]
 fn next_cell(
     schema: &Schema,
     capacity: u16,

@@ -6,6 +6,7 @@ ghost use Rattle.dbtg_cells.specs.declared.name.CellName.TheVariants.{Extent};
 ghost use Rattle.dbtg_unit.specs.Belongs.{IsWithin};
 ghost use Rattle.dbtg_unit.specs.Fits.{which_fits};
 ghost use Rattle.dbtg_unit.specs.Found.{chosen_by_key, found_unless};
+ghost use Rattle.dbtg_unit.specs.declared.statement.Which.TheVariants.{Next, Prior};
 ghost use Rattle.dbtg_unit.specs.declared.unit.Cause.TheVariants.{End};
 ghost use Rattle.dbtg_plan.specs.Missing.{first_missing};
 ghost use Rattle.dbtg_plan.specs.Finding.{area_keys_in, is_above, is_below, is_wanted, keys_wanted};
@@ -98,10 +99,7 @@ fn last_key(
 {
     let mut last = None;
     for t in 0..type_count(schema) {
-        let found = last_of_type(schema, held, named, area, RecordNo::new(t), bound);
-        if found.is_some() {
-            last = found;
-        }
+        last = last_of_type(schema, held, named, area, RecordNo::new(t), bound).or(last);
     }
     last
 }
@@ -213,6 +211,41 @@ fn nth_key(
     }
 }
 
+// The next key behind the area's current.
+#[tactic(auto, using(crate::proofs::ChosenKeys::next_chosen, crate::proofs::ChosenKeys::no_next))]
+fn next_key(
+    schema: &Schema,
+    held: &Held,
+    named: &Option<RecordNo>,
+    area: AreaNo,
+    current: &Option<DbKey>,
+) -> Option<DbKey>
+    ensures { result ≡ chosen_by_key Next current.now (area_keys_in schema.now held.now named.now area) }
+{
+    if current.is_none() {
+        return None;
+    }
+    first_key(schema, held, named, area, current)
+}
+
+// The last key before the area's current.
+#[tactic(auto, using(crate::proofs::ChosenKeys::prior_chosen, crate::proofs::ChosenKeys::no_prior))]
+fn prior_key(
+    schema: &Schema,
+    held: &Held,
+    named: &Option<RecordNo>,
+    area: AreaNo,
+    current: &Option<DbKey>,
+) -> Option<DbKey>
+    requires { IfSome current.now (λ k. k.number + 1 < 2 ^ 32) }
+    ensures { result ≡ chosen_by_key Prior current.now (area_keys_in schema.now held.now named.now area) }
+{
+    if current.is_none() {
+        return None;
+    }
+    last_key(schema, held, named, area, current)
+}
+
 fn choose_key(
     schema: &Schema,
     held: &Held,
@@ -228,9 +261,8 @@ fn choose_key(
     match which {
         Which::First => first_key(schema, held, named, area, &None),
         Which::Last => last_key(schema, held, named, area, &None),
-        Which::Next if current.is_some() => first_key(schema, held, named, area, current),
-        Which::Prior if current.is_some() => last_key(schema, held, named, area, current),
-        Which::Next | Which::Prior => None,
+        Which::Next => next_key(schema, held, named, area, current),
+        Which::Prior => prior_key(schema, held, named, area, current),
         Which::Nth(n) => nth_key(schema, held, named, area, n),
     }
 }
@@ -257,6 +289,7 @@ pub(crate) fn find_in_area(
 }
 
 /// The first extent of the area's record types that is not in hand.
+#[tactic(auto, using(dbtg_unit::proofs::NumberLemmas::numbers_next, dbtg_unit::proofs::NumberLemmas::numbers_end))]
 pub(crate) fn missing_extent(
     schema: &Schema,
     held: &Held,

@@ -94,5 +94,5 @@ pub(crate) fn key_at(extent: &Extent, rtype: RecordNo, place: u32) -> Option<DbK
     requires { place < 2 ^ 16 }
     ensures { result ≡ slice_get (keys_of_type rtype extent.now.numbers) place }
 {
-    key_of(extent, rtype, extent.nth_live(place as i32 + 1))
+    key_of(extent, rtype, extent.nth_live((place + 1) as i32))
 }
