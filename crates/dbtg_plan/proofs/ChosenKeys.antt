@@ -1,5 +1,5 @@
 -- The key of a list that is chosen, from a current that may be none.
-use Rattle.std.proofs.Common.{◌≡◌, refl, sym, ap, Bool, true, false, List, [], ◌∷◌, Option, Some, None}
+use Rattle.std.proofs.Common.{◌≡◌, refl, sym, ap, true, false, List, Option, Some, None}
 use Rattle.std.specs.Prelude.{filter, is_some}
 use Rattle.std.proofs.lemmas.Bool.{false≢true}
 use Rattle.dbtg_schema.specs.Lookups.{final, first}
@@ -7,17 +7,10 @@ use Rattle.dbtg_cells.specs.declared.key.DbKey.{DbKey}
 use Rattle.dbtg_unit.specs.declared.statement.Which.TheVariants.{Last, Next, Prior}
 use Rattle.dbtg_unit.specs.Found.{chosen_by_key}
 use Rattle.dbtg_plan.specs.Finding.{is_above, is_below}
-
-none_kept : (keys : List DbKey) → filter (λ k. false) keys ≡ []
-none_kept [] = refl
-none_kept (k ∷ keys) = none_kept keys
-
-unbounded : (keys : List DbKey) → filter (is_below None) keys ≡ keys
-unbounded [] = refl
-unbounded (k ∷ keys) = ap (λ ks. k ∷ ks) (unbounded keys)
+use Rattle.dbtg_plan.proofs.NumberedKeys.{all_kept, none_kept}
 
 pub last_chosen : (current : Option DbKey) (keys : List DbKey) → final (filter (is_below None) keys) ≡ chosen_by_key Last current keys
-last_chosen current keys = ap final (unbounded keys)
+last_chosen current keys = ap final (all_kept keys)
 
 pub next_chosen : (current : Option DbKey) (keys : List DbKey) → is_some current ≡ true → first (filter (is_above current) keys) ≡ chosen_by_key Next current keys
 next_chosen None keys h = absurd (false≢true h)

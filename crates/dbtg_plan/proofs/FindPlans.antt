@@ -1,34 +1,33 @@
 -- What a FIND takes next and what it prepares, off the cells in hand, is what it needs and does on each database that agrees with them.
 -- k is a key, s a set, r a record type, a an area, c the name of a cell, db a database.
-use Rattle.std.proofs.Common.{◌≡◌, refl, sym, ◌∙◌, ap, subst, ℕ, ◌+◌, ◌<◌, ◌≤◌, Bool, true, false, cond, not, ◌&&◌, List, [], ◌∷◌, ◌++◌, length, take, Option, Some, None, map, arith, inl, inr}
-use Rattle.std.specs.Prelude.{◌==◌, nat_lt, is_some, option_and_then, option_map, unwrap_or, filter, Result, Ok, Err}
-use Rattle.std.specs.List.{find, list_all, list_any, range_with_len}
+use Rattle.std.proofs.Common.{◌≡◌, refl, sym, ◌∙◌, ap, subst, ℕ, ◌+◌, ◌<◌, true, ◌&&◌, List, [], ◌∷◌, ◌++◌, length, take, Option, Some, None, map, arith, inl, inr}
+use Rattle.std.specs.Prelude.{◌==◌, nat_lt, option_map, unwrap_or, filter, Result, Ok, Err}
+use Rattle.std.specs.List.{list_all, range_with_len}
 use Rattle.std.specs.Option.{option_or}
 use Rattle.std.proofs.lemmas.Bool.{and_parts}
 use Rattle.std.proofs.lemmas.Bool.Decides.{nat_tests}
 use Rattle.std.proofs.lemmas.List.{take_all}
 use Rattle.std.proofs.lemmas.List.FromFn.{length-map-range_with_len}
 use Rattle.dbtg_schema.specs.Lists.{Lists}
-use Rattle.dbtg_schema.specs.Structure.{area_of, set_numbers, types_in}
+use Rattle.dbtg_schema.specs.Structure.{area_of, types_in}
 use Rattle.dbtg_cells.specs.declared.key.DbKey.{DbKey}
 use Rattle.dbtg_cells.specs.declared.key.Owner.{Owner}
 use Rattle.dbtg_cells.specs.declared.name.CellName.{CellName}
 use Rattle.dbtg_cells.specs.declared.name.CellName.TheVariants.{Extent}
 use Rattle.dbtg_cells.specs.declared.slot.Stored.{Stored}
 use Rattle.dbtg_unit.specs.declared.edit.CellEdit.{CellEdit}
-use Rattle.dbtg_unit.specs.declared.edit.UnitEdit.TheVariants.{See}
 use Rattle.dbtg_unit.specs.declared.statement.Form.{Form}
 use Rattle.dbtg_unit.specs.declared.statement.Form.TheVariants.{Key, CurrentOfUnit, CurrentOfType, CurrentOfSet, CurrentOfArea, InSet, InArea, OwnerOf, Calc, NextDuplicate, Sorted}
 use Rattle.dbtg_unit.specs.declared.statement.Statement.TheVariants.{Find}
 use Rattle.dbtg_unit.specs.declared.statement.Suppress.{Suppress}
 use Rattle.dbtg_unit.specs.declared.unit.Cause.{Cause}
 use Rattle.dbtg_unit.specs.declared.unit.Unit.{Unit}
-use Rattle.dbtg_unit.specs.Base.{Database, is_live, owner_of}
+use Rattle.dbtg_unit.specs.Base.{Database, owner_of}
 use Rattle.dbtg_unit.specs.Belongs.{IsUnitOf}
 use Rattle.dbtg_unit.specs.CellNames.{slot_name}
 use Rattle.dbtg_unit.specs.Cells.{cell}
 use Rattle.dbtg_unit.specs.Checks.{refused_at_once}
-use Rattle.dbtg_unit.specs.Effect.{Outcome, done, effect, finding, refused}
+use Rattle.dbtg_unit.specs.Effect.{Outcome, done, effect, finding}
 use Rattle.dbtg_unit.specs.Fits.{form_fits, if_named, is_type}
 use Rattle.dbtg_unit.specs.Found.{found}
 use Rattle.dbtg_unit.specs.Guesses.{guesses_after}
@@ -37,7 +36,7 @@ use Rattle.dbtg_unit.specs.InHand.{stored_in}
 use Rattle.dbtg_unit.specs.Local.{Agrees, holds}
 use Rattle.dbtg_unit.specs.Making.{CanFinish, CanMake, MayPrepare}
 use Rattle.dbtg_unit.specs.Needs.{find_cells, found_slot}
-use Rattle.dbtg_unit.specs.Prepared.{IsEffect, Plan}
+use Rattle.dbtg_unit.specs.Prepared.{IsEffect}
 use Rattle.dbtg_unit.specs.Units.{owners_of, seen, seen_with}
 use Rattle.dbtg_unit.proofs.AlikeFind.{slot_of_found}
 use Rattle.dbtg_unit.proofs.FoundLemmas.{found_live}
@@ -46,7 +45,6 @@ use Rattle.dbtg_unit.proofs.LiveKeys.{In, in_left, some_is}
 use Rattle.dbtg_unit.proofs.LocalReady.{all_held}
 use Rattle.dbtg_unit.proofs.ReadyParts.{prepared_has_all}
 use Rattle.dbtg_plan.specs.Finding.{cells_to_find, found_in, is_wanted, next_cell_in, owners_in, plan_of_found}
-use Rattle.dbtg_plan.specs.Plans.{refusal}
 use Rattle.dbtg_plan.proofs.FindingLemmas.{found_reads, only_named}
 use Rattle.dbtg_plan.specs.Missing.{first_missing}
 use Rattle.dbtg_plan.proofs.MissingCells.{missing-append, none_missing}

@@ -1,22 +1,20 @@
 -- What a FIND finds off the cells in hand is what it finds in each database that agrees with them.
 -- k is a key, s a set, r and t record types, a an area, v a value, c the name of a cell, db a database.
-use Rattle.std.proofs.Common.{◌≡◌, refl, sym, ◌∙◌, ap, subst, ℕ, zero, suc, ◌+◌, ◌<◌, ◌≤◌, ◌≢◌, Bool, true, false, cond, not, ◌&&◌, List, [], ◌∷◌, ◌++◌, length, Option, Some, None, eqb, map, arith, inl, inr}
+use Rattle.std.proofs.Common.{◌≡◌, refl, sym, ◌∙◌, ap, ℕ, zero, suc, ◌+◌, ◌<◌, ◌≤◌, ◌≢◌, Bool, true, false, cond, not, ◌&&◌, List, [], ◌∷◌, ◌++◌, length, Option, Some, None, eqb, map, arith, inl, inr}
 use Rattle.std.specs.Prelude.{◌==◌, nat_lt, is_none, is_some, option_and_then, option_map, unwrap_or, filter, Result, Ok, Err, if◌then◌else◌}
-use Rattle.std.specs.List.{find, flat_map, list_any, range_with_len}
-use Rattle.std.specs.Option.{option_or}
+use Rattle.std.specs.List.{find, flat_map, range_with_len}
 use Rattle.std.proofs.lemmas.Bool.{and_parts, cases_Bool, cond-true, cond-false, eqb-true, eq-eqb, false≢true, false_from_ne_true}
 use Rattle.std.proofs.lemmas.List.Elements.{filter-append}
 use Rattle.dbtg_schema.specs.Lists.{Lists}
 use Rattle.dbtg_schema.specs.Lookups.{at, first, first_cause, some_and}
-use Rattle.dbtg_schema.specs.Structure.{area_of, types_in}
-use Rattle.dbtg_cells.specs.declared.extent.Number.{Number}
+use Rattle.dbtg_schema.specs.Structure.{area_of}
 use Rattle.dbtg_cells.specs.declared.key.DbKey.{DbKey}
 use Rattle.dbtg_cells.specs.declared.key.Value.{Value}
 use Rattle.dbtg_cells.specs.declared.name.CellName.{CellName}
 use Rattle.dbtg_cells.specs.declared.name.CellName.TheVariants.{Extent, Ring}
 use Rattle.dbtg_cells.specs.declared.ring.Occurrence.{Occurrence}
 use Rattle.dbtg_cells.specs.Keys.{has_type, key_lt, value_eq}
-use Rattle.dbtg_cells.specs.Members.{keys_in, members_in}
+use Rattle.dbtg_cells.specs.Members.{members_in}
 use Rattle.dbtg_cells.specs.Numbers.{has_values, numbers_where}
 use Rattle.dbtg_unit.specs.declared.statement.Form.{Form}
 use Rattle.dbtg_unit.specs.declared.statement.Form.TheVariants.{Key, CurrentOfUnit, CurrentOfType, CurrentOfSet, CurrentOfArea, InSet, InArea, OwnerOf, Calc, NextDuplicate, Sorted}
@@ -29,21 +27,18 @@ use Rattle.dbtg_unit.specs.Base.{Database, calc_items, is_live, items_of, live_k
 use Rattle.dbtg_unit.specs.Belongs.{IsUnitOf}
 use Rattle.dbtg_unit.specs.CellNames.{place_of, slot_name}
 use Rattle.dbtg_unit.specs.Cells.{number_of}
-use Rattle.dbtg_unit.specs.Fits.{form_fits, if_named, is_type, which_fits}
+use Rattle.dbtg_unit.specs.Fits.{form_fits, if_named, is_type}
 use Rattle.dbtg_unit.specs.Found.{chosen, chosen_by_key, found, found_unless, is_lost, keys_in_area, needs_position, with_calc, with_current}
 use Rattle.dbtg_unit.specs.Hands.{Hands}
-use Rattle.dbtg_unit.specs.InHand.{key_of, numbers_in, occurrence_in, stored_in, values_of_key}
+use Rattle.dbtg_unit.specs.InHand.{key_of, numbers_in, occurrence_in, values_of_key}
 use Rattle.dbtg_unit.specs.Local.{Agrees, holds}
-use Rattle.dbtg_unit.specs.Needs.{current_owner, find_cells, found_slot, ring_names, slot_names}
+use Rattle.dbtg_unit.specs.Needs.{ring_names, slot_names}
 use Rattle.dbtg_unit.specs.Units.{key_of_owner, key_of_place, place_in}
-use Rattle.dbtg_unit.proofs.AlikeFind.{slot_of_found}
-use Rattle.dbtg_unit.proofs.ExtentInHand.{calc_items_in_hand, first-map, keys_behind_in_hand, live_by_extent, live_keys_in_hand, values_in_hand, with_calc_in_hand}
+use Rattle.dbtg_unit.proofs.ExtentInHand.{calc_items_in_hand, first-map, keys_behind_in_hand, live_by_extent, live_keys_in_hand, with_calc_in_hand}
 use Rattle.dbtg_unit.proofs.InHandLemmas.{entries_in_hand, list_in_hand, live_in_hand, numbers_in_hand}
-use Rattle.dbtg_unit.proofs.LiveKeys.{In, in_filter, in_map, in_range, of_range}
-use Rattle.dbtg_unit.proofs.LocalReady.{all_held}
+use Rattle.dbtg_unit.proofs.LiveKeys.{In, in_filter, in_map, of_range}
 use Rattle.dbtg_unit.proofs.TwoDatabases.{live_key_type}
-use Rattle.dbtg_plan.specs.Finding.{area_keys_in, calc_found, cells_to_find, duplicate_found, found_in, is_wanted, keys_of_type, keys_wanted, member_found, next_cell_in, sorted_found, stored_or}
-use Rattle.dbtg_plan.proofs.MissingCells.{missing-append, none_missing}
+use Rattle.dbtg_plan.specs.Finding.{area_keys_in, cells_to_find, duplicate_found, found_in, is_wanted, keys_of_type, keys_wanted, member_found, sorted_found, stored_or}
 
 -- LISTS
 

@@ -1,6 +1,6 @@
 -- The keys of one record type by their numbers.
 -- k is a key, t a record type, n and m numbers, g a generation.
-use Rattle.std.proofs.Common.{◌≡◌, refl, sym, ◌∙◌, ap, ℕ, pos, zero, suc, ◌+◌, ◌-◌, ◌<◌, Bool, true, false, cond, List, [], ◌∷◌, ◌++◌, Option, Some, None, arith, map, reverse, add-one}
+use Rattle.std.proofs.Common.{◌≡◌, refl, sym, ◌∙◌, ap, ℕ, pos, zero, suc, ◌+◌, ◌-◌, ◌<◌, Bool, true, false, cond, List, [], ◌∷◌, ◌++◌, None, arith, map, reverse, add-one}
 use Rattle.std.specs.Prelude.{◌==◌, ◌&&◌, ◌||◌, nat_lt, filter, option_map, pred, slice_get}
 use Rattle.std.proofs.lemmas.Option.{slice_get-map}
 use Rattle.std.proofs.lemmas.Bool.Decides.{nat_tests}
@@ -26,13 +26,14 @@ above_tests m n g a b low same = grind (arith, nat_tests)
 below_tests : (m n g a b : ℕ) → (m ≡ n → a ≡ b) → nat_lt n m || (n == m && nat_lt b g) ≡ nat_lt n (cond (nat_lt a g) (m + 1) m)
 below_tests m n g a b same = grind (arith, nat_tests)
 
-none_kept : (ns : List ℕ) → filter (λ n. false) ns ≡ []
+-- where no element passes, and where each does
+pub none_kept : {X : Type 0} (xs : List X) → filter (λ x. false) xs ≡ []
 none_kept [] = refl
-none_kept (n ∷ ns) = none_kept ns
+none_kept (x ∷ xs) = none_kept xs
 
-all_kept : (ns : List ℕ) → filter (λ n. true) ns ≡ ns
+pub all_kept : {X : Type 0} (xs : List X) → filter (λ x. true) xs ≡ xs
 all_kept [] = refl
-all_kept (n ∷ ns) = ap (λ ms. n ∷ ms) (all_kept ns)
+all_kept (x ∷ xs) = ap (λ ys. x ∷ ys) (all_kept xs)
 
 map-append : {X Y : Type 0} (f : X → Y) (xs ys : List X) → map f (xs ++ ys) ≡ map f xs ++ map f ys
 map-append f [] ys = refl
@@ -104,10 +105,7 @@ module _ (t : ℕ) (numbers : List Number) (k : DbKey) where
 
 -- the last, where there is no bound
 pub last_of_all : (t : ℕ) (numbers : List Number) → option_map (key_of numbers t) (final (numbers_where is_used numbers)) ≡ final (filter (is_below None) (keys_of_type t numbers))
-last_of_all t numbers = sym (ap final (unbounded (keys_of_type t numbers)) ∙ final-map (key_of numbers t) (numbers_where is_used numbers)) where
-  unbounded : (xs : List DbKey) → filter (is_below None) xs ≡ xs
-  unbounded [] = refl
-  unbounded (x ∷ xs) = ap (λ ys. x ∷ ys) (unbounded xs)
+last_of_all t numbers = sym (ap final (all_kept (keys_of_type t numbers)) ∙ final-map (key_of numbers t) (numbers_where is_used numbers))
 
 -- the one at a place
 pub key_at_place : (t : ℕ) (numbers : List Number) (place : ℕ) → option_map (key_of numbers t) (nth (pos (place + 1)) (numbers_where is_used numbers)) ≡ slice_get (keys_of_type t numbers) place

@@ -1,7 +1,7 @@
 -- What a FIND finds, read off the cells in hand.
 -- k is a key, n a number, p a position, v a value, s a set, r and t record types, a an area.
-use Rattle.std.specs.Prelude.{ℕ, ◌+◌, ◌-◌, take, Bool, true, false, not, ◌&&◌, ◌==◌, nat_lt, List, [], ◌∷◌, ◌++◌, Option, Some, None, Result, Ok, Err, is_none, is_some, map, filter, length, option_map, option_and_then, unwrap_or, if◌then◌else◌}
-use Rattle.std.specs.List.{find, list_any, range_with_len, flat_map}
+use Rattle.std.specs.Prelude.{ℕ, ◌+◌, ◌-◌, take, Bool, true, ◌&&◌, ◌==◌, nat_lt, List, [], ◌∷◌, ◌++◌, Option, Some, None, Result, Ok, Err, is_none, is_some, map, filter, length, option_map, option_and_then, unwrap_or, if◌then◌else◌}
+use Rattle.std.specs.List.{find, range_with_len, flat_map}
 use Rattle.dbtg_schema.specs.Lists.{Lists}
 use Rattle.dbtg_schema.specs.Lookups.{at, first, first_cause, some_and}
 use Rattle.dbtg_schema.specs.Structure.{area_of}
@@ -14,7 +14,6 @@ use Rattle.dbtg_cells.specs.declared.name.CellName.TheVariants.{Extent}
 use Rattle.dbtg_cells.specs.declared.ring.Occurrence.{Occurrence}
 use Rattle.dbtg_cells.specs.Keys.{has_type, key_lt, value_eq}
 use Rattle.dbtg_cells.specs.Members.{keys_in, members_in}
-use Rattle.dbtg_cells.specs.Names.{name_eq}
 use Rattle.dbtg_cells.specs.Numbers.{has_values, is_used, last_of, numbers_where}
 use Rattle.dbtg_unit.specs.declared.edit.UnitEdit.TheVariants.{See}
 use Rattle.dbtg_unit.specs.declared.statement.Form.{Form}
@@ -23,7 +22,6 @@ use Rattle.dbtg_unit.specs.declared.statement.Suppress.{Suppress}
 use Rattle.dbtg_unit.specs.declared.statement.Which.{Which}
 use Rattle.dbtg_unit.specs.declared.unit.Cause.{Cause}
 use Rattle.dbtg_unit.specs.declared.unit.Cause.TheVariants.{Deleted, End, NoneSatisfies, PositionLost}
-use Rattle.dbtg_unit.specs.declared.unit.Status.TheVariants.{Done}
 use Rattle.dbtg_unit.specs.declared.unit.Unit.{Unit}
 use Rattle.dbtg_unit.specs.CellNames.{slot_name}
 use Rattle.dbtg_unit.specs.Found.{chosen, chosen_by_key, found_unless, is_lost, needs_position, with_current}

@@ -65,7 +65,11 @@ fn prior_key(extent: &Extent, rtype: RecordNo, bound: &DbKey) -> Option<DbKey>
     if rtype.index() < bound.rtype.index() {
         return key_of(extent, rtype, extent.last_live());
     }
-    key_of(extent, rtype, extent.prior_live(number_below(extent, bound)))
+    key_of(
+        extent,
+        rtype,
+        extent.prior_live(number_below(extent, bound)),
+    )
 }
 
 /// The first key behind the bound, where there is one.

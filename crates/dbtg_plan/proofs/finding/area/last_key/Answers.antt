@@ -1,4 +1,4 @@
-use Rattle.std.proofs.Common.{◌≡◌, ◌<◌, ◌+◌, ◌∙◌, sym, ap, filter, length, arith}
+use Rattle.std.proofs.Common.{◌<◌, ◌+◌, ◌∙◌, sym, ap, filter, length, arith}
 use Rattle.std.specs.Option.{option_or}
 use Rattle.dbtg_schema.specs.Lookups.{final}
 use Rattle.dbtg_plan.specs.Finding.{is_below, keys_wanted}

@@ -1,4 +1,4 @@
-use Rattle.std.proofs.Common.{◌≡◌, ◌∙◌, sym, ap}
+use Rattle.std.proofs.Common.{◌∙◌, sym, ap}
 use Rattle.std.specs.Prelude.{filter, option_map}
 use Rattle.dbtg_schema.specs.Lookups.{final}
 use Rattle.dbtg_unit.specs.InHand.{key_of}

@@ -1,4 +1,4 @@
-use Rattle.std.proofs.Common.{◌≡◌, ◌∙◌, sym, ap, arith}
+use Rattle.std.proofs.Common.{◌≡◌, ◌∙◌, ap, arith}
 use Rattle.std.specs.Prelude.{filter, nat_lt, option_map}
 use Rattle.dbtg_schema.specs.Lookups.{final}
 use Rattle.dbtg_cells.specs.Numbers.{is_used, numbers_where}
