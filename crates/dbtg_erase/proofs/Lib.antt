@@ -1,2 +1,4 @@
 pub mod Bringing
 pub mod Reading
+pub mod ErasePlan
+pub mod PlanIsEffect
