@@ -256,7 +256,7 @@ module _ (schema : Lists) (capacity : ℕ) (db : Database) (hands : Hands) (unit
     left = left_behind (members_of_all schema db) turn
 
     -- the slot of each that is left behind is in hand
-    left_held : (x : DbKey) → In x left → holds hands.cells (slot_name x) ≡ true
+    pub left_held : (x : DbKey) → In x left → holds hands.cells (slot_name x) ≡ true
     left_held x i =
         all_at (λ y. holds hands.cells (slot_name y)) x left
         (all_pass (λ y. holds hands.cells (slot_name y)) [] (filter (λ y. not (is_member y turn)) (flat_map (members_of_all schema db) turn)) refl

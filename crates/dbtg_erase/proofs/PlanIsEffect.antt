@@ -51,28 +51,28 @@ effect_is : (schema : Lists) (capacity : ℕ) (db : Database) (unit : Unit) (sta
 unfolding effect
 effect_is schema capacity db unit statement = refl
 
+-- the record that goes is there, and its form may take it
+pub record Passed (schema : Lists) (db : Database) (unit : Unit) (option : Erase) (k : DbKey) : Type 0 where
+  pub own : first_cause (own_checks db unit k) ≡ None
+  pub none : (is_plain option && has_members schema db k) ≡ false
+  pub live : is_live db k ≡ true
+
+pub passed : (schema : Lists) (db : Database) (unit : Unit) (option : Erase) (k : DbKey) → first_cause (delete_checks schema db unit option k) ≡ None → Passed schema db unit option k
+passed schema db unit option k h =
+    let parts = passes-append (own_checks db unit k) ((is_plain option && has_members schema db k, OwnerHasMembers) ∷ []) h in
+    record {
+      own = parts.0;
+      none = (passes (is_plain option && has_members schema db k, OwnerHasMembers) [] parts.1).0;
+      live = not-false _ (passes_check (not (is_live db k)) Deleted _ parts.0).0;
+    }
+
 module _ (schema : Lists) (capacity : ℕ) (unit : Unit) (hands : Hands) (option : Erase) (may : MayPrepare schema capacity unit hands (Delete option)) where
   module _ (db : Database) (agrees : Agrees schema capacity db hands unit) where
     abbrev result : Outcome
     result = effect schema capacity db unit (Delete option)
 
-    -- the record that goes is there, and its form may take it
-    record Passed (k : DbKey) : Type 0 where
-      own : first_cause (own_checks db unit k) ≡ None
-      none : (is_plain option && has_members schema db k) ≡ false
-      live : is_live db k ≡ true
-
-    passed : (k : DbKey) → first_cause (delete_checks schema db unit option k) ≡ None → Passed k
-    passed k h =
-        let parts = passes-append (own_checks db unit k) ((is_plain option && has_members schema db k, OwnerHasMembers) ∷ []) h in
-        record {
-          own = parts.0;
-          none = (passes (is_plain option && has_members schema db k, OwnerHasMembers) [] parts.1).0;
-          live = not-false _ (passes_check (not (is_live db k)) Deleted _ parts.0).0;
-        }
-
     done_is_effect : (k : DbKey) → unit.currency.run_unit ≡ Some k → result ≡ deleted schema capacity db unit option k
-        → ((c : CellName) → In c (delete_cells_of schema capacity db unit option (Some k)) → holds hands.cells c ≡ true) → Passed k
+        → ((c : CellName) → In c (delete_cells_of schema capacity db unit option (Some k)) → holds hands.cells c ≡ true) → Passed schema db unit option k
         → IsEffect schema capacity db unit hands.guesses (Delete option) (erasing_plan schema hands (gone_in schema capacity hands option k) k)
     done_is_effect k current e has p = record {
       answer = sym (ap (λ (o : Outcome). o.answer) e);
@@ -100,7 +100,7 @@ module _ (schema : Lists) (capacity : ℕ) (unit : Unit) (hands : Hands) (option
       by None h =
           subst (λ (o : Option Cause). IsEffect schema capacity db unit hands.guesses (Delete option) (unless_refusal o (erasing_plan schema hands (gone_in schema capacity hands option k) k)))
           (sym (checks_are schema capacity db hands unit agrees option k has ∙ h))
-          (done_is_effect k current (e ∙ ap (λ o. unless_refused db unit o (deleted schema capacity db unit option k)) h) has (passed k h))
+          (done_is_effect k current (e ∙ ap (λ o. unless_refused db unit o (deleted schema capacity db unit option k)) h) has (passed schema db unit option k h))
 
     pub plan_is_effect : IsEffect schema capacity db unit hands.guesses (Delete option) (whole_plan schema capacity hands unit option)
     plan_is_effect = at_once (refused_at_once schema capacity unit (Delete option)) refl where

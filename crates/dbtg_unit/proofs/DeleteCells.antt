@@ -165,13 +165,13 @@ module _ (schema : Lists) (capacity : ℕ) (db : Database) (unit : Unit) (option
       ∙ edited_at-append c closings (vacatings ++ losings) _
       ∙ edited_at-append c vacatings losings _
 
-  skips_leavings : (c : CellName) → ((s : ℕ) (q : Option (ℕ × ℕ)) → name_eq c (Ring s q) ≡ false) → Skips c leavings
+  pub skips_leavings : (c : CellName) → ((s : ℕ) (q : Option (ℕ × ℕ)) → name_eq c (Ring s q) ≡ false) → Skips c leavings
   skips_leavings c h = skips-flat c (leaving_edits schema (owner_of schema capacity db) turn) turn (λ d i. skips-flat c _ (set_numbers schema) (λ s j. of_owner s d (staying_owner turn (owner_of schema capacity db s d)))) where
     of_owner : (s : ℕ) (d : DbKey) (o : Option Owner) → Skips c (ring_edits s o (TakeOut d ∷ []))
     of_owner s d None v = refl
     of_owner s d (Some p) v = ap (λ b. cond b (edited (TakeOut d) v) v) (h s (place_of p))
 
-  skips_closings : (c : CellName) → ((s : ℕ) (q : Option (ℕ × ℕ)) → name_eq c (Ring s q) ≡ false) → Skips c closings
+  pub skips_closings : (c : CellName) → ((s : ℕ) (q : Option (ℕ × ℕ)) → name_eq c (Ring s q) ≡ false) → Skips c closings
   skips_closings c h = skips-flat c (closing_edits schema) turn (λ d i. skips-map c _ (filter (λ s. owns schema s d.rtype) (set_numbers schema)) (λ s. h s (Some (d.rtype, d.number))))
 
   skips_losing : (c : CellName) (x : DbKey) → name_eq c (slot_name x) ≡ false → Skips c (losing_edits schema (owner_of schema capacity db) turn x)
