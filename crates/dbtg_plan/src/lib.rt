@@ -2,6 +2,12 @@
 #![tactic(auto)]
 
 mod calc;
+mod inserting;
 mod joining;
+mod keeping;
+mod members;
 mod missing;
+mod modifying;
+mod opening;
 mod outcomes;
+mod removing;

@@ -81,3 +81,4 @@ pub mod InHandLemmas
 pub mod ExtentInHand
 pub mod ReadyParts
 pub mod SameHands
+pub mod ReservingLemmas
