@@ -1,5 +1,11 @@
+pub mod Kept
+pub mod ModifyReading
+pub mod ModifyPlan
 pub mod NumberSteps
 pub mod JoiningLemmas
+pub mod ModifyMaking
+pub mod ModifyReady
+pub mod SetSteps
 pub mod PlanLemmas
 pub mod MissingCells
 pub mod NumberedKeys
@@ -9,3 +15,14 @@ pub mod MissingLemmas
 pub mod FindPlans
 pub mod KeysInTurn
 pub mod ChosenKeys
+pub mod RingEdits
+pub mod InsertingLemmas
+pub mod RemovingLemmas
+pub mod StoreInHand
+pub mod MissingLemmas
+pub mod VersionLemmas
+pub mod OutcomeLemmas
+pub mod KeepingLemmas
+pub mod OpeningLemmas
+pub mod StoreMaking
+pub mod StoreFinish

@@ -3,6 +3,12 @@
 
 mod calc;
 mod finding;
+mod inserting;
 mod joining;
+mod keeping;
+mod members;
 mod missing;
+mod modifying;
+mod opening;
 mod outcomes;
+mod removing;

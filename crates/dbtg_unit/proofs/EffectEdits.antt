@@ -1,4 +1,4 @@
--- The effect of a statement on the cells is its edits.
+-- The effect of a statement other than DELETE on the cells is its edits.
 use Rattle.std.proofs.Common.{◌≡◌, refl, sym, ◌∙◌, ap, subst, ℕ, ◌≤◌, Bool, true, false, cond, not, ◌&&◌, List, [], ◌∷◌, ◌++◌, Option, Some, None, eqb, ltb}
 use Rattle.std.specs.Prelude.{is_none, is_some, unwrap_or, filter}
 use Rattle.std.specs.List.{list_any, range_with_len}
@@ -28,8 +28,8 @@ use Rattle.dbtg_unit.specs.Base.{Database, is_live, items_of, key_at, key_item, 
 use Rattle.dbtg_unit.specs.Cells.{cell}
 use Rattle.dbtg_unit.specs.Checks.{lacks_current}
 use Rattle.dbtg_unit.specs.Edits.{edited_at}
-use Rattle.dbtg_unit.specs.EditsOf.{EffectIsItsEdits, edits_of, is_delete}
-use Rattle.dbtg_unit.specs.Effect.{Outcome, calc_taken, conflict, done, effect_on_cells, free_number, inserted, insert_checks, modified, modify_checks, new_key, own_checks, place_checks, refused, removed, remove_checks, store_checks, stored, version_of}
+use Rattle.dbtg_unit.specs.EditsOf.{edits_of, is_delete}
+use Rattle.dbtg_unit.specs.Effect.{Outcome, calc_taken, conflict, done, effect, effect_on_cells, free_number, inserted, insert_checks, modified, modify_checks, new_key, own_checks, place_checks, refused, removed, remove_checks, store_checks, stored, version_of}
 use Rattle.dbtg_unit.specs.Found.{found}
 use Rattle.dbtg_unit.specs.Legal.{Legal}
 use Rattle.dbtg_unit.specs.Units.{forgotten, noted, place_in, seen}
@@ -52,7 +52,7 @@ module _ (schema : Lists) (capacity : ℕ) (db : Database) (unit : Unit) (legal 
   abbrev pub Edited : List CellEdit → Outcome → Type 0
   Edited edits outcome = outcome.answer.status ≡ Done → Legal schema capacity outcome.database → (c : CellName) → cell schema capacity outcome.database c ≡ edited_at c edits (cell schema capacity db c)
 
-  no_refusal : (edits : List CellEdit) (cause : Cause) → Edited edits (refused db unit cause)
+  pub no_refusal : (edits : List CellEdit) (cause : Cause) → Edited edits (refused db unit cause)
   no_refusal edits cause is_done = absurd (never is_done) where
     never : Refused cause ≡ Done → ⊥
     never h = cc
@@ -122,7 +122,7 @@ module _ (schema : Lists) (capacity : ℕ) (db : Database) (unit : Unit) (legal 
 
   -- STATEMENTS ABOUT THE CURRENT OF RUN-UNIT
 
-  alive : (k : DbKey) (checks : List (Bool × Cause)) → first_cause (own_checks db unit k ++ checks) ≡ None → (is_live db k ≡ true) × (first_cause checks ≡ None)
+  pub alive : (k : DbKey) (checks : List (Bool × Cause)) → first_cause (own_checks db unit k ++ checks) ≡ None → (is_live db k ≡ true) × (first_cause checks ≡ None)
   alive k checks h =
       let parts = passes-append (own_checks db unit k) checks h in
       (not-false _ (passes_check (not (is_live db k)) Deleted _ parts.0).0, parts.1)
@@ -175,7 +175,9 @@ module _ (schema : Lists) (capacity : ℕ) (db : Database) (unit : Unit) (legal 
   on_cells (Free true) other placed = λ is_done lawful c. refl
   on_cells (Free false) other placed = of_current db unit (Edited []) (no_refusal []) unit.currency.run_unit (λ k. []) (λ k. done db (record unit { kept = forgotten k unit.kept }) None None) (λ k is checks is_done lawful c. refl)
 
-pub effect_is_its_edits : EffectIsItsEdits
+pub effect_is_its_edits : (schema : Lists) (capacity : ℕ) (db : Database) (unit : Unit) (statement : Statement) → is_delete statement ≡ false
+    → Legal schema capacity db → Legal schema capacity (effect schema capacity db unit statement).database → (effect schema capacity db unit statement).answer.status ≡ Done
+    → (c : CellName) → cell schema capacity (effect schema capacity db unit statement).database c ≡ edited_at c (edits_of schema capacity db unit statement) (cell schema capacity db c)
 effect_is_its_edits schema capacity db unit statement other legal lawful is_done c =
     of_effect db unit (Edited schema capacity db unit legal (edits_of schema capacity db unit statement)) (no_refusal schema capacity db unit legal (edits_of schema capacity db unit statement)) schema capacity statement
     (λ passes_at_once. on_cells schema capacity db unit legal statement other (passed schema capacity unit statement passes_at_once).placed) is_done lawful c

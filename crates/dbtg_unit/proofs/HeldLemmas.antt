@@ -1,6 +1,6 @@
 -- Names and cells side by side.
 use Rattle.std.proofs.Common.{◌≡◌, refl, sym, ◌∙◌, ap, ℕ, suc, ◌+◌, true, false, cond, List, [], ◌∷◌, ◌++◌, Some, None, length, inl, inr, arith}
-use Rattle.std.specs.Prelude.{slice_get, slice_set}
+use Rattle.std.specs.Prelude.{map, slice_get, slice_set}
 use Rattle.std.specs.List.{position_from, zip}
 use Rattle.std.proofs.lemmas.Bool.{cases_Bool}
 use Rattle.std.proofs.lemmas.List.{length-append}
@@ -104,3 +104,10 @@ pub popped : (ns ms : List CellName) (cs ds : List Cell) (n : CellName) (x : Cel
 popped ns ms cs ds n x h names cells =
     let long : length cs ≡ length ns = omega (arith, h, ap length names, ap length cells, length-append ns (n ∷ []), length-append cs (x ∷ [])) in
     pushed ns ms cs ds n x long names cells
+
+-- the cells are those beside the names
+pub cells_beside : (ns : List CellName) (cs : List Cell) → length cs ≡ length ns → map (λ e. e.1) (zip ns cs) ≡ cs
+cells_beside [] [] h = refl
+cells_beside [] (y ∷ ys) h = absurd (omega arith)
+cells_beside (m ∷ ms) [] h = absurd (omega arith)
+cells_beside (m ∷ ms) (y ∷ ys) h = ap (λ l. y ∷ l) (cells_beside ms ys (omega arith))

@@ -1,8 +1,8 @@
--- The doomed records in turn are all of the doomed.
+-- The doomed records in turn are just the doomed, each once.
 use Rattle.std.proofs.Common.{◌≡◌, refl, sym, ◌∙◌, ap, subst, ℕ, zero, suc, ◌+◌, ◌<◌, ◌≤◌, Bool, true, false, cond, not, ◌&&◌, ◌||◌, List, [], ◌∷◌, ◌++◌, length, Option, Some, None, inl, inr, arith, append_assoc, zero-add}
 use Rattle.std.specs.Prelude.{filter, slice_get}
 use Rattle.std.specs.List.{list_all}
-use Rattle.std.proofs.lemmas.Bool.{and_parts, and_from, or_left, or_right, false≢true, cases_Bool, cases_eq}
+use Rattle.std.proofs.lemmas.Bool.{and_parts, and_from, or_left, or_right, false≢true, false_from_ne_true, cases_Bool, cases_eq}
 use Rattle.std.proofs.lemmas.Option.{none-some, same_Some, slice_get_within}
 use Rattle.std.proofs.lemmas.List.Folds.{list_any-append, list_all-append}
 use Rattle.std.proofs.lemmas.List.Filters.{length-filter_both}
@@ -21,10 +21,10 @@ use Rattle.dbtg_unit.proofs.Listing.{pairwise-push}
 use Rattle.dbtg_unit.proofs.RingsLemmas.{differ-swap, keeps_member}
 use Rattle.dbtg_unit.proofs.PlacedLemmas.{all-weaker, all-both}
 use Rattle.dbtg_unit.proofs.PlacingOrder.{all_from_none}
-use Rattle.dbtg_unit.proofs.LiveKeys.{In, any_element, in_member, member_in, in_filter, of_filter, in_flat_map, of_flat_map, live_in_all}
+use Rattle.dbtg_unit.proofs.LiveKeys.{In, all_at, any_in, any_element, in_member, member_in, in_filter, of_filter, in_flat_map, of_flat_map, live_in_all}
 use Rattle.dbtg_unit.proofs.ErasedLemmas.{doomed_is_least_set}
 
-append-nil : {X : Type 0} (xs : List X) → xs ++ [] ≡ xs
+pub append-nil : {X : Type 0} (xs : List X) → xs ++ [] ≡ xs
 append-nil [] = refl
 append-nil (x ∷ xs) = ap (λ ys. x ∷ ys) (append-nil xs)
 
@@ -54,7 +54,7 @@ no_more (x ∷ xs) ys h g =
 
 -- WITH THOSE
 
-extends : (order xs : List DbKey) → (ys : List DbKey) × (with_those order xs ≡ order ++ ys)
+pub extends : (order xs : List DbKey) → (ys : List DbKey) × (with_those order xs ≡ order ++ ys)
 extends order [] = ([], sym (append-nil order))
 extends order (x ∷ xs) =
     elim (is_member x order) as (λ b. (ys : List DbKey) × (with_those (cond b order (order ++ x ∷ [])) xs ≡ order ++ ys)) [
@@ -65,7 +65,7 @@ extends order (x ∷ xs) =
 still : (order xs : List DbKey) (y : DbKey) → is_member y order ≡ true → is_member y (with_those order xs) ≡ true
 still order xs y h = let r = extends order xs in ap (is_member y) r.1 ∙ list_any-append (key_eq y) order r.0 ∙ or_left _ _ h
 
-has_those : (order xs : List DbKey) (y : DbKey) → In y xs → is_member y (with_those order xs) ≡ true
+pub has_those : (order xs : List DbKey) (y : DbKey) → In y xs → is_member y (with_those order xs) ≡ true
 has_those order [] y i = absurd i
 has_those order (x ∷ xs) y i = elim i [
   | inl e ↦ subst (λ (z : DbKey). is_member z (with_those order (x ∷ xs)) ≡ true) e (still (cond (is_member x order) order (order ++ x ∷ [])) xs x (has_it (is_member x order) refl))
@@ -75,21 +75,21 @@ has_those order (x ∷ xs) y i = elim i [
   has_it true h = h
   has_it false h = list_any-append (key_eq x) order (x ∷ []) ∙ or_right _ _ (or_left _ _ (key_eq-refl x))
 
-each_once : (order xs : List DbKey) → pairwise differ order ≡ true → pairwise differ (with_those order xs) ≡ true
+pub each_once : (order xs : List DbKey) → pairwise differ order ≡ true → pairwise differ (with_those order xs) ≡ true
 each_once order [] h = h
 each_once order (x ∷ xs) h = each_once (cond (is_member x order) order (order ++ x ∷ [])) xs (one_more (is_member x order) refl) where
   one_more : (b : Bool) → is_member x order ≡ b → pairwise differ (cond b order (order ++ x ∷ [])) ≡ true
   one_more true e = h
   one_more false e = pairwise-push differ order x h (all-weaker (λ y. not (key_eq x y)) (λ y. differ y x) order (λ y d. differ-swap x y d) (all_from_none (key_eq x) order e))
 
-all_pass : (p : DbKey → Bool) (order xs : List DbKey) → list_all p order ≡ true → list_all p xs ≡ true → list_all p (with_those order xs) ≡ true
+pub all_pass : (p : DbKey → Bool) (order xs : List DbKey) → list_all p order ≡ true → list_all p xs ≡ true → list_all p (with_those order xs) ≡ true
 all_pass p order [] h g = h
 all_pass p order (x ∷ xs) h g =
     let gs = and_parts _ _ g in
     all_pass p (cond (is_member x order) order (order ++ x ∷ [])) xs
     (elim (is_member x order) as (λ b. list_all p (cond b order (order ++ x ∷ [])) ≡ true) [ true ↦ h | false ↦ list_all-append p order (x ∷ []) ∙ and_from _ _ h (and_from _ _ gs.0 refl) ]) gs.1
 
-slice_get_front : {X : Type 0} (xs ys : List X) (j : ℕ) → j < length xs → slice_get (xs ++ ys) j ≡ slice_get xs j
+pub slice_get_front : {X : Type 0} (xs ys : List X) (j : ℕ) → j < length xs → slice_get (xs ++ ys) j ≡ slice_get xs j
 slice_get_front [] ys j h = absurd (omega arith)
 slice_get_front (x ∷ xs) ys zero h = refl
 slice_get_front (x ∷ xs) ys (suc j) h = slice_get_front xs ys j (omega arith)
@@ -98,17 +98,23 @@ place_of_element : {X : Type 0} (x : X) (xs : List X) → In x xs → (j : ℕ) 
 place_of_element x [] i = absurd i
 place_of_element x (y ∷ xs) i = elim i [ inl e ↦ (0, ap Some e) | inr k ↦ let r = place_of_element x xs k in (suc r.0, r.1) ]
 
+element_at : {X : Type 0} (xs : List X) (j : ℕ) (x : X) → slice_get xs j ≡ Some x → In x xs
+element_at [] j x h = absurd (none-some x h)
+element_at (y ∷ ys) zero x h = inl (same_Some y x h)
+element_at (y ∷ ys) (suc j) x h = inr (element_at ys j x h)
+
+pub all_from : (p : DbKey → Bool) (xs : List DbKey) → ((x : DbKey) → In x xs → p x ≡ true) → list_all p xs ≡ true
+all_from p [] h = refl
+all_from p (x ∷ xs) h = and_from _ _ (h x (inl refl)) (all_from p xs (λ y j. h y (inr j)))
+
 -- IN TURN
 
 module _ (schema : Lists) (capacity : ℕ) (db : Database) (legal : Legal schema capacity db) (option : Erase) where
   taken_live : (d : DbKey) → list_all (is_live db) (taken_with schema capacity db option d) ≡ true
-  taken_live d = all_from (taken_with schema capacity db option d) (λ x i.
+  taken_live d = all_from (is_live db) (taken_with schema capacity db option d) (λ x i.
       let s = of_flat_map (λ s. filter (takes schema capacity db option s (Rec d)) (members_of db s (Rec d))) x (set_numbers schema) i in
       let kept = of_filter (takes schema capacity db option s.0 (Rec d)) x (members_of db s.0 (Rec d)) s.2 in
-      (legal.members s.0 (Rec d) x (in_member x (members_of db s.0 (Rec d)) kept.0)).0) where
-        all_from : (xs : List DbKey) → ((x : DbKey) → In x xs → is_live db x ≡ true) → list_all (is_live db) xs ≡ true
-        all_from [] h = refl
-        all_from (x ∷ xs) h = and_from _ _ (h x (inl refl)) (all_from xs (λ y j. h y (inr j)))
+      (legal.members s.0 (Rec d) x (in_member x (members_of db s.0 (Rec d)) kept.0)).0)
 
   -- those before place i have brought all that they drag along; the keys are live, each once
   record Turn (i : ℕ) (order : List DbKey) : Type 0 where
@@ -187,3 +193,47 @@ module _ (schema : Lists) (capacity : ℕ) (db : Database) (legal : Legal schema
         (doomed_is_least_set schema capacity db option k).least (λ y. is_member y order)
         (λ y e. subst (λ (z : DbKey). is_member z order ≡ true) (same_key k y e) (kept_through (length (all_keys schema capacity db)) 0 (k ∷ []) k (or_left _ _ (key_eq-refl k))))
         closed x h
+
+    -- what is met in turn is doomed
+    abbrev is_doomed : DbKey → Bool
+    is_doomed x = is_member x (doomed schema capacity db option k)
+
+    dragged : (d : DbKey) → is_doomed d ≡ true → list_all is_doomed (taken_with schema capacity db option d) ≡ true
+    dragged d h = all_from is_doomed (taken_with schema capacity db option d) (λ x i.
+        let s = of_flat_map (λ s. filter (takes schema capacity db option s (Rec d)) (members_of db s (Rec d))) x (set_numbers schema) i in
+        let kept = of_filter (takes schema capacity db option s.0 (Rec d)) x (members_of db s.0 (Rec d)) s.2 in
+        let member = in_member x (members_of db s.0 (Rec d)) kept.0 in
+        (doomed_is_least_set schema capacity db option k).closed d x h
+        (any_in (λ s. is_member x (members_of db s (Rec d)) && takes schema capacity db option s (Rec d) x) s.0 (set_numbers schema) s.1 (and_from _ _ member kept.1))
+        (in_member x (all_keys schema capacity db) (live_in_all schema capacity db legal x (legal.members s.0 (Rec d) x member).0)))
+
+    spread_doomed : (n i : ℕ) (met : List DbKey) → list_all is_doomed met ≡ true → list_all is_doomed (spread schema capacity db option n i met) ≡ true
+    spread_doomed zero i met h = h
+    spread_doomed (suc n) i met h = spread_doomed n (suc i) (spread_from schema capacity db option met (slice_get met i)) (by_key (slice_get met i) refl) where
+      by_key : (d : Option DbKey) → slice_get met i ≡ d → list_all is_doomed (spread_from schema capacity db option met d) ≡ true
+      by_key None e = h
+      by_key (Some d) e = all_pass is_doomed met (taken_with schema capacity db option d) h (dragged d (all_at is_doomed d met h (element_at met i d e)))
+
+    pub met_is_doomed : (x : DbKey) → is_member x (doomed_in_turn schema capacity db option k) ≡ true → is_member x (doomed schema capacity db option k) ≡ true
+    met_is_doomed x h =
+        let start : is_doomed k ≡ true = (doomed_is_least_set schema capacity db option k).starts k (in_member k (all_keys schema capacity db) (live_in_all schema capacity db legal k live)) (key_eq-refl k) in
+        all_at is_doomed x (doomed_in_turn schema capacity db option k) (spread_doomed (length (all_keys schema capacity db)) 0 (k ∷ []) (and_from _ _ start refl)) (member_in x _ h)
+
+    pub doomed_as_met : (x : DbKey) → is_member x (doomed schema capacity db option k) ≡ is_member x (doomed_in_turn schema capacity db option k)
+    doomed_as_met x =
+        elim (cases_Bool (is_member x (doomed_in_turn schema capacity db option k))) [
+          | inl e ↦ met_is_doomed x e ∙ sym e
+          | inr e ↦ false_from_ne_true _ (λ h. false≢true (sym e ∙ doomed_is_met x h)) ∙ sym e
+        ]
+
+    pub met_are_live : list_all (is_live db) (doomed_in_turn schema capacity db option k) ≡ true
+    unfolding order
+    met_are_live = turns.live
+
+    pub met_once : pairwise differ (doomed_in_turn schema capacity db option k) ≡ true
+    unfolding order
+    met_once = turns.once
+
+    pub met_few : length (doomed_in_turn schema capacity db option k) ≤ length (all_keys schema capacity db)
+    unfolding order
+    met_few = enough

@@ -73,8 +73,12 @@ pub mod AlikeReading
 pub mod AlikeMoves
 pub mod AlikeRemove
 pub mod AlikeInsert
+pub mod ManyEdits
+pub mod DeleteCells
+pub mod EveryEdit
 pub mod MakingLemmas
 pub mod InHandLemmas
 pub mod ExtentInHand
 pub mod ReadyParts
 pub mod SameHands
+pub mod ReservingLemmas

@@ -66,7 +66,7 @@ module _ (schema : Lists) (capacity : ℕ) (db : Database) (unit : Unit) (option
   staying_record : (x : DbKey) → is_member x gone ≡ false → without_gone.records x ≡ db.records x
   staying_record x h = cond-false (is_member x gone) None (db.records x) h
 
-  staying_of_items : {X : Type 0} (f : List Value → X) (x : DbKey) → is_member x gone ≡ false → option_map (λ (r : Record). f r.items) (after_delete.records x) ≡ option_map (λ (r : Record). f r.items) (db.records x)
+  pub staying_of_items : {X : Type 0} (f : List Value → X) (x : DbKey) → is_member x gone ≡ false → option_map (λ (r : Record). f r.items) (after_delete.records x) ≡ option_map (λ (r : Record). f r.items) (db.records x)
   staying_of_items f x h = raised_of_items f is_taken_out without_gone x ∙ ap (option_map (λ (r : Record). f r.items)) (staying_record x h)
 
   module _ (legal : Legal schema capacity db) (legal' : Legal schema capacity after_delete) (c : CellName)

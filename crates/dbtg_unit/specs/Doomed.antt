@@ -23,13 +23,16 @@ abbrev pub is_elsewhere : Lists → ℕ → Database → ℕ → Owner → DbKey
 is_elsewhere schema capacity db s o m =
     list_any (λ s'. list_any (λ o'. not (s' == s && owner_eq o' o) && is_member m (members_of db s' o')) (owners schema capacity db s')) (set_numbers schema)
 
+-- whether the option takes m, a member of a list of set s, by whether m is a member of another list
+abbrev pub takes_member : Lists → Erase → ℕ → Bool → DbKey → Bool
+takes_member schema Plain s elsewhere m = false
+takes_member schema Only s elsewhere m = some_and (λ c. is_mandatory c.class) (member_clause schema s m.rtype)
+takes_member schema Selective s elsewhere m = some_and (λ c. is_mandatory c.class || not elsewhere) (member_clause schema s m.rtype)
+takes_member schema All s elsewhere m = true
+
 -- whether the option takes m, a member of o's list of s
 abbrev pub takes : Lists → ℕ → Database → Erase → ℕ → Owner → DbKey → Bool
-takes schema capacity db Plain s o m = false
-takes schema capacity db Only s o m = some_and (λ c. is_mandatory c.class) (member_clause schema s m.rtype)
-takes schema capacity db Selective s o m =
-    some_and (λ c. is_mandatory c.class || not (is_elsewhere schema capacity db s o m)) (member_clause schema s m.rtype)
-takes schema capacity db All s o m = true
+takes schema capacity db option s o m = takes_member schema option s (is_elsewhere schema capacity db s o m) m
 
 -- the option takes m with o
 abbrev pub drags : Lists → ℕ → Database → Erase → DbKey → DbKey → Bool

@@ -1,7 +1,8 @@
 -- The edits by which a statement changes the cells, where nothing refuses it.
-use Rattle.std.specs.Prelude.{◌≡◌, ℕ, Bool, true, false, ◌==◌, List, [], ◌∷◌, ◌++◌, Option, Some, None, map, filter, option_map, option_and_then, unwrap_or, if◌then◌else◌}
+use Rattle.std.specs.Prelude.{◌≡◌, ℕ, Bool, true, false, not, ◌==◌, List, [], ◌∷◌, ◌++◌, Option, Some, None, map, filter, option_map, option_and_then, unwrap_or, if◌then◌else◌}
 use Rattle.std.specs.List.{list_any, flat_map}
 use Rattle.dbtg_schema.specs.Lists.{Lists}
+use Rattle.dbtg_schema.specs.Lookups.{some_and}
 use Rattle.dbtg_schema.specs.Structure.{automatic_sets, order_of, owns, set_numbers}
 use Rattle.dbtg_cells.specs.declared.key.DbKey.{DbKey}
 use Rattle.dbtg_cells.specs.declared.key.Owner.{Owner}
@@ -10,12 +11,13 @@ use Rattle.dbtg_cells.specs.declared.key.Value.{Value}
 use Rattle.dbtg_cells.specs.declared.name.CellName.{CellName}
 use Rattle.dbtg_cells.specs.declared.name.CellName.TheVariants.{Usage, Extent, Ring}
 use Rattle.dbtg_unit.specs.declared.edit.Edit.{Edit}
-use Rattle.dbtg_unit.specs.declared.edit.Edit.TheVariants.{EnterUser, LeaveUser, EnterNumber, ChangeNumber, OpenRing, PlaceMember, ReplaceMember, TakeOut, Fill, ChangeItems, ChangeOwner, RaiseVersion}
+use Rattle.dbtg_unit.specs.declared.edit.Edit.TheVariants.{EnterUser, LeaveUser, EnterNumber, LeaveNumber, ChangeNumber, OpenRing, CloseRing, PlaceMember, ReplaceMember, TakeOut, Fill, Vacate, ChangeItems, ChangeOwner, RaiseVersion}
 use Rattle.dbtg_unit.specs.declared.edit.CellEdit.{CellEdit}
 use Rattle.dbtg_unit.specs.declared.statement.Change.{Change}
+use Rattle.dbtg_unit.specs.declared.statement.Erase.{Erase}
 use Rattle.dbtg_unit.specs.declared.unit.Place.{Place}
 use Rattle.dbtg_unit.specs.declared.unit.Unit.{Unit}
-use Rattle.dbtg_unit.specs.Base.{Database, items_of, calc_items, key_item, owner_of}
+use Rattle.dbtg_unit.specs.Base.{Database, items_of, calc_items, is_member, key_item, owner_of}
 use Rattle.dbtg_unit.specs.CellNames.{slot_name, place_of}
 use Rattle.dbtg_unit.specs.Units.{place_in}
 use Rattle.dbtg_unit.specs.declared.statement.Statement.{Statement}
@@ -23,7 +25,8 @@ use Rattle.dbtg_unit.specs.declared.statement.Statement.TheVariants.{OpenArea, C
 use Rattle.dbtg_unit.specs.declared.unit.Status.TheVariants.{Done}
 use Rattle.dbtg_unit.specs.Cells.{cell}
 use Rattle.dbtg_unit.specs.Edits.{edited_at}
-use Rattle.dbtg_unit.specs.Effect.{changed_items, effect, free_number, names_calc, new_key, replaced_sets}
+use Rattle.dbtg_unit.specs.Effect.{changed_items, effect, free_number, is_gone, names_calc, new_key, replaced_sets}
+use Rattle.dbtg_unit.specs.Erasing.{doomed_in_turn, members_of_all, with_those}
 use Rattle.dbtg_unit.specs.Legal.{Legal}
 
 -- an edit of the ring of an owner, where there is one
@@ -85,12 +88,54 @@ modify_edits schema capacity db unit changes k =
     ++ (flat_map (replacing_edits schema capacity db unit k items) (replaced_sets schema capacity db changes k)
     ++ slot_edit k (ChangeItems items) ∷ (slot_edit k RaiseVersion ∷ []))
 
+-- DELETE: d's number is left
+abbrev pub leave_number : DbKey → CellEdit
+leave_number d = record { name = Extent d.rtype; edit = LeaveNumber d.number }
+
+-- an owner, where it does not go
+abbrev pub staying_owner : List DbKey → Option Owner → Option Owner
+staying_owner gone None = None
+staying_owner gone (Some o) = if is_gone gone o then None else Some o
+
+-- d, out of the list of each owner that stays, by the owners of each record in each set
+abbrev pub leaving_edits : Lists → (ℕ → DbKey → Option Owner) → List DbKey → DbKey → List CellEdit
+leaving_edits schema owner gone d = flat_map (λ s. ring_edits s (staying_owner gone (owner s d)) (TakeOut d ∷ [])) (set_numbers schema)
+
+-- the occurrences that d owns
+abbrev pub closing_edits : Lists → DbKey → List CellEdit
+closing_edits schema d = map (λ s. record { name = Ring s (Some (d.rtype, d.number)); edit = CloseRing }) (filter (λ s. owns schema s d.rtype) (set_numbers schema))
+
+-- the members of what goes that stay, each once
+abbrev pub left_behind : (DbKey → List DbKey) → List DbKey → List DbKey
+left_behind members gone = with_those [] (filter (λ x. not (is_member x gone)) (flat_map members gone))
+
+-- the sets in which the owner of x goes
+abbrev pub lost_sets : Lists → (ℕ → DbKey → Option Owner) → List DbKey → DbKey → List ℕ
+lost_sets schema owner gone x = filter (λ s. some_and (is_gone gone) (owner s x)) (set_numbers schema)
+
+-- a member that stays: no owner where that goes, its version
+abbrev pub losing_edits : Lists → (ℕ → DbKey → Option Owner) → List DbKey → DbKey → List CellEdit
+losing_edits schema owner gone x = map (λ s. slot_edit x (ChangeOwner s None)) (lost_sets schema owner gone x) ++ slot_edit x RaiseVersion ∷ []
+
+-- what goes: its numbers, its places, the occurrences that it owns, its slots; then its members that stay
+abbrev pub erasing_edits : Lists → (ℕ → DbKey → Option Owner) → (DbKey → List DbKey) → List DbKey → List CellEdit
+erasing_edits schema owner members gone =
+    map leave_number gone
+    ++ (flat_map (leaving_edits schema owner gone) gone
+    ++ (flat_map (closing_edits schema) gone
+    ++ (map (λ d. slot_edit d Vacate) gone
+    ++ flat_map (losing_edits schema owner gone) (left_behind members gone))))
+
+-- DELETE of k, with all that it takes
+abbrev pub delete_edits : Lists → ℕ → Database → Erase → DbKey → List CellEdit
+delete_edits schema capacity db option k = erasing_edits schema (owner_of schema capacity db) (members_of_all schema db) (doomed_in_turn schema capacity db option k)
+
 -- the edits of a statement about the current of run-unit
 abbrev pub edits_of_current : Option DbKey → (DbKey → List CellEdit) → List CellEdit
 edits_of_current None edits = []
 edits_of_current (Some k) edits = edits k
 
--- the edits of a statement; those of a DELETE are not said here
+-- the edits of a statement
 abbrev pub edits_of : Lists → ℕ → Database → Unit → Statement → List CellEdit
 edits_of schema capacity db unit (OpenArea a mode) = record { name = Usage a; edit = EnterUser unit.number mode } ∷ []
 edits_of schema capacity db unit (CloseArea a) = record { name = Usage a; edit = LeaveUser unit.number } ∷ []
@@ -98,6 +143,7 @@ edits_of schema capacity db unit (Store t items suppress) = store_edits schema u
 edits_of schema capacity db unit (Insert s) = edits_of_current unit.currency.run_unit (insert_edits schema db unit s)
 edits_of schema capacity db unit (Remove s) = edits_of_current unit.currency.run_unit (remove_edits schema capacity db s)
 edits_of schema capacity db unit (Modify t changes) = edits_of_current unit.currency.run_unit (modify_edits schema capacity db unit changes)
+edits_of schema capacity db unit (Delete option) = edits_of_current unit.currency.run_unit (delete_edits schema capacity db option)
 edits_of schema capacity db unit _ = []
 
 -- the statement is a DELETE
@@ -105,9 +151,9 @@ abbrev pub is_delete : Statement → Bool
 is_delete (Delete option) = true
 is_delete _ = false
 
--- a statement other than DELETE that is done, and that leaves the database legal, changes the cells by its edits
+-- a statement that is done, and that leaves the database legal, changes the cells by its edits
 abbrev pub EffectIsItsEdits : Type 0
 EffectIsItsEdits =
-    (schema : Lists) (capacity : ℕ) (db : Database) (unit : Unit) (statement : Statement) → is_delete statement ≡ false
+    (schema : Lists) (capacity : ℕ) (db : Database) (unit : Unit) (statement : Statement)
     → Legal schema capacity db → Legal schema capacity (effect schema capacity db unit statement).database → (effect schema capacity db unit statement).answer.status ≡ Done
     → (c : CellName) → cell schema capacity (effect schema capacity db unit statement).database c ≡ edited_at c (edits_of schema capacity db unit statement) (cell schema capacity db c)

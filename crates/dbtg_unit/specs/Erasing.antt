@@ -26,15 +26,23 @@ with_those order (x ∷ xs) = with_those (if is_member x order then order else o
 abbrev pub taken_with : Lists → ℕ → Database → Erase → DbKey → List DbKey
 taken_with schema capacity db option d = flat_map (λ s. filter (takes schema capacity db option s (Rec d)) (members_of db s (Rec d))) (set_numbers schema)
 
--- the list after its key d
-abbrev pub spread_from : Lists → ℕ → Database → Erase → List DbKey → Option DbKey → List DbKey
-spread_from schema capacity db option order None = order
-spread_from schema capacity db option order (Some d) = with_those order (taken_with schema capacity db option d)
+-- the list after its key d, which brings those that it takes along
+abbrev pub brought_from : (DbKey → List DbKey) → List DbKey → Option DbKey → List DbKey
+brought_from taken order None = order
+brought_from taken order (Some d) = with_those order (taken d)
 
--- first in, first out: the key at i brings those that it drags along, then the next key
+-- first in, first out: the key at i brings those that it takes along, then the next key
+abbrev pub brought : (DbKey → List DbKey) → ℕ → ℕ → List DbKey → List DbKey
+brought taken zero i order = order
+brought taken (suc n) i order = brought taken n (suc i) (brought_from taken order (slice_get order i))
+
+-- the list after its key d, by what the option takes
+abbrev pub spread_from : Lists → ℕ → Database → Erase → List DbKey → Option DbKey → List DbKey
+spread_from schema capacity db option order d = brought_from (taken_with schema capacity db option) order d
+
+-- each key in turn brings those that the option takes along
 abbrev pub spread : Lists → ℕ → Database → Erase → ℕ → ℕ → List DbKey → List DbKey
-spread schema capacity db option zero i order = order
-spread schema capacity db option (suc n) i order = spread schema capacity db option n (suc i) (spread_from schema capacity db option order (slice_get order i))
+spread schema capacity db option n i order = brought (taken_with schema capacity db option) n i order
 
 -- the doomed records in the order in which they are met
 abbrev pub doomed_in_turn : Lists → ℕ → Database → Erase → DbKey → List DbKey
@@ -44,9 +52,13 @@ doomed_in_turn schema capacity db option k = spread schema capacity db option (l
 abbrev pub own_rings : Lists → DbKey → List CellName
 own_rings schema d = map (λ s. Ring s (Some (d.rtype, d.number))) (filter (λ s. owns schema s d.rtype) (set_numbers schema))
 
+-- the members of all lists of d, set by set
+abbrev pub members_of_all : Lists → Database → DbKey → List DbKey
+members_of_all schema db d = flat_map (λ s. members_of db s (Rec d)) (set_numbers schema)
+
 -- the slot of a doomed record, its own rings by set, the slot of each member as it stands
 abbrev pub cells_of_doomed : Lists → Database → DbKey → List CellName
-cells_of_doomed schema db d = slot_name d ∷ own_rings schema d ++ map slot_name (flat_map (λ s. members_of db s (Rec d)) (set_numbers schema))
+cells_of_doomed schema db d = slot_name d ∷ own_rings schema d ++ map slot_name (members_of_all schema db d)
 
 -- the extents of the doomed types, and the rings in which a doomed record is a member
 abbrev pub outer_cells : Lists → ℕ → Database → List DbKey → List CellName

@@ -38,3 +38,4 @@ pub mod CanEdit
 pub mod Lends
 pub mod InHand
 pub mod Making
+pub mod Reserving

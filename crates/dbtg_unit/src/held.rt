@@ -1,6 +1,6 @@
 //! What a statement has in hand: areas and cells in the order of taking, and the unit's guesses of owners. Short lists
 //! live in place, so that most statements take no memory for them.
-ghost use Rattle.std.specs.Prelude.{◌≡◌, ◌==◌, [], ◌∷◌, ◌++◌, length, option_copied, slice_get, slice_set, IfErr, OnErr, OnOk};
+ghost use Rattle.std.specs.Prelude.{◌≡◌, ◌==◌, [], ◌∷◌, ◌++◌, length, map, option_copied, slice_get, slice_set, IfErr, OnErr, OnOk};
 ghost use Rattle.std.specs.Borrow.{sem};
 ghost use Rattle.std.specs.List.{list_any, position_from};
 ghost use Rattle.std.specs.Option.{option_copied_mut, option_to_list};
@@ -107,6 +107,13 @@ impl Held {
             Some(at) => cell_at(self.cells.as_slice(), at),
             None => None,
         }
+    }
+
+    /// The cells in hand, in the order of taking.
+    pub fn cells(&self) -> &[Cell]
+        ensures { result.now ≡ map (λ e. e.1) self.now.cells }
+    {
+        self.cells.as_slice()
     }
 
     /// The cell of this name, if it is in hand, to be written.

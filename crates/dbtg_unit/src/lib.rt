@@ -22,6 +22,7 @@ mod owners;
 mod places;
 mod prepared;
 mod reach;
+mod reserving;
 mod see;
 mod statement;
 #[cfg(test)]
@@ -50,6 +51,7 @@ pub use legality::{
 };
 pub use order::{has_area, next_area};
 pub use owners::Owners;
-pub use prepared::{Prepared, finish};
+pub use prepared::{Prepared, finish, has_next_versions};
+pub use reserving::{reserve_member, reserve_user};
 pub use statement::{Change, Erase, Form, Statement, Suppress, Which};
 pub use unit::{Answer, Cause, Currency, Entry, Place, Status, Unit};

@@ -1,5 +1,5 @@
-use Rattle.dbtg_unit.proofs.EffectEdits.{effect_is_its_edits}
+use Rattle.dbtg_unit.proofs.EveryEdit.{every_effect_is_its_edits}
 use Rattle.dbtg_unit.proofs.laws.effect_is_its_edits.Goals as goal
 
 pub returns : goal.returns
-returns c = effect_is_its_edits
+returns c = every_effect_is_its_edits

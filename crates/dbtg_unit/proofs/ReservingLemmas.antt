@@ -1,0 +1,41 @@
+-- What is held once room was made in one cell of it.
+-- c and d are names of cells, x and y cells.
+use Rattle.std.proofs.Common.{◌≡◌, refl, sym, ◌∙◌, ap, subst, false, [], ◌∷◌, Some, inl, inr}
+use Rattle.std.proofs.lemmas.Bool.{cases_Bool}
+use Rattle.dbtg_cells.specs.declared.cell.Cell.{Cell}
+use Rattle.dbtg_cells.specs.declared.name.CellName.{CellName}
+use Rattle.dbtg_cells.specs.Cells.{shown}
+use Rattle.dbtg_cells.specs.Names.{name_eq}
+use Rattle.dbtg_unit.specs.Hands.{Hands, cell_of}
+use Rattle.dbtg_unit.specs.Lends.{holding, with_cell}
+use Rattle.dbtg_unit.specs.Making.{ShowsTheSame}
+use Rattle.dbtg_unit.specs.Prepared.{values_of}
+use Rattle.dbtg_unit.specs.Reserving.{KeepsOthers, OfHeld}
+use Rattle.dbtg_unit.proofs.MakingLemmas.{Held, cell_of-further, cell_of-here, cell_of-other, with_cell-further, with_cell-here, written_over}
+
+values-same : (c : CellName) (x y : Cell) (cells : Held) → cell_of c cells ≡ Some x → shown y ≡ shown x → values_of (with_cell c y cells) ≡ values_of cells
+values-same c x y [] there same = refl
+values-same c x y (e ∷ es) there same =
+    elim (cases_Bool (name_eq c e.0)) [
+      | inl here ↦
+          let found = sym (cell_of-here c e es here) ∙ there in
+          let is : e.1 ≡ x = cc in
+          ap values_of (with_cell-here c y e es here) ∙ ap (λ v. (e.0, v) ∷ values_of es) (same ∙ ap shown (sym is))
+      | inr other ↦
+          ap values_of (with_cell-further c y e es other)
+          ∙ ap (λ l. (e.0, shown e.1) ∷ l) (values-same c x y es (sym (cell_of-further c e es other) ∙ there) same)
+    ]
+
+-- a cell that shows what the one before it did
+pub shows_the_same : (c : CellName) (x y : Cell) (hands : Hands) → Some x ≡ cell_of c hands.cells → shown y ≡ shown x → ShowsTheSame hands (holding c hands y)
+shows_the_same c x y hands there same = record { areas = refl; cells = values-same c x y hands.cells (sym there) same; guesses = refl }
+
+pub keeps_others : (c : CellName) (y : Cell) (cells : Held) → KeepsOthers c cells (with_cell c y cells)
+keeps_others c y cells = λ d other. cell_of-other c d y cells other
+
+pub of_written : (P : Cell → Type 0) (c : CellName) (y : Cell) (cells : Held) → P y → OfHeld c (with_cell c y cells) P
+of_written P c y cells h = λ x there. subst P (sym (written_over c x y cells there).0) h
+
+-- what is so of a cell stays so while another is written
+pub of_held-kept : (P : Cell → Type 0) (c d : CellName) (old new : Held) → KeepsOthers d old new → name_eq c d ≡ false → OfHeld c old P → OfHeld c new P
+of_held-kept P c d old new keeps other h = λ x there. h x (sym (keeps c other) ∙ there)

@@ -1,0 +1,13 @@
+use Rattle.std.proofs.lemmas.Result.{on_ok_weaker}
+use Rattle.dbtg_unit.specs.Reserving.{CanTakeUser}
+use Rattle.dbtg_unit.proofs.ReservingLemmas.{keeps_others, of_written, shows_the_same}
+use Rattle.dbtg_unit.proofs.reserving.reserve_user.Goals as goal
+
+pub returns-in-Some-clause-same : goal.returns-in-Some-clause-same
+returns-in-Some-clause-same c = shows_the_same c.args.name.now c.in-Some.cell.now c.make_room_for_user.new.cell c.args.held.now c.in-Some.ensures.value c.make_room_for_user.ensures.same
+
+pub returns-in-Some-clause-others : goal.returns-in-Some-clause-others
+returns-in-Some-clause-others c = keeps_others c.args.name.now c.make_room_for_user.new.cell c.args.held.now.cells
+
+pub returns-in-Some-clause-room : goal.returns-in-Some-clause-room
+returns-in-Some-clause-room c = on_ok_weaker c.make_room_for_user.result (of_written CanTakeUser c.args.name.now c.make_room_for_user.new.cell c.args.held.now.cells) c.make_room_for_user.ensures.room

@@ -1,0 +1,59 @@
+//! Room in the cells in hand for what a statement adds, made before it changes anything. What they show stays.
+ghost use Rattle.std.specs.Prelude.{◌≡◌, OnOk};
+ghost use Rattle.dbtg_cells.specs.Cells.{shown};
+ghost use Rattle.dbtg_unit.specs.Making.{ShowsTheSame};
+ghost use Rattle.dbtg_unit.specs.Reserving.{CanTakeMember, CanTakeUser, KeepsOthers, OfHeld};
+
+use crate::held::Held;
+use dbtg_cells::{Cell, CellName, DbKey};
+use std::alloc::AllocError;
+
+fn make_room_for_member(cell: &mut Cell, key: &DbKey) -> Result<(), AllocError>
+    ensures same { shown cell.new ≡ shown cell.old }
+    ensures room { OnOk result (CanTakeMember key.now cell.new) }
+{
+    match cell {
+        Cell::Ring(ring) => {
+            if ring.contains(*key) {
+                Ok(())
+            } else {
+                ring.reserve_place(*key)
+            }
+        }
+        _ => Ok(()),
+    }
+}
+
+fn make_room_for_user(cell: &mut Cell) -> Result<(), AllocError>
+    ensures same { shown cell.new ≡ shown cell.old }
+    ensures room { OnOk result (CanTakeUser cell.new) }
+{
+    match cell {
+        Cell::Usage(usage) => usage.reserve_user(),
+        _ => Ok(()),
+    }
+}
+
+/// Makes room for a member in the ring of this name, where that ring is in hand and the key is no member of it.
+pub fn reserve_member(held: &mut Held, name: &CellName, key: &DbKey) -> Result<(), AllocError>
+    ensures same { ShowsTheSame held.old held.new }
+    ensures others { KeepsOthers name.now held.old.cells held.new.cells }
+    ensures room { OnOk result (OfHeld name.now held.new.cells (CanTakeMember key.now)) }
+{
+    match held.cell_mut(name) {
+        Some(cell) => make_room_for_member(cell, key),
+        None => Ok(()),
+    }
+}
+
+/// Makes room for one more user in the usage cell of this name, where it is in hand.
+pub fn reserve_user(held: &mut Held, name: &CellName) -> Result<(), AllocError>
+    ensures same { ShowsTheSame held.old held.new }
+    ensures others { KeepsOthers name.now held.old.cells held.new.cells }
+    ensures room { OnOk result (OfHeld name.now held.new.cells CanTakeUser) }
+{
+    match held.cell_mut(name) {
+        Some(cell) => make_room_for_user(cell),
+        None => Ok(()),
+    }
+}
