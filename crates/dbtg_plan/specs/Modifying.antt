@@ -1,5 +1,5 @@
 -- MODIFY, as it is read off the cells in hand.
--- k is a key, s a set, items what the record has after the changes.
+-- k is a key, s a set, t a record type, items what the record has after the changes.
 use Rattle.std.specs.Prelude.{ℕ, ◌+◌, Bool, not, ◌&&◌, ◌==◌, List, [], ◌∷◌, ◌++◌, Some, is_some, map, option_and_then, if◌then◌else◌}
 use Rattle.std.specs.List.{list_any, flat_map}
 use Rattle.dbtg_schema.specs.Lists.{Lists}
