@@ -9,7 +9,7 @@ use Rattle.dbtg_schema.specs.SchemaGrammar.{Form, Labelled, fits, set, schema}
 use Rattle.dbtg_schema.specs.Labels.{number, is, count_of, until, entries}
 
 -- no word of the form has this role
-abbrev lacks : Role → Form → Bool
+abbrev pub lacks : Role → Form → Bool
 lacks r nothing = true
 lacks r (one k q) = not (number q == number r)
 lacks r (both f g) = lacks r f && lacks r g
@@ -17,7 +17,7 @@ lacks r (either f g) = lacks r f && lacks r g
 lacks r (many f) = lacks r f
 
 -- so many words with this role, or more
-abbrev at_least : Role → Form → ℕ
+abbrev pub at_least : Role → Form → ℕ
 at_least r nothing = 0
 at_least r (one k q) = cond (number q == number r) 1 0
 at_least r (both f g) = at_least r f + at_least r g
@@ -28,7 +28,7 @@ and_parts : (a b : Bool) → (a && b) ≡ true → (a ≡ true) × (b ≡ true)
 and_parts true b h = (refl, h)
 and_parts false b h = absurd cc
 
-any_append : (r : Role) (xs ys : List Labelled) → list_any (is r) xs ≡ false → list_any (is r) ys ≡ false → list_any (is r) (xs ++ ys) ≡ false
+pub any_append : (r : Role) (xs ys : List Labelled) → list_any (is r) xs ≡ false → list_any (is r) ys ≡ false → list_any (is r) (xs ++ ys) ≡ false
 any_append r [] ys h k = k
 any_append r (x ∷ xs) ys h k = neither (is r x) (list_any (is r) xs) _ h (λ g. any_append r xs ys g k)
   where
@@ -91,11 +91,11 @@ behind_first r s f g ws d h =
     (subst (λ (z : List Labelled). at_least s f + count_of s (until r d.1) ≤ count_of s z) (sym (until_behind r d.0 d.1 (lacking r f d.0 d.3 h)))
     (let a = counted s f d.0 d.3 in let b = count_append s d.0 (until r d.1) in omega arith))
 
-abbrev left : Form → Form
+abbrev pub left : Form → Form
 left (both f g) = f
 left f = f
 
-abbrev right : Form → Form
+abbrev pub right : Form → Form
 right (both f g) = g
 right f = f
 
@@ -127,7 +127,7 @@ some_type ws d =
     let g = behind_first role.SetEntry role.RecordEntry (left behind_5) (right behind_5) d.4.4.4.4.1 d.4.4.4.4.4 refl in
     omega arith
 
-entries_behind : (r : Role) (xs ys : List Labelled) → list_any (is r) xs ≡ false → entries r (xs ++ ys) ≡ entries r ys
+pub entries_behind : (r : Role) (xs ys : List Labelled) → list_any (is r) xs ≡ false → entries r (xs ++ ys) ≡ entries r ys
 entries_behind r [] ys h = refl
 entries_behind r (x ∷ xs) ys h = step (is r x) (list_any (is r) xs) h (λ g. entries_behind r xs ys g)
   where

@@ -33,7 +33,7 @@ use Rattle.dbtg_schema.proofs.Closings.{Closed, each_ends, ends_well}
 use Rattle.dbtg_schema.proofs.Grammar.{some_area, some_type, some_members, HasMember}
 
 -- what follows from the entry holds of what is made of it
-all_made : {X : Type 0} (P : X → Type 0) (Q : List Labelled → Type 0) (f : List Labelled → X) (es : List (List Labelled)) → ((e : List Labelled) → Q e → P (f e)) → AllByRecursion Q es → All P (map f es)
+pub all_made : {X : Type 0} (P : X → Type 0) (Q : List Labelled → Type 0) (f : List Labelled → X) (es : List (List Labelled)) → ((e : List Labelled) → Q e → P (f e)) → AllByRecursion Q es → All P (map f es)
 all_made P Q f [] each h = All-nil P
 all_made P Q f (e ∷ es) each h = All-cons P (f e) (map f es) (each e h.0) (all_made P Q f es each h.1)
 

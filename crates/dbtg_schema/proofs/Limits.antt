@@ -84,7 +84,7 @@ calc_limit ls c = for_each role.RecordEntry role.CalcItem 3 (λ ws h. fewer 4 (c
 pub members_limit : (ls : List Labelled) → EachClean [] ls → AllByRecursion (λ e. count_of role.MemberEntry e ≤ 4) (entries role.SetEntry ls)
 members_limit ls c = for_each role.SetEntry role.MemberEntry 3 (λ ws h. fewer 4 (count_of role.MemberEntry (since role.SetEntry ws)) h) [] ls c
 
-clean_until : (r : Role) (ws ls : List Labelled) → EachClean ws ls → EachClean ws (until r ls)
+pub clean_until : (r : Role) (ws ls : List Labelled) → EachClean ws ls → EachClean ws (until r ls)
 clean_until r ws [] c = tt
 clean_until r ws (l ∷ ls) c = elim (is r l) as (λ b. EachClean ws (cond b [] (l ∷ until r ls))) [ true ↦ tt | false ↦ (c.0, clean_until r (ws ++ l ∷ []) ls c.1) ]
 

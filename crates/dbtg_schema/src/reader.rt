@@ -10,6 +10,7 @@ ghost use Rattle.dbtg_schema.specs.Automaton.{rest_of};
 ghost use Rattle.dbtg_schema.specs.Views.{views};
 ghost use Rattle.dbtg_schema.specs.SchemaLists.{schema_of};
 ghost use Rattle.dbtg_schema.specs.WellFormed.{IsSchema};
+ghost use Rattle.dbtg_schema.specs.Sound.{IsSound};
 ghost use Rattle.dbtg_schema.specs.Reading.{verdict, Refuses, WithinLimits};
 
 use crate::automaton::{State, follow};
@@ -71,6 +72,7 @@ pub fn read(alloc: Global, text: &[u8]) -> Result<Vec<Labelled<'_>>, SchemaFault
     ensures refused { IfErr result (λ e. Refuses e (refusal text.now)) }
     ensures derived { IfOk result (λ v. Derives fits schema (views v.items)) }
     ensures sound { IfOk result (λ v. IsSchema (schema_of (views v.items))) }
+    ensures fitting { IfOk result (λ v. IsSound (schema_of (views v.items))) }
     ensures limits { IfOk result (λ v. WithinLimits (views v.items)) }
 {
     if text.len() > 65536 {

@@ -12,6 +12,8 @@ use Rattle.dbtg_schema.specs.Words.{Word}
 use Rattle.dbtg_schema.specs.SchemaGrammar.{fits, Labelled}
 use Rattle.dbtg_schema.specs.SchemaLists.{schema_of}
 use Rattle.dbtg_schema.specs.WellFormed.{IsSchema}
+use Rattle.dbtg_schema.specs.Sound.{IsSound}
+use Rattle.dbtg_schema.proofs.Soundness.{accepted_is_sound}
 use Rattle.dbtg_schema.proofs.Keeps.{accepted_is_schema}
 use Rattle.dbtg_schema.specs.Reading.{verdict, WithinLimits}
 use Rattle.dbtg_schema.proofs.Walks.{clean}
@@ -63,3 +65,6 @@ returns-clause-limits c = subst WithinLimits (sym (all_words c)) (within_limits 
 
 pub returns-clause-sound : goal.returns-clause-sound
 returns-clause-sound c = subst (λ (ws : List Labelled). IsSchema (schema_of ws)) (sym (all_words c)) (accepted_is_schema (text_words c.args.text.now) (last_line c.args.text.now) (no_fault c))
+
+pub returns-clause-fitting : goal.returns-clause-fitting
+returns-clause-fitting c = subst (λ (ws : List Labelled). IsSound (schema_of ws)) (sym (all_words c)) (accepted_is_sound (text_words c.args.text.now) (last_line c.args.text.now) (no_fault c))
