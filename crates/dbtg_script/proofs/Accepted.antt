@@ -12,7 +12,7 @@ use Rattle.dbtg_script.specs.StatementGrammar.{Form, Start, Labelled, fits, stat
 use Rattle.dbtg_script.specs.StatementFaults.{at_other, end_faults, faults_from, said, when}
 use Rattle.dbtg_script.specs.Laws.{LineWithoutFaultsIsDerived}
 
-none_rest : (xs ys : List Cause) → first (xs ++ ys) ≡ None → first ys ≡ None
+pub none_rest : (xs ys : List Cause) → first (xs ++ ys) ≡ None → first ys ≡ None
 none_rest [] ys h = h
 none_rest (x ∷ xs) ys h = absurd cc
 

@@ -7,3 +7,10 @@ pub mod ScriptSteps
 pub mod MoveSteps
 pub mod KeyText
 pub mod Accepted
+pub mod Derivations
+pub mod FittingValues
+pub mod FittingNames
+pub mod Roles
+pub mod FittingItems
+pub mod FittingFinds
+pub mod FittingStatements

@@ -9,7 +9,11 @@ ghost use Rattle.dbtg_script.specs.Statements.{line_statement, prepend, script, 
 ghost use Rattle.dbtg_script.specs.StatementGrammar.{fits, statement};
 ghost use Rattle.dbtg_script.specs.Tokens.{Token as SeenToken, tokens, view};
 ghost use Rattle.dbtg_script.specs.Views.{views};
-ghost use Rattle.std.specs.Prelude.{◌≡◌, ◌∷◌, ◌++◌, ℕ, List, [], None, IfErr, IfOk, MatchResult, OnOk, false, length};
+ghost use Rattle.std.specs.Prelude.{◌≡◌, ◌∷◌, ◌++◌, ℕ, List, [], None, IfErr, IfOk, MatchResult, OnOk, false, true, length};
+
+ghost use Rattle.std.specs.List.{list_all};
+ghost use Rattle.dbtg_schema.specs.Sound.{IsSound};
+ghost use Rattle.dbtg_unit.specs.Fits.{fits as statement_fits};
 
 use crate::automaton::{State, follow};
 use crate::checks::{at_other, end_fault, said};
@@ -164,6 +168,7 @@ pub fn read_script(
 ) -> Result<Vec<Statement>, ScriptFault>
     ensures accepted { OnOk result (refusal schema.now text.now ≡ None) }
     ensures statements { IfOk result (λ v. v.items ≡ script schema.now text.now) }
+    ensures fitting { IsSound schema.now → IfOk result (λ v. list_all (statement_fits schema.now) v.items ≡ true) }
     ensures refused { IfErr result (λ e. RefusesScript e (refusal schema.now text.now)) }
 {
     if text.len() > 1_048_576 {

@@ -1,9 +1,13 @@
-use Rattle.std.proofs.Common.{◌∙◌, ◌+◌, ◌++◌, sym, ap, subst, List, ℕ, Option, arith, length}
+use Rattle.std.proofs.Common.{◌≡◌, ◌∙◌, ◌+◌, ◌++◌, sym, ap, subst, List, ℕ, Option, arith, length}
+use Rattle.std.specs.List.{list_all}
+use Rattle.std.proofs.lemmas.List.{append-nil}
+use Rattle.dbtg_unit.specs.Fits.{fits as statement_fits}
 use Rattle.dbtg_unit.specs.declared.statement.Statement.{Statement}
 use Rattle.dbtg_script.specs.declared.fault.Fault.{Fault}
 use Rattle.dbtg_script.specs.Lines.{lines, trimmed}
 use Rattle.dbtg_script.specs.Reading.{lines_verdict, RefusesScript, at_line}
-use Rattle.dbtg_script.specs.Statements.{line_statement, statements_of}
+use Rattle.dbtg_script.specs.Statements.{line_statement, script, statements_of}
+use Rattle.dbtg_script.proofs.FittingStatements.{script_fits}
 use Rattle.dbtg_script.proofs.ScriptSteps.{line_passes, line_refused, counted, one_more, short_script, no_lines}
 use Rattle.dbtg_script.proofs.reader.read_script.Goals as goal
 
@@ -42,3 +46,11 @@ returns-clause-accepted c =
     let schema = c.args.schema.now in
     short_script schema c.args.text.now (omega arith) ∙ sym c.loop-line.invariant.reached
     ∙ no_lines schema (length c.loop-line.statements.items) c.loop-line.number (lines c.loop-line.left.rest.now) c.in_default.ensures.found
+
+pub returns-clause-fitting : goal.returns-clause-fitting
+returns-clause-fitting c sound =
+    let schema = c.args.schema.now in
+    let ss = c.loop-line.statements.items in
+    let all : ss ≡ script schema c.args.text.now =
+        sym (append-nil ss) ∙ ap (λ (ls : List (List ℕ)). ss ++ statements_of schema ls) (sym c.in_default.ensures.found) ∙ c.loop-line.invariant.said in
+    ap (list_all (statement_fits schema)) all ∙ script_fits schema sound c.args.text.now (returns-clause-accepted c)
