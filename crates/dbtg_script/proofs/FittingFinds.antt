@@ -245,14 +245,14 @@ module _ (schema : Lists) (sound : IsSound schema) (ws : List Labelled) (c : Cle
       let kept = at_index (IsSetType schema) schema.sets sound.limits.sets n known in
       let same : set.0 ≡ kept.0 = one_value (sym set.1 ∙ kept.1) in
       let sorted : is_sorted set.0.order ≡ true =
-          ap (λ o. is_sorted (unwrap_or (option_map (λ x. x.order) o) order.Last)) (sym set.1) ∙ was_true (is_sorted (order_of schema n)) (right_use (has role.FindSorted ws) (not (is_sorted (order_of schema n))) h misuse.2) in
+      ap (λ o. is_sorted (unwrap_or (option_map (λ x. x.order) o) order.Last)) (sym set.1) ∙ was_true (is_sorted (order_of schema n)) (right_use (has role.FindSorted ws) (not (is_sorted (order_of schema n))) h misuse.2) in
       let some = subst (λ (x : SetType). 0 < length x.members) (sym same) kept.2.some_member in
       let items = subst (λ (x : SetType). All (λ m. IfSome m.key (λ i. i < length (item_list schema m.rtype))) x.members) (sym same) kept.2.key_items in
       let m = some_member set.0 some in
       let key : is_some m.0.key ≡ true = ap (λ (x : Member). is_some x.key) (sym m.2) ∙ set.2.keys 0 m.0 some ∙ ap (λ (x : Bool). x) sorted in
       let p = pictured m.0 key (subst (λ (x : Member). IfSome x.key (λ i. i < length (item_list schema x.rtype))) m.2 (items 0 m.0 some)) in
       let kind : sort_picture schema n ≡ Some p.0 =
-          ap (option_and_then (λ x. option_and_then (λ y. option_and_then (λ i. picture_of schema y.rtype i) y.key) (first x.members))) set.1 ∙ ap (option_and_then (λ y. option_and_then (λ i. picture_of schema y.rtype i) y.key)) m.1 ∙ p.1 in
+      ap (option_and_then (λ x. option_and_then (λ y. option_and_then (λ i. picture_of schema y.rtype i) y.key) (first x.members))) set.1 ∙ ap (option_and_then (λ y. option_and_then (λ i. picture_of schema y.rtype i) y.key)) m.1 ∙ p.1 in
       let v = sorted_value schema ws in
       let fits_it : value_fits p.0 v ≡ true = ap (λ o. value_fits p.0 (value_for (unwrap_or o (Number 0)) (first_word role.SortedValue ws))) kind ∙ made_fits p.0 (first_word role.SortedValue ws) (first_word_sound role.SortedValue ws s) in
       ap (some_and (λ x. list_all (member_key_fits schema v) x.members)) set.1

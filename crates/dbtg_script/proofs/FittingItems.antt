@@ -92,7 +92,7 @@ module _ (schema : Lists) (r : ℕ) where
             let parts = both_none (when (is_none (item_named schema (type_in schema (front ++ xs)) n)) UnknownItem) (when (among n (texts role.ItemName (front ++ xs))) ItemTwice) faults in
             let known : is_none (item_named schema r n) ≡ false = ap (λ t. is_none (item_named schema t n)) (sym (same_type xs h)) ∙ not_when (is_none (item_named schema (type_in schema (front ++ xs)) n)) UnknownItem parts.0 in
             let new : among n (texts role.ItemName xs) ≡ false =
-                ap (among n) (sym (texts-append role.ItemName front xs ∙ ap (λ z. z ++ texts role.ItemName xs) no_items)) ∙ not_when (among n (texts role.ItemName (front ++ xs))) ItemTwice parts.1 in
+            ap (among n) (sym (texts-append role.ItemName front xs ∙ ap (λ z. z ++ texts role.ItemName xs) no_items)) ∙ not_when (among n (texts role.ItemName (front ++ xs))) ItemTwice parts.1 in
             (subst AllItems (sym (one_text role.ItemName xs l t)) (one_item_more (texts role.ItemName xs) n all known), subst (λ z. distinct bytes_eq z ≡ true) (sym (one_text role.ItemName xs l t)) (distinct_behind (texts role.ItemName xs) n d new))
         here (inr f) = (subst AllItems (sym (no_text role.ItemName xs l f)) all, subst (λ z. distinct bytes_eq z ≡ true) (sym (no_text role.ItemName xs l f)) d)
 
@@ -112,7 +112,7 @@ module _ (schema : Lists) (r : ℕ) where
   change_of_item ws n (Some p) e h s =
       let q = standing n 0 (item_list schema r) p e in
       let picture : picture_of schema r p ≡ Some q.2.picture =
-          ap (picture_of schema r) (q.1 ∙ omega arith) ∙ slice_get-map (λ (x : Item). x.picture) (item_list schema r) q.0 ∙ ap (option_map (λ (x : Item). x.picture)) q.3 in
+      ap (picture_of schema r) (q.1 ∙ omega arith) ∙ slice_get-map (λ (x : Item). x.picture) (item_list schema r) q.0 ∙ ap (option_map (λ (x : Item). x.picture)) q.3 in
       (λ i. some_and (λ t. value_fits t (value_for (unwrap_or (option_and_then (λ k. picture_of schema r k) (e i)) (Number 0)) (given n ws))) (picture_of schema r (unwrap_or (e i) 0)))
       ∙ (λ i. some_and (λ t. value_fits t (value_for (unwrap_or (picture i) (Number 0)) (given n ws))) (picture i)) ∙ made_fits q.2.picture (given n ws) (given_sound n ws s)
 

@@ -112,6 +112,6 @@ set_before schema front o x k rest c none =
     let known = not_when (is_none (set_named schema (named role.Name ((front ++ labelled role.Plain o ∷ []) ++ labelled role.Name x ∷ [])))) UnknownSet at_set.1.1.0 in
     let here : named role.Name ((front ++ labelled role.Plain o ∷ []) ++ labelled role.Name x ∷ []) ≡ text_of x = named_last role.Name (front ++ labelled role.Plain o ∷ []) (labelled role.Name x) [] refl refl in
     let whole : named role.Name (front ++ labelled role.Plain o ∷ labelled role.Name x ∷ labelled role.KindSet k ∷ rest) ≡ text_of x =
-        ap (named role.Name) (sym (append_assoc front (labelled role.Plain o ∷ []) (labelled role.Name x ∷ labelled role.KindSet k ∷ rest)))
-        ∙ named_last role.Name (front ++ labelled role.Plain o ∷ []) (labelled role.Name x) (labelled role.KindSet k ∷ rest) refl none in
+    ap (named role.Name) (sym (append_assoc front (labelled role.Plain o ∷ []) (labelled role.Name x ∷ labelled role.KindSet k ∷ rest)))
+    ∙ named_last role.Name (front ++ labelled role.Plain o ∷ []) (labelled role.Name x) (labelled role.KindSet k ∷ rest) refl none in
     ap (λ n. is_set schema (set_no schema n)) whole ∙ set_is schema (text_of x) (ap (λ n. is_none (set_named schema n)) (sym here) ∙ known)

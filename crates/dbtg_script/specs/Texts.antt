@@ -1,5 +1,5 @@
 -- The printed texts, byte for byte.
-use Rattle.std.specs.Prelude.{ℕ, ◌+◌, ◌/◌, ◌%◌, ◌==◌, List, [], ◌∷◌, ◌++◌, map, Option, Some, None, if◌then◌else◌, option_map, unwrap_or, slice_get, decimal, codes}
+use Rattle.std.specs.Prelude.{ℕ, ◌+◌, ◌/◌, ◌%◌, ◌==◌, List, [], ◌∷◌, ◌++◌, map, Option, Some, None, if◌then◌else◌, length, option_map, unwrap_or, slice_get, decimal, codes}
 use Rattle.std.specs.List.{flat_map}
 use Rattle.dbtg_schema.specs.Lists.{Lists}
 use Rattle.dbtg_schema.specs.Structure.{item_list}
@@ -171,3 +171,27 @@ letters_text (s ∷ ss) = 32 ∷ map letter (s ∷ ss)
 
 abbrev pub moves_text : List Stepped → List ℕ
 moves_text ss = codes "MOVES" ++ letters_text ss ++ 10 ∷ []
+
+-- ---- what the program prints
+
+-- the name of a schema
+abbrev pub name_part : List ℕ → List ℕ
+name_part name = codes "schema " ++ name ++ codes ": "
+
+-- a count and what is counted
+abbrev pub count_part : ℕ → List ℕ → List ℕ
+count_part count word = decimal count ++ word
+
+-- how large a schema is
+abbrev pub schema_line : Lists → List ℕ
+schema_line schema =
+    name_part schema.name ++ count_part (length schema.areas) (codes " areas, ") ++ count_part (length schema.types) (codes " records, ") ++ count_part (length schema.sets) (codes " sets" ++ 10 ∷ [])
+
+-- how many statements the script of this number has
+abbrev pub script_line : ℕ → ℕ → List ℕ
+script_line number count = codes "script " ++ count_part number (codes ": ") ++ count_part count (codes " statements" ++ 10 ∷ [])
+
+-- the answers, a line of two hyphens, the image, the units
+abbrev pub run_text : Lists → List Entry → List (DbKey × List Value) → List (List (Owner × List DbKey)) → List ℕ → List (List (ℕ × Mode)) → List unit.Unit → List ℕ
+run_text schema history records lists next usage units =
+    answers_text schema history ++ codes "--" ++ 10 ∷ [] ++ image_text schema records lists next usage ++ units_text schema units

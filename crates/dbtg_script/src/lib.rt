@@ -14,6 +14,7 @@ mod print;
 mod queries;
 mod reader;
 mod role;
+mod sizes;
 mod spelling;
 mod statement;
 #[cfg(test)]
@@ -27,4 +28,5 @@ pub use image::{image_text, moves_text};
 pub use laws::{a_line_without_faults_is_derived, a_printed_key_is_read_back};
 pub use moves::{MovesCause, MovesFault, read_moves};
 pub use reader::read_script;
+pub use sizes::{push_run, push_schema_line, push_script_line};
 pub use texts::{answers_text, units_text};

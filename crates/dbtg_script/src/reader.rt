@@ -10,7 +10,6 @@ ghost use Rattle.dbtg_script.specs.StatementGrammar.{fits, statement};
 ghost use Rattle.dbtg_script.specs.Tokens.{Token as SeenToken, tokens, view};
 ghost use Rattle.dbtg_script.specs.Views.{views};
 ghost use Rattle.std.specs.Prelude.{◌≡◌, ◌∷◌, ◌++◌, ℕ, List, [], None, IfErr, IfOk, MatchResult, OnOk, false, true, length};
-
 ghost use Rattle.std.specs.List.{list_all};
 ghost use Rattle.dbtg_schema.specs.Sound.{IsSound};
 ghost use Rattle.dbtg_unit.specs.Fits.{fits as statement_fits};

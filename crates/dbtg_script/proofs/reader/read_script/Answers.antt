@@ -52,5 +52,5 @@ returns-clause-fitting c sound =
     let schema = c.args.schema.now in
     let ss = c.loop-line.statements.items in
     let all : ss ≡ script schema c.args.text.now =
-        sym (append-nil ss) ∙ ap (λ (ls : List (List ℕ)). ss ++ statements_of schema ls) (sym c.in_default.ensures.found) ∙ c.loop-line.invariant.said in
+    sym (append-nil ss) ∙ ap (λ (ls : List (List ℕ)). ss ++ statements_of schema ls) (sym c.in_default.ensures.found) ∙ c.loop-line.invariant.said in
     ap (list_all (statement_fits schema)) all ∙ script_fits schema sound c.args.text.now (returns-clause-accepted c)
