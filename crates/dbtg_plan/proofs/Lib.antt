@@ -8,3 +8,4 @@ pub mod KeepingLemmas
 pub mod OpeningLemmas
 pub mod StoreMaking
 pub mod StoreFinish
+pub mod StaleLemmas

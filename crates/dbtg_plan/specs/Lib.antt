@@ -5,3 +5,4 @@ pub mod Plans
 pub mod Missing
 pub mod Keeping
 pub mod Opening
+pub mod Stale

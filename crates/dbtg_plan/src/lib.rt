@@ -7,3 +7,4 @@ mod keeping;
 mod missing;
 mod opening;
 mod outcomes;
+mod stale;
