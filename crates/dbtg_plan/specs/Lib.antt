@@ -1,7 +1,10 @@
 pub mod Calc
+pub mod Modifying
 pub mod Store
 pub mod Joining
 pub mod Plans
+pub mod Inserting
+pub mod Removing
 pub mod Missing
 pub mod Keeping
 pub mod Opening

@@ -2,9 +2,13 @@
 #![tactic(auto)]
 
 mod calc;
+mod inserting;
 mod joining;
 mod keeping;
+mod members;
 mod missing;
+mod modifying;
 mod opening;
 mod outcomes;
 mod stale;
+mod removing;

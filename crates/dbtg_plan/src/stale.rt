@@ -87,6 +87,7 @@ fn wrong_owners(
 ) -> Owners
     ensures { result ≡ wrong_owners_in schema.now unit.now held.now statement.now key.now }
 {
+    schema.is_well_formed();
     let mut owners = Owners::none(set_count(schema) as usize);
     for s in 0..set_count(schema) {
         let owner = wrong_owner(schema, unit, statement, held, key, SetNo::new(s));
