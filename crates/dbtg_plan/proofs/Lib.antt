@@ -7,6 +7,14 @@ pub mod ModifyMaking
 pub mod ModifyReady
 pub mod SetSteps
 pub mod PlanLemmas
+pub mod MissingCells
+pub mod NumberedKeys
+pub mod FindingLemmas
+pub mod StoreInHand
+pub mod MissingLemmas
+pub mod FindPlans
+pub mod KeysInTurn
+pub mod ChosenKeys
 pub mod RingEdits
 pub mod InsertingLemmas
 pub mod RemovingLemmas

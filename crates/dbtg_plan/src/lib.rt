@@ -2,6 +2,7 @@
 #![tactic(auto)]
 
 mod calc;
+mod finding;
 mod inserting;
 mod joining;
 mod keeping;
