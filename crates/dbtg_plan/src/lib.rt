@@ -9,7 +9,13 @@ mod keeping;
 mod members;
 mod missing;
 mod modifying;
+mod need;
 mod opening;
 mod outcomes;
-mod stale;
+mod preparing;
 mod removing;
+mod stale;
+
+pub use need::next_need;
+pub use preparing::prepare;
+
