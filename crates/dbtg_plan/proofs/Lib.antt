@@ -18,8 +18,6 @@ pub mod ChosenKeys
 pub mod RingEdits
 pub mod InsertingLemmas
 pub mod RemovingLemmas
-pub mod StoreInHand
-pub mod MissingLemmas
 pub mod VersionLemmas
 pub mod OutcomeLemmas
 pub mod KeepingLemmas
