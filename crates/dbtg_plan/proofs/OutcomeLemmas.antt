@@ -18,7 +18,7 @@ use Rattle.dbtg_unit.specs.Base.{Database}
 use Rattle.dbtg_unit.specs.Cells.{cell}
 use Rattle.dbtg_unit.specs.Checks.{refused_at_once}
 use Rattle.dbtg_unit.specs.Edits.{edited_at}
-use Rattle.dbtg_unit.specs.Effect.{Outcome, done, effect_on_cells, on_current, refused, unless_refused}
+use Rattle.dbtg_unit.specs.Effect.{Outcome, done, effect, effect_on_cells, on_current, refused, unless_refused}
 use Rattle.dbtg_unit.specs.Guesses.{guesses_after}
 use Rattle.dbtg_unit.specs.Hands.{Hands}
 use Rattle.dbtg_unit.specs.Local.{Agrees, holds}
