@@ -5,3 +5,4 @@ pub mod StoreInHand
 pub mod MissingLemmas
 pub mod StoreMaking
 pub mod StoreFinish
+pub mod StoreSteps
