@@ -1,18 +1,17 @@
 //! How a record joins the current occurrence of a set: why it may not, and at which place it does.
 ghost use Rattle.std.specs.Prelude.{◌≡◌, ◌&&◌};
 ghost use Rattle.std.specs.List.{list_any};
-ghost use Rattle.std.specs.Option.{option_to_list};
 ghost use Rattle.dbtg_schema.specs.Lookups.{first_cause};
 ghost use Rattle.dbtg_cells.specs.Keys.{option_value_eq};
 ghost use Rattle.dbtg_cells.specs.Members.{keys_in, members_in};
-ghost use Rattle.dbtg_unit.specs.EditsOf.{joining_edits};
 ghost use Rattle.dbtg_unit.specs.Effect.{refuses_equal, uses_position};
 ghost use Rattle.dbtg_unit.specs.Found.{is_lost};
-ghost use Rattle.dbtg_plan.specs.Joining.{checks_at, joined_place};
+ghost use Rattle.dbtg_plan.specs.Joining.{checks_at, joined_place, joining_edit, place_checks_in};
 
-use dbtg_cells::{CellName, DbKey, Owner, Ring, Value};
+use crate::members::ring_name;
+use dbtg_cells::{DbKey, Owner, Ring, Value};
 use dbtg_schema::{Duplicates, Order, Schema, SetNo};
-use dbtg_unit::{Cause, CellEdit, Edit, Place, Unit};
+use dbtg_unit::{Cause, CellEdit, Edit, Held, Place, Unit, occurrence};
 
 /// The current of a set; SYSTEM where there is none.
 pub(crate) fn joined_place(schema: &Schema, unit: &Unit, set: SetNo) -> Place
@@ -82,4 +81,43 @@ fn refusal_at(
         return Some(Cause::DuplicatesNotAllowed);
     }
     None
+}
+
+/// Why a record with this sort key may not join the current occurrence of a set.
+pub(crate) fn place_refusal(
+    schema: &Schema,
+    unit: &Unit,
+    held: &Held,
+    set: SetNo,
+    sort_key: &Option<Value>,
+) -> Option<Cause>
+    ensures { result ≡ first_cause (place_checks_in schema.now unit.now held.now set sort_key.now) }
+{
+    let place = joined_place(schema, unit, set);
+    match occurrence(held, set, &place.owner) {
+        Some(ring) => refusal_at(schema, set, place, ring, sort_key),
+        None => Some(Cause::Deleted),
+    }
+}
+
+/// The edit by which a record with this sort key joins the current occurrence of a set.
+pub(crate) fn joining_edit(
+    schema: &Schema,
+    unit: &Unit,
+    set: SetNo,
+    key: &DbKey,
+    sort_key: Option<Value>,
+) -> CellEdit
+    ensures { result ≡ joining_edit schema.now unit.now set key.now sort_key }
+{
+    let place = joined_place(schema, unit, set);
+    CellEdit {
+        name: ring_name(set, &place.owner),
+        edit: Edit::PlaceMember {
+            order: schema.order_of(set),
+            position: place.at,
+            key: *key,
+            sort_key,
+        },
+    }
 }

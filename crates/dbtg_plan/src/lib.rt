@@ -2,6 +2,14 @@
 #![tactic(auto)]
 
 mod calc;
+mod finding;
+mod inserting;
 mod joining;
+mod keeping;
+mod members;
 mod missing;
+mod modifying;
+mod opening;
 mod outcomes;
+mod removing;
+mod storing;
