@@ -1,12 +1,11 @@
 -- The edits of a STORE can be made of the cells in hand.
 -- e and f are edits, s a set, o an owner, x a cell.
-use Rattle.std.proofs.Common.{◌≡◌, ◌≢◌, refl, sym, ◌∙◌, ap, subst, ℕ, ◌+◌, ◌≤◌, Bool, true, false, cond, not, ◌&&◌, List, [], ◌∷◌, ◌++◌, Option, Some, None, eqb, inl, inr, length, map, ⊎_elim}
-use Rattle.std.specs.Prelude.{filter, is_none, is_some, IsTrue, option_map, unwrap_or, ⊤}
+use Rattle.std.proofs.Common.{◌≡◌, ◌≢◌, refl, sym, ◌∙◌, ap, subst, ℕ, ◌≤◌, Bool, true, false, cond, not, ◌&&◌, List, [], ◌∷◌, ◌++◌, Option, Some, None, eqb, inl, inr, length, map, ⊎_elim}
+use Rattle.std.specs.Prelude.{filter, is_none, is_some, IsTrue, option_map, unwrap_or}
 use Rattle.std.specs.List.{flat_map, list_all, list_any, range_with_len}
-use Rattle.std.proofs.lemmas.Bool.{and_from, and_parts, cases_Bool, eq-eqb, eqb-true, false_from_ne_true, false≢true}
-use Rattle.std.proofs.lemmas.Option.{none-some, same_Some}
+use Rattle.std.proofs.lemmas.Bool.{and_from, and_parts, eq-eqb, false_from_ne_true, false≢true}
 use Rattle.dbtg_schema.specs.Lists.{Lists}
-use Rattle.dbtg_schema.specs.Lookups.{first, first_cause, some_and}
+use Rattle.dbtg_schema.specs.Lookups.{first_cause, some_and}
 use Rattle.dbtg_schema.specs.Sound.{IsSound}
 use Rattle.dbtg_schema.specs.Structure.{automatic_sets, is_automatic, member_clause, order_of, owns, pictures, set_numbers}
 use Rattle.dbtg_cells.specs.declared.cell.Cell.{Cell}
@@ -20,10 +19,10 @@ use Rattle.dbtg_cells.specs.declared.name.CellName.{CellName}
 use Rattle.dbtg_cells.specs.declared.name.CellName.TheVariants.{Extent, Ring, Slot}
 use Rattle.dbtg_cells.specs.declared.ring.Occurrence.{Occurrence}
 use Rattle.dbtg_cells.specs.Cells.{shown}
-use Rattle.dbtg_cells.specs.Keys.{is_member, owner_eq}
+use Rattle.dbtg_cells.specs.Keys.{is_member}
 use Rattle.dbtg_cells.specs.Members.{keys_in}
 use Rattle.dbtg_cells.specs.Names.{name_eq, place_eq}
-use Rattle.dbtg_cells.specs.Numbers.{entry_of, is_free, numbers_where}
+use Rattle.dbtg_cells.specs.Numbers.{entry_of, is_free}
 use Rattle.dbtg_cells.specs.Shown.{RingValue}
 use Rattle.dbtg_unit.specs.declared.edit.CellEdit.{CellEdit}
 use Rattle.dbtg_unit.specs.declared.edit.Edit.TheVariants.{EnterNumber, Fill, OpenRing, PlaceMember}
@@ -39,7 +38,6 @@ use Rattle.dbtg_unit.specs.Effect.{calc_taken, free_number, new_key, place_check
 use Rattle.dbtg_unit.specs.Fits.{values_fit}
 use Rattle.dbtg_unit.specs.Hands.{Hands, cell_of}
 use Rattle.dbtg_unit.specs.InHand.{numbers_in, numbers_of, occurrence_of, of_owner}
-use Rattle.dbtg_unit.specs.Legal.{pairwise}
 use Rattle.dbtg_unit.specs.Local.{Agrees, holds}
 use Rattle.dbtg_unit.specs.Making.{CanMake}
 use Rattle.dbtg_unit.specs.Needs.{current_owner, ring_names, store_rings}
@@ -65,6 +63,7 @@ use Rattle.dbtg_plan.specs.Missing.{first_missing}
 use Rattle.dbtg_plan.specs.Store.{HasRoom, store_rings_in}
 use Rattle.dbtg_plan.proofs.JoiningLemmas.{can-join-in_hand, place_checks-in_hand}
 use Rattle.dbtg_plan.proofs.NumberSteps.{free_entry}
+use Rattle.dbtg_plan.proofs.RingEdits.{holds-there, ring-is}
 
 -- LISTS OF EDITS
 
@@ -200,19 +199,9 @@ module _ (schema : Lists) (unit : Unit) (k : DbKey) (items : List Value) where
 
 -- CELLS IN HAND
 
--- an occurrence where it is the owner's
-owned-is : (o : Owner) (occurrence : Option Occurrence) → is_some (of_owner o occurrence) ≡ true → of_owner o occurrence ≡ occurrence
-owned-is o None h = refl
-owned-is o (Some r) h =
-    elim (cases_Bool (owner_eq r.owner o)) [
-      | inl e ↦ ap (λ b. cond b (Some r) None) e
-      | inr e ↦ absurd (false≢true (sym (ap (λ b. is_some (cond b (Some r) None)) e) ∙ h))
-    ]
-
 -- a cell of which there is one is held
 there-held : (c : CellName) (cells : List (CellName × Cell)) (x : Cell) → cell_of c cells ≡ Some x → holds cells c ≡ true
-there-held c [] x h = absurd (none-some x h)
-there-held c (e ∷ es) x h = elim (name_eq c e.0) as (λ b. cond b (Some e.1) (cell_of c es) ≡ Some x → cond b true (holds es c) ≡ true) [ true ↦ λ g. refl | false ↦ there-held c es x ] h
+there-held c cells x h = sym (holds-there cells c) ∙ ap is_some h
 
 module _ (schema : Lists) (capacity : ℕ) (db : Database) (hands : Hands) (unit : Unit) (agrees : Agrees schema capacity db hands unit)
     (t n : ℕ) (items : List Value) (free : free_number capacity db t ≡ Some n) (has_places : list_any (λ s. is_none (place_in schema unit s)) (automatic_sets schema t) ≡ false)
@@ -275,11 +264,11 @@ module _ (schema : Lists) (capacity : ℕ) (db : Database) (hands : Hands) (unit
           let present = some_from (joined_occurrence schema unit hands s) (passes_check (is_none (joined_occurrence schema unit hands s)) Deleted _ checks).0 in
           let read : joined_occurrence schema unit hands s ≡ of_owner (joined_place schema unit s).owner v.occurrence = ap (occurrence_of (joined_place schema unit s).owner) there in
           let fresh : is_member k (members_of db s (joined_place schema unit s).owner) ≡ false = false_from_ne_true _ (not_member schema capacity db k agrees.legal (new_is_fresh schema capacity db t n agrees.legal) s (joined_place schema unit s).owner) in
-          let is : joined_occurrence schema unit hands s ≡ v.occurrence = read ∙ owned-is (joined_place schema unit s).owner v.occurrence (ap is_some (sym read ∙ present.1)) in (
+          let is : joined_occurrence schema unit hands s ≡ v.occurrence = read ∙ sym (ring-is (joined_place schema unit s).owner v.occurrence (ap is_some (sym read ∙ present.1))) in (
             rooms s (automatic s i) (RingCell v) there
-            (ap (λ (o : Option Occurrence). is_member k (keys_in o)) (sym is) ∙ ap (is_member k) (sym (members_in_hand schema capacity db hands unit agrees s (joined_place schema unit s).owner held)) ∙ fresh),
+                (ap (λ (o : Option Occurrence). is_member k (keys_in o)) (sym is) ∙ ap (is_member k) (sym (members_in_hand schema capacity db hands unit agrees s (joined_place schema unit s).owner held)) ∙ fresh),
             subst (CanPlace (order_of schema s) (joined_place schema unit s).at (key_item schema s t items)) is
-            (can-join-in_hand schema capacity db hands unit agrees s held sound t items (ap is_some clause.1) fit checks),
+                (can-join-in_hand schema capacity db hands unit agrees s held sound t items (ap is_some clause.1) fit checks),
           )
 
     each-joined : (s : ℕ) → In s (automatic_sets schema t) → EachCanEdit (joining schema unit k items s) hands.cells
@@ -292,12 +281,14 @@ module _ (schema : Lists) (capacity : ℕ) (db : Database) (hands : Hands) (unit
           (subst (λ (p : Place). (x : Cell) → cell_of (Ring s (place_of p.owner)) hands.cells ≡ Some x → CanEdit (placed_at schema s k (key_item schema s t items) p) x) same (joined-made s i), tt)
 
     each-made : EachCanEdit (store_edits schema unit k items) hands.cells
-    each-made =
-        (extent-made, each-append (flat_map (joining schema unit k items) (automatic_sets schema t)) (flat_map (opening schema unit k items) (owned schema unit k items) ++ filling schema unit k items) hands.cells
-        (each-in (joining schema unit k items) (automatic_sets schema t) hands.cells each-joined)
-        (each-append (flat_map (opening schema unit k items) (owned schema unit k items)) (filling schema unit k items) hands.cells
-        (each-in (opening schema unit k items) (owned schema unit k items) hands.cells (λ s i. (opened-made s, tt)))
-        ((λ x there. tt), tt)))
+    each-made = (
+      extent-made,
+      each-append (flat_map (joining schema unit k items) (automatic_sets schema t)) (flat_map (opening schema unit k items) (owned schema unit k items) ++ filling schema unit k items) hands.cells
+          (each-in (joining schema unit k items) (automatic_sets schema t) hands.cells each-joined)
+          (each-append (flat_map (opening schema unit k items) (owned schema unit k items)) (filling schema unit k items) hands.cells
+          (each-in (opening schema unit k items) (owned schema unit k items) hands.cells (λ s i. (opened-made s, tt)))
+          ((λ x there. tt), tt)),
+    )
 
   -- THEIR CELLS ARE DISTINCT
 

@@ -1,9 +1,10 @@
 -- The steps of a STORE over the sets of a schema.
 -- s is a set, t a record type, i how many sets are behind.
-use Rattle.std.proofs.Common.{◌⊎◌, ◌≡◌, ◌≢◌, refl, sym, ◌∙◌, ap, subst, ℕ, zero, suc, ◌+◌, ◌<◌, ◌≤◌, Bool, true, false, cond, not, ◌&&◌, ◌||◌, List, [], ◌∷◌, ◌++◌, Option, Some, None, eqb, inl, inr, map, drop, length, append_assoc, append-nil, arith}
+use Rattle.std.proofs.Common.{◌≡◌, ◌≢◌, refl, sym, ◌∙◌, ap, subst, ℕ, zero, suc, ◌+◌, ◌<◌, ◌≤◌, Bool, true, false, cond, not, ◌&&◌, List, [], ◌∷◌, ◌++◌, Option, Some, None, eqb, inl, inr, map, drop, length, append_assoc, append-nil, arith}
 use Rattle.std.specs.Prelude.{filter, is_some, option_and_then, replicate, slice_get}
 use Rattle.std.specs.List.{enumerate_from, find, flat_map, list_any, range_with_len}
 use Rattle.std.proofs.lemmas.Bool.{cases_Bool, eqb-false, eqb-true, false_from_ne_true, false≢true}
+use Rattle.std.proofs.lemmas.List.Folds.{find-append}
 use Rattle.dbtg_schema.specs.Lists.{Lists}
 use Rattle.dbtg_schema.specs.Lookups.{first_cause, some_and}
 use Rattle.dbtg_schema.specs.Structure.{automatic_sets, calc_of, is_automatic, member_clause, owns, set_numbers}
@@ -26,15 +27,15 @@ use Rattle.dbtg_unit.specs.Hands.{Hands}
 use Rattle.dbtg_unit.specs.Reserving.{CanTakeMember, KeepsOthers}
 use Rattle.dbtg_unit.proofs.CheckLemmas.{number_within}
 use Rattle.dbtg_unit.proofs.EditLemmas.{has_number-filter, has_number-passes, has_number-range, has_number-unfiltered}
-use Rattle.dbtg_unit.proofs.NumberLemmas.{numbers_end, numbers_next}
+use Rattle.dbtg_unit.proofs.NumberLemmas.{numbers_end}
 use Rattle.dbtg_unit.proofs.ReservingLemmas.{of_held-kept}
 use Rattle.dbtg_plan.specs.Calc.{calc_taken_in}
 use Rattle.dbtg_plan.specs.Joining.{joined_place}
 use Rattle.dbtg_plan.specs.Missing.{first_missing, is_missing}
 use Rattle.dbtg_plan.specs.Store.{HasRoom, openings_of}
+use Rattle.dbtg_plan.proofs.SetSteps.{first_cause-append, flat_step, or_first, or_second}
 
 -- SETS IN WHICH STORE CONNECTS
-
 
 -- a set of which the type is a member is one of the schema's
 within : {X : Type 0} (sets : List X) (s : ℕ) → is_some (slice_get sets s) ≡ true → s < length sets
@@ -73,60 +74,42 @@ pub over_sets : {Y : Type 0} (schema : Lists) (t : ℕ) (f : ℕ → List Y) →
 over_sets schema t f =
     kept-flat_map f (λ s. some_and (λ m. is_automatic m.class) (member_clause schema s t)) (λ s. list_any (λ s'. eqb s' s) (automatic_sets schema t)) (λ s. connected schema s t) (set_numbers schema)
 
--- the next set, and those behind it
-pub next_set : {Y : Type 0} (f : ℕ → List Y) (n i : ℕ) → i < n → flat_map f (drop i (range_with_len 0 n)) ≡ f i ++ flat_map f (drop (i + 1) (range_with_len 0 n))
-next_set f n i h = ap (flat_map f) (numbers_next n i h)
-
 -- CELLS THAT ARE MISSING
 
 pub missing_here : (hands : Hands) (xs ys : List CellName) → is_some (first_missing hands xs) ≡ true → first_missing hands (xs ++ ys) ≡ first_missing hands xs
-missing_here hands [] ys h = absurd (false≢true h)
-missing_here hands (x ∷ xs) ys h =
-    elim (is_missing hands x) as (λ b. is_some (cond b (Some x) (first_missing hands xs)) ≡ true → cond b (Some x) (first_missing hands (xs ++ ys)) ≡ cond b (Some x) (first_missing hands xs)) [
-      | true ↦ λ e. refl
-      | false ↦ missing_here hands xs ys
-    ] h
+missing_here hands xs ys h = find-append (is_missing hands) xs ys ∙ or_first (first_missing hands xs) (first_missing hands ys) h
 
 pub missing_behind : (hands : Hands) (xs ys : List CellName) → is_some (first_missing hands xs) ≡ false → first_missing hands (xs ++ ys) ≡ first_missing hands ys
-missing_behind hands [] ys h = refl
-missing_behind hands (x ∷ xs) ys h =
-    elim (is_missing hands x) as (λ b. is_some (cond b (Some x) (first_missing hands xs)) ≡ false → cond b (Some x) (first_missing hands (xs ++ ys)) ≡ first_missing hands ys) [
-      | true ↦ λ e. absurd (false≢true (sym e))
-      | false ↦ missing_behind hands xs ys
-    ] h
+missing_behind hands xs ys h = find-append (is_missing hands) xs ys ∙ or_second (first_missing hands xs) (first_missing hands ys) h
 
 pub missing_found : (hands : Hands) (f : ℕ → List CellName) (n i : ℕ) → i < n → is_some (first_missing hands (f i)) ≡ true → first_missing hands (flat_map f (drop i (range_with_len 0 n))) ≡ first_missing hands (f i)
-missing_found hands f n i h there = ap (first_missing hands) (next_set f n i h) ∙ missing_here hands (f i) (flat_map f (drop (i + 1) (range_with_len 0 n))) there
+missing_found hands f n i h there = ap (first_missing hands) (flat_step f n i h) ∙ missing_here hands (f i) (flat_map f (drop (i + 1) (range_with_len 0 n))) there
 
 pub missing_passed : (hands : Hands) (f : ℕ → List CellName) (n i : ℕ) → i < n → is_some (first_missing hands (f i)) ≡ false
     → first_missing hands (flat_map f (drop i (range_with_len 0 n))) ≡ first_missing hands (flat_map f (drop (i + 1) (range_with_len 0 n)))
-missing_passed hands f n i h none = ap (first_missing hands) (next_set f n i h) ∙ missing_behind hands (f i) (flat_map f (drop (i + 1) (range_with_len 0 n))) none
+missing_passed hands f n i h none = ap (first_missing hands) (flat_step f n i h) ∙ missing_behind hands (f i) (flat_map f (drop (i + 1) (range_with_len 0 n))) none
 
 -- CAUSES
 
 cause_here : {C : Type 0} (xs ys : List (Bool × C)) → is_some (first_cause xs) ≡ true → first_cause (xs ++ ys) ≡ first_cause xs
-cause_here [] ys h = absurd (false≢true h)
-cause_here (x ∷ xs) ys h =
-    elim x.0 as (λ b. is_some (cond b (Some x.1) (first_cause xs)) ≡ true → cond b (Some x.1) (first_cause (xs ++ ys)) ≡ cond b (Some x.1) (first_cause xs)) [ true ↦ λ e. refl | false ↦ cause_here xs ys ] h
+cause_here xs ys h = first_cause-append xs ys ∙ or_first (first_cause xs) (first_cause ys) h
 
 cause_behind : {C : Type 0} (xs ys : List (Bool × C)) → is_some (first_cause xs) ≡ false → first_cause (xs ++ ys) ≡ first_cause ys
-cause_behind [] ys h = refl
-cause_behind (x ∷ xs) ys h =
-    elim x.0 as (λ b. is_some (cond b (Some x.1) (first_cause xs)) ≡ false → cond b (Some x.1) (first_cause (xs ++ ys)) ≡ first_cause ys) [ true ↦ λ e. absurd (false≢true (sym e)) | false ↦ cause_behind xs ys ] h
+cause_behind xs ys h = first_cause-append xs ys ∙ or_second (first_cause xs) (first_cause ys) h
 
 pub cause_found : {C : Type 0} (f : ℕ → List (Bool × C)) (n i : ℕ) → i < n → is_some (first_cause (f i)) ≡ true → first_cause (flat_map f (drop i (range_with_len 0 n))) ≡ first_cause (f i)
-cause_found f n i h there = ap first_cause (next_set f n i h) ∙ cause_here (f i) (flat_map f (drop (i + 1) (range_with_len 0 n))) there
+cause_found f n i h there = ap first_cause (flat_step f n i h) ∙ cause_here (f i) (flat_map f (drop (i + 1) (range_with_len 0 n))) there
 
 pub cause_passed : {C : Type 0} (f : ℕ → List (Bool × C)) (n i : ℕ) → i < n → is_some (first_cause (f i)) ≡ false
     → first_cause (flat_map f (drop i (range_with_len 0 n))) ≡ first_cause (flat_map f (drop (i + 1) (range_with_len 0 n)))
-cause_passed f n i h none = ap first_cause (next_set f n i h) ∙ cause_behind (f i) (flat_map f (drop (i + 1) (range_with_len 0 n))) none
+cause_passed f n i h none = ap first_cause (flat_step f n i h) ∙ cause_behind (f i) (flat_map f (drop (i + 1) (range_with_len 0 n))) none
 
 -- EDITS THAT ARE PUSHED
 
 -- what is pushed of the next set, and what is left
 pub pushed_next : {Y : Type 0} (f : ℕ → List Y) (n i : ℕ) (old new : List Y) → i < n → new ≡ old ++ f i → new ++ flat_map f (drop (i + 1) (range_with_len 0 n)) ≡ old ++ flat_map f (drop i (range_with_len 0 n))
 pushed_next f n i old new h is =
-    ap (λ ys. ys ++ flat_map f (drop (i + 1) (range_with_len 0 n))) is ∙ append_assoc old (f i) (flat_map f (drop (i + 1) (range_with_len 0 n))) ∙ ap (λ ys. old ++ ys) (sym (next_set f n i h))
+    ap (λ ys. ys ++ flat_map f (drop (i + 1) (range_with_len 0 n))) is ∙ append_assoc old (f i) (flat_map f (drop (i + 1) (range_with_len 0 n))) ∙ ap (λ ys. old ++ ys) (sym (flat_step f n i h))
 
 -- nothing is left
 pub pushed_all : {Y : Type 0} (f : ℕ → List Y) (n i : ℕ) (old : List Y) → n ≤ i → old ++ flat_map f (drop i (range_with_len 0 n)) ≡ old

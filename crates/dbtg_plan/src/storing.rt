@@ -22,15 +22,15 @@ ghost use Rattle.dbtg_plan.specs.Plans.{unless_refusal};
 ghost use Rattle.dbtg_plan.specs.Store.{HasRoom, first_owner, join_checks, joins_of, missing_of_store, openings_of, store_checks_in, store_plan, store_rings_in, stored_plan};
 
 use crate::calc::{copy_calc, fresh_key, is_calc_taken};
-use crate::joining::{joined_place, joining_edit, place_refusal};
-use crate::members::{copy_sort_key, ring_name, slot_edit};
+use crate::joining::{current_owner, joining_edit, make_room, place_refusal};
+use crate::members::{copy_sort_key, slot_edit};
 use crate::missing::{missing, missing_ring, missing_slot};
 use crate::outcomes::refused;
 use dbtg_cells::{CellName, DbKey, Owner, Value, copy_items};
 use dbtg_schema::{RecordNo, Row, Schema, SetNo};
 use dbtg_unit::{
     Answer, Cause, CellEdit, Edit, Held, Owners, Prepared, Status, Suppress, Unit, UnitEdit,
-    is_automatic_in, numbers, reserve_member, set_count,
+    is_automatic_in, numbers, set_count,
 };
 use std::alloc::{AllocError, Global};
 
@@ -40,15 +40,6 @@ fn connects(schema: &Schema, set: SetNo, rtype: RecordNo) -> bool
     ensures { result ≡ list_any (λ s. s == set) (automatic_sets schema.now rtype) }
 {
     is_automatic_in(schema, set, rtype)
-}
-
-fn current_owner(schema: &Schema, unit: &Unit, set: SetNo) -> Option<Owner>
-    ensures { result ≡ current_owner schema.now unit.now set }
-{
-    match unit.place_in(schema, set) {
-        Some(place) => Some(place.owner),
-        None => None,
-    }
 }
 
 // WHAT IT NEEDS
@@ -294,11 +285,7 @@ fn push_opening(
     Ok(())
 }
 
-fn push_openings(
-    schema: &Schema,
-    key: &DbKey,
-    edits: &mut Vec<CellEdit>,
-) -> Result<(), AllocError>
+fn push_openings(schema: &Schema, key: &DbKey, edits: &mut Vec<CellEdit>) -> Result<(), AllocError>
     ensures { OnOk result (edits.new.items ≡ edits.old.items ++ flat_map (openings_of schema.now key.now) (set_numbers schema.now)) }
 {
     for s in 0..set_count(schema) {
@@ -414,16 +401,10 @@ fn make_place(
     if !connects(schema, set, key.rtype) {
         return Ok(());
     }
-    let owner = joined_place(schema, unit, set).owner;
-    reserve_member(held, &ring_name(set, &owner), key)
+    make_room(schema, unit, set, held, key)
 }
 
-fn make_places(
-    schema: &Schema,
-    unit: &Unit,
-    held: &mut Held,
-    key: &DbKey,
-) -> Result<(), AllocError>
+fn make_places(schema: &Schema, unit: &Unit, held: &mut Held, key: &DbKey) -> Result<(), AllocError>
     ensures same { ShowsTheSame held.old held.new }
     ensures rooms { OnOk result ((s : ℕ) → HasRoom schema.now unit.now held.new key.now s) }
 {

@@ -1,4 +1,4 @@
-use Rattle.std.proofs.Common.{◌≤◌, length, arith}
+use Rattle.std.proofs.Common.{arith}
 use Rattle.dbtg_plan.proofs.StoreSteps.{rooms_all}
 use Rattle.dbtg_plan.proofs.storing.make_places.Goals as goal
 

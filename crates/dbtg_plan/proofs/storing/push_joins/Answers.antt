@@ -1,4 +1,4 @@
-use Rattle.std.proofs.Common.{◌≡◌, ◌++◌, ◌<◌, ◌≤◌, sym, ◌∙◌, ap, ℕ, List, length, arith}
+use Rattle.std.proofs.Common.{◌≡◌, ◌++◌, sym, ◌∙◌, ap, ℕ, List, length, arith}
 use Rattle.dbtg_unit.specs.declared.edit.CellEdit.{CellEdit}
 use Rattle.dbtg_unit.specs.Base.{key_item}
 use Rattle.dbtg_unit.specs.EditsOf.{joining_edits}
