@@ -72,10 +72,10 @@ all-in p [] h = refl
 all-in p (x ∷ xs) h = and_from _ _ (h x (inl refl)) (all-in p xs (λ y i. h y (inr i)))
 
 -- the cells of the one are not the cells of the others
-abbrev Apart : List CellEdit → List CellEdit → Type 0
+abbrev pub Apart : List CellEdit → List CellEdit → Type 0
 Apart es fs = (e : CellEdit) → In e es → (f : CellEdit) → In f fs → name_eq e.name f.name ≡ false
 
-distinct-append : (es fs : List CellEdit) → are_distinct es ≡ true → are_distinct fs ≡ true → Apart es fs → are_distinct (es ++ fs) ≡ true
+pub distinct-append : (es fs : List CellEdit) → are_distinct es ≡ true → are_distinct fs ≡ true → Apart es fs → are_distinct (es ++ fs) ≡ true
 distinct-append [] fs h g apart = g
 distinct-append (e ∷ es) fs h g apart =
     let hs = and_parts (list_all (λ f. not (name_eq e.name f.name)) es) (are_distinct es) h in
@@ -84,7 +84,7 @@ distinct-append (e ∷ es) fs h g apart =
     (distinct-append es fs hs.1 g (λ x i. apart x (inr i)))
 
 -- edits set by set, of cells of that set
-distinct-flat_map : (f : ℕ → List CellEdit) (sets : List ℕ) → distinct sets ≡ true → ((s : ℕ) → are_distinct (f s) ≡ true)
+pub distinct-flat_map : (f : ℕ → List CellEdit) (sets : List ℕ) → distinct sets ≡ true → ((s : ℕ) → are_distinct (f s) ≡ true)
     → ((s u : ℕ) → s ≢ u → Apart (f s) (f u)) → are_distinct (flat_map f sets) ≡ true
 distinct-flat_map f [] h one apart = refl
 distinct-flat_map f (s ∷ sets) h one apart =
@@ -106,7 +106,7 @@ each-in f (s ∷ sets) cells h = each-append (f s) (flat_map f sets) cells (h s 
 apart-by_name : (e f : CellEdit) (c d : CellName) → e.name ≡ c → f.name ≡ d → name_eq c d ≡ false → name_eq e.name f.name ≡ false
 apart-by_name e f c d is_c is_d h = (λ i. name_eq (is_c i) (is_d i)) ∙ h
 
-other-rings : (s u : ℕ) (p q : Option (ℕ × ℕ)) → s ≢ u → name_eq (Ring s p) (Ring u q) ≡ false
+pub other-rings : (s u : ℕ) (p q : Option (ℕ × ℕ)) → s ≢ u → name_eq (Ring s p) (Ring u q) ≡ false
 other-rings s u p q h = ap (λ b. b && place_eq p q) (differ s u h)
 
 module _ (schema : Lists) (unit : Unit) (k : DbKey) (items : List Value) where
