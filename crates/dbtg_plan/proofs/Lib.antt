@@ -25,3 +25,4 @@ pub mod OpeningLemmas
 pub mod StoreMaking
 pub mod StoreFinish
 pub mod StaleLemmas
+pub mod StoreSteps

@@ -15,7 +15,7 @@ mod outcomes;
 mod preparing;
 mod removing;
 mod stale;
+mod storing;
 
 pub use need::next_need;
 pub use preparing::prepare;
-

@@ -15,6 +15,7 @@ use crate::missing::{missing, missing_slot};
 use crate::modifying::next_cell_of_modify;
 use crate::removing::next_cell_of_remove;
 use crate::stale::need_of_guesses;
+use crate::storing::next_cell_of_store;
 use dbtg_cells::CellName;
 use dbtg_schema::Schema;
 use dbtg_unit::{Held, Need, Statement, Unit, next_area, refused_at_once};
@@ -38,7 +39,11 @@ fn next_cell(
         Statement::CloseArea(area) => missing(held, CellName::Usage(*area)),
         Statement::Find(form, _) => next_cell_of_find(schema, capacity, unit, form, held),
         Statement::Get(_) => missing_slot(held, unit.currency.run_unit),
-        Statement::Store { .. } => None,
+        Statement::Store {
+            rtype,
+            items,
+            suppress: _,
+        } => next_cell_of_store(schema, capacity, unit, *rtype, items, held),
         Statement::Insert(set) => next_cell_of_insert(schema, unit, *set, held),
         Statement::Remove(set) => next_cell_of_remove(schema, unit, *set, held),
         Statement::Modify { rtype, changes } => {

@@ -10,6 +10,7 @@ use crate::modifying::prepare_modify;
 use crate::opening::{prepare_close, prepare_open};
 use crate::outcomes::refused;
 use crate::removing::prepare_remove;
+use crate::storing::prepare_store;
 use dbtg_schema::Schema;
 use dbtg_unit::{Cause, Held, Prepared, Statement, Unit, refused_at_once};
 use std::alloc::{AllocError, Global};
@@ -48,7 +49,11 @@ pub fn prepare(
         Statement::Find(form, suppress) => {
             Ok(prepare_find(alloc, schema, capacity, unit, form, suppress, held))
         }
-        Statement::Store { .. } => Ok(refused(alloc, Cause::NoRoom)),
+        Statement::Store {
+            rtype,
+            items,
+            suppress,
+        } => prepare_store(alloc, schema, capacity, unit, *rtype, items, *suppress, held),
         Statement::Delete(_) => Ok(refused(alloc, Cause::Deleted)),
     }
 }
