@@ -1,6 +1,6 @@
 -- Guesses are wrong by the record in hand where they are wrong by each database that agrees.
 -- k is a key, s a set.
-use Rattle.std.proofs.Common.{◌≡◌, refl, sym, ◌∙◌, ap, subst, ℕ, zero, suc, ◌+◌, ◌<◌, ◌≤◌, Bool, true, false, cond, not, ◌&&◌, ◌||◌, List, [], ◌∷◌, ◌++◌, length, Option, Some, None, eqb, inl, inr, map, replicate, arith}
+use Rattle.std.proofs.Common.{◌≡◌, refl, sym, ◌∙◌, ap, subst, ℕ, zero, suc, ◌+◌, ◌<◌, Bool, true, false, cond, not, ◌&&◌, ◌||◌, List, [], ◌∷◌, ◌++◌, length, Option, Some, None, inl, inr, map, replicate, arith}
 use Rattle.std.specs.Prelude.{◌==◌, filter, is_some, option_map, unwrap_or, if◌then◌else◌}
 use Rattle.std.specs.List.{enumerate_from, find, flat_map, list_any, range_with_len}
 use Rattle.std.proofs.lemmas.Bool.{and_from, and_parts, cases_Bool, eqb-true, eq-eqb, false≢true, false_from_ne_true, ltb-true}
@@ -11,7 +11,6 @@ use Rattle.dbtg_cells.specs.declared.key.DbKey.{DbKey}
 use Rattle.dbtg_cells.specs.declared.key.Owner.{Owner}
 use Rattle.dbtg_cells.specs.declared.name.CellName.{CellName}
 use Rattle.dbtg_cells.specs.declared.name.CellName.TheVariants.{Extent}
-use Rattle.dbtg_unit.specs.declared.held.Need.{Need}
 use Rattle.dbtg_unit.specs.declared.held.Need.TheVariants.{Area, Take, Stale, Ready}
 use Rattle.dbtg_unit.specs.declared.statement.Change.{Change}
 use Rattle.dbtg_unit.specs.declared.statement.Statement.{Statement}
@@ -24,15 +23,15 @@ use Rattle.dbtg_unit.specs.Checks.{refused_at_once}
 use Rattle.dbtg_unit.specs.Effect.{names_calc}
 use Rattle.dbtg_unit.specs.Fits.{fits}
 use Rattle.dbtg_unit.specs.Hands.{Hands}
-use Rattle.dbtg_unit.specs.InHand.{owner_in, stored_in}
+use Rattle.dbtg_unit.specs.InHand.{owner_in}
 use Rattle.dbtg_unit.specs.Local.{Agrees, holds}
 use Rattle.dbtg_unit.specs.Needs.{areas_in_order, cells_of, guessed_sets, is_stale, is_wrong_guess, need, need_of_cells, next_of, ring_names, slot_names, stale_owners, wrong_owner}
 use Rattle.dbtg_unit.proofs.EditLemmas.{has_number, has_number-filter, has_number-passes, has_number-range}
-use Rattle.dbtg_unit.proofs.InHandLemmas.{live_in_hand, owner_in_hand}
+use Rattle.dbtg_unit.proofs.InHandLemmas.{owner_in_hand}
 use Rattle.dbtg_unit.proofs.LiveKeys.{In, any_element, any_in, in_range, in_right, no_owner, of_filter}
 use Rattle.dbtg_unit.proofs.LocalReady.{all_held}
-use Rattle.dbtg_plan.specs.Missing.{first_missing, is_missing}
-use Rattle.dbtg_plan.specs.Stale.{need_of_guesses, need_of_owners, wrong_owner_in, wrong_owners_in}
+use Rattle.dbtg_plan.specs.Missing.{first_missing}
+use Rattle.dbtg_plan.specs.Stale.{need_of_guesses, wrong_owner_in, wrong_owners_in}
 use Rattle.dbtg_plan.proofs.KeepingLemmas.{current_slot}
 
 -- LISTS

@@ -42,7 +42,15 @@ pub fn prepare(
         Statement::Insert(set) => prepare_insert(alloc, schema, capacity, unit, *set, held),
         Statement::Remove(set) => prepare_remove(alloc, schema, capacity, unit, *set, held),
         Statement::Modify { rtype, changes } => {
-            prepare_modify(alloc, schema, capacity, unit, *rtype, changes.as_slice(), held)
+            prepare_modify(
+                alloc,
+                schema,
+                capacity,
+                unit,
+                *rtype,
+                changes.as_slice(),
+                held,
+            )
         }
         Statement::Keep => prepare_keep(alloc, schema, capacity, unit, held),
         Statement::Free { all } => Ok(prepare_free(alloc, schema, capacity, unit, *all, held)),
@@ -53,7 +61,9 @@ pub fn prepare(
             rtype,
             items,
             suppress,
-        } => prepare_store(alloc, schema, capacity, unit, *rtype, items, *suppress, held),
+        } => prepare_store(
+            alloc, schema, capacity, unit, *rtype, items, *suppress, held,
+        ),
         Statement::Delete(_) => Ok(refused(alloc, Cause::Deleted)),
     }
 }
