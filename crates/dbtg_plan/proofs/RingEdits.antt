@@ -24,7 +24,8 @@ use Rattle.dbtg_unit.specs.InHand.{numbers_in, numbers_of, of_owner, occurrence_
 use Rattle.dbtg_unit.specs.Local.{holds}
 use Rattle.dbtg_unit.specs.Making.{CanEditHeld}
 
-holds-there : (cells : List (CellName × Cell)) (c : CellName) → is_some (cell_of c cells) ≡ holds cells c
+-- a cell of a name is there where one is held
+pub holds-there : (cells : List (CellName × Cell)) (c : CellName) → is_some (cell_of c cells) ≡ holds cells c
 holds-there [] c = refl
 holds-there (e ∷ es) c = elim (name_eq c e.0) as (λ b. is_some (cond b (Some e.1) (cell_of c es)) ≡ cond b true (holds es c)) [ true ↦ refl | false ↦ holds-there es c ]
 
@@ -51,7 +52,7 @@ extent-held hands t n used = sym (holds-there hands.cells (Extent t)) ∙ from n
   from n (Some x) h = refl
 
 -- an occurrence that is an owner's is the ring's
-ring-is : (o : Owner) (ring : Option Occurrence) → is_some (of_owner o ring) ≡ true → ring ≡ of_owner o ring
+pub ring-is : (o : Owner) (ring : Option Occurrence) → is_some (of_owner o ring) ≡ true → ring ≡ of_owner o ring
 ring-is o None h = absurd (false≢true h)
 ring-is o (Some r) h =
     elim (owner_eq r.owner o) as (λ b. is_some (cond b (Some r) None) ≡ true → Some r ≡ cond b (Some r) None) [ true ↦ λ h. refl | false ↦ λ h. absurd (false≢true h) ] h

@@ -17,6 +17,7 @@ mod equal;
 mod numbered;
 mod set;
 
+use crate::joining::current_owner;
 use crate::missing::{missing, missing_ring, missing_slot};
 use crate::outcomes::{done, refused};
 use dbtg_cells::{CellName, DbKey};
@@ -67,7 +68,7 @@ fn missing_to_find(schema: &Schema, unit: &Unit, form: &Form, held: &Held) -> Op
         Form::CurrentOfArea(area) => missing_slot(held, current::of_area(unit, *area)),
         Form::OwnerOf(set) => missing_slot(held, current::owner_key(schema, unit, *set)),
         Form::InSet { set, .. } | Form::Sorted { set, .. } => {
-            missing_ring(held, *set, current::owner_in(schema, unit, *set))
+            missing_ring(held, *set, current_owner(schema, unit, *set))
         }
         Form::InArea { rtype, area, .. } => area::missing_extent(schema, held, *rtype, *area),
         Form::Calc { rtype, .. } | Form::NextDuplicate(rtype) => {

@@ -2,11 +2,11 @@
 ghost use Rattle.std.specs.Prelude.{◌≡◌, option_and_then};
 ghost use Rattle.dbtg_schema.specs.Lookups.{at};
 ghost use Rattle.dbtg_unit.specs.Found.{with_current};
-ghost use Rattle.dbtg_unit.specs.Needs.{current_owner};
 ghost use Rattle.dbtg_unit.specs.Units.{key_of_owner, place_in};
 ghost use Rattle.dbtg_unit.specs.declared.unit.Cause.TheVariants.{Deleted};
 ghost use Rattle.dbtg_plan.specs.Finding.{stored_or};
 
+use crate::joining::current_owner;
 use dbtg_cells::{DbKey, Owner};
 use dbtg_schema::{AreaNo, RecordNo, Schema, SetNo};
 use dbtg_unit::{Cause, Held, Unit, entry_at, stored};
@@ -45,21 +45,11 @@ pub(crate) fn of_area(unit: &Unit, area: AreaNo) -> Option<DbKey>
     entry_at(unit.currency.areas.as_slice(), area.index() as usize)
 }
 
-/// The owner of the current occurrence of a set.
-pub(crate) fn owner_in(schema: &Schema, unit: &Unit, set: SetNo) -> Option<Owner>
-    ensures { result ≡ current_owner schema.now unit.now set }
-{
-    match unit.place_in(schema, set) {
-        Some(place) => Some(place.owner),
-        None => None,
-    }
-}
-
 /// The record that owns the current occurrence of a set.
 pub(crate) fn owner_key(schema: &Schema, unit: &Unit, set: SetNo) -> Option<DbKey>
     ensures { result ≡ option_and_then (λ place. key_of_owner place.owner) (place_in schema.now unit.now set) }
 {
-    match owner_in(schema, unit, set) {
+    match current_owner(schema, unit, set) {
         Some(Owner::Rec(key)) => Some(key),
         _ => None,
     }
