@@ -1,0 +1,14 @@
+-- What `check` prints.
+use Rattle.std.specs.Prelude.{ℕ, ◌+◌, List, [], ◌∷◌, ◌++◌, length}
+use Rattle.dbtg_schema.specs.Lists.{Lists}
+use Rattle.dbtg_script.specs.Statements.{script}
+use Rattle.dbtg_script.specs.Texts.{schema_line, script_line}
+
+-- a line for each script, from number n on
+abbrev pub script_lines : Lists → ℕ → List (List ℕ) → List ℕ
+script_lines schema n [] = []
+script_lines schema n (text ∷ texts) = script_line n (length (script schema text)) ++ script_lines schema (n + 1) texts
+
+-- how large a schema and scripts are
+abbrev pub check_text : Lists → List (List ℕ) → List ℕ
+check_text schema scripts = schema_line schema ++ script_lines schema 1 scripts

@@ -1,0 +1,79 @@
+//! The program: reads the command's words and the files that they name, and prints what comes of them.
+#![tactic(auto)]
+
+mod check;
+mod command;
+mod fault;
+mod files;
+mod reading;
+
+use clap::error::ErrorKind;
+use command::{Call, call_of};
+use fault::{Fault, status_of};
+use files::check_files;
+use std::env;
+use std::io::{self, Write};
+use std::process::ExitCode;
+
+fn told(rt: &HostRuntime, fault: &Fault) -> ExitCode {
+    let _ = eprintln!(rt; "{fault}");
+    ExitCode::from(status_of(fault))
+}
+
+fn print_text(rt: &HostRuntime, text: &[u8]) -> ExitCode {
+    let mut out = io::writer(rt);
+    match out.write_all(text) {
+        Ok(()) => ExitCode::SUCCESS,
+        Err(_) => {
+            let _ = eprintln!(rt; "cannot write to standard output");
+            ExitCode::FAILURE
+        }
+    }
+}
+
+fn carry_out(rt: &HostRuntime, call: &Call) -> ExitCode {
+    let text = match call {
+        Call::Check { schema, scripts } => check_files(rt, schema, scripts.as_slice()),
+        Call::Replay { .. } => Err(Fault::Memory),
+    };
+    match text {
+        Ok(text) => print_text(rt, text.as_slice()),
+        Err(fault) => told(rt, &fault),
+    }
+}
+
+// Arguments that are no text, or want of memory.
+fn without_words(rt: &HostRuntime, error: &io::Error) -> ExitCode {
+    if error.kind() == io::ErrorKind::OutOfMemory {
+        return told(rt, &Fault::Memory);
+    }
+    let _ = eprintln!(rt; "the command's words are not text in UTF-8");
+    ExitCode::from(2)
+}
+
+// Help and version go to standard output, with status 0; other words are refused, with status 2.
+fn without_call(rt: &HostRuntime, error: &clap::Error) -> ExitCode {
+    if error.kind() == ErrorKind::OutOfMemory {
+        return told(rt, &Fault::Memory);
+    }
+    match error.print(rt) {
+        Ok(()) => ExitCode::from(if error.exit_code() == 0 { 0 } else { 2 }),
+        Err(_) => ExitCode::FAILURE,
+    }
+}
+
+fn words_of(rt: &HostRuntime) -> io::Result<Vec<String>> {
+    let args = env::args(rt)?;
+    Ok(args.collect(rt.alloc())?)
+}
+
+fn main(rt: HostRuntime) -> ExitCode {
+    let words = match words_of(&rt) {
+        Ok(words) => words,
+        Err(error) => return without_words(&rt, &error),
+    };
+    match call_of(rt.alloc(), words.as_slice()) {
+        Ok(call) => carry_out(&rt, &call),
+        Err(error) => without_call(&rt, &error),
+    }
+}
