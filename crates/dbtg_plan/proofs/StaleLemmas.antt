@@ -1,8 +1,8 @@
 -- Guesses are wrong by the record in hand where they are wrong by each database that agrees.
 -- k is a key, s a set.
-use Rattle.std.proofs.Common.{◌≡◌, refl, sym, ◌∙◌, ap, subst, ℕ, zero, suc, ◌+◌, ◌<◌, Bool, true, false, cond, not, ◌&&◌, ◌||◌, List, [], ◌∷◌, ◌++◌, length, Option, Some, None, inl, inr, map, replicate, arith}
+use Rattle.std.proofs.Common.{◌≡◌, refl, sym, ◌∙◌, ap, subst, ℕ, ◌<◌, Bool, true, false, cond, not, ◌&&◌, ◌||◌, List, [], ◌∷◌, ◌++◌, length, Option, Some, None, inl, inr, map, arith}
 use Rattle.std.specs.Prelude.{◌==◌, filter, is_some, option_map, unwrap_or, if◌then◌else◌}
-use Rattle.std.specs.List.{enumerate_from, find, flat_map, list_any, range_with_len}
+use Rattle.std.specs.List.{find, flat_map, list_any}
 use Rattle.std.proofs.lemmas.Bool.{and_from, and_parts, cases_Bool, eqb-true, eq-eqb, false≢true, false_from_ne_true, ltb-true}
 use Rattle.dbtg_schema.specs.Lists.{Lists}
 use Rattle.dbtg_schema.specs.Lookups.{at, some_and}
@@ -73,11 +73,6 @@ any_made p q f (x ∷ xs) h = λ i. h x (inl refl) i || any_made p q f xs (λ y 
 map_agrees : {X Y : Type 0} (f g : X → Y) (xs : List X) → ((x : X) → In x xs → f x ≡ g x) → map f xs ≡ map g xs
 map_agrees f g [] h = refl
 map_agrees f g (x ∷ xs) h = λ i. h x (inl refl) i ∷ map_agrees f g xs (λ y j. h y (inr j)) i
-
--- what is written by number over a list of so many is what is made of the numbers
-pub written_by_number : {X : Type 0} (g : ℕ → X) (x : X) (a n : ℕ) → map (λ (e : ℕ × X). g e.0) (enumerate_from a (replicate n x)) ≡ map g (range_with_len a n)
-written_by_number g x a zero = refl
-written_by_number g x a (suc n) = ap (λ ys. g a ∷ ys) (written_by_number g x (a + 1) n)
 
 -- GUESSES
 

@@ -6,7 +6,7 @@ use Rattle.dbtg_cells.specs.declared.key.Owner.{Owner}
 use Rattle.dbtg_unit.specs.Needs.{guessed_sets}
 use Rattle.dbtg_unit.proofs.Numbered.{rewritten, rewritten-all, rewritten-next}
 use Rattle.dbtg_plan.specs.Stale.{wrong_owner_in}
-use Rattle.dbtg_plan.proofs.StaleLemmas.{written_by_number}
+use Rattle.dbtg_plan.proofs.StoreSteps.{owners_before}
 use Rattle.dbtg_plan.proofs.stale.wrong_owners.Goals as goal
 
 pub loop-s-init : goal.loop-s-init
@@ -14,7 +14,7 @@ loop-s-init c =
     let g = wrong_owner_in c.args.held.now (guessed_sets c.args.schema.now c.args.unit.now c.args.statement.now) c.args.key.now in
     let none : c.none-owners.result ≡ replicate (length c.args.schema.now.sets) None = c.none-owners.ensures ∙ ap (λ n. replicate n None) c.set_count.ensures in
     record {
-      finishes = ap (λ (owners : List (Option Owner)). map (λ (e : ℕ × Option Owner). g e.0) (enumerate_from 0 owners)) none ∙ written_by_number g None 0 (length c.args.schema.now.sets);
+      finishes = ap (λ (owners : List (Option Owner)). map (λ (e : ℕ × Option Owner). g e.0) (enumerate_from 0 owners)) none ∙ owners_before g (length c.args.schema.now.sets) 0;
       as_long = ap length none ∙ length-replicate (length c.args.schema.now.sets) None;
     }
 
