@@ -1,6 +1,6 @@
 -- The first fault of what the program is given, in the order schema, scripts; and the status with which it ends.
 -- text is a text's bytes, n the number of a script, from 1.
-use Rattle.std.specs.Prelude.{◌≡◌, ℕ, ◌+◌, List, [], ◌∷◌, Option, Some, None, ⊥, ◌⊎◌}
+use Rattle.std.specs.Prelude.{◌≡◌, ℕ, ◌+◌, List, [], ◌∷◌, Option, Some, None, ◌⊎◌}
 use Rattle.dbtg_schema.specs.Forms.{labels}
 use Rattle.dbtg_schema.specs.Lists.{Lists}
 use Rattle.dbtg_schema.specs.SchemaFaults.{refusal as schema_refusal}
@@ -37,13 +37,13 @@ RefusesScript ScriptCount n refusal = ⊥
 
 -- the fault is that of the first script that has one, from number n on, unless memory ran out
 abbrev pub RefusesScripts : Fault → Lists → ℕ → List (List ℕ) → Type 0
-RefusesScripts fault schema n [] = fault ≡ Memory
-RefusesScripts fault schema n (text ∷ texts) = RefusesScript fault n (script_refusal schema text) ⊎ ((script_refusal schema text ≡ None) × RefusesScripts fault schema (n + 1) texts)
+RefusesScripts fault lists n [] = fault ≡ Memory
+RefusesScripts fault lists n (text ∷ texts) = RefusesScript fault n (script_refusal lists text) ⊎ ((script_refusal lists text ≡ None) × RefusesScripts fault lists (n + 1) texts)
 
 -- every script is accepted
 abbrev pub AllAccepted : Lists → List (List ℕ) → Type 0
-AllAccepted schema [] = Unit {0}
-AllAccepted schema (text ∷ texts) = (script_refusal schema text ≡ None) × AllAccepted schema texts
+AllAccepted lists [] = Unit {0}
+AllAccepted lists (text ∷ texts) = (script_refusal lists text ≡ None) × AllAccepted lists texts
 
 -- the fault is the first of schema and scripts, unless memory ran out
 abbrev pub RefusesTexts : Fault → List ℕ → List (List ℕ) → Type 0

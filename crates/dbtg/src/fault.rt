@@ -4,6 +4,7 @@ ghost use Rattle.dbtg_schema.specs.Reading.{Refuses as RefusesText};
 ghost use Rattle.dbtg_schema.specs.declared.fault.Fault.{Fault as SchemaRefusal};
 ghost use Rattle.dbtg_script.specs.Reading.{RefusesScript as RefusesScriptText};
 ghost use Rattle.dbtg_script.specs.declared.fault.Fault.{Fault as ScriptRefusal};
+ghost use Rattle.dbtg.specs.declared.fault.Fault.TheVariants.{Memory};
 ghost use Rattle.dbtg.specs.Refusals.{RefusesSchema, RefusesScript, status_of};
 
 use dbtg_schema::{Cause as SchemaCause, SchemaFault};
