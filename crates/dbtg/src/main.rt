@@ -63,8 +63,11 @@ fn without_call(rt: &HostRuntime, error: &clap::Error) -> ExitCode {
 }
 
 fn words_of(rt: &HostRuntime) -> io::Result<Vec<String>> {
-    let args = env::args(rt)?;
-    Ok(args.collect(rt.alloc())?)
+    let mut words = Vec::new(rt.alloc());
+    for word in env::args(rt)? {
+        words.push(word)?;
+    }
+    Ok(words)
 }
 
 fn main(rt: HostRuntime) -> ExitCode {
