@@ -39,6 +39,7 @@ use Rattle.dbtg_unit.proofs.LiveKeys.{In, any_element, any_in, in_filter, in_fla
 use Rattle.dbtg_unit.proofs.ModifyCells.{modify_makes}
 use Rattle.dbtg_plan.specs.Modifying.{is_rekeyed}
 use Rattle.dbtg_plan.specs.Plans.{done_answer, unless_refusal}
+use Rattle.dbtg_plan.proofs.OutcomeLemmas.{Makes, makes-effect, makes-unless}
 use Rattle.dbtg_plan.proofs.PlanLemmas.{effect-on_cells, noted-renoted}
 
 -- the member clause of a set in which a key item is named
@@ -114,12 +115,6 @@ module _ (schema : Lists) (capacity : ℕ) (db : Database) (hands : Hands) (unit
         unit = Same;
       }
 
-  -- the plan does what the outcome is
-  abbrev Matches : Plan → Outcome → Type 0
-  Matches plan outcome =
-      (plan.answer ≡ outcome.answer) × (unit_after schema plan unit ≡ outcome.unit) × (guesses_edited plan.unit hands.guesses ≡ guesses_after schema capacity statement hands.guesses outcome)
-      × ((c : CellName) → cell schema capacity outcome.database c ≡ edited_at c plan.cells (cell schema capacity db c))
-
   version_now : is_live db k ≡ true → version_of new.database k ≡ version_of db k + 1
   version_now live =
       ap (λ b. unwrap_or (option_map (λ (r : Record). r.version) (cond b (option_map next_version (cond b (option_map (with_its_items (changed_items changes (items_of db k))) (db.records k)) (db.records k))) (cond b (option_map (with_its_items (changed_items changes (items_of db k))) (db.records k)) (db.records k)))) 0) (key_eq-refl k)
@@ -131,24 +126,25 @@ module _ (schema : Lists) (capacity : ℕ) (db : Database) (hands : Hands) (unit
   unit_is : is_live db k ≡ true → unit_after schema done_plan unit ≡ new.unit
   unit_is live = ap (λ (kept : List (DbKey × ℕ)). record unit { kept = kept }) (noted-renoted k (version_of db k + 1) new.database (version_now live) unit.kept)
 
+  on_current_is : unit.currency.run_unit ≡ Some k
+      → on_current db unit unit.currency.run_unit (modify_checks schema capacity db unit changes) (modified schema capacity db unit changes) ≡ unless_refused db unit (first_cause (modify_checks schema capacity db unit changes k)) new
+  on_current_is current = ap (λ (o : Option DbKey). on_current db unit o (modify_checks schema capacity db unit changes) (modified schema capacity db unit changes)) current
+
   effect_is : refused_at_once schema capacity unit statement ≡ None → unit.currency.run_unit ≡ Some k
       → effect schema capacity db unit statement ≡ unless_refused db unit (first_cause (modify_checks schema capacity db unit changes k)) new
-  effect_is passes current =
-      effect-on_cells schema capacity db unit statement passes
-      ∙ ap (λ (o : Option DbKey). on_current db unit o (modify_checks schema capacity db unit changes) (modified schema capacity db unit changes)) current
+  effect_is passes current = effect-on_cells schema capacity db unit statement passes ∙ on_current_is current
 
-  matches : Legal schema capacity db → (first_cause (modify_checks schema capacity db unit changes k) ≡ None → Legal schema capacity new.database) → (o : Option Cause) → first_cause (modify_checks schema capacity db unit changes k) ≡ o
-      → Matches (unless_refusal o done_plan) (unless_refused db unit o new)
-  matches legal lawful (Some cause) e = (refl, refl, refl, λ c. refl)
-  matches legal lawful None e =
-      let live : is_live db k ≡ true = not-false _ (passes_check (not (is_live db k)) Deleted _ e).0 in
-      (refl, unit_is live, refl, λ c. modify_makes schema capacity db unit changes k legal live (lawful e) c)
+  -- a MODIFY that nothing refuses
+  pub done_makes : Legal schema capacity db → Legal schema capacity new.database → is_live db k ≡ true → Makes schema capacity db unit hands.guesses statement done_plan new
+  done_makes legal lawful live = record { answer = refl; unit_is = unit_is live; guesses_are = refl; cells = modify_makes schema capacity db unit changes k legal live lawful }
 
   pub is_effect : (plan : Plan) → refused_at_once schema capacity unit statement ≡ None → unit.currency.run_unit ≡ Some k → Legal schema capacity db → Legal schema capacity (effect schema capacity db unit statement).database
       → plan ≡ unless_refusal (first_cause (modify_checks schema capacity db unit changes k)) done_plan → IsEffect schema capacity db unit hands.guesses statement plan
   is_effect plan passes current legal lawful same =
-      let is = effect_is passes current in
       let cause = first_cause (modify_checks schema capacity db unit changes k) in
-      let made = matches legal (λ h. subst (λ (o : Outcome). Legal schema capacity o.database) (is ∙ ap (λ c. unless_refused db unit c new) h) lawful) cause refl in
-      let m : Matches plan (effect schema capacity db unit statement) = subst (Matches plan) (sym is) (subst (λ (p : Plan). Matches p (unless_refused db unit cause new)) (sym same) made) in
-      record { answer = m.0; unit_is = m.1; guesses_are = m.2; cells = m.3 }
+      let is = effect_is passes current in
+      let makes = makes-unless schema capacity db unit hands.guesses statement cause cause done_plan new refl (λ none.
+      done_makes legal (subst (λ (o : Outcome). Legal schema capacity o.database) (is ∙ ap (λ c. unless_refused db unit c new) none) lawful) (not-false _ (passes_check (not (is_live db k)) Deleted _ none).0)) in
+      makes-effect schema capacity db unit hands.guesses statement passes plan
+      (subst (Makes schema capacity db unit hands.guesses statement plan) (sym (on_current_is current))
+      (subst (λ (p : Plan). Makes schema capacity db unit hands.guesses statement p (unless_refused db unit cause new)) (sym same) makes))

@@ -33,7 +33,8 @@ use Rattle.dbtg_unit.specs.Units.{place_in}
 use Rattle.dbtg_unit.proofs.KeyLemmas.{key_eq-refl}
 use Rattle.dbtg_unit.proofs.LiveKeys.{In, member_of_owner}
 use Rattle.dbtg_unit.proofs.TwoDatabases.{any_agrees, flat_map_agrees}
-use Rattle.dbtg_plan.specs.Modifying.{calc_edits_in, is_numbered_in, is_rekeyed, is_replaced, modify_checks_in, modify_edits_in, occurrence_with, replacing_edits_in, sort_key_taken}
+use Rattle.dbtg_plan.specs.Modifying.{calc_edits_in, is_numbered_in, is_rekeyed, is_replaced, modify_checks_in, modify_edits_in, replacing_edits_in, sort_key_taken}
+use Rattle.dbtg_plan.specs.Removing.{own_occurrence}
 use Rattle.dbtg_plan.specs.Calc.{calc_taken_in}
 use Rattle.dbtg_plan.proofs.Kept.{and_agrees, any-filter, any-kept, any-map, first_cause-any, flat_map-kept}
 
@@ -45,7 +46,7 @@ module _ (schema : Lists) (capacity : ℕ) (db : Database) (hands : Hands) (unit
     owner_read : (s : ℕ) → In s (set_numbers schema) → owner_in hands s k ≡ owner_of schema capacity db s k
     owner_read s i = sym (owner_in_hand schema capacity db hands unit agrees k held s i)
 
-    with_read : (s : ℕ) → In s (set_numbers schema) → occurrence_with hands s k ≡ option_and_then (occurrence_in hands s) (owner_of schema capacity db s k)
+    with_read : (s : ℕ) → In s (set_numbers schema) → own_occurrence hands s k ≡ option_and_then (occurrence_in hands s) (owner_of schema capacity db s k)
     with_read s i = ap (option_and_then (occurrence_in hands s)) (owner_read s i)
 
     -- the occurrence of the record's owner is in hand
@@ -55,7 +56,7 @@ module _ (schema : Lists) (capacity : ℕ) (db : Database) (hands : Hands) (unit
         ∙ there k (db.lists s o) (member_of_owner schema capacity db agrees.legal s o k is)
 
     pub replaced_read : (s : ℕ) → In s (set_numbers schema) → is_replaced schema hands changes k s ≡ (is_rekeyed schema changes k.rtype s && is_some (owner_of schema capacity db s k))
-    replaced_read s i = and_agrees (is_rekeyed schema changes k.rtype s) (is_some (occurrence_with hands s k)) (is_some (owner_of schema capacity db s k)) (λ named. ap is_some (with_read s i) ∙ still named (owner_of schema capacity db s k) refl) where
+    replaced_read s i = and_agrees (is_rekeyed schema changes k.rtype s) (is_some (own_occurrence hands s k)) (is_some (owner_of schema capacity db s k)) (λ named. ap is_some (with_read s i) ∙ still named (owner_of schema capacity db s k) refl) where
       still : is_rekeyed schema changes k.rtype s ≡ true → (o : Option Owner) → owner_of schema capacity db s k ≡ o → is_some (option_and_then (occurrence_in hands s) o) ≡ is_some o
       still named None is = refl
       still named (Some o) is = occurrence_there s o named is
@@ -121,7 +122,7 @@ module _ (schema : Lists) (capacity : ℕ) (db : Database) (hands : Hands) (unit
 
         key_taken_read : (s : ℕ) → In s (set_numbers schema) → sort_key_taken schema hands changes k items s ≡ ((is_rekeyed schema changes k.rtype s && is_some (owner_of schema capacity db s k)) && refused_at s)
         key_taken_read s i =
-            ap (λ b. b && (refuses_equal (order_of schema s) && list_any (has_sort_key (Some k) (key_item schema s k.rtype items)) (members_in (occurrence_with hands s k)))) (replaced_read s i)
+            ap (λ b. b && (refuses_equal (order_of schema s) && list_any (has_sort_key (Some k) (key_item schema s k.rtype items)) (members_in (own_occurrence hands s k)))) (replaced_read s i)
             ∙ and_agrees (is_rekeyed schema changes k.rtype s && is_some (owner_of schema capacity db s k)) _ _ (λ replaced.
             ap (λ b. refuses_equal (order_of schema s) && b)
             (ap (λ (o : Option Occurrence). list_any (has_sort_key (Some k) (key_item schema s k.rtype items)) (members_in o)) (with_read s i)

@@ -1,11 +1,12 @@
 -- What a STORE has prepared is its effect, and can be finished.
-use Rattle.std.proofs.Common.{◌≡◌, refl, sym, ◌∙◌, subst, ℕ, ◌&&◌, true, List, ◌∷◌, Option, Some, None}
-use Rattle.std.specs.Prelude.{if◌then◌else◌, is_some, option_map}
+use Rattle.std.proofs.Common.{◌≡◌, refl, sym, ◌∙◌, ap, subst, ℕ, ◌&&◌, true, List, ◌∷◌, Option, Some, None}
+use Rattle.std.specs.Prelude.{if◌then◌else◌, IfOk, Result, Ok, Err, is_some, option_map}
+use Rattle.std.specs.declared.alloc.AllocError.{AllocError}
 use Rattle.std.specs.List.{list_all}
 use Rattle.std.proofs.lemmas.Bool.{and_parts}
 use Rattle.dbtg_schema.specs.Lists.{Lists}
 use Rattle.dbtg_schema.specs.Lookups.{first, first_cause}
-use Rattle.dbtg_schema.specs.Structure.{automatic_sets, pictures}
+use Rattle.dbtg_schema.specs.Structure.{pictures}
 use Rattle.dbtg_cells.specs.declared.key.DbKey.{DbKey}
 use Rattle.dbtg_cells.specs.declared.key.Owner.{Owner}
 use Rattle.dbtg_cells.specs.declared.key.Value.{Value}
@@ -32,9 +33,9 @@ use Rattle.dbtg_unit.proofs.SameHands.{agrees-same, holds-same, same-sym}
 use Rattle.dbtg_plan.specs.Calc.{calc_taken_in, fresh_key}
 use Rattle.dbtg_plan.specs.Missing.{first_missing}
 use Rattle.dbtg_plan.specs.Plans.{refusal, unless_refusal}
-use Rattle.dbtg_plan.specs.Store.{cells_of_key, key_plan, missing_of_store, store_checks_in, store_plan, stored_plan}
+use Rattle.dbtg_plan.specs.Store.{HasRoom, cells_of_key, key_plan, missing_of_store, store_checks_in, store_plan, stored_plan}
 use Rattle.dbtg_plan.proofs.StoreInHand.{checks-in_hand, has-places, plan-is, plan-is_effect}
-use Rattle.dbtg_plan.proofs.StoreMaking.{HaveRooms, edits-held, store_can_make}
+use Rattle.dbtg_plan.proofs.StoreMaking.{edits-held, store_can_make}
 
 module _ (schema : Lists) (capacity : ℕ) (unit : Unit) (old new : Hands) (t : ℕ) (items : List Value) (suppress : Suppress)
     (may : MayPrepare schema capacity unit old (Store t items suppress)) (passes : refused_at_once schema capacity unit (Store t items suppress) ≡ None) (same : ShowsTheSame old new) where
@@ -71,14 +72,14 @@ module _ (schema : Lists) (capacity : ℕ) (unit : Unit) (old new : Hands) (t : 
 
     -- a plan with rooms for its key can be made
     abbrev CanMakeWithRooms : Plan → Type 0
-    CanMakeWithRooms plan = ((k : DbKey) → plan.answer.key ≡ Some k → HaveRooms schema unit new (automatic_sets schema t) k) → CanMake plan.cells new.cells
+    CanMakeWithRooms plan = ((k : DbKey) (s : ℕ) → plan.answer.key ≡ Some k → HasRoom schema unit new k s) → CanMake plan.cells new.cells
 
     made-by_cause : (n : ℕ) → free_number capacity db t ≡ Some n → (o : Option Cause) → first_cause (store_checks_in schema unit old t items) ≡ o
         → CanMakeWithRooms (unless_refusal o (stored_plan schema unit items suppress (new_key db t n)))
     made-by_cause n free (Some cause) e rooms = tt
     made-by_cause n free None e rooms =
         store_can_make schema capacity db new unit agrees t n items free (has-places schema capacity unit old t items suppress may passes db agrees_old)
-        (checks-in_hand schema capacity unit old t items suppress may passes db agrees_old n free ∙ e) may.sound fit (rooms (new_key db t n) refl)
+        (checks-in_hand schema capacity unit old t items suppress may passes db agrees_old n free ∙ e) may.sound fit (λ s. rooms (new_key db t n) s refl)
 
     made-by_number : (o : Option ℕ) → free_number capacity db t ≡ o → CanMakeWithRooms (key_plan schema unit old t items suppress (option_map (new_key db t) o))
     made-by_number None e rooms = tt
@@ -88,7 +89,7 @@ module _ (schema : Lists) (capacity : ℕ) (unit : Unit) (old new : Hands) (t : 
     made = subst CanMakeWithRooms (sym (plan-is schema capacity unit old t items suppress may passes db agrees_old)) (made-by_number (free_number capacity db t) refl)
 
   -- what is prepared can be finished, where there is a place for the new record
-  pub store_finishes : ((k : DbKey) → (store_plan schema unit old t items suppress).answer.key ≡ Some k → HaveRooms schema unit new (automatic_sets schema t) k)
+  pub store_finishes : ((k : DbKey) (s : ℕ) → (store_plan schema unit old t items suppress).answer.key ≡ Some k → HasRoom schema unit new k s)
       → CanFinish schema capacity unit new (Store t items suppress) (store_plan schema unit old t items suppress)
   store_finishes rooms =
       record {
@@ -100,3 +101,10 @@ module _ (schema : Lists) (capacity : ℕ) (unit : Unit) (old new : Hands) (t : 
         };
         can_make = λ db agrees. made db agrees rooms;
       }
+
+  -- the same of what was prepared, if memory was found
+  pub finishes_if_ok : (prepared : Result Plan AllocError) → IfOk prepared (λ plan. plan ≡ store_plan schema unit old t items suppress)
+      → IfOk prepared (λ plan. (k : DbKey) (s : ℕ) → plan.answer.key ≡ Some k → HasRoom schema unit new k s)
+      → IfOk prepared (λ plan. CanFinish schema capacity unit new (Store t items suppress) plan)
+  finishes_if_ok (Ok plan) is rooms = subst (CanFinish schema capacity unit new (Store t items suppress)) (sym is) (store_finishes (λ k s h. rooms k s (ap (λ (p : Plan). p.answer.key) is ∙ h)))
+  finishes_if_ok (Err e) is rooms = tt

@@ -3,8 +3,7 @@
 use Rattle.std.proofs.Common.{◌≡◌, ◌≢◌, refl, sym, ◌∙◌, ap, subst, ℕ, ◌≤◌, Bool, true, false, cond, not, ◌&&◌, List, [], ◌∷◌, ◌++◌, Option, Some, None, eqb, inl, inr, length, map, ⊎_elim}
 use Rattle.std.specs.Prelude.{filter, is_none, is_some, IsTrue, option_map, unwrap_or}
 use Rattle.std.specs.List.{flat_map, list_all, list_any, range_with_len}
-use Rattle.std.proofs.lemmas.Bool.{and_from, and_parts, cases_Bool, eq-eqb, false_from_ne_true, false≢true}
-use Rattle.std.proofs.lemmas.Option.{none-some}
+use Rattle.std.proofs.lemmas.Bool.{and_from, and_parts, eq-eqb, false_from_ne_true, false≢true}
 use Rattle.dbtg_schema.specs.Lists.{Lists}
 use Rattle.dbtg_schema.specs.Lookups.{first_cause, some_and}
 use Rattle.dbtg_schema.specs.Sound.{IsSound}
@@ -20,17 +19,17 @@ use Rattle.dbtg_cells.specs.declared.name.CellName.{CellName}
 use Rattle.dbtg_cells.specs.declared.name.CellName.TheVariants.{Extent, Ring, Slot}
 use Rattle.dbtg_cells.specs.declared.ring.Occurrence.{Occurrence}
 use Rattle.dbtg_cells.specs.Cells.{shown}
-use Rattle.dbtg_cells.specs.Keys.{owner_eq}
-use Rattle.dbtg_cells.specs.Members.{has_room}
+use Rattle.dbtg_cells.specs.Keys.{is_member}
+use Rattle.dbtg_cells.specs.Members.{keys_in}
 use Rattle.dbtg_cells.specs.Names.{name_eq, place_eq}
 use Rattle.dbtg_cells.specs.Numbers.{entry_of, is_free}
-use Rattle.dbtg_cells.specs.Shown.{RingValue, RingView}
+use Rattle.dbtg_cells.specs.Shown.{RingValue}
 use Rattle.dbtg_unit.specs.declared.edit.CellEdit.{CellEdit}
 use Rattle.dbtg_unit.specs.declared.edit.Edit.TheVariants.{EnterNumber, Fill, OpenRing, PlaceMember}
 use Rattle.dbtg_unit.specs.declared.unit.Cause.TheVariants.{Deleted, DuplicatesNotAllowed, NoRoom}
 use Rattle.dbtg_unit.specs.declared.unit.Place.{Place}
 use Rattle.dbtg_unit.specs.declared.unit.Unit.{Unit}
-use Rattle.dbtg_unit.specs.Base.{Database, calc_items, is_live, key_at, key_item}
+use Rattle.dbtg_unit.specs.Base.{Database, calc_items, is_live, key_at, key_item, members_of}
 use Rattle.dbtg_unit.specs.CanEdit.{CanEdit, CanPlace}
 use Rattle.dbtg_unit.specs.Cells.{number_of}
 use Rattle.dbtg_unit.specs.CellNames.{place_of, slot_name}
@@ -49,19 +48,22 @@ use Rattle.dbtg_unit.proofs.Determined.{ring_in}
 use Rattle.dbtg_unit.proofs.EditLemmas.{differ, distinct, range-distinct}
 use Rattle.dbtg_unit.proofs.EffectEdits.{StoreFound, store_found}
 use Rattle.dbtg_unit.proofs.ExtentInHand.{free_in_hand}
-use Rattle.dbtg_unit.proofs.InHandLemmas.{numbers_in_hand}
+use Rattle.dbtg_unit.proofs.InHandLemmas.{members_in_hand, numbers_in_hand}
 use Rattle.dbtg_unit.proofs.LegalEffect.{some_from}
 use Rattle.dbtg_unit.proofs.LiveKeys.{In, all_at, any_in, in_flat_map, in_left, in_right, of_append, of_filter, of_flat_map, some_and_is}
 use Rattle.dbtg_unit.proofs.LocalReady.{all_held}
+use Rattle.dbtg_unit.proofs.LocalStore.{new_is_fresh}
 use Rattle.dbtg_unit.proofs.MakingLemmas.{EachCanEdit, are_distinct, can_make-distinct, each-append}
 use Rattle.dbtg_unit.proofs.PlacedLemmas.{pairwise-filter}
 use Rattle.dbtg_unit.proofs.ReadingCells.{held_cell}
 use Rattle.dbtg_unit.proofs.StoreCells.{own_ring-before, owner-not_k}
+use Rattle.dbtg_unit.proofs.StoreLegal.{not_member}
 use Rattle.dbtg_plan.specs.Joining.{joined_occurrence, joined_place, place_checks_in}
 use Rattle.dbtg_plan.specs.Missing.{first_missing}
-use Rattle.dbtg_plan.specs.Store.{store_rings_in}
+use Rattle.dbtg_plan.specs.Store.{HasRoom, store_rings_in}
 use Rattle.dbtg_plan.proofs.JoiningLemmas.{can-join-in_hand, place_checks-in_hand}
 use Rattle.dbtg_plan.proofs.NumberSteps.{free_entry}
+use Rattle.dbtg_plan.proofs.RingEdits.{holds-there, ring-is}
 
 -- LISTS OF EDITS
 
@@ -70,10 +72,10 @@ all-in p [] h = refl
 all-in p (x ∷ xs) h = and_from _ _ (h x (inl refl)) (all-in p xs (λ y i. h y (inr i)))
 
 -- the cells of the one are not the cells of the others
-abbrev Apart : List CellEdit → List CellEdit → Type 0
+abbrev pub Apart : List CellEdit → List CellEdit → Type 0
 Apart es fs = (e : CellEdit) → In e es → (f : CellEdit) → In f fs → name_eq e.name f.name ≡ false
 
-distinct-append : (es fs : List CellEdit) → are_distinct es ≡ true → are_distinct fs ≡ true → Apart es fs → are_distinct (es ++ fs) ≡ true
+pub distinct-append : (es fs : List CellEdit) → are_distinct es ≡ true → are_distinct fs ≡ true → Apart es fs → are_distinct (es ++ fs) ≡ true
 distinct-append [] fs h g apart = g
 distinct-append (e ∷ es) fs h g apart =
     let hs = and_parts (list_all (λ f. not (name_eq e.name f.name)) es) (are_distinct es) h in
@@ -82,7 +84,7 @@ distinct-append (e ∷ es) fs h g apart =
     (distinct-append es fs hs.1 g (λ x i. apart x (inr i)))
 
 -- edits set by set, of cells of that set
-distinct-flat_map : (f : ℕ → List CellEdit) (sets : List ℕ) → distinct sets ≡ true → ((s : ℕ) → are_distinct (f s) ≡ true)
+pub distinct-flat_map : (f : ℕ → List CellEdit) (sets : List ℕ) → distinct sets ≡ true → ((s : ℕ) → are_distinct (f s) ≡ true)
     → ((s u : ℕ) → s ≢ u → Apart (f s) (f u)) → are_distinct (flat_map f sets) ≡ true
 distinct-flat_map f [] h one apart = refl
 distinct-flat_map f (s ∷ sets) h one apart =
@@ -104,7 +106,7 @@ each-in f (s ∷ sets) cells h = each-append (f s) (flat_map f sets) cells (h s 
 apart-by_name : (e f : CellEdit) (c d : CellName) → e.name ≡ c → f.name ≡ d → name_eq c d ≡ false → name_eq e.name f.name ≡ false
 apart-by_name e f c d is_c is_d h = (λ i. name_eq (is_c i) (is_d i)) ∙ h
 
-other-rings : (s u : ℕ) (p q : Option (ℕ × ℕ)) → s ≢ u → name_eq (Ring s p) (Ring u q) ≡ false
+pub other-rings : (s u : ℕ) (p q : Option (ℕ × ℕ)) → s ≢ u → name_eq (Ring s p) (Ring u q) ≡ false
 other-rings s u p q h = ap (λ b. b && place_eq p q) (differ s u h)
 
 module _ (schema : Lists) (unit : Unit) (k : DbKey) (items : List Value) where
@@ -197,23 +199,9 @@ module _ (schema : Lists) (unit : Unit) (k : DbKey) (items : List Value) where
 
 -- CELLS IN HAND
 
--- an occurrence where it is the owner's
-owned-is : (o : Owner) (occurrence : Option Occurrence) → is_some (of_owner o occurrence) ≡ true → of_owner o occurrence ≡ occurrence
-owned-is o None h = refl
-owned-is o (Some r) h =
-    elim (cases_Bool (owner_eq r.owner o)) [
-      | inl e ↦ ap (λ b. cond b (Some r) None) e
-      | inr e ↦ absurd (false≢true (sym (ap (λ b. is_some (cond b (Some r) None)) e) ∙ h))
-    ]
-
 -- a cell of which there is one is held
 there-held : (c : CellName) (cells : List (CellName × Cell)) (x : Cell) → cell_of c cells ≡ Some x → holds cells c ≡ true
-there-held c [] x h = absurd (none-some x h)
-there-held c (e ∷ es) x h = elim (name_eq c e.0) as (λ b. cond b (Some e.1) (cell_of c es) ≡ Some x → cond b true (holds es c) ≡ true) [ true ↦ λ g. refl | false ↦ there-held c es x ] h
-
--- there is a place for k in the current occurrence of each of these sets
-abbrev pub HaveRooms : Lists → Unit → Hands → List ℕ → DbKey → Type 0
-HaveRooms schema unit hands sets k = (s : ℕ) → In s sets → (v : RingView) → cell_of (Ring s (place_of (joined_place schema unit s).owner)) hands.cells ≡ Some (RingCell v) → IsTrue (has_room v k)
+there-held c cells x h = sym (holds-there cells c) ∙ ap is_some h
 
 module _ (schema : Lists) (capacity : ℕ) (db : Database) (hands : Hands) (unit : Unit) (agrees : Agrees schema capacity db hands unit)
     (t n : ℕ) (items : List Value) (free : free_number capacity db t ≡ Some n) (has_places : list_any (λ s. is_none (place_in schema unit s)) (automatic_sets schema t) ≡ false)
@@ -254,7 +242,7 @@ module _ (schema : Lists) (capacity : ℕ) (db : Database) (hands : Hands) (unit
     by_cell (ExtentCell v) h = tt
     by_cell (SlotCell v) h = tt
 
-  module _ (sound : IsSound schema) (fit : values_fit (pictures schema t) items ≡ true) (rooms : HaveRooms schema unit hands (automatic_sets schema t) k) where
+  module _ (sound : IsSound schema) (fit : values_fit (pictures schema t) items ≡ true) (rooms : (s : ℕ) → HasRoom schema unit hands k s) where
     joined-made : (s : ℕ) → In s (automatic_sets schema t) → (x : Cell) → cell_of (Ring s (place_of (joined_place schema unit s).owner)) hands.cells ≡ Some x
         → CanEdit (PlaceMember (order_of schema s) (joined_place schema unit s).at k (key_item schema s t items)) x
     joined-made s i x there = by_cell x there where
@@ -275,8 +263,10 @@ module _ (schema : Lists) (capacity : ℕ) (db : Database) (hands : Hands) (unit
           ∙ passes-each (λ s. place_checks schema db unit s (key_item schema s t items)) (automatic_sets schema t) s (automatic s i) unique in
           let present = some_from (joined_occurrence schema unit hands s) (passes_check (is_none (joined_occurrence schema unit hands s)) Deleted _ checks).0 in
           let read : joined_occurrence schema unit hands s ≡ of_owner (joined_place schema unit s).owner v.occurrence = ap (occurrence_of (joined_place schema unit s).owner) there in
-          let is : joined_occurrence schema unit hands s ≡ v.occurrence = read ∙ owned-is (joined_place schema unit s).owner v.occurrence (ap is_some (sym read ∙ present.1)) in (
-            rooms s i v there,
+          let fresh : is_member k (members_of db s (joined_place schema unit s).owner) ≡ false = false_from_ne_true _ (not_member schema capacity db k agrees.legal (new_is_fresh schema capacity db t n agrees.legal) s (joined_place schema unit s).owner) in
+          let is : joined_occurrence schema unit hands s ≡ v.occurrence = read ∙ sym (ring-is (joined_place schema unit s).owner v.occurrence (ap is_some (sym read ∙ present.1))) in (
+            rooms s (automatic s i) (RingCell v) there
+                (ap (λ (o : Option Occurrence). is_member k (keys_in o)) (sym is) ∙ ap (is_member k) (sym (members_in_hand schema capacity db hands unit agrees s (joined_place schema unit s).owner held)) ∙ fresh),
             subst (CanPlace (order_of schema s) (joined_place schema unit s).at (key_item schema s t items)) is
                 (can-join-in_hand schema capacity db hands unit agrees s held sound t items (ap is_some clause.1) fit checks),
           )
@@ -341,5 +331,5 @@ module _ (schema : Lists) (capacity : ℕ) (db : Database) (hands : Hands) (unit
             (of_append f (flat_map (joining schema unit k items) (automatic_sets schema t)) (flat_map (opening schema unit k items) (owned schema unit k items) ++ filling schema unit k items) i)
 
   -- the edits of a STORE that passes can be made, where there is a place for the new record
-  pub store_can_make : IsSound schema → values_fit (pictures schema t) items ≡ true → HaveRooms schema unit hands (automatic_sets schema t) k → CanMake (store_edits schema unit k items) hands.cells
+  pub store_can_make : IsSound schema → values_fit (pictures schema t) items ≡ true → ((s : ℕ) → HasRoom schema unit hands k s) → CanMake (store_edits schema unit k items) hands.cells
   store_can_make sound fit rooms = can_make-distinct (store_edits schema unit k items) hands.cells edits-distinct (each-made sound fit rooms)

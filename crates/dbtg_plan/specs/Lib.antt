@@ -2,6 +2,7 @@ pub mod Calc
 pub mod Modifying
 pub mod Store
 pub mod Joining
+pub mod Finding
 pub mod Plans
 pub mod Inserting
 pub mod Removing

@@ -1,6 +1,6 @@
 -- MODIFY, as it is read off the cells in hand.
--- k is a key, s a set, items what the record has after the changes.
-use Rattle.std.specs.Prelude.{ℕ, ◌+◌, Bool, not, ◌&&◌, ◌==◌, List, [], ◌∷◌, ◌++◌, Option, Some, is_some, map, option_and_then, if◌then◌else◌}
+-- k is a key, s a set, t a record type, items what the record has after the changes.
+use Rattle.std.specs.Prelude.{ℕ, ◌+◌, Bool, not, ◌&&◌, ◌==◌, List, [], ◌∷◌, ◌++◌, Some, is_some, map, option_and_then, if◌then◌else◌}
 use Rattle.std.specs.List.{list_any, flat_map}
 use Rattle.dbtg_schema.specs.Lists.{Lists}
 use Rattle.dbtg_schema.specs.Lookups.{some_and}
@@ -8,7 +8,6 @@ use Rattle.dbtg_schema.specs.Structure.{member_clause, order_of, set_numbers}
 use Rattle.dbtg_cells.specs.declared.key.DbKey.{DbKey}
 use Rattle.dbtg_cells.specs.declared.key.Value.{Value}
 use Rattle.dbtg_cells.specs.declared.name.CellName.TheVariants.{Extent}
-use Rattle.dbtg_cells.specs.declared.ring.Occurrence.{Occurrence}
 use Rattle.dbtg_cells.specs.Members.{has_sort_key, members_in}
 use Rattle.dbtg_cells.specs.Numbers.{entry_of, is_used}
 use Rattle.dbtg_unit.specs.declared.edit.CellEdit.{CellEdit}
@@ -22,15 +21,12 @@ use Rattle.dbtg_unit.specs.Base.{calc_items, key_item}
 use Rattle.dbtg_unit.specs.EditsOf.{ring_edits, slot_edit}
 use Rattle.dbtg_unit.specs.Effect.{changed_items, names_calc, refuses_equal}
 use Rattle.dbtg_unit.specs.Hands.{Hands}
-use Rattle.dbtg_unit.specs.InHand.{items_in, numbers_in, occurrence_in, own_checks_in, owner_in, version_in}
+use Rattle.dbtg_unit.specs.InHand.{items_in, numbers_in, own_checks_in, owner_in, version_in}
 use Rattle.dbtg_unit.specs.Prepared.{Plan}
 use Rattle.dbtg_unit.specs.Units.{place_in}
 use Rattle.dbtg_plan.specs.Calc.{calc_taken_in}
+use Rattle.dbtg_plan.specs.Removing.{own_occurrence}
 use Rattle.dbtg_plan.specs.Plans.{done_answer, on_current_plan}
-
--- the occurrence of set s in hand that has the record
-abbrev pub occurrence_with : Hands → ℕ → DbKey → Option Occurrence
-occurrence_with hands s k = option_and_then (occurrence_in hands s) (owner_in hands s k)
 
 -- CHECKS
 
@@ -44,13 +40,13 @@ is_rekeyed schema changes t s = some_and (λ m. some_and (λ i. list_any (λ j. 
 
 -- the record is placed anew in set s
 abbrev pub is_replaced : Lists → Hands → List Change → DbKey → ℕ → Bool
-is_replaced schema hands changes k s = is_rekeyed schema changes k.rtype s && is_some (occurrence_with hands s k)
+is_replaced schema hands changes k s = is_rekeyed schema changes k.rtype s && is_some (own_occurrence hands s k)
 
 -- where it is placed anew another member has its sort key, and equal keys are refused
 abbrev pub sort_key_taken : Lists → Hands → List Change → DbKey → List Value → ℕ → Bool
 sort_key_taken schema hands changes k items s =
     is_replaced schema hands changes k s
-    && (refuses_equal (order_of schema s) && list_any (has_sort_key (Some k) (key_item schema s k.rtype items)) (members_in (occurrence_with hands s k)))
+    && (refuses_equal (order_of schema s) && list_any (has_sort_key (Some k) (key_item schema s k.rtype items)) (members_in (own_occurrence hands s k)))
 
 -- where a CALC item is named: the number is in use; its values are not taken by another
 abbrev pub calc_checks_in : Lists → Hands → List Change → DbKey → List Value → List (Bool × Cause)

@@ -14,7 +14,7 @@ ghost use Rattle.dbtg_plan.specs.Inserting.{insert_checks_in, inserting};
 ghost use Rattle.dbtg_plan.specs.Joining.{joined_place, joining_edit};
 ghost use Rattle.dbtg_plan.specs.Missing.{first_missing};
 
-use crate::joining::{joined_place, joining_edit, place_refusal};
+use crate::joining::{current_owner, joined_place, joining_edit, make_room, place_refusal};
 use crate::members::{next_version, owner_of, ring_name, slot_edit, sort_key_in};
 use crate::missing::{missing_ring, missing_slot};
 use crate::outcomes::refused;
@@ -25,15 +25,6 @@ use dbtg_unit::{
     reserve_member,
 };
 use std::alloc::{AllocError, Global};
-
-fn current_owner(schema: &Schema, unit: &Unit, set: SetNo) -> Option<Owner>
-    ensures { result ≡ current_owner schema.now unit.now set }
-{
-    match unit.place_in(schema, set) {
-        Some(place) => Some(place.owner),
-        None => None,
-    }
-}
 
 /// The first cell that an INSERT needs and that is not in hand.
 pub(crate) fn next_cell_of_insert(
@@ -123,21 +114,6 @@ fn inserted(
         Row::of(versions),
         UnitEdit::Move { set, place },
     ))
-}
-
-// Makes room in the ring of the current owner.
-fn make_room(
-    schema: &Schema,
-    unit: &Unit,
-    set: SetNo,
-    held: &mut Held,
-    key: &DbKey,
-) -> Result<(), AllocError>
-    ensures same { ShowsTheSame held.old held.new }
-    ensures room { OnOk result (OfHeld (CellName.Ring set (place_of (joined_place schema.now unit.now set).owner)) held.new.cells (CanTakeMember key.now)) }
-{
-    let owner = joined_place(schema, unit, set).owner;
-    reserve_member(held, &ring_name(set, &owner), key)
 }
 
 /// What an INSERT does that needs nothing more: the place in the current occurrence, the owner, the version.

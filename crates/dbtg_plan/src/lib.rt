@@ -2,6 +2,7 @@
 #![tactic(auto)]
 
 mod calc;
+mod finding;
 mod inserting;
 mod joining;
 mod keeping;
@@ -11,3 +12,4 @@ mod modifying;
 mod opening;
 mod outcomes;
 mod removing;
+mod storing;

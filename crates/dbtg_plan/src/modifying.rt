@@ -1,28 +1,29 @@
 //! MODIFY: what it needs next, and what it does once it needs nothing more.
-ghost use Rattle.std.specs.Prelude.{◌≡◌, ◌∷◌, ◌++◌, ℕ, ◌+◌, ◌==◌, ◌&&◌, not, List, [], Some, None, is_some, map, option_and_then, option_copied, slice_set, IfOk, if◌then◌else◌};
+ghost use Rattle.std.specs.Prelude.{◌≡◌, ◌∷◌, ◌++◌, ℕ, not, [], Some, None, is_some, map, option_and_then, option_copied, slice_set, IfOk, if◌then◌else◌};
 ghost use Rattle.std.specs.List.{flat_map, list_any};
 ghost use Rattle.std.specs.Option.{option_to_list};
 ghost use Rattle.dbtg_schema.specs.Lookups.{at, first_cause, some_and};
-ghost use Rattle.dbtg_cells.specs.Numbers.{entry_of, is_used};
-ghost use Rattle.dbtg_unit.specs.CellNames.{place_of};
-ghost use Rattle.dbtg_unit.specs.Units.{place_in};
 ghost use Rattle.dbtg_schema.specs.Structure.{rekeyed_sets, set_numbers};
+ghost use Rattle.dbtg_cells.specs.Numbers.{entry_of, is_used};
 ghost use Rattle.dbtg_unit.specs.declared.statement.Statement.TheVariants.{Modify};
-ghost use Rattle.dbtg_unit.specs.Base.{Database, calc_items, key_item};
+ghost use Rattle.dbtg_unit.specs.Base.{Database};
 ghost use Rattle.dbtg_unit.specs.Checks.{refused_at_once};
 ghost use Rattle.dbtg_unit.specs.EditsOf.{slot_edit};
 ghost use Rattle.dbtg_unit.specs.Effect.{changed_items, names_calc, refuses_equal};
-ghost use Rattle.dbtg_unit.specs.InHand.{items_in, numbers_in, owner_in, version_in};
+ghost use Rattle.dbtg_unit.specs.InHand.{items_in};
 ghost use Rattle.dbtg_unit.specs.Making.{CanFinish, HaveNextVersions, MayPrepare};
 ghost use Rattle.dbtg_unit.specs.Needs.{cells_of, ring_names};
+ghost use Rattle.dbtg_unit.specs.Units.{place_in};
 ghost use Rattle.dbtg_plan.specs.Calc.{calc_taken_in};
 ghost use Rattle.dbtg_plan.specs.Missing.{first_missing};
-ghost use Rattle.dbtg_plan.specs.Modifying.{calc_checks_in, calc_edits_in, is_rekeyed, is_replaced, modified_plan, modify_checks_in, modify_edits_in, modify_plan, occurrence_with, replacing_edits_in, sort_key_taken};
+ghost use Rattle.dbtg_plan.specs.Modifying.{calc_checks_in, calc_edits_in, is_rekeyed, is_replaced, modified_plan, modify_checks_in, modify_edits_in, modify_plan, replacing_edits_in, sort_key_taken};
+ghost use Rattle.dbtg_plan.specs.Removing.{own_occurrence};
 
-use crate::calc::{copy_calc, copy_item, is_calc_taken};
+use crate::calc::{copy_calc, is_calc_taken};
+use crate::members::{copy_sort_key, next_version, owner_of, ring_name, slot_edit};
 use crate::missing::{missing, missing_ring, missing_slot};
 use crate::outcomes::refused;
-use dbtg_cells::{CellName, DbKey, Extent, Owner, Ring, Value, copy_items};
+use dbtg_cells::{CellName, DbKey, Extent, Ring, Value, copy_items};
 use dbtg_schema::{Duplicates, Order, RecordNo, Row, Schema, SetNo};
 use dbtg_unit::{
     Answer, Cause, CellEdit, Change, Edit, Held, Prepared, Status, Unit, UnitEdit, is_rekeyed_in,
@@ -138,41 +139,10 @@ fn changed(
     }
 }
 
-fn copy_sort_key(
-    alloc: Global,
-    schema: &Schema,
-    set: SetNo,
-    rtype: RecordNo,
-    items: &[Value],
-) -> Result<Option<Value>, AllocError>
-    ensures { IfOk result (λ value. value ≡ key_item schema.now set rtype items.now) }
-{
-    let Some(member) = schema.member_clause(set, rtype) else {
-        return Ok(None);
-    };
-    match member.key {
-        Some(item) => Ok(Some(copy_item(alloc, items, item)?)),
-        None => Ok(None),
-    }
-}
-
-// The owner of a record in hand in a set.
-fn owner_of(held: &Held, set: SetNo, key: &DbKey) -> Option<Owner>
-    ensures { result ≡ owner_in held.now set key.now }
-{
-    match stored(held, key) {
-        Some(stored) => match stored.owners.as_slice().get(set.index() as usize) {
-            Some(owner) => *owner,
-            None => None,
-        },
-        None => None,
-    }
-}
-
 // The ring in hand of the owner of a record.
 fn ring_with<'a>(held: &'a Held, set: SetNo, key: &DbKey) -> Option<&'a Ring>
-    ensures there { is_some result ≡ is_some (occurrence_with held.now set key.now) }
-    ensures value { option_and_then (λ r. r.occurrence) (option_copied result) ≡ occurrence_with held.now set key.now }
+    ensures there { is_some result ≡ is_some (own_occurrence held.now set key.now) }
+    ensures value { option_and_then (λ r. r.occurrence) (option_copied result) ≡ own_occurrence held.now set key.now }
 {
     match owner_of(held, set, key) {
         Some(owner) => occurrence(held, set, &owner),
@@ -195,15 +165,6 @@ fn refuses_equal(order: Order) -> bool
             duplicates: Duplicates::NotAllowed,
         } => true,
         _ => false,
-    }
-}
-
-fn ring_name(set: SetNo, owner: &Owner) -> CellName
-    ensures { result ≡ CellName.Ring set (place_of owner.now) }
-{
-    match owner {
-        Owner::System => CellName::Ring(set, None),
-        Owner::Rec(key) => CellName::Ring(set, Some((key.rtype, key.number))),
     }
 }
 
@@ -404,15 +365,8 @@ fn push_replacing(
 fn push_slot(edits: &mut Vec<CellEdit>, key: &DbKey, items: Row<Value>) -> Result<(), AllocError>
     ensures { IfOk result (λ _. edits.new.items ≡ edits.old.items ++ slot_edit key.now (Edit.ChangeItems items) ∷ (slot_edit key.now Edit.RaiseVersion ∷ [])) }
 {
-    let change = Edit::ChangeItems { items };
-    edits.push(CellEdit {
-        name: CellName::Slot(key.rtype, key.number),
-        edit: change,
-    })?;
-    edits.push(CellEdit {
-        name: CellName::Slot(key.rtype, key.number),
-        edit: Edit::RaiseVersion,
-    })?;
+    edits.push(slot_edit(key, Edit::ChangeItems { items }))?;
+    edits.push(slot_edit(key, Edit::RaiseVersion))?;
     Ok(())
 }
 
@@ -442,17 +396,6 @@ fn edits_of(
     )?;
     push_slot(&mut edits, key, items)?;
     Ok(Row::of(edits))
-}
-
-// The next version of a record in hand.
-fn next_version(held: &Held, key: &DbKey) -> u64
-    requires { HaveNextVersions held.now.cells }
-    ensures { result ≡ version_in held.now key.now + 1 }
-{
-    match stored(held, key) {
-        Some(stored) => stored.version + 1,
-        None => 1,
-    }
 }
 
 fn modified(
