@@ -65,16 +65,15 @@ pub numbers_possible : (count : ℕ) (ds : List DbKey) (V : CellName → CellVal
 numbers_possible count [] V f shows once used = tt
 numbers_possible count (d ∷ ds) V f shows once used =
     let ones = and_parts _ _ once in
-    let here = used d (inl refl) in
-    (
+    let here = used d (inl refl) in (
       subst (CanEditShown (LeaveNumber d.number)) (sym (shows d.rtype)) (can_leave d.number _ (ap (some_and is_used) (entry-range (f d.rtype) count d.number here.0 here.1) ∙ here.2)),
       numbers_possible count ds (after (leave_number d) V) (left_at d f)
-      (λ t. ap (edited_at (Extent t) (leave_number d ∷ [])) (shows t) ∙ numbers-left t count (d ∷ []) (f t) (λ x i. elim i [ inl e ↦ subst (λ (y : DbKey). 1 ≤ y.number) e here.0 | inr never ↦ absurd never ]))
-      ones.1
-      (λ x i.
-      let was = used x (inr i) in
-      let other : (is_of_number x.rtype x.number d || false) ≡ false = ap (λ b. b || false) (not-true _ (all_at (apart d) x ds ones.0 i)) in
-      (was.0, was.1, ap (λ b. is_used (cond b (vacated (f x.rtype x.number)) (f x.rtype x.number))) other ∙ was.2)),
+          (λ t. ap (edited_at (Extent t) (leave_number d ∷ [])) (shows t) ∙ numbers-left t count (d ∷ []) (f t) (λ x i. elim i [ inl e ↦ subst (λ (y : DbKey). 1 ≤ y.number) e here.0 | inr never ↦ absurd never ]))
+          ones.1
+          (λ x i.
+          let was = used x (inr i) in
+          let other : (is_of_number x.rtype x.number d || false) ≡ false = ap (λ b. b || false) (not-true _ (all_at (apart d) x ds ones.0 i)) in
+          (was.0, was.1, ap (λ b. is_used (cond b (vacated (f x.rtype x.number)) (f x.rtype x.number))) other ∙ was.2)),
     )
 
 -- PLACES
@@ -106,12 +105,11 @@ module _ (schema : Lists) (owner : ℕ → DbKey → Option Owner) (gone : List 
             → Possible (ring_edits s q (TakeOut d ∷ []) ++ flat_map (edits_in d) ss) V
         by None e rest = rest V (λ s' h o. refl)
         by (Some o) e rest =
-            let member = has s (inl refl) o e in
-            (
+            let member = has s (inl refl) o e in (
               subst (CanEditShown (TakeOut d)) (sym member.1) (can_take d member.0 member.2),
               rest (after (record { name = Ring s (place_of o); edit = TakeOut d }) V)
-              (λ s' h p. cond-false (eqb s' s && place_eq (place_of p) (place_of o)) (edited (TakeOut d) (V (Ring s' (place_of p)))) (V (Ring s' (place_of p)))
-              (ap (λ b. b && place_eq (place_of p) (place_of o)) (false_from_ne_true (eqb s' s) (λ g. false≢true (sym (not-true _ h) ∙ eq-eqb s s' (sym (eqb-true s' s g))))))),
+                  (λ s' h p. cond-false (eqb s' s && place_eq (place_of p) (place_of o)) (edited (TakeOut d) (V (Ring s' (place_of p)))) (V (Ring s' (place_of p)))
+                  (ap (λ b. b && place_eq (place_of p) (place_of o)) (false_from_ne_true (eqb s' s) (λ g. false≢true (sym (not-true _ h) ∙ eq-eqb s s' (sym (eqb-true s' s g))))))),
             )
 
   -- what the edits of d take out of a ring

@@ -116,8 +116,7 @@ module _ (schema : Lists) (capacity : ℕ) (db : Database) (hands : Hands) (unit
   unfolding cell
   is_in_ring d s o e =
       let member = member_of_owner schema capacity db agrees.legal s o d e in
-      let place = standing schema capacity db agrees.legal s o (listed schema capacity db agrees.legal s o d member) in
-      (
+      let place = standing schema capacity db agrees.legal s o (listed schema capacity db agrees.legal s o d member) in (
         option_map (ring_of schema db s (owner_at db (place_of o))) (db.lists s (owner_at db (place_of o))),
         refl,
         subst (λ (q : Owner). is_member d (keys_in (option_map (ring_of schema db s q) (db.lists s q))) ≡ true) (sym place) (of (db.lists s o) member),

@@ -2,6 +2,7 @@
 use Rattle.std.proofs.Common.{◌⊎◌, ◌≡◌, refl, sym, ◌∙◌, ap, subst, ℕ, ◌+◌, arith, eqb, Bool, true, false, cond, not, ◌&&◌, ◌||◌, List, [], ◌∷◌, ◌++◌, length, Option, Some, None, inl, inr, ⊎_elim, map}
 use Rattle.std.specs.Prelude.{filter, is_some, nat_lt, if◌then◌else◌}
 use Rattle.std.specs.List.{find, flat_map, list_any, range_with_len}
+use Rattle.std.specs.Option.{option_or}
 use Rattle.std.proofs.lemmas.Bool.{and_from, and_parts, cases_Bool, eq-eqb, cond-false, cond-true, false≢true, false_from_ne_true, or_left, or_right}
 use Rattle.std.proofs.lemmas.Option.{none-some}
 use Rattle.dbtg_schema.specs.Lists.{Lists}
@@ -16,10 +17,12 @@ use Rattle.dbtg_cells.specs.Keys.{is_member, key_eq}
 use Rattle.dbtg_cells.specs.Names.{name_eq}
 use Rattle.dbtg_unit.specs.declared.edit.CellEdit.{CellEdit}
 use Rattle.dbtg_unit.specs.declared.edit.Edit.TheVariants.{ChangeOwner, CloseRing, RaiseVersion, TakeOut, Vacate}
+use Rattle.dbtg_unit.specs.declared.edit.UnitEdit.TheVariants.{LoseCurrent}
 use Rattle.dbtg_unit.specs.declared.statement.Erase.{Erase}
 use Rattle.dbtg_unit.specs.declared.statement.Statement.TheVariants.{Delete}
 use Rattle.dbtg_unit.specs.declared.unit.Cause.{Cause}
 use Rattle.dbtg_unit.specs.declared.unit.Cause.TheVariants.{OwnerHasMembers}
+use Rattle.dbtg_unit.specs.declared.unit.Status.TheVariants.{Done}
 use Rattle.dbtg_unit.specs.declared.unit.Unit.{Unit}
 use Rattle.dbtg_unit.specs.Base.{Database, is_live, members_of, owner_of, owners}
 use Rattle.dbtg_unit.specs.CellNames.{place_of, slot_name}
@@ -30,7 +33,7 @@ use Rattle.dbtg_unit.specs.Hands.{Hands}
 use Rattle.dbtg_unit.specs.InHand.{own_checks_in, owner_in, version_in}
 use Rattle.dbtg_unit.specs.Kept.{entry_again, noted_again}
 use Rattle.dbtg_unit.specs.Local.{Agrees, holds}
-use Rattle.dbtg_unit.specs.Prepared.{renoted_at}
+use Rattle.dbtg_unit.specs.Prepared.{Plan, renoted_at}
 use Rattle.dbtg_unit.proofs.InHandLemmas.{members_in_hand as members_are, own_in_hand, owner_in_hand, version_in_hand}
 use Rattle.dbtg_unit.proofs.CellNameLemmas.{same_name}
 use Rattle.dbtg_unit.proofs.KeyLemmas.{key_eq-refl, same_key}
@@ -39,7 +42,7 @@ use Rattle.dbtg_unit.proofs.DeleteCells.{left_is, version_left}
 use Rattle.dbtg_unit.proofs.InTurn.{all_from, all_pass, met_are_live}
 use Rattle.dbtg_unit.proofs.LocalDelete.{after_delete, is_taken_out}
 use Rattle.dbtg_unit.proofs.LocalStatements.{once_has}
-use Rattle.dbtg_erase.specs.ErasePlan.{checks_in, edits_in_hand, has_members_in, raised_versions}
+use Rattle.dbtg_erase.specs.ErasePlan.{checks_in, edits_in_hand, erasing_plan, has_members_in, raised_versions}
 use Rattle.dbtg_erase.specs.WorkList.{gone_in, list_in, members_in_hand, own_sets}
 use Rattle.dbtg_erase.proofs.Reading.{all_members_are, filter-agree, flat-agree, gone_agrees, list_is, unowned}
 
@@ -50,12 +53,25 @@ refused-first [] ys cause h = absurd (none-some cause h)
 refused-first (x ∷ xs) ys cause h =
     elim x.0 as (λ b. cond b (Some x.1) (first_cause xs) ≡ Some cause → cond b (Some x.1) (first_cause (xs ++ ys)) ≡ Some cause) [ true ↦ λ e. e | false ↦ λ e. refused-first xs ys cause e ] h
 
+-- the first cause of a list, or of what is behind it
+pub cause_append : (xs ys : List (Bool × Cause)) → first_cause (xs ++ ys) ≡ option_or (first_cause xs) (first_cause ys)
+cause_append [] ys = refl
+cause_append (x ∷ xs) ys = elim x.0 as (λ b. cond b (Some x.1) (first_cause (xs ++ ys)) ≡ option_or (cond b (Some x.1) (first_cause xs)) (first_cause ys)) [ true ↦ refl | false ↦ cause_append xs ys ]
+
 any-filter : (p q : ℕ → Bool) (xs : List ℕ) → ((x : ℕ) → q x ≡ false → p x ≡ false) → list_any p (filter q xs) ≡ list_any p xs
 any-filter p q [] h = refl
 any-filter p q (x ∷ xs) h =
     elim (cases_Bool (q x)) [
       | inl e ↦ ap (λ b. list_any p (cond b (x ∷ filter q xs) (filter q xs))) e ∙ ap (λ b. p x || b) (any-filter p q xs h)
       | inr e ↦ ap (λ b. list_any p (cond b (x ∷ filter q xs) (filter q xs))) e ∙ any-filter p q xs h ∙ ap (λ b. b || list_any p xs) (sym (h x e))
+    ]
+
+any-both : (p q : ℕ → Bool) (xs : List ℕ) → list_any (λ x. q x && p x) xs ≡ list_any p (filter q xs)
+any-both p q [] = refl
+any-both p q (x ∷ xs) =
+    elim (q x) as (λ b. ((b && p x) || list_any (λ x. q x && p x) xs) ≡ list_any p (cond b (x ∷ filter q xs) (filter q xs))) [
+      | true ↦ ap (λ b. p x || b) (any-both p q xs)
+      | false ↦ any-both p q xs
     ]
 
 any-same : (p q : ℕ → Bool) (xs : List ℕ) → ((x : ℕ) → In x xs → p x ≡ q x) → list_any p xs ≡ list_any q xs
@@ -209,9 +225,13 @@ module _ (schema : Lists) (capacity : ℕ) (db : Database) (hands : Hands) (unit
               (sym (ap (λ b. b || list_any (λ s. nat_lt 0 (length (members_of db s (Rec k)))) sets) none) ∙ e))
         ]
 
+    found_in_hand : has_members_in schema hands k ≡ list_any (λ s. nat_lt 0 (length (list_in hands k s))) owned
+    found_in_hand = any-both (λ s. nat_lt 0 (length (list_in hands k s))) (λ s. owns schema s k.rtype) (set_numbers schema)
+
     members_found : (is_plain option && has_members_in schema hands k) ≡ has_any
     members_found =
-        elim (cases_Bool has_any) [
+        ap (λ b. is_plain option && b) found_in_hand
+        ∙ elim (cases_Bool has_any) [
           | inl h ↦
               let hs = and_parts _ _ h in
               and_from _ _ hs.0 (found_member owned (as_far h) (sym members_are_some ∙ hs.1)) ∙ sym h
@@ -374,3 +394,13 @@ module _ (schema : Lists) (capacity : ℕ) (db : Database) (hands : Hands) (unit
     -- so none is left out
     pub cells_are : delete_edits schema capacity db option k ≡ edits_in_hand hands (erasing_edits schema (owner_in hands) (members_in_hand schema hands) (gone_in schema capacity hands option k))
     cells_are = all_pass_filter (λ (e : CellEdit). holds hands.cells e.name) (delete_edits schema capacity db option k) edits_held ∙ ap (edits_in_hand hands) edits_are
+
+-- a plan by its parts
+pub plan_from : (schema : Lists) (hands : Hands) (k : DbKey) (target gone behind : List DbKey) (edits : List CellEdit) (versions : List (DbKey × ℕ))
+    → gone ≡ target → behind ≡ left_behind (members_in_hand schema hands) gone → edits ≡ edits_in_hand hands (erasing_edits schema (owner_in hands) (members_in_hand schema hands) gone)
+    → versions ≡ map (λ x. (x, version_in hands x + 1)) behind
+    → record { answer = record { status = Done; key = None; items = None }; cells = edits; versions = versions; unit = LoseCurrent k } ≡ erasing_plan schema hands target k
+plan_from schema hands k target gone behind edits versions gone_are left_are edits_are versions_are =
+    let of_gone : Plan = erasing_plan schema hands gone k in
+    (λ i. record { answer = of_gone.answer; cells = edits_are i; versions = (versions_are ∙ ap (map (λ x. (x, version_in hands x + 1))) left_are) i; unit = LoseCurrent k })
+    ∙ ap (λ g. erasing_plan schema hands g k) gone_are

@@ -5,3 +5,6 @@ pub mod PlanIsEffect
 pub mod Possible
 pub mod CanErase
 pub mod CanFinish
+pub mod KeyLists
+pub mod EditLists
+pub mod NextVersions

@@ -24,4 +24,5 @@ pub mod KeepingLemmas
 pub mod OpeningLemmas
 pub mod StoreMaking
 pub mod StoreFinish
+pub mod StaleLemmas
 pub mod StoreSteps

@@ -16,22 +16,18 @@ use Rattle.dbtg_unit.specs.declared.edit.UnitEdit.TheVariants.{Same}
 use Rattle.dbtg_unit.specs.declared.statement.Change.{Change}
 use Rattle.dbtg_unit.specs.declared.statement.Statement.{Statement}
 use Rattle.dbtg_unit.specs.declared.statement.Statement.TheVariants.{Modify}
-use Rattle.dbtg_unit.specs.declared.unit.Cause.{Cause}
 use Rattle.dbtg_unit.specs.declared.unit.Cause.TheVariants.{Deleted}
 use Rattle.dbtg_unit.specs.declared.unit.Unit.{Unit}
 use Rattle.dbtg_unit.specs.Base.{Database, Record, is_live, items_of, owner_of}
 use Rattle.dbtg_unit.specs.CellNames.{place_of, slot_name}
-use Rattle.dbtg_unit.specs.Cells.{cell}
 use Rattle.dbtg_unit.specs.Checks.{refused_at_once}
-use Rattle.dbtg_unit.specs.Edits.{edited_at}
 use Rattle.dbtg_unit.specs.EditsOf.{modify_edits}
 use Rattle.dbtg_unit.specs.Effect.{Outcome, changed_items, effect, modified, modify_checks, names_calc, next_version, on_current, unless_refused, version_of, with_its_items}
-use Rattle.dbtg_unit.specs.Guesses.{guesses_after}
 use Rattle.dbtg_unit.specs.Hands.{Hands}
 use Rattle.dbtg_unit.specs.Legal.{Legal}
 use Rattle.dbtg_unit.specs.Local.{Agrees, holds}
 use Rattle.dbtg_unit.specs.Needs.{cells_of, is_stale, is_wrong_guess, ring_names, slot_names}
-use Rattle.dbtg_unit.specs.Prepared.{IsEffect, Plan, guesses_edited, unit_after}
+use Rattle.dbtg_unit.specs.Prepared.{IsEffect, Plan, unit_after}
 use Rattle.dbtg_unit.proofs.CheckLemmas.{passes_check}
 use Rattle.dbtg_unit.proofs.ItemLemmas.{set_number}
 use Rattle.dbtg_unit.proofs.KeyLemmas.{key_eq-refl, same_owner}

@@ -18,14 +18,14 @@ use Rattle.dbtg_unit.specs.Base.{Database}
 use Rattle.dbtg_unit.specs.Cells.{cell}
 use Rattle.dbtg_unit.specs.Checks.{refused_at_once}
 use Rattle.dbtg_unit.specs.Edits.{edited_at}
-use Rattle.dbtg_unit.specs.Effect.{Outcome, done, effect_on_cells, on_current, refused, unless_refused}
+use Rattle.dbtg_unit.specs.Effect.{Outcome, done, effect, effect_on_cells, on_current, refused, unless_refused}
 use Rattle.dbtg_unit.specs.Guesses.{guesses_after}
 use Rattle.dbtg_unit.specs.Hands.{Hands}
 use Rattle.dbtg_unit.specs.Local.{Agrees, holds}
 use Rattle.dbtg_unit.specs.Making.{CanFinish, CanMake}
 use Rattle.dbtg_unit.specs.Prepared.{IsEffect, Plan, guesses_edited, unit_after, unit_edited}
 use Rattle.dbtg_plan.specs.Plans.{done_plan, on_current_plan, refusal, unless_refusal}
-use Rattle.dbtg_plan.proofs.PlanLemmas.{effect-on_cells}
+use Rattle.dbtg_plan.proofs.PlanLemmas.{effect-on_cells, refusal-is_effect}
 
 module _ (schema : Lists) (capacity : ℕ) (db : Database) (unit : Unit) (guesses : List (Option Owner)) (statement : Statement) where
   -- answer, unit, guesses and each cell are those of the outcome
@@ -83,3 +83,17 @@ no_cells-can_finish schema capacity unit hands statement plan none effects = rec
   prepared = record { held = subst (λ (es : List CellEdit). list_all (λ (e : CellEdit). holds hands.cells e.name) es ≡ true) (sym none) refl; effects = effects };
   can_make = λ db agrees. subst (λ (es : List CellEdit). CanMake es hands.cells) (sym none) tt;
 }
+
+-- REFUSALS AT ONCE
+
+effect-refused : (schema : Lists) (capacity : ℕ) (db : Database) (unit : Unit) (statement : Statement) (cause : Cause) → refused_at_once schema capacity unit statement ≡ Some cause
+    → effect schema capacity db unit statement ≡ refused db unit cause
+unfolding effect
+effect-refused schema capacity db unit statement cause e = ap (λ (o : Option Cause). unless_refused db unit o (effect_on_cells schema capacity db unit statement)) e
+
+-- the refusal of a statement that is refused at once can be finished
+pub refused_finishes : (schema : Lists) (capacity : ℕ) (unit : Unit) (hands : Hands) (statement : Statement) (cause : Cause) → refused_at_once schema capacity unit statement ≡ Some cause
+    → CanFinish schema capacity unit hands statement (refusal cause)
+refused_finishes schema capacity unit hands statement cause e =
+    no_cells-can_finish schema capacity unit hands statement (refusal cause) refl
+    (λ db agrees. refusal-is_effect schema capacity db unit hands.guesses statement cause (effect-refused schema capacity db unit statement cause e))

@@ -9,3 +9,4 @@ pub mod Removing
 pub mod Missing
 pub mod Keeping
 pub mod Opening
+pub mod Stale

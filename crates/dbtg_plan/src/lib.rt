@@ -9,7 +9,13 @@ mod keeping;
 mod members;
 mod missing;
 mod modifying;
+mod need;
 mod opening;
 mod outcomes;
+mod preparing;
 mod removing;
+mod stale;
 mod storing;
+
+pub use need::next_need;
+pub use preparing::prepare;
