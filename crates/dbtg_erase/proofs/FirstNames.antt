@@ -1,5 +1,6 @@
 -- The first of some names that passes, as they are gone through.
-use Rattle.std.proofs.Common.{◌≡◌, refl, sym, ◌∙◌, ap, ℕ, ◌+◌, ◌<◌, ◌≤◌, Bool, true, false, cond, List, [], ◌∷◌, ◌++◌, Option, Some, None, drop, map}
+use Rattle.std.proofs.Common.{◌≡◌, refl, sym, ◌∙◌, ap, arith, get_or, length, ℕ, suc, ◌+◌, ◌<◌, ◌≤◌, Bool, true, false, cond, List, [], ◌∷◌, ◌++◌, Option, Some, None, drop, map}
+use Rattle.std.proofs.Math.Seq.{drop-cons}
 use Rattle.std.specs.Prelude.{filter}
 use Rattle.std.specs.List.{find, flat_map, range_with_len}
 use Rattle.std.specs.Option.{option_or}
@@ -50,3 +51,22 @@ module _ (p : CellName → Bool) (names : List ℕ → List CellName) (n i set :
   -- none is left
   pub first_end : names [] ≡ [] → n ≤ i → find p (names (drop i (range_with_len 0 n))) ≡ goal → None ≡ goal
   first_end none past h = sym (ap (λ xs. find p (names xs)) (numbers_end n i past) ∙ ap (find p) none) ∙ h
+
+-- the keys from a place on
+pub drop_at : (keys : List DbKey) (i : ℕ) (key : DbKey) → i < length keys → key ≡ get_or keys i key → drop i keys ≡ key ∷ drop (i + 1) keys
+drop_at keys i key below at =
+    let next : suc i ≡ i + 1 = omega arith in
+    drop-cons keys i key below ∙ ap (λ k. k ∷ drop (suc i) keys) (sym at) ∙ ap (λ j. key ∷ drop j keys) next
+
+-- the names of one key after another
+module _ (p : CellName → Bool) (names : DbKey → List CellName) (keys : List DbKey) (i : ℕ) (key : DbKey) (goal : Option CellName) (below : i < length keys) (at : key ≡ get_or keys i key) where
+  key_is : find p (flat_map names (drop i keys)) ≡ option_or (find p (names key)) (find p (flat_map names (drop (i + 1) keys)))
+  key_is = ap (λ ks. find p (flat_map names ks)) (drop_at keys i key below at) ∙ find_or p (names key) (flat_map names (drop (i + 1) keys))
+
+  -- none passes of this key
+  pub further_key : None ≡ find p (names key) → find p (flat_map names (drop i keys)) ≡ goal → find p (flat_map names (drop (i + 1) keys)) ≡ goal
+  further_key none h = ap (λ o. option_or o (find p (flat_map names (drop (i + 1) keys)))) none ∙ sym key_is ∙ h
+
+  -- one does
+  pub found_key : (c : CellName) → Some c ≡ find p (names key) → find p (flat_map names (drop i keys)) ≡ goal → Some c ≡ goal
+  found_key c found h = ap (λ o. option_or o (find p (flat_map names (drop (i + 1) keys)))) found ∙ sym key_is ∙ h

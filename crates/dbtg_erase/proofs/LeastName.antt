@@ -1,15 +1,17 @@
 -- The first of some names in the order of cells that passes.
-use Rattle.std.proofs.Common.{◌≡◌, ◌⊎◌, refl, sym, ◌∙◌, ap, subst, Bool, true, false, cond, List, [], ◌∷◌, ◌++◌, Option, Some, None, inl, inr}
+use Rattle.std.proofs.Common.{◌≡◌, ◌⊎◌, refl, sym, ◌∙◌, ap, drop, get_or, length, subst, ℕ, ◌+◌, ◌<◌, Bool, true, false, cond, List, [], ◌∷◌, ◌++◌, Option, Some, None, inl, inr}
 use Rattle.std.specs.Prelude.{filter}
-use Rattle.std.specs.List.{find}
+use Rattle.std.specs.List.{find, flat_map}
 use Rattle.std.proofs.lemmas.Bool.{and_parts, cases_Bool, false≢true, false_from_ne_true}
 use Rattle.std.proofs.lemmas.Option.{none-some, same_Some}
+use Rattle.dbtg_cells.specs.declared.key.DbKey.{DbKey}
 use Rattle.dbtg_cells.specs.declared.name.CellName.{CellName}
 use Rattle.dbtg_cells.specs.Names.{name_lt}
 use Rattle.dbtg_unit.specs.Legal.{pairwise}
 use Rattle.dbtg_unit.proofs.LiveKeys.{In, all_at, in_filter, of_filter}
 use Rattle.dbtg_unit.proofs.NameOrder.{name_chain, name_never}
 use Rattle.dbtg_erase.specs.NextCell.{least_name, nearer}
+use Rattle.dbtg_erase.proofs.FirstNames.{drop_at}
 use Rattle.dbtg_erase.proofs.KeyLists.{filter_append}
 
 pub least_append : (best : Option CellName) (xs ys : List CellName) → least_name best (xs ++ ys) ≡ least_name (least_name best xs) ys
@@ -85,3 +87,14 @@ first_is_least p xs ys ascends there back = by (find p xs) refl where
   by (Some c) h =
       let f = found xs c ascends h in
       h ∙ sym (becomes_best c None (filter p ys) (λ b e. absurd (none-some b e)) (in_filter p c ys (there c f.0) f.1) (λ d i. let of = of_filter p d ys i in f.2 d (back d of.0) of.1))
+
+-- the names of one key after another
+pub least_further : (p : CellName → Bool) (names : DbKey → List CellName) (keys : List DbKey) (i : ℕ) (key : DbKey) (goal best first second : Option CellName) (c : CellName) (cs : List CellName)
+    → i < length keys → key ≡ get_or keys i key → names key ≡ c ∷ cs → first ≡ least_name best (filter p (c ∷ [])) → second ≡ least_name first (filter p cs)
+    → least_name best (filter p (flat_map names (drop i keys))) ≡ goal → least_name second (filter p (flat_map names (drop (i + 1) keys))) ≡ goal
+least_further p names keys i key goal best first second c cs below at names_are first_is second_is h =
+    let rest = flat_map names (drop (i + 1) keys) in
+    ap (λ b. least_name b (filter p rest)) (second_is ∙ ap (λ b. least_name b (filter p cs)) first_is ∙ sym (least_of_both p best (c ∷ []) cs) ∙ ap (λ ns. least_name best (filter p ns)) (sym names_are))
+    ∙ sym (least_of_both p best (names key) rest)
+    ∙ ap (λ ks. least_name best (filter p (flat_map names ks))) (sym (drop_at keys i key below at))
+    ∙ h

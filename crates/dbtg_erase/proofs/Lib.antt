@@ -12,3 +12,4 @@ pub mod FirstNames
 pub mod LeastName
 pub mod OuterCells
 pub mod NextCell
+pub mod NextNeed

@@ -10,6 +10,8 @@ use Rattle.dbtg_cells.specs.declared.key.DbKey.{DbKey}
 use Rattle.dbtg_cells.specs.declared.name.CellName.{CellName}
 use Rattle.dbtg_cells.specs.declared.name.CellName.TheVariants.{Extent, Ring}
 use Rattle.dbtg_cells.specs.Names.{name_lt}
+use Rattle.dbtg_unit.specs.declared.held.Need.{Need}
+use Rattle.dbtg_unit.specs.declared.held.Need.TheVariants.{Take, Ready}
 use Rattle.dbtg_unit.specs.declared.statement.Erase.{Erase}
 use Rattle.dbtg_unit.specs.declared.unit.Unit.{Unit}
 use Rattle.dbtg_unit.specs.CellNames.{slot_name}
@@ -75,3 +77,8 @@ next_cell_in schema capacity hands unit option k =
 abbrev pub next_cell_of : Lists → ℕ → Hands → Unit → Erase → Option DbKey → Option CellName
 next_cell_of schema capacity hands unit option None = None
 next_cell_of schema capacity hands unit option (Some k) = next_cell_in schema capacity hands unit option k
+
+-- the need of the next cell
+abbrev pub need_of : Option CellName → Need
+need_of None = Ready
+need_of (Some c) = Take c
