@@ -82,3 +82,5 @@ pub mod ExtentInHand
 pub mod ReadyParts
 pub mod SameHands
 pub mod ReservingLemmas
+pub mod NameOrder
+pub mod Ascending
