@@ -82,3 +82,4 @@ pub mod ExtentInHand
 pub mod ReadyParts
 pub mod SameHands
 pub mod ReservingLemmas
+pub mod FinishedCells
