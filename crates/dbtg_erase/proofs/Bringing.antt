@@ -28,7 +28,7 @@ from-past (suc i) [] h = refl
 from-past zero (x ∷ xs) h = absurd (omega arith)
 from-past (suc i) (x ∷ xs) h = from-past i xs (omega arith)
 
-past : {X : Type 0} (i : ℕ) (xs : List X) → slice_get xs i ≡ None → length xs ≤ i
+pub past : {X : Type 0} (i : ℕ) (xs : List X) → slice_get xs i ≡ None → length xs ≤ i
 past i [] h = omega arith
 past zero (x ∷ xs) h = absurd (none-some x (sym h))
 past (suc i) (x ∷ xs) h = let rest = past i xs h in omega arith
@@ -94,10 +94,11 @@ module _ (taken taken' : DbKey → List DbKey) (cells cells' : DbKey → List Ce
       × (find wanting (flat_map cells (from i xs)) ≡ None → xs ≡ ys)
 
   ended : (i : ℕ) (xs ys order : List DbKey) → xs ≡ order → ys ≡ order → length order ≤ i → Agree i xs ys
-  ended i xs ys order e f h =
-      (ap (λ zs. find wanting (flat_map cells (from i zs))) e ∙ ap (λ zs. find wanting (flat_map cells zs)) (from-past i order h)
-      ∙ sym (ap (λ zs. find wanting (flat_map cells' (from i zs))) f ∙ ap (λ zs. find wanting (flat_map cells' zs)) (from-past i order h)),
-      λ none. e ∙ sym f)
+  ended i xs ys order e f h = (
+    ap (λ zs. find wanting (flat_map cells (from i zs))) e ∙ ap (λ zs. find wanting (flat_map cells zs)) (from-past i order h)
+        ∙ sym (ap (λ zs. find wanting (flat_map cells' (from i zs))) f ∙ ap (λ zs. find wanting (flat_map cells' zs)) (from-past i order h)),
+    λ none. e ∙ sym f,
+  )
 
   -- a key that stands at place i in both
   one_more : (i : ℕ) (d : DbKey) (xs ys : List DbKey) → slice_get xs i ≡ Some d → slice_get ys i ≡ Some d → (find wanting (cells d) ≡ None → Agree (suc i) xs ys) → Agree i xs ys
@@ -113,10 +114,11 @@ module _ (taken taken' : DbKey → List DbKey) (cells cells' : DbKey → List Ce
         let found : find wanting (flat_map cells (from i xs)) ≡ Some c = here ∙ find-first wanting (cells d) (flat_map cells (from (suc i) xs)) c h in
         (found ∙ sym (there ∙ find-first wanting (cells' d) (flat_map cells' (from (suc i) ys)) c (sym (finds d) ∙ h)), λ none. absurd (none-some c (sym none ∙ found)))
     first None h =
-        let rest_is = rest h in
-        (here ∙ find-second wanting (cells d) (flat_map cells (from (suc i) xs)) h ∙ rest_is.0
-        ∙ sym (there ∙ find-second wanting (cells' d) (flat_map cells' (from (suc i) ys)) (sym (finds d) ∙ h)),
-        λ none. rest_is.1 (sym (here ∙ find-second wanting (cells d) (flat_map cells (from (suc i) xs)) h) ∙ none))
+        let rest_is = rest h in (
+          here ∙ find-second wanting (cells d) (flat_map cells (from (suc i) xs)) h ∙ rest_is.0
+              ∙ sym (there ∙ find-second wanting (cells' d) (flat_map cells' (from (suc i) ys)) (sym (finds d) ∙ h)),
+          λ none. rest_is.1 (sym (here ∙ find-second wanting (cells d) (flat_map cells (from (suc i) xs)) h) ∙ none),
+        )
 
   pub agree : (m n i : ℕ) (order : List DbKey) → length (brought taken m i order) ≤ i + m → length (brought taken m i order) ≤ i + n → Agree i (brought taken m i order) (brought taken' n i order)
   agree zero n i order low high =

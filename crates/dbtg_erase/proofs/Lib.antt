@@ -1,2 +1,10 @@
 pub mod Bringing
 pub mod Reading
+pub mod ErasePlan
+pub mod PlanIsEffect
+pub mod Possible
+pub mod CanErase
+pub mod CanFinish
+pub mod KeyLists
+pub mod EditLists
+pub mod NextVersions

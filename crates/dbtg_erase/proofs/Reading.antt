@@ -45,7 +45,7 @@ pub flat-agree : {X Y : Type 0} (f g : X → List Y) (xs : List X) → ((x : X) 
 flat-agree f g [] h = refl
 flat-agree f g (x ∷ xs) h = λ i. h x (inl refl) i ++ flat-agree f g xs (λ y j. h y (inr j)) i
 
-filter-agree : {X : Type 0} (p q : X → Bool) (xs : List X) → ((x : X) → In x xs → p x ≡ q x) → filter p xs ≡ filter q xs
+pub filter-agree : {X : Type 0} (p q : X → Bool) (xs : List X) → ((x : X) → In x xs → p x ≡ q x) → filter p xs ≡ filter q xs
 filter-agree p q [] h = refl
 filter-agree p q (x ∷ xs) h = λ i. cond (h x (inl refl) i) (x ∷ filter-agree p q xs (λ y j. h y (inr j)) i) (filter-agree p q xs (λ y j. h y (inr j)) i)
 
@@ -84,7 +84,7 @@ module _ (schema : Lists) (capacity : ℕ) (db : Database) (hands : Hands) (unit
 
   -- ONE RECORD THAT GOES
 
-  unowned : (d : DbKey) (s : ℕ) → owns schema s d.rtype ≡ false → members_of db s (Rec d) ≡ []
+  pub unowned : (d : DbKey) (s : ℕ) → owns schema s d.rtype ≡ false → members_of db s (Rec d) ≡ []
   unowned d s h = ap (λ l. unwrap_or l []) (none_is (db.lists s (Rec d)) (agrees.legal.pairs s (Rec d) ∙ ap (λ b. b && is_live db d) h))
 
   owned_members : (d : DbKey) → members_of_all schema db d ≡ flat_map (λ s. members_of db s (Rec d)) (own_sets schema d)
@@ -96,7 +96,7 @@ module _ (schema : Lists) (capacity : ℕ) (db : Database) (hands : Hands) (unit
       (λ s h. ap (filter (takes schema capacity db option s (Rec d))) (unowned d s h))
 
   module _ (d : DbKey) (rings : (c : CellName) → In c (own_rings schema d) → held c ≡ true) where
-    list_is : (s : ℕ) → In s (own_sets schema d) → members_of db s (Rec d) ≡ list_in hands d s
+    pub list_is : (s : ℕ) → In s (own_sets schema d) → members_of db s (Rec d) ≡ list_in hands d s
     list_is s i = members_are schema capacity db hands unit agrees s (Rec d) (rings (Ring s (Some (d.rtype, d.number))) (in_map (λ s. Ring s (Some (d.rtype, d.number))) s (own_sets schema d) i))
 
     pub all_members_are : members_of_all schema db d ≡ members_in_hand schema hands d

@@ -1,1 +1,2 @@
 pub mod WorkList
+pub mod ErasePlan

@@ -1,2 +1,10 @@
 //! DELETE, on the cells that it holds: what it needs next, and what it does once it needs nothing more.
 #![tactic(auto)]
+
+mod edits;
+mod keys;
+mod left;
+mod preparing;
+mod work_list;
+
+pub use preparing::prepare;

@@ -65,7 +65,7 @@ can-place (Sorted up duplicates) position key occurrence there found kinds stand
 
 -- WHAT A LEGAL DATABASE HAS IN A RING
 
-pairwise-map : {X Y : Type 0} (f : X → Y) (r : Y → Y → Bool) (xs : List X) → pairwise r (map f xs) ≡ pairwise (λ x y. r (f x) (f y)) xs
+pub pairwise-map : {X Y : Type 0} (f : X → Y) (r : Y → Y → Bool) (xs : List X) → pairwise r (map f xs) ≡ pairwise (λ x y. r (f x) (f y)) xs
 pairwise-map f r [] = refl
 pairwise-map f r (x ∷ xs) = λ i. list_all-map (r (f x)) f xs i && pairwise-map f r xs i
 

@@ -44,24 +44,25 @@ use Rattle.dbtg_unit.proofs.StoreCells.{owners-first}
 use Rattle.dbtg_unit.proofs.TwoDatabases.{flat_map_agrees}
 use Rattle.dbtg_plan.specs.Calc.{calc_taken_in, fresh_key}
 use Rattle.dbtg_plan.specs.Joining.{joined_place, place_checks_in}
+use Rattle.dbtg_plan.specs.Missing.{first_missing}
 use Rattle.dbtg_plan.specs.Plans.{refusal, unless_refusal}
-use Rattle.dbtg_plan.specs.Store.{cells_of_key, key_plan, store_cells_in, store_checks_in, store_plan, stored_plan, wanted, wanted_of_store}
+use Rattle.dbtg_plan.specs.Store.{cells_of_key, key_plan, store_cells_in, store_checks_in, store_plan, stored_plan, missing_of_store}
 use Rattle.dbtg_plan.proofs.JoiningLemmas.{place_checks-in_hand}
 use Rattle.dbtg_plan.proofs.PlanLemmas.{done-is_effect, effect-on_cells, refusal-is_effect}
 
 -- CELLS
 
--- where the first is not in hand, it is wanted, whatever the others
-wanted-first : (hands : Hands) (c : CellName) (xs ys : List CellName) → holds hands.cells c ≡ false → wanted hands (c ∷ xs) ≡ wanted hands (c ∷ ys)
-wanted-first hands c xs ys free =
+-- where the first is not in hand, it is missing, whatever the others
+missing-first : (hands : Hands) (c : CellName) (xs ys : List CellName) → holds hands.cells c ≡ false → first_missing hands (c ∷ xs) ≡ first_missing hands (c ∷ ys)
+missing-first hands c xs ys free =
     let h : list_any (λ e. name_eq c e.0) hands.cells ≡ false = holds_any hands.cells c ∙ free in
-    ap (λ b. cond (not b) (Some c) (wanted hands xs)) h ∙ sym (ap (λ b. cond (not b) (Some c) (wanted hands ys)) h)
+    ap (λ b. cond (not b) (Some c) (first_missing hands xs)) h ∙ sym (ap (λ b. cond (not b) (Some c) (first_missing hands ys)) h)
 
--- where all are in hand, none is wanted
-wanted-none : (hands : Hands) (xs : List CellName) → ((c : CellName) → In c xs → holds hands.cells c ≡ true) → wanted hands xs ≡ None
-wanted-none hands [] held = refl
-wanted-none hands (c ∷ xs) held =
-    ap (λ b. cond (not b) (Some c) (wanted hands xs)) (holds_any hands.cells c ∙ held c (inl refl)) ∙ wanted-none hands xs (λ d i. held d (inr i))
+-- where all are in hand, none is missing
+missing-none : (hands : Hands) (xs : List CellName) → ((c : CellName) → In c xs → holds hands.cells c ≡ true) → first_missing hands xs ≡ None
+missing-none hands [] held = refl
+missing-none hands (c ∷ xs) held =
+    ap (λ b. cond (not b) (Some c) (first_missing hands xs)) (holds_any hands.cells c ∙ held c (inl refl)) ∙ missing-none hands xs (λ d i. held d (inr i))
 
 -- the key of a new record decides the cells
 cells-by_key : (schema : Lists) (unit : Unit) (capacity : ℕ) (db : Database) (t : ℕ) (o : Option ℕ) (taken : Bool)
@@ -86,13 +87,13 @@ module _ (schema : Lists) (capacity : ℕ) (unit : Unit) (hands : Hands) (t : �
         (cells-by_key schema unit capacity db t (free_number capacity db t) (calc_taken schema capacity db t items (λ k. false))
         ∙ (λ i. cells_of_key schema unit (fresh-in_hand i) (taken-in_hand i)))
 
-  -- what is wanted is the first cell of the statement that is not in hand
-  pub wanted-in_hand : (db : Database) → Agrees schema capacity db hands unit → (guesses : List (Option Owner)) (suppress : Suppress)
-      → wanted_of_store schema unit hands t items ≡ wanted hands (cells_of schema capacity db unit guesses (Store t items suppress))
-  wanted-in_hand db agrees guesses suppress =
+  -- what is missing is the first cell of the statement that is not in hand
+  pub missing-in_hand : (db : Database) → Agrees schema capacity db hands unit → (guesses : List (Option Owner)) (suppress : Suppress)
+      → missing_of_store schema unit hands t items ≡ first_missing hands (cells_of schema capacity db unit guesses (Store t items suppress))
+  missing-in_hand db agrees guesses suppress =
       elim (cases_Bool (holds hands.cells (Extent t))) [
-        | inl held ↦ ap (wanted hands) (sym (cells-in_hand db agrees held guesses suppress))
-        | inr free ↦ wanted-first hands (Extent t) _ _ free
+        | inl held ↦ ap (first_missing hands) (sym (cells-in_hand db agrees held guesses suppress))
+        | inr free ↦ missing-first hands (Extent t) _ _ free
       ]
 
   module _ (suppress : Suppress) (may : MayPrepare schema capacity unit hands (Store t items suppress)) (passes : refused_at_once schema capacity unit (Store t items suppress) ≡ None)
@@ -103,10 +104,10 @@ module _ (schema : Lists) (capacity : ℕ) (unit : Unit) (hands : Hands) (t : �
     extent : holds hands.cells (Extent t) ≡ true
     extent = held (Extent t) (inl refl)
 
-    all-held : wanted_of_store schema unit hands t items ≡ None
-    all-held = wanted-in_hand db agrees hands.guesses suppress ∙ wanted-none hands (cells_of schema capacity db unit hands.guesses (Store t items suppress)) held
+    all-held : missing_of_store schema unit hands t items ≡ None
+    all-held = missing-in_hand db agrees hands.guesses suppress ∙ missing-none hands (cells_of schema capacity db unit hands.guesses (Store t items suppress)) held
 
-    plan-is : store_plan schema unit hands t items suppress ≡ key_plan schema unit hands t items suppress (option_map (new_key db t) (free_number capacity db t))
+    pub plan-is : store_plan schema unit hands t items suppress ≡ key_plan schema unit hands t items suppress (option_map (new_key db t) (free_number capacity db t))
     plan-is =
         ap (λ (o : Option CellName). if is_some o then refusal NoRoom else key_plan schema unit hands t items suppress (fresh_key (numbers_in hands t) t)) all-held
         ∙ ap (key_plan schema unit hands t items suppress) (sym (fresh-in_hand db agrees extent))
@@ -133,7 +134,7 @@ module _ (schema : Lists) (capacity : ℕ) (unit : Unit) (hands : Hands) (t : �
           s name (set_numbers schema) kept.0
           (in_left name _ own (subst (λ b. In name (cond b (ring_names s (current_owner schema unit s)) [])) (sym has) named))))))
 
-      checks-in_hand : first_cause (store_checks schema capacity db unit t items) ≡ first_cause (store_checks_in schema unit hands t items)
+      pub checks-in_hand : first_cause (store_checks schema capacity db unit t items) ≡ first_cause (store_checks_in schema unit hands t items)
       checks-in_hand =
           let joins = flat_map (λ s. place_checks schema db unit s (key_item schema s t items)) (automatic_sets schema t) in
           let joins_in = flat_map (λ s. place_checks_in schema unit hands s (key_item schema s t items)) (automatic_sets schema t) in

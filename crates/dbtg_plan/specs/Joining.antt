@@ -1,18 +1,23 @@
 -- How a record joins the current occurrence of a set, read off the cells in hand.
--- s is a set, e a member with its sort key.
+-- s is a set, m a new member, e a member with its sort key.
 use Rattle.std.specs.Prelude.{ℕ, Bool, ◌&&◌, List, [], ◌∷◌, Option, None, is_none, unwrap_or}
 use Rattle.std.specs.List.{list_any}
 use Rattle.dbtg_schema.specs.Lists.{Lists}
 use Rattle.dbtg_schema.specs.Structure.{order_of}
+use Rattle.dbtg_cells.specs.declared.key.DbKey.{DbKey}
 use Rattle.dbtg_cells.specs.declared.key.Owner.TheVariants.{System}
 use Rattle.dbtg_cells.specs.declared.key.Value.{Value}
+use Rattle.dbtg_cells.specs.declared.name.CellName.TheVariants.{Ring}
 use Rattle.dbtg_cells.specs.declared.ring.Occurrence.{Occurrence}
 use Rattle.dbtg_cells.specs.Keys.{option_value_eq}
 use Rattle.dbtg_cells.specs.Members.{keys_in, members_in}
+use Rattle.dbtg_unit.specs.declared.edit.CellEdit.{CellEdit}
 use Rattle.dbtg_unit.specs.declared.unit.Cause.{Cause}
 use Rattle.dbtg_unit.specs.declared.unit.Cause.TheVariants.{Deleted, DuplicatesNotAllowed, PositionLost}
 use Rattle.dbtg_unit.specs.declared.unit.Place.{Place}
 use Rattle.dbtg_unit.specs.declared.unit.Unit.{Unit}
+use Rattle.dbtg_unit.specs.CellNames.{place_of}
+use Rattle.dbtg_unit.specs.EditsOf.{placed_at}
 use Rattle.dbtg_unit.specs.Effect.{refuses_equal, uses_position}
 use Rattle.dbtg_unit.specs.Found.{is_lost}
 use Rattle.dbtg_unit.specs.Hands.{Hands}
@@ -38,3 +43,8 @@ checks_at schema s place occurrence key =
 -- a new member with this sort key in the current occurrence of set s
 abbrev pub place_checks_in : Lists → Unit → Hands → ℕ → Option Value → List (Bool × Cause)
 place_checks_in schema unit hands s key = checks_at schema s (joined_place schema unit s) (joined_occurrence schema unit hands s) key
+
+-- the edit by which m, with this sort key, joins the current occurrence of set s
+abbrev pub joining_edit : Lists → Unit → ℕ → DbKey → Option Value → CellEdit
+joining_edit schema unit s m key =
+    record { name = Ring s (place_of (joined_place schema unit s).owner); edit = placed_at schema s m key (joined_place schema unit s) }

@@ -1,16 +1,19 @@
 -- STORE, read off the cells in hand.
 -- k is the key of the new record, s a set, t its record type, c the name of a cell.
-use Rattle.std.specs.Prelude.{ℕ, Bool, true, false, not, List, [], ◌∷◌, ◌++◌, Option, Some, None, is_some, if◌then◌else◌}
-use Rattle.std.specs.List.{find, flat_map, list_any}
+use Rattle.std.specs.Prelude.{◌≡◌, ℕ, Bool, true, false, ◌==◌, List, [], ◌∷◌, ◌++◌, Option, Some, None, is_some, if◌then◌else◌, option_map}
+use Rattle.std.specs.List.{flat_map, list_any}
 use Rattle.dbtg_schema.specs.Lists.{Lists}
 use Rattle.dbtg_schema.specs.Lookups.{first_cause}
-use Rattle.dbtg_schema.specs.Structure.{automatic_sets}
+use Rattle.dbtg_schema.specs.Structure.{automatic_sets, owns}
 use Rattle.dbtg_cells.specs.declared.extent.Number.{Number}
 use Rattle.dbtg_cells.specs.declared.key.DbKey.{DbKey}
+use Rattle.dbtg_cells.specs.declared.key.Owner.{Owner}
+use Rattle.dbtg_cells.specs.declared.key.Owner.TheVariants.{Rec}
 use Rattle.dbtg_cells.specs.declared.key.Value.{Value}
 use Rattle.dbtg_cells.specs.declared.name.CellName.{CellName}
-use Rattle.dbtg_cells.specs.declared.name.CellName.TheVariants.{Extent}
-use Rattle.dbtg_cells.specs.Names.{name_eq}
+use Rattle.dbtg_cells.specs.declared.name.CellName.TheVariants.{Extent, Ring}
+use Rattle.dbtg_unit.specs.declared.edit.CellEdit.{CellEdit}
+use Rattle.dbtg_unit.specs.declared.edit.Edit.TheVariants.{OpenRing}
 use Rattle.dbtg_unit.specs.declared.edit.UnitEdit.TheVariants.{See}
 use Rattle.dbtg_unit.specs.declared.statement.Suppress.{Suppress}
 use Rattle.dbtg_unit.specs.declared.unit.Cause.{Cause}
@@ -18,21 +21,26 @@ use Rattle.dbtg_unit.specs.declared.unit.Cause.TheVariants.{DuplicatesNotAllowed
 use Rattle.dbtg_unit.specs.declared.unit.Status.TheVariants.{Done}
 use Rattle.dbtg_unit.specs.declared.unit.Unit.{Unit}
 use Rattle.dbtg_unit.specs.Base.{key_item}
-use Rattle.dbtg_unit.specs.CellNames.{slot_name}
-use Rattle.dbtg_unit.specs.EditsOf.{first_owners, store_edits}
+use Rattle.dbtg_unit.specs.CellNames.{place_of, slot_name}
+use Rattle.dbtg_unit.specs.EditsOf.{first_owners, joining_edits, store_edits}
 use Rattle.dbtg_unit.specs.Hands.{Hands}
 use Rattle.dbtg_unit.specs.InHand.{numbers_in}
-use Rattle.dbtg_unit.specs.Needs.{store_rings}
+use Rattle.dbtg_unit.specs.Needs.{current_owner, ring_names, store_rings}
 use Rattle.dbtg_unit.specs.Prepared.{Plan}
+use Rattle.dbtg_unit.specs.Reserving.{CanTakeMember, OfHeld}
+use Rattle.dbtg_unit.specs.Units.{place_in}
 use Rattle.dbtg_plan.specs.Calc.{calc_taken_in, fresh_key}
-use Rattle.dbtg_plan.specs.Joining.{place_checks_in}
+use Rattle.dbtg_plan.specs.Joining.{joined_place, place_checks_in}
+use Rattle.dbtg_plan.specs.Missing.{first_missing}
 use Rattle.dbtg_plan.specs.Plans.{refusal, unless_refusal}
 
 -- WHAT IT NEEDS
 
--- the first of these cells that is not in hand
-abbrev pub wanted : Hands → List CellName → Option CellName
-wanted hands = find (λ c. not (list_any (λ e. name_eq c e.0) hands.cells))
+-- its rings in set s: the current owner's where it is connected, its own where it is the owner
+abbrev pub store_rings_in : Lists → Unit → DbKey → ℕ → List CellName
+store_rings_in schema unit k s =
+    (if list_any (λ s'. s' == s) (automatic_sets schema k.rtype) then ring_names s (current_owner schema unit s) else [])
+    ++ (if owns schema s k.rtype then Ring s (Some (k.rtype, k.number)) ∷ [] else [])
 
 -- its cells beside its extent; none where there is no key, or its CALC items are taken
 abbrev pub cells_of_key : Lists → Unit → Option DbKey → Bool → List CellName
@@ -45,8 +53,8 @@ abbrev pub store_cells_in : Lists → Unit → List Number → ℕ → List Valu
 store_cells_in schema unit numbers t items = Extent t ∷ cells_of_key schema unit (fresh_key numbers t) (calc_taken_in schema numbers t items None)
 
 -- the first of them that is not in hand
-abbrev pub wanted_of_store : Lists → Unit → Hands → ℕ → List Value → Option CellName
-wanted_of_store schema unit hands t items = wanted hands (store_cells_in schema unit (numbers_in hands t) t items)
+abbrev pub missing_of_store : Lists → Unit → Hands → ℕ → List Value → Option CellName
+missing_of_store schema unit hands t items = first_missing hands (store_cells_in schema unit (numbers_in hands t) t items)
 
 -- WHAT IT DOES
 
@@ -74,4 +82,28 @@ key_plan schema unit hands t items suppress (Some k) = unless_refusal (first_cau
 -- all its cells are to be in hand
 abbrev pub store_plan : Lists → Unit → Hands → ℕ → List Value → Suppress → Plan
 store_plan schema unit hands t items suppress =
-    if is_some (wanted_of_store schema unit hands t items) then refusal NoRoom else key_plan schema unit hands t items suppress (fresh_key (numbers_in hands t) t)
+    if is_some (missing_of_store schema unit hands t items) then refusal NoRoom else key_plan schema unit hands t items suppress (fresh_key (numbers_in hands t) t)
+
+-- STEP BY STEP
+
+-- the checks of set s; none where STORE does not connect a record of type t
+abbrev pub join_checks : Lists → Unit → Hands → ℕ → List Value → ℕ → List (Bool × Cause)
+join_checks schema unit hands t items s = if list_any (λ s'. s' == s) (automatic_sets schema t) then place_checks_in schema unit hands s (key_item schema s t items) else []
+
+-- the edits by which k joins set s
+abbrev pub joins_of : Lists → Unit → DbKey → List Value → ℕ → List CellEdit
+joins_of schema unit k items s = if list_any (λ s'. s' == s) (automatic_sets schema k.rtype) then joining_edits schema unit s k (key_item schema s k.rtype items) else []
+
+-- the edit by which k opens an occurrence of set s
+abbrev pub openings_of : Lists → DbKey → ℕ → List CellEdit
+openings_of schema k s = if owns schema s k.rtype then record { name = Ring s (Some (k.rtype, k.number)); edit = OpenRing (Rec k) } ∷ [] else []
+
+-- the first owner in set s of a record of type t
+abbrev pub first_owner : Lists → Unit → ℕ → ℕ → Option Owner
+first_owner schema unit t s = if list_any (λ s'. s' == s) (automatic_sets schema t) then option_map (λ place. place.owner) (place_in schema unit s) else None
+
+-- there is room for k in the current occurrence of set s, where it joins the set
+abbrev pub HasRoom : Lists → Unit → Hands → DbKey → ℕ → Type 0
+HasRoom schema unit hands k s =
+    list_any (λ s'. s' == s) (automatic_sets schema k.rtype) ≡ true
+    → OfHeld (Ring s (place_of (joined_place schema unit s).owner)) hands.cells (CanTakeMember k)

@@ -1,18 +1,22 @@
 //! How a record joins the current occurrence of a set: why it may not, and at which place it does.
-ghost use Rattle.std.specs.Prelude.{◌≡◌, ◌&&◌};
+ghost use Rattle.std.specs.Prelude.{◌≡◌, ◌&&◌, OnOk};
 ghost use Rattle.std.specs.List.{list_any};
-ghost use Rattle.std.specs.Option.{option_to_list};
 ghost use Rattle.dbtg_schema.specs.Lookups.{first_cause};
 ghost use Rattle.dbtg_cells.specs.Keys.{option_value_eq};
 ghost use Rattle.dbtg_cells.specs.Members.{keys_in, members_in};
-ghost use Rattle.dbtg_unit.specs.EditsOf.{joining_edits};
+ghost use Rattle.dbtg_unit.specs.CellNames.{place_of};
 ghost use Rattle.dbtg_unit.specs.Effect.{refuses_equal, uses_position};
 ghost use Rattle.dbtg_unit.specs.Found.{is_lost};
-ghost use Rattle.dbtg_plan.specs.Joining.{checks_at, joined_place};
+ghost use Rattle.dbtg_unit.specs.Making.{ShowsTheSame};
+ghost use Rattle.dbtg_unit.specs.Needs.{current_owner};
+ghost use Rattle.dbtg_unit.specs.Reserving.{CanTakeMember, KeepsOthers, OfHeld};
+ghost use Rattle.dbtg_plan.specs.Joining.{checks_at, joined_place, joining_edit, place_checks_in};
 
+use crate::members::ring_name;
 use dbtg_cells::{CellName, DbKey, Owner, Ring, Value};
 use dbtg_schema::{Duplicates, Order, Schema, SetNo};
-use dbtg_unit::{Cause, CellEdit, Edit, Place, Unit};
+use dbtg_unit::{Cause, CellEdit, Edit, Held, Place, Unit, occurrence, reserve_member};
+use std::alloc::AllocError;
 
 /// The current of a set; SYSTEM where there is none.
 pub(crate) fn joined_place(schema: &Schema, unit: &Unit, set: SetNo) -> Place
@@ -82,4 +86,69 @@ fn refusal_at(
         return Some(Cause::DuplicatesNotAllowed);
     }
     None
+}
+
+/// Why a record with this sort key may not join the current occurrence of a set.
+pub(crate) fn place_refusal(
+    schema: &Schema,
+    unit: &Unit,
+    held: &Held,
+    set: SetNo,
+    sort_key: &Option<Value>,
+) -> Option<Cause>
+    ensures { result ≡ first_cause (place_checks_in schema.now unit.now held.now set sort_key.now) }
+{
+    let place = joined_place(schema, unit, set);
+    match occurrence(held, set, &place.owner) {
+        Some(ring) => refusal_at(schema, set, place, ring, sort_key),
+        None => Some(Cause::Deleted),
+    }
+}
+
+/// The edit by which a record with this sort key joins the current occurrence of a set.
+pub(crate) fn joining_edit(
+    schema: &Schema,
+    unit: &Unit,
+    set: SetNo,
+    key: &DbKey,
+    sort_key: Option<Value>,
+) -> CellEdit
+    ensures { result ≡ joining_edit schema.now unit.now set key.now sort_key }
+{
+    let place = joined_place(schema, unit, set);
+    CellEdit {
+        name: ring_name(set, &place.owner),
+        edit: Edit::PlaceMember {
+            order: schema.order_of(set),
+            position: place.at,
+            key: *key,
+            sort_key,
+        },
+    }
+}
+
+/// The owner in the current of a set.
+pub(crate) fn current_owner(schema: &Schema, unit: &Unit, set: SetNo) -> Option<Owner>
+    ensures { result ≡ current_owner schema.now unit.now set }
+{
+    match unit.place_in(schema, set) {
+        Some(place) => Some(place.owner),
+        None => None,
+    }
+}
+
+/// Makes room for a record in the current occurrence of a set.
+pub(crate) fn make_room(
+    schema: &Schema,
+    unit: &Unit,
+    set: SetNo,
+    held: &mut Held,
+    key: &DbKey,
+) -> Result<(), AllocError>
+    ensures same { ShowsTheSame held.old held.new }
+    ensures others { KeepsOthers (CellName.Ring set (place_of (joined_place schema.now unit.now set).owner)) held.old.cells held.new.cells }
+    ensures room { OnOk result (OfHeld (CellName.Ring set (place_of (joined_place schema.now unit.now set).owner)) held.new.cells (CanTakeMember key.now)) }
+{
+    let owner = joined_place(schema, unit, set).owner;
+    reserve_member(held, &ring_name(set, &owner), key)
 }

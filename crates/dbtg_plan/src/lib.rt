@@ -2,6 +2,20 @@
 #![tactic(auto)]
 
 mod calc;
+mod finding;
+mod inserting;
 mod joining;
+mod keeping;
+mod members;
 mod missing;
+mod modifying;
+mod need;
+mod opening;
 mod outcomes;
+mod preparing;
+mod removing;
+mod stale;
+mod storing;
+
+pub use need::next_need;
+pub use preparing::prepare;

@@ -26,7 +26,7 @@ use Rattle.dbtg_unit.specs.CellNames.{place_of, slot_name}
 use Rattle.dbtg_unit.specs.Cells.{cell, number_of, owner_at, ring_of, slot_of}
 use Rattle.dbtg_unit.specs.Edits.{edited, edited_at, vacated, with_members}
 use Rattle.dbtg_unit.specs.EditsOf.{closing_edits, delete_edits, leave_number, leaving_edits, left_behind, losing_edits, lost_sets, ring_edits, slot_edit, staying_owner}
-use Rattle.dbtg_unit.specs.Effect.{deleted, is_gone, next_version}
+use Rattle.dbtg_unit.specs.Effect.{deleted, is_gone, next_version, version_of}
 use Rattle.dbtg_unit.specs.Erasing.{doomed_in_turn, members_of_all}
 use Rattle.dbtg_unit.specs.Legal.{Legal, differ, pairwise}
 use Rattle.dbtg_unit.specs.Units.{owners_of}
@@ -69,7 +69,7 @@ module _ (schema : Lists) (capacity : ℕ) (db : Database) (unit : Unit) (option
   goes : (x : DbKey) → is_member x doom ≡ is_member x turn
   goes x = doomed_as_met schema capacity db legal option k live x
 
-  goes_live : (x : DbKey) → In x turn → is_live db x ≡ true
+  pub goes_live : (x : DbKey) → In x turn → is_live db x ≡ true
   goes_live x i = all_at (is_live db) x turn (met_are_live schema capacity db legal option k live) i
 
   owner_goes : (o : Owner) → is_gone doom o ≡ is_gone turn o
@@ -91,7 +91,7 @@ module _ (schema : Lists) (capacity : ℕ) (db : Database) (unit : Unit) (option
   staying_members : List DbKey
   staying_members = filter (λ x. not (is_member x turn)) (flat_map all_members turn)
 
-  left_taken : (x : DbKey) → is_member x left ≡ true → taken_out x ≡ true
+  pub left_taken : (x : DbKey) → is_member x left ≡ true → taken_out x ≡ true
   unfolding staying_members
   left_taken x h =
       all_at taken_out x left
@@ -116,16 +116,31 @@ module _ (schema : Lists) (capacity : ℕ) (db : Database) (unit : Unit) (option
       (in_flat_map (λ s. members_of db s (Rec d.0)) s.0 x (set_numbers schema) s.1 (member_in x _ d.2)))
       (sym (ap not (goes x)) ∙ hs.0))
 
-  left_stays : (x : DbKey) → is_member x left ≡ true → is_member x doom ≡ false
+  pub left_stays : (x : DbKey) → is_member x left ≡ true → is_member x doom ≡ false
   left_stays x h = not-true _ (and_parts _ _ (left_taken x h)).0
 
-  left_live : (x : DbKey) → is_member x left ≡ true → is_live db x ≡ true
+  pub left_live : (x : DbKey) → is_member x left ≡ true → is_live db x ≡ true
   left_live x h =
       let s = any_element (λ s. list_any (λ o. is_member x (members_of db s (Rec o))) doom) (set_numbers schema) (and_parts _ _ (left_taken x h)).1 in
       let d = any_element (λ o. is_member x (members_of db s.0 (Rec o))) doom s.2 in
       (legal.members s.0 (Rec d.0) x d.2).0
 
-  left_once : pairwise differ left ≡ true
+  -- who is left behind has its next version
+  pub left_is : (x : DbKey) → is_member x left ≡ taken_out x
+  left_is x =
+      elim (cases_Bool (taken_out x)) [
+        | inl e ↦ taken_left x e ∙ sym e
+        | inr e ↦ false_from_ne_true _ (λ h. false≢true (sym e ∙ left_taken x h)) ∙ sym e
+      ]
+
+  pub version_left : (x : DbKey) → is_member x left ≡ true → version_of new x ≡ version_of db x + 1
+  version_left x h =
+      let r = some_is (db.records x) (left_live x h) in
+      (λ i. unwrap_or (option_map (λ (q : Record). q.version) (cond (left_taken x h i) (option_map next_version (cond (left_stays x h i) None (db.records x))) (cond (left_stays x h i) None (db.records x)))) 0)
+      ∙ ap (λ (o : Option Record). unwrap_or (option_map (λ (q : Record). q.version) (option_map next_version o)) 0) r.1
+      ∙ ap (λ (o : Option Record). unwrap_or (option_map (λ (q : Record). q.version) o) 0 + 1) (sym r.1)
+
+  pub left_once : pairwise differ left ≡ true
   unfolding staying_members
   left_once = each_once [] staying_members refl
 
@@ -150,13 +165,13 @@ module _ (schema : Lists) (capacity : ℕ) (db : Database) (unit : Unit) (option
       ∙ edited_at-append c closings (vacatings ++ losings) _
       ∙ edited_at-append c vacatings losings _
 
-  skips_leavings : (c : CellName) → ((s : ℕ) (q : Option (ℕ × ℕ)) → name_eq c (Ring s q) ≡ false) → Skips c leavings
+  pub skips_leavings : (c : CellName) → ((s : ℕ) (q : Option (ℕ × ℕ)) → name_eq c (Ring s q) ≡ false) → Skips c leavings
   skips_leavings c h = skips-flat c (leaving_edits schema (owner_of schema capacity db) turn) turn (λ d i. skips-flat c _ (set_numbers schema) (λ s j. of_owner s d (staying_owner turn (owner_of schema capacity db s d)))) where
     of_owner : (s : ℕ) (d : DbKey) (o : Option Owner) → Skips c (ring_edits s o (TakeOut d ∷ []))
     of_owner s d None v = refl
     of_owner s d (Some p) v = ap (λ b. cond b (edited (TakeOut d) v) v) (h s (place_of p))
 
-  skips_closings : (c : CellName) → ((s : ℕ) (q : Option (ℕ × ℕ)) → name_eq c (Ring s q) ≡ false) → Skips c closings
+  pub skips_closings : (c : CellName) → ((s : ℕ) (q : Option (ℕ × ℕ)) → name_eq c (Ring s q) ≡ false) → Skips c closings
   skips_closings c h = skips-flat c (closing_edits schema) turn (λ d i. skips-map c _ (filter (λ s. owns schema s d.rtype) (set_numbers schema)) (λ s. h s (Some (d.rtype, d.number))))
 
   skips_losing : (c : CellName) (x : DbKey) → name_eq c (slot_name x) ≡ false → Skips c (losing_edits schema (owner_of schema capacity db) turn x)

@@ -5,7 +5,7 @@ ghost use Rattle.dbtg_schema.specs.Lookups.{at};
 use dbtg_schema::Row;
 
 /// The entry of this number.
-pub(crate) fn entry_at<T: Copy>(entries: &[Option<T>], number: usize) -> Option<T>
+pub fn entry_at<T: Copy>(entries: &[Option<T>], number: usize) -> Option<T>
     ensures { result ≡ at entries.now number }
 {
     match entries.get(number) {

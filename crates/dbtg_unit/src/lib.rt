@@ -35,6 +35,7 @@ pub use changes::{is_rekeyed_in, names_calc, names_item};
 pub use checks::refused_at_once;
 pub use counts::{set_count, type_count};
 pub use edit::{CellEdit, Edit, UnitEdit};
+pub use entries::entry_at;
 pub use held::{Held, Need};
 pub use in_hand::{numbers, occurrence, own_refusal, stored, usage};
 pub use kept::Kept;

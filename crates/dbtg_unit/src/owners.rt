@@ -1,5 +1,5 @@
 //! An owner or none for each set of a schema, in place. Nothing here takes memory.
-ghost use Rattle.std.specs.Prelude.{◌≡◌, ◌≤◌, ◌<◌, slice_set, replicate, None};
+ghost use Rattle.std.specs.Prelude.{◌≡◌, ◌≤◌, ◌<◌, slice_set, replicate, take, None};
 
 use dbtg_cells::Owner;
 use std::marker::Model;
@@ -42,6 +42,16 @@ impl Owners {
             entries: [None; SETS],
             len: sets,
         }
+    }
+
+    /// These owners, the first sixteen where there are more.
+    pub fn of(owners: &[Option<Owner>]) -> Self
+        ensures { result ≡ take 16 owners.now }
+    {
+        let len = owners.len().min(SETS);
+        let mut entries = [None; SETS];
+        entries[..len].copy_from_slice(&owners[..len]);
+        Self { entries, len }
     }
 
     pub fn as_slice(&self) -> &[Option<Owner>]

@@ -1,0 +1,311 @@
+//! The edits by which a DELETE changes the cells in hand.
+ghost use Rattle.std.specs.Prelude.{◌≡◌, [], ◌∷◌, ◌++◌, filter, map, None, IfOk, OnOk};
+ghost use Rattle.std.specs.List.{flat_map};
+ghost use Rattle.dbtg_schema.specs.Lookups.{some_and};
+ghost use Rattle.dbtg_schema.specs.Structure.{owns, set_numbers};
+ghost use Rattle.dbtg_unit.specs.declared.edit.Edit.TheVariants.{ChangeOwner, TakeOut, Vacate};
+ghost use Rattle.dbtg_unit.specs.CellNames.{place_of};
+ghost use Rattle.dbtg_unit.specs.EditsOf.{closing_edits, erasing_edits, leave_number, leaving_edits, left_behind, losing_edits, lost_sets, ring_edits, slot_edit, staying_owner};
+ghost use Rattle.dbtg_unit.specs.Effect.{is_gone};
+ghost use Rattle.dbtg_unit.specs.InHand.{owner_in};
+ghost use Rattle.dbtg_unit.specs.Local.{holds};
+ghost use Rattle.dbtg_erase.specs.ErasePlan.{close_ring, edits_in_hand, lose_owner};
+ghost use Rattle.dbtg_erase.specs.WorkList.{members_in_hand};
+
+use crate::keys::Keys;
+use crate::work_list::owner;
+use dbtg_cells::{CellName, DbKey, Owner};
+use dbtg_schema::{Row, Schema, SetNo};
+use dbtg_unit::{CellEdit, Edit, Held, set_count};
+use std::alloc::{AllocError, Global};
+
+fn is_held(held: &Held, name: &CellName) -> bool
+    ensures { result ≡ holds held.now.cells name.now }
+{
+    match held.cell(name) {
+        Some(_cell) => true,
+        None => false,
+    }
+}
+
+// Adds an edit, if its cell is in hand.
+fn push_edit(held: &Held, edit: CellEdit, edits: &mut Row<CellEdit>) -> Result<(), AllocError>
+    ensures { OnOk result (edits.new ≡ edits.old ++ edits_in_hand held.now (edit ∷ [])) }
+{
+    if is_held(held, &edit.name) {
+        edits.push(edit)?;
+    }
+    Ok(())
+}
+
+// Adds an edit of the slot of a key, if that is in hand.
+fn push_slot_edit(
+    held: &Held,
+    key: &DbKey,
+    edit: Edit,
+    edits: &mut Row<CellEdit>,
+) -> Result<(), AllocError>
+    ensures { OnOk result (edits.new ≡ edits.old ++ edits_in_hand held.now (slot_edit key.now edit ∷ [])) }
+{
+    let name = CellName::Slot(key.rtype, key.number);
+    push_edit(held, CellEdit { name, edit }, edits)
+}
+
+fn ring_name(set: SetNo, owner: &Owner) -> CellName
+    ensures { result ≡ CellName.Ring set (place_of owner.now) }
+{
+    match owner {
+        Owner::System => CellName::Ring(set, None),
+        Owner::Rec(key) => CellName::Ring(set, Some((key.rtype, key.number))),
+    }
+}
+
+fn is_gone(gone: &Keys, owner: &Owner) -> bool
+    ensures { result ≡ is_gone gone.now owner.now }
+{
+    match owner {
+        Owner::System => false,
+        Owner::Rec(key) => gone.contains(*key),
+    }
+}
+
+// An owner, where it does not go.
+fn staying(gone: &Keys, owner: Option<Owner>) -> Option<Owner>
+    ensures { result ≡ staying_owner gone.now owner }
+{
+    match owner {
+        Some(owner) => {
+            if is_gone(gone, &owner) {
+                None
+            } else {
+                Some(owner)
+            }
+        }
+        None => None,
+    }
+}
+
+// Does the owner go?
+fn is_lost(gone: &Keys, owner: Option<Owner>) -> bool
+    ensures { result ≡ some_and (is_gone gone.now) owner }
+{
+    match owner {
+        Some(owner) => is_gone(gone, &owner),
+        None => false,
+    }
+}
+
+#[tactic(auto, using(crate::proofs::EditLists::edits_append))]
+fn leave_numbers(held: &Held, gone: &[DbKey], edits: &mut Row<CellEdit>) -> Result<(), AllocError>
+    ensures { OnOk result (edits.new ≡ edits.old ++ edits_in_hand held.now (map leave_number gone.now)) }
+{
+    for key in gone {
+        let edit = CellEdit {
+            name: CellName::Extent(key.rtype),
+            edit: Edit::LeaveNumber { number: key.number },
+        };
+        push_edit(held, edit, edits)?;
+    }
+    Ok(())
+}
+
+// Takes a record out of the list of an owner, where there is one.
+fn take_out(
+    held: &Held,
+    set: SetNo,
+    owner: Option<Owner>,
+    key: &DbKey,
+    edits: &mut Row<CellEdit>,
+) -> Result<(), AllocError>
+    ensures { OnOk result (edits.new ≡ edits.old ++ edits_in_hand held.now (ring_edits set owner (TakeOut key.now ∷ []))) }
+{
+    match owner {
+        Some(owner) => {
+            let edit = CellEdit {
+                name: ring_name(set, &owner),
+                edit: Edit::TakeOut { key: *key },
+            };
+            push_edit(held, edit, edits)
+        }
+        None => Ok(()),
+    }
+}
+
+// Takes a record out of the lists of the owners that stay.
+#[tactic(auto, using(dbtg_unit::proofs::NumberLemmas::numbers_next, dbtg_unit::proofs::NumberLemmas::numbers_end, crate::proofs::EditLists::edits_append))]
+fn leave_lists(
+    schema: &Schema,
+    held: &Held,
+    gone: &Keys,
+    key: &DbKey,
+    edits: &mut Row<CellEdit>,
+) -> Result<(), AllocError>
+    ensures { OnOk result (edits.new ≡ edits.old ++ edits_in_hand held.now (leaving_edits schema.now (owner_in held.now) gone.now key.now)) }
+{
+    for s in 0..set_count(schema) {
+        let set = SetNo::new(s);
+        take_out(held, set, staying(gone, owner(held, set, key)), key, edits)?;
+    }
+    Ok(())
+}
+
+#[tactic(auto, using(crate::proofs::EditLists::edits_append))]
+fn leave_all_lists(
+    schema: &Schema,
+    held: &Held,
+    gone: &Keys,
+    edits: &mut Row<CellEdit>,
+) -> Result<(), AllocError>
+    ensures { OnOk result (edits.new ≡ edits.old ++ edits_in_hand held.now (flat_map (leaving_edits schema.now (owner_in held.now) gone.now) gone.now)) }
+{
+    for key in gone.as_slice() {
+        leave_lists(schema, held, gone, key, edits)?;
+    }
+    Ok(())
+}
+
+// Closes the occurrence that a record owns in a set, if it owns one.
+fn close_list(
+    schema: &Schema,
+    held: &Held,
+    key: &DbKey,
+    set: SetNo,
+    edits: &mut Row<CellEdit>,
+) -> Result<(), AllocError>
+    ensures { OnOk result (edits.new ≡ edits.old ++ edits_in_hand held.now (map (close_ring key.now) (filter (λ s. owns schema.now s key.now.rtype) (set ∷ [])))) }
+{
+    if schema.owns(set, key.rtype) {
+        let edit = CellEdit {
+            name: CellName::Ring(set, Some((key.rtype, key.number))),
+            edit: Edit::CloseRing,
+        };
+        push_edit(held, edit, edits)?;
+    }
+    Ok(())
+}
+
+// Closes the occurrences that a record owns.
+fn close_lists(
+    schema: &Schema,
+    held: &Held,
+    key: &DbKey,
+    edits: &mut Row<CellEdit>,
+) -> Result<(), AllocError>
+    ensures { OnOk result (edits.new ≡ edits.old ++ edits_in_hand held.now (closing_edits schema.now key.now)) }
+{
+    for s in 0..set_count(schema) {
+        let set = SetNo::new(s);
+        close_list(schema, held, key, set, edits)?;
+    }
+    Ok(())
+}
+
+#[tactic(auto, using(crate::proofs::EditLists::edits_append))]
+fn close_all_lists(
+    schema: &Schema,
+    held: &Held,
+    gone: &[DbKey],
+    edits: &mut Row<CellEdit>,
+) -> Result<(), AllocError>
+    ensures { OnOk result (edits.new ≡ edits.old ++ edits_in_hand held.now (flat_map (closing_edits schema.now) gone.now)) }
+{
+    for key in gone {
+        close_lists(schema, held, key, edits)?;
+    }
+    Ok(())
+}
+
+#[tactic(auto, using(crate::proofs::EditLists::edits_append))]
+fn vacate_slots(held: &Held, gone: &[DbKey], edits: &mut Row<CellEdit>) -> Result<(), AllocError>
+    ensures { OnOk result (edits.new ≡ edits.old ++ edits_in_hand held.now (map (λ d. slot_edit d Vacate) gone.now)) }
+{
+    for key in gone {
+        push_slot_edit(held, key, Edit::Vacate, edits)?;
+    }
+    Ok(())
+}
+
+// A member that stays has no owner in a set where its own goes.
+fn lose_owner(
+    held: &Held,
+    gone: &Keys,
+    key: &DbKey,
+    set: SetNo,
+    edits: &mut Row<CellEdit>,
+) -> Result<(), AllocError>
+    ensures { OnOk result (edits.new ≡ edits.old ++ edits_in_hand held.now (map (lose_owner key.now) (filter (λ s. some_and (is_gone gone.now) (owner_in held.now s key.now)) (set ∷ [])))) }
+{
+    if is_lost(gone, owner(held, set, key)) {
+        push_slot_edit(held, key, Edit::ChangeOwner { set, owner: None }, edits)?;
+    }
+    Ok(())
+}
+
+// It has none in each set where its own goes.
+fn lose_owners(
+    schema: &Schema,
+    held: &Held,
+    gone: &Keys,
+    key: &DbKey,
+    edits: &mut Row<CellEdit>,
+) -> Result<(), AllocError>
+    ensures { OnOk result (edits.new ≡ edits.old ++ edits_in_hand held.now (map (lose_owner key.now) (lost_sets schema.now (owner_in held.now) gone.now key.now))) }
+{
+    for s in 0..set_count(schema) {
+        let set = SetNo::new(s);
+        lose_owner(held, gone, key, set, edits)?;
+    }
+    Ok(())
+}
+
+// And its version is raised.
+#[tactic(auto, using(crate::proofs::EditLists::edits_append))]
+fn lose(
+    schema: &Schema,
+    held: &Held,
+    gone: &Keys,
+    key: &DbKey,
+    edits: &mut Row<CellEdit>,
+) -> Result<(), AllocError>
+    ensures { OnOk result (edits.new ≡ edits.old ++ edits_in_hand held.now (losing_edits schema.now (owner_in held.now) gone.now key.now)) }
+{
+    lose_owners(schema, held, gone, key, edits)?;
+    push_slot_edit(held, key, Edit::RaiseVersion, edits)
+}
+
+#[tactic(auto, using(crate::proofs::EditLists::edits_append))]
+fn lose_all(
+    schema: &Schema,
+    held: &Held,
+    gone: &Keys,
+    left: &[DbKey],
+    edits: &mut Row<CellEdit>,
+) -> Result<(), AllocError>
+    ensures { OnOk result (edits.new ≡ edits.old ++ edits_in_hand held.now (flat_map (losing_edits schema.now (owner_in held.now) gone.now) left.now)) }
+{
+    for key in left {
+        lose(schema, held, gone, key, edits)?;
+    }
+    Ok(())
+}
+
+/// The edits of the records that go, and of the members that stay, as far as their cells are in hand.
+#[tactic(auto, using(crate::proofs::EditLists::edits_append))]
+pub(crate) fn erasing_edits(
+    alloc: Global,
+    schema: &Schema,
+    held: &Held,
+    gone: &Keys,
+    left: &Keys,
+) -> Result<Row<CellEdit>, AllocError>
+    requires { left.now ≡ left_behind (members_in_hand schema.now held.now) gone.now }
+    ensures { IfOk result (λ edits. edits ≡ edits_in_hand held.now (erasing_edits schema.now (owner_in held.now) (members_in_hand schema.now held.now) gone.now)) }
+{
+    let mut edits = Row::of(Vec::new(alloc));
+    leave_numbers(held, gone.as_slice(), &mut edits)?;
+    leave_all_lists(schema, held, gone, &mut edits)?;
+    close_all_lists(schema, held, gone.as_slice(), &mut edits)?;
+    vacate_slots(held, gone.as_slice(), &mut edits)?;
+    lose_all(schema, held, gone, left.as_slice(), &mut edits)?;
+    Ok(edits)
+}

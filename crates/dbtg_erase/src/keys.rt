@@ -1,0 +1,64 @@
+//! Keys, each once, in the order in which they came.
+ghost use Rattle.std.specs.Prelude.{◌≡◌, [], ◌∷◌, slice_get, IfOk, OnOk};
+ghost use Rattle.dbtg_cells.specs.Keys.{is_member};
+ghost use Rattle.dbtg_unit.specs.Erasing.{with_those};
+
+use dbtg_cells::DbKey;
+use indexmap::IndexSet;
+use std::alloc::{AllocError, Global};
+use std::marker::Model;
+
+/// Keys in the order in which they came, none twice.
+#[derive(Drop)]
+pub(crate) struct Keys {
+    keys: IndexSet<DbKey>,
+}
+
+impl Model for Keys {
+    ghost use Rattle.std.specs.Prelude.{List};
+    ghost use Rattle.dbtg_cells.specs.declared.key.DbKey.{DbKey};
+
+    ghost Value = { List DbKey };
+
+    ghost view = { λ k. k.keys.keys };
+}
+
+impl Keys {
+    pub fn new(alloc: Global) -> Self
+        ensures { result ≡ [] }
+    {
+        Self {
+            keys: IndexSet::new(alloc),
+        }
+    }
+
+    /// Adds a key behind the others, if it is not there yet.
+    pub fn push(&mut self, key: DbKey) -> Result<(), AllocError>
+        ensures { OnOk result (self.new ≡ with_those self.old (key ∷ [])) }
+    {
+        self.keys.insert_full(key)?;
+        Ok(())
+    }
+
+    /// The key at this place, from 0.
+    pub fn get(&self, place: usize) -> Option<DbKey>
+        ensures { result ≡ slice_get self.now place }
+    {
+        match self.keys.get_index(place) {
+            Some(key) => Some(*key),
+            None => None,
+        }
+    }
+
+    pub fn contains(&self, key: DbKey) -> bool
+        ensures { result ≡ is_member key self.now }
+    {
+        self.keys.contains(&key)
+    }
+
+    pub fn as_slice(&self) -> &[DbKey]
+        ensures { result.now ≡ self.now }
+    {
+        self.keys.as_slice()
+    }
+}

@@ -1,0 +1,93 @@
+//! The members of what goes that stay.
+ghost use Rattle.std.specs.Prelude.{◌≡◌, [], ◌∷◌, ◌++◌, filter, not, IfOk, OnOk};
+ghost use Rattle.std.specs.List.{flat_map};
+ghost use Rattle.dbtg_schema.specs.Structure.{owns};
+ghost use Rattle.dbtg_cells.specs.Keys.{is_member};
+ghost use Rattle.dbtg_unit.specs.EditsOf.{left_behind};
+ghost use Rattle.dbtg_unit.specs.Erasing.{with_those};
+ghost use Rattle.dbtg_erase.specs.WorkList.{list_in, members_in_hand};
+
+use crate::keys::Keys;
+use crate::work_list::list;
+use dbtg_cells::DbKey;
+use dbtg_schema::{Schema, SetNo};
+use dbtg_unit::{Held, set_count};
+use std::alloc::{AllocError, Global};
+
+// Of a list, those that do not go.
+fn leave_list(members: &[DbKey], gone: &Keys, left: &mut Keys) -> Result<(), AllocError>
+    ensures { OnOk result (left.new ≡ with_those left.old (filter (λ x. not (is_member x gone.now)) members.now)) }
+{
+    for member in members {
+        if !gone.contains(*member) {
+            left.push(*member)?;
+        }
+    }
+    Ok(())
+}
+
+// Adds the members of a record's list of a set, if it owns one.
+#[tactic(auto, using(crate::proofs::KeyLists::append_nil))]
+fn push_list(
+    alloc: Global,
+    schema: &Schema,
+    held: &Held,
+    key: &DbKey,
+    set: SetNo,
+    members: &mut Vec<DbKey>,
+) -> Result<(), AllocError>
+    ensures { OnOk result (members.new.items ≡ members.old.items ++ flat_map (list_in held.now key.now) (filter (λ s. owns schema.now s key.now.rtype) (set ∷ []))) }
+{
+    if schema.owns(set, key.rtype) {
+        let list = list(alloc, held, key, set)?;
+        members.extend_from_slice(list.as_slice())?;
+    }
+    Ok(())
+}
+
+// Adds the members of a record's lists, set by set.
+fn push_members(
+    alloc: Global,
+    schema: &Schema,
+    held: &Held,
+    key: &DbKey,
+    members: &mut Vec<DbKey>,
+) -> Result<(), AllocError>
+    ensures { OnOk result (members.new.items ≡ members.old.items ++ members_in_hand schema.now held.now key.now) }
+{
+    for s in 0..set_count(schema) {
+        let set = SetNo::new(s);
+        push_list(alloc, schema, held, key, set, members)?;
+    }
+    Ok(())
+}
+
+fn members_of_all(
+    alloc: Global,
+    schema: &Schema,
+    held: &Held,
+    gone: &[DbKey],
+) -> Result<Vec<DbKey>, AllocError>
+    ensures { IfOk result (λ members. members.items ≡ flat_map (members_in_hand schema.now held.now) gone.now) }
+{
+    let mut members = Vec::new(alloc);
+    for key in gone {
+        push_members(alloc, schema, held, key, &mut members)?;
+    }
+    Ok(members)
+}
+
+/// The members of the lists of the records that go, each once, that stay.
+pub(crate) fn left(
+    alloc: Global,
+    schema: &Schema,
+    held: &Held,
+    gone: &Keys,
+) -> Result<Keys, AllocError>
+    ensures { IfOk result (λ left. left ≡ left_behind (members_in_hand schema.now held.now) gone.now) }
+{
+    let members = members_of_all(alloc, schema, held, gone.as_slice())?;
+    let mut left = Keys::new(alloc);
+    leave_list(members.as_slice(), gone, &mut left)?;
+    Ok(left)
+}

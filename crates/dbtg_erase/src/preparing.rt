@@ -1,0 +1,187 @@
+//! What a DELETE that needs nothing more prepares.
+ghost use Rattle.std.specs.Prelude.{◌≡◌, ◌+◌, ◌&&◌, length, map, nat_lt, IfOk};
+ghost use Rattle.std.specs.List.{list_any};
+ghost use Rattle.dbtg_schema.specs.Lookups.{first_cause};
+ghost use Rattle.dbtg_schema.specs.Structure.{owns};
+ghost use Rattle.dbtg_unit.specs.Effect.{is_plain};
+ghost use Rattle.dbtg_unit.specs.InHand.{version_in};
+ghost use Rattle.dbtg_unit.specs.Making.{CanFinish, HaveNextVersions, MayPrepare};
+ghost use Rattle.dbtg_unit.specs.declared.statement.Statement.TheVariants.{Delete};
+ghost use Rattle.dbtg_erase.specs.ErasePlan.{checks_in, erasing_plan, has_members_in, refusal, whole_plan};
+ghost use Rattle.dbtg_erase.specs.WorkList.{gone_in, list_in};
+
+use crate::edits::erasing_edits;
+use crate::left::left;
+use crate::work_list::gone;
+use dbtg_cells::{DbKey, Owner};
+use dbtg_schema::{Row, Schema, SetNo};
+use dbtg_unit::{
+    Answer, Cause, Erase, Held, Prepared, Statement, Status, Unit, UnitEdit, occurrence,
+    own_refusal, refused_at_once, set_count, stored,
+};
+use std::alloc::{AllocError, Global};
+
+// Has a record a member in its list of this set?
+fn has_any(held: &Held, key: &DbKey, set: SetNo) -> bool
+    ensures { result ≡ nat_lt 0 (length (list_in held.now key.now set)) }
+{
+    match occurrence(held, set, &Owner::Rec(*key)) {
+        Some(ring) => ring.len() > 0,
+        None => false,
+    }
+}
+
+// Does a record own a member in its list of this set?
+fn owns_any(schema: &Schema, held: &Held, key: &DbKey, set: SetNo) -> bool
+    ensures { result ≡ (owns schema.now set key.now.rtype && nat_lt 0 (length (list_in held.now key.now set))) }
+{
+    schema.owns(set, key.rtype) && has_any(held, key, set)
+}
+
+// Has a record a member in some list in hand?
+#[tactic(auto, using(dbtg_unit::proofs::NumberLemmas::numbers_next, dbtg_unit::proofs::NumberLemmas::numbers_end))]
+fn has_members(schema: &Schema, held: &Held, key: &DbKey) -> bool
+    ensures { result ≡ has_members_in schema.now held.now key.now }
+{
+    for s in 0..set_count(schema) {
+        if owns_any(schema, held, key, SetNo::new(s)) {
+            return true;
+        }
+    }
+    false
+}
+
+// Why the current of run-unit is not deleted.
+#[tactic(auto, using(crate::proofs::ErasePlan::cause_append))]
+fn refusal_of(
+    schema: &Schema,
+    held: &Held,
+    unit: &Unit,
+    option: Erase,
+    key: &DbKey,
+) -> Option<Cause>
+    ensures { result ≡ first_cause (checks_in schema.now held.now unit.now option key.now) }
+{
+    if let Some(cause) = own_refusal(held, unit, key) {
+        return Some(cause);
+    }
+    match option {
+        Erase::Plain => {
+            if has_members(schema, held, key) {
+                Some(Cause::OwnerHasMembers)
+            } else {
+                None
+            }
+        }
+        _ => None,
+    }
+}
+
+fn refused(alloc: Global, cause: Cause) -> Prepared
+    ensures { result ≡ refusal cause }
+{
+    let answer = Answer {
+        status: Status::Refused(cause),
+        key: None,
+        items: None,
+    };
+    Prepared::new(
+        answer,
+        Row::of(Vec::new(alloc)),
+        Row::of(Vec::new(alloc)),
+        UnitEdit::Same,
+    )
+}
+
+// The version of a record in hand once it is changed.
+#[tactic(auto, using(crate::proofs::NextVersions::has_next_version))]
+fn next_version(held: &Held, key: &DbKey) -> u64
+    requires { HaveNextVersions held.now.cells }
+    ensures { result ≡ version_in held.now key.now + 1 }
+{
+    match stored(held, key) {
+        Some(stored) => stored.version + 1,
+        None => 1,
+    }
+}
+
+// These records at their next versions.
+fn next_versions(
+    alloc: Global,
+    held: &Held,
+    keys: &[DbKey],
+) -> Result<Row<(DbKey, u64)>, AllocError>
+    requires { HaveNextVersions held.now.cells }
+    ensures { IfOk result (λ versions. versions ≡ map (λ x. (x, version_in held.now x + 1)) keys.now) }
+{
+    let mut versions = Row::of(Vec::new(alloc));
+    for key in keys {
+        versions.push((*key, next_version(held, key)))?;
+    }
+    Ok(versions)
+}
+
+// What goes with a record, and what is left behind.
+fn erasing(
+    alloc: Global,
+    schema: &Schema,
+    capacity: u16,
+    held: &Held,
+    option: Erase,
+    key: &DbKey,
+) -> Result<Prepared, AllocError>
+    requires { HaveNextVersions held.now.cells }
+    ensures { IfOk result (λ plan. plan ≡ erasing_plan schema.now held.now (gone_in schema.now capacity held.now option key.now) key.now) }
+{
+    let gone = gone(alloc, schema, capacity, held, option, key)?;
+    let left = left(alloc, schema, held, &gone)?;
+    let edits = erasing_edits(alloc, schema, held, &gone, &left)?;
+    let versions = next_versions(alloc, held, left.as_slice())?;
+    let answer = Answer {
+        status: Status::Done,
+        key: None,
+        items: None,
+    };
+    Ok(Prepared::new(answer, edits, versions, UnitEdit::LoseCurrent { key: *key }))
+}
+
+// What is prepared, as it is read off the cells in hand.
+fn planned(
+    alloc: Global,
+    schema: &Schema,
+    capacity: u16,
+    unit: &Unit,
+    option: Erase,
+    held: &Held,
+) -> Result<Prepared, AllocError>
+    requires { HaveNextVersions held.now.cells }
+    ensures { IfOk result (λ plan. plan ≡ whole_plan schema.now capacity held.now unit.now option) }
+{
+    if let Some(cause) = refused_at_once(schema, capacity, unit, &Statement::Delete(option)) {
+        return Ok(refused(alloc, cause));
+    }
+    let Some(key) = unit.currency.run_unit else {
+        return Ok(refused(alloc, Cause::NoCurrentOfRunUnit));
+    };
+    if let Some(cause) = refusal_of(schema, held, unit, option, &key) {
+        return Ok(refused(alloc, cause));
+    }
+    erasing(alloc, schema, capacity, held, option, &key)
+}
+
+/// What a DELETE of the current of run-unit does that needs nothing more: its records go, with their places in lists and
+/// their own lists, and each member that stays loses the owners that go. The cells in hand stay as they are until it is done.
+#[tactic(auto, using(crate::proofs::CanFinish::delete_can_finish))]
+pub fn prepare(
+    alloc: Global,
+    schema: &Schema,
+    capacity: u16,
+    unit: &Unit,
+    option: Erase,
+    held: &Held,
+) -> Result<Prepared, AllocError>
+    requires { MayPrepare schema.now capacity unit.now held.now (Delete option) }
+    ensures { IfOk result (λ plan. CanFinish schema.now capacity unit.now held.now (Delete option) plan) }
+{
+    planned(alloc, schema, capacity, unit, option, held)
+}

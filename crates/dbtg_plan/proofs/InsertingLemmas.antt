@@ -1,0 +1,296 @@
+-- What is prepared of an INSERT is its effect.
+-- k is a key, s a set, o an owner, db a database.
+use Rattle.std.proofs.Common.{◌≡◌, refl, sym, ◌∙◌, ap, subst, ℕ, ◌+◌, Bool, true, false, cond, not, List, [], ◌∷◌, ◌++◌, length, Option, Some, None, inl, arith}
+use Rattle.std.specs.Prelude.{is_none, is_some, option_map, unwrap_or, slice_set}
+use Rattle.std.specs.List.{list_all}
+use Rattle.std.proofs.lemmas.Bool.{and_from, eq-eqb, false≢true, true≢false, not-false, ltb-true, or_left}
+use Rattle.dbtg_schema.specs.Lists.{Lists}
+use Rattle.dbtg_schema.specs.Lookups.{first_cause, some_and}
+use Rattle.dbtg_schema.specs.Structure.{member_clause, order_of, pictures, set_numbers}
+use Rattle.dbtg_cells.specs.declared.key.DbKey.{DbKey}
+use Rattle.dbtg_cells.specs.declared.key.Owner.TheVariants.{System}
+use Rattle.dbtg_cells.specs.declared.key.Value.{Value}
+use Rattle.dbtg_cells.specs.declared.cell.Cell.TheVariants.{Ring as RingCell}
+use Rattle.dbtg_cells.specs.declared.name.CellName.{CellName}
+use Rattle.dbtg_cells.specs.declared.name.CellName.TheVariants.{Ring}
+use Rattle.dbtg_cells.specs.declared.ring.Occurrence.{Occurrence}
+use Rattle.dbtg_cells.specs.Keys.{key_eq, is_member, owner_eq}
+use Rattle.dbtg_cells.specs.Members.{keys_in}
+use Rattle.dbtg_unit.specs.declared.edit.CellEdit.{CellEdit}
+use Rattle.dbtg_unit.specs.declared.edit.Edit.TheVariants.{ChangeOwner, RaiseVersion}
+use Rattle.dbtg_unit.specs.declared.statement.Statement.{Statement}
+use Rattle.dbtg_unit.specs.declared.statement.Statement.TheVariants.{Insert}
+use Rattle.dbtg_unit.specs.declared.unit.Cause.{Cause}
+use Rattle.dbtg_unit.specs.declared.unit.Cause.TheVariants.{AlreadyMember, ChangedByAnother, Deleted, NoCurrentOfRunUnit}
+use Rattle.dbtg_unit.specs.declared.unit.Place.{Place}
+use Rattle.dbtg_unit.specs.declared.unit.Unit.{Unit}
+use Rattle.dbtg_unit.specs.Base.{Database, Record, key_item, members_of, owner_of}
+use Rattle.dbtg_unit.specs.CanEdit.{CanPlace}
+use Rattle.dbtg_unit.specs.CellNames.{place_of, slot_name}
+use Rattle.dbtg_unit.specs.Checks.{accepts_type, refused_at_once}
+use Rattle.dbtg_unit.specs.EditsOf.{edits_of, edits_of_current, insert_edits, placed_at, ring_edits, slot_edit}
+use Rattle.dbtg_unit.specs.Effect.{Outcome, connected_in, effect, insert_checks, inserted, next_version, on_current, place_checks, raised, unless_refused, version_of}
+use Rattle.dbtg_unit.specs.Fits.{values_fit}
+use Rattle.dbtg_unit.specs.Guesses.{guesses_after, noted_guesses}
+use Rattle.dbtg_unit.specs.Hands.{Hands}
+use Rattle.dbtg_unit.specs.InHand.{items_in, occurrence_in, own_checks_in, owner_in, stored_in, version_in}
+use Rattle.dbtg_unit.specs.Legal.{Legal}
+use Rattle.dbtg_unit.specs.Local.{Agrees, holds}
+use Rattle.dbtg_unit.specs.Making.{CanEditHeld, CanFinish, CanMake, MayPrepare, ShowsTheSame}
+use Rattle.dbtg_unit.specs.Needs.{current_owner, ring_names, slot_names}
+use Rattle.dbtg_unit.specs.Prepared.{IsEffect, IsPrepared, Plan, unit_after}
+use Rattle.dbtg_unit.specs.Reserving.{CanTakeMember, OfHeld}
+use Rattle.dbtg_unit.specs.Units.{place_in}
+use Rattle.dbtg_unit.proofs.CheckLemmas.{passes_check}
+use Rattle.dbtg_unit.proofs.InHandLemmas.{items_in_hand, live_in_hand, members_in_hand, own_in_hand, owner_in_hand, version_in_hand}
+use Rattle.dbtg_unit.proofs.KeyLemmas.{key_eq-refl, owner_eq-refl}
+use Rattle.dbtg_unit.proofs.LegalEffect.{passed, some_from}
+use Rattle.dbtg_unit.proofs.LiveKeys.{In, in_left, in_range, in_right, member_nowhere, none_is}
+use Rattle.dbtg_unit.proofs.LocalReady.{legal_after}
+use Rattle.dbtg_unit.proofs.MakingLemmas.{can_make-raised, leaves-owner}
+use Rattle.dbtg_unit.proofs.OwnersFound.{owner_is}
+use Rattle.dbtg_unit.proofs.ReadyParts.{prepared_has_all}
+use Rattle.dbtg_unit.proofs.SameHands.{agrees-same, holds-same, occurrence_in-same, same-sym, versions-same}
+use Rattle.dbtg_unit.proofs.StoreLegal.{member-connected}
+use Rattle.dbtg_plan.specs.Inserting.{insert_checks_in, insert_plan, inserting}
+use Rattle.dbtg_plan.specs.Joining.{joined_occurrence, joined_place, joining_edit, place_checks_in}
+use Rattle.dbtg_plan.specs.Plans.{on_current_plan, refusal, unless_refusal}
+use Rattle.dbtg_plan.proofs.JoiningLemmas.{can-join-in_hand, place_checks-in_hand}
+use Rattle.dbtg_plan.proofs.PlanLemmas.{done-is_effect, effect-on_cells, noted-renoted, refusal-is_effect}
+use Rattle.dbtg_plan.proofs.RingEdits.{can-edit-ring, free-owner, ring-held, slot-held}
+
+-- what the record's own checks, a test and further checks have passed
+pub own-passed : (hands : Hands) (unit : Unit) (k : DbKey) (b : Bool) (cause : Cause) (rest : List (Bool × Cause)) → first_cause (own_checks_in hands unit k ++ (b, cause) ∷ rest) ≡ None
+    → (is_some (stored_in hands k) ≡ true) × (b ≡ false) × (first_cause rest ≡ None)
+own-passed hands unit k b cause rest h =
+    let there = passes_check _ Deleted _ h in
+    let unchanged = passes_check _ ChangedByAnother _ there.1 in
+    let apart = passes_check b cause (first_cause rest) unchanged.1 in
+    (not-false _ there.0, apart.0, apart.1)
+
+-- the next version of a live record
+pub version-raised : (db : Database) (k : DbKey) → is_some (db.records k) ≡ true → version_of (raised (key_eq k) db) k ≡ version_of db k + 1
+version-raised db k live =
+    ap (λ b. unwrap_or (option_map (λ (r : Record). r.version) (cond b (option_map next_version (db.records k)) (db.records k))) 0) (key_eq-refl k)
+    ∙ elim (db.records k) as (λ r. is_some r ≡ true → unwrap_or (option_map (λ (r : Record). r.version) (option_map next_version r)) 0 ≡ unwrap_or (option_map (λ (r : Record). r.version) r) 0 + 1) [
+      | None ↦ λ h. absurd (false≢true h)
+      | Some r ↦ λ h. refl
+    ] live
+
+pub some-from-none : {X : Type 0} (o : Option X) → is_none o ≡ false → is_some o ≡ true
+some-from-none None h = absurd (true≢false h)
+some-from-none (Some x) h = refl
+
+module _ (schema : Lists) (capacity : ℕ) (unit : Unit) (hands : Hands) (s : ℕ) (may : MayPrepare schema capacity unit hands (Insert s)) (passes : refused_at_once schema capacity unit (Insert s) ≡ None) where
+  abbrev here : Place
+  here = joined_place schema unit s
+
+  -- the set has a current
+  stands : place_in schema unit s ≡ Some here
+  stands =
+      let p = some_from (place_in schema unit s) (passed schema capacity unit (Insert s) passes).placed in
+      p.1 ∙ ap Some (sym (ap (λ (q : Option Place). unwrap_or q (record { owner = System; at = None })) p.1))
+
+  in_sets : In s (set_numbers schema)
+  in_sets = let below = ltb-true s (length schema.sets) may.fits in in_range (length schema.sets) 0 s (omega arith) (omega arith)
+
+  -- the record's type has a member clause in the set
+  clause : (k : DbKey) → unit.currency.run_unit ≡ Some k → is_some (member_clause schema s k.rtype) ≡ true
+  clause k current =
+      not-false _ (ap (λ (r : Option DbKey). some_and (λ t. not (accepts_type schema (Insert s) t)) (option_map (λ (j : DbKey). j.rtype) r)) (sym current) ∙ (passed schema capacity unit (Insert s) passes).type_is)
+
+  module _ (db : Database) (agrees : Agrees schema capacity db hands unit) where
+    ring_held : holds hands.cells (Ring s (place_of here.owner)) ≡ true
+    ring_held =
+        (prepared_has_all schema capacity unit hands (Insert s) passes may.ready db agrees).cells (Ring s (place_of here.owner))
+        (in_left _ (ring_names s (current_owner schema unit s)) (slot_names unit.currency.run_unit)
+        (subst (λ (p : Option Place). In (Ring s (place_of here.owner)) (ring_names s (option_map (λ (p : Place). p.owner) p))) (sym stands) (inl refl)))
+
+    slot_held : (k : DbKey) → unit.currency.run_unit ≡ Some k → holds hands.cells (slot_name k) ≡ true
+    slot_held k current =
+        (prepared_has_all schema capacity unit hands (Insert s) passes may.ready db agrees).cells (slot_name k)
+        (in_right _ (ring_names s (current_owner schema unit s)) (slot_names unit.currency.run_unit)
+        (subst (λ (r : Option DbKey). In (slot_name k) (slot_names r)) (sym current) (inl refl)))
+
+    module _ (k : DbKey) (current : unit.currency.run_unit ≡ Some k) where
+      -- the checks are those of the database
+      checks-are : insert_checks_in schema unit hands s k ≡ insert_checks schema capacity db unit s k
+      checks-are =
+          let own = own_in_hand schema capacity db hands unit agrees k (slot_held k current) in
+          let owner = owner_in_hand schema capacity db hands unit agrees k (slot_held k current) s in_sets in
+          let items = items_in_hand schema capacity db hands unit agrees k (slot_held k current) in
+          let place = place_checks-in_hand schema capacity db hands unit agrees s ring_held (key_item schema s k.rtype (items_in hands k)) ∙ ap (λ its. place_checks schema db unit s (key_item schema s k.rtype its)) (sym items) in
+          λ i. own i ++ (is_some (sym owner i), AlreadyMember) ∷ place i
+
+      effect-is : effect schema capacity db unit (Insert s) ≡ unless_refused db unit (first_cause (insert_checks_in schema unit hands s k)) (inserted schema db unit s k)
+      effect-is =
+          effect-on_cells schema capacity db unit (Insert s) passes
+          ∙ ap (λ (r : Option DbKey). on_current db unit r (insert_checks schema capacity db unit s) (inserted schema db unit s)) current
+          ∙ ap (λ (checks : List (Bool × Cause)). unless_refused db unit (first_cause checks) (inserted schema db unit s k)) (sym checks-are)
+
+      module _ (free : first_cause (insert_checks_in schema unit hands s k) ≡ None) where
+        abbrev new : Database
+        new = (inserted schema db unit s k).database
+
+        done : effect schema capacity db unit (Insert s) ≡ inserted schema db unit s k
+        done = effect-is ∙ ap (λ (c : Option Cause). unless_refused db unit c (inserted schema db unit s k)) free
+
+        -- the edits, by the current of the set and the items of the record
+        abbrev edits_by : Option Place → List Value → List CellEdit
+        edits_by q items =
+            ring_edits s (option_map (λ place. place.owner) q) (unwrap_or (option_map (λ place. placed_at schema s k (key_item schema s k.rtype items) place ∷ []) q) [])
+            ++ slot_edit k (ChangeOwner s (option_map (λ place. place.owner) q)) ∷ slot_edit k RaiseVersion ∷ []
+
+        edits-are : (inserting schema unit hands s k).cells ≡ edits_of schema capacity db unit (Insert s)
+        edits-are =
+            let items = items_in_hand schema capacity db hands unit agrees k (slot_held k current) in
+            (λ i. edits_by (sym stands i) (sym items i))
+            ∙ sym (ap (λ (r : Option DbKey). edits_of_current r (insert_edits schema db unit s)) current)
+
+        own : (is_some (stored_in hands k) ≡ true) × (is_some (owner_in hands s k) ≡ false) × (first_cause (place_checks_in schema unit hands s (key_item schema s k.rtype (items_in hands k))) ≡ None)
+        own = own-passed hands unit k (is_some (owner_in hands s k)) AlreadyMember (place_checks_in schema unit hands s (key_item schema s k.rtype (items_in hands k))) free
+
+        listed : is_some (db.lists s here.owner) ≡ true
+        listed =
+            some-from-none (db.lists s here.owner)
+            (passes_check (is_none (db.lists s here.owner)) Deleted _
+            (sym (ap first_cause (place_checks-in_hand schema capacity db hands unit agrees s ring_held (key_item schema s k.rtype (items_in hands k)))) ∙ own.2)).0
+
+        version-is : version_of new k ≡ version_in hands k + 1
+        version-is =
+            version-raised (connected_in schema db unit (s ∷ []) k) k (live_in_hand schema capacity db hands unit agrees k (slot_held k current) ∙ own.0)
+            ∙ ap (λ v. v + 1) (version_in_hand schema capacity db hands unit agrees k (slot_held k current))
+
+        -- k is in the list of the current owner
+        member : is_member k (members_of new s here.owner) ≡ true
+        member =
+            member-connected schema db unit (s ∷ []) k s here.owner k
+            ∙ or_left _ _ (and_from _ _ (and_from _ _ (and_from _ _ (or_left _ _ (eq-eqb s s refl)) (ap (some_and (λ (p : Place). owner_eq p.owner here.owner)) stands ∙ owner_eq-refl here.owner)) listed) (key_eq-refl k))
+
+        owner-is : owner_of schema capacity new s k ≡ Some here.owner
+        owner-is =
+            owner_is schema capacity new (subst (λ (o : Outcome). Legal schema capacity o.database) done (legal_after schema capacity db unit hands may.sound may.of_schema may.within (Insert s) may.fits agrees)) s here.owner k member
+
+        unit-is : unit_after schema (inserting schema unit hands s k) unit ≡ (inserted schema db unit s k).unit
+        unit-is =
+            let owner : here.owner ≡ unwrap_or (option_map (λ (place : Place). place.owner) (place_in schema unit s)) System = sym (ap (λ (q : Option Place). unwrap_or (option_map (λ (place : Place). place.owner) q) System) stands) in
+            λ i. record unit {
+              currency = record unit.currency { sets = slice_set unit.currency.sets s (Some (record { owner = owner i; at = Some k })) };
+              kept = noted-renoted k (version_in hands k + 1) new version-is unit.kept i;
+            }
+
+        guesses-are : slice_set hands.guesses s (Some here.owner) ≡ guesses_after schema capacity (Insert s) hands.guesses (inserted schema db unit s k)
+        guesses-are =
+            ap (slice_set hands.guesses s) (sym owner-is)
+            ∙ sym (ap (noted_guesses schema capacity new (Insert s) hands.guesses) current)
+
+        inserts : IsEffect schema capacity db unit hands.guesses (Insert s) (inserting schema unit hands s k)
+        inserts =
+            done-is_effect schema capacity db unit hands (Insert s) (inserting schema unit hands s k) refl may agrees refl
+            (sym (ap (λ (o : Outcome). o.answer) done)) edits-are
+            (unit-is ∙ sym (ap (λ (o : Outcome). o.unit) done))
+            (guesses-are ∙ sym (ap (guesses_after schema capacity (Insert s) hands.guesses) done))
+
+    -- on an agreeing database the plan is the effect
+    is-effect : IsEffect schema capacity db unit hands.guesses (Insert s) (insert_plan schema unit hands s)
+    is-effect = by_current unit.currency.run_unit refl where
+      by_current : (r : Option DbKey) → unit.currency.run_unit ≡ r → IsEffect schema capacity db unit hands.guesses (Insert s) (on_current_plan r (insert_checks_in schema unit hands s) (inserting schema unit hands s))
+      by_current None e =
+          refusal-is_effect schema capacity db unit hands.guesses (Insert s) NoCurrentOfRunUnit
+          (effect-on_cells schema capacity db unit (Insert s) passes ∙ ap (λ (r : Option DbKey). on_current db unit r (insert_checks schema capacity db unit s) (inserted schema db unit s)) e)
+      by_current (Some k) e = by_checks (first_cause (insert_checks_in schema unit hands s k)) refl where
+        by_checks : (c : Option Cause) → first_cause (insert_checks_in schema unit hands s k) ≡ c → IsEffect schema capacity db unit hands.guesses (Insert s) (unless_refusal c (inserting schema unit hands s k))
+        by_checks (Some cause) h =
+            refusal-is_effect schema capacity db unit hands.guesses (Insert s) cause (effect-is k e ∙ ap (λ (c : Option Cause). unless_refused db unit c (inserted schema db unit s k)) h)
+        by_checks None h = inserts k e h
+
+  -- what is prepared changes held cells alone
+  all-held : list_all (λ (e : CellEdit). holds hands.cells e.name) (insert_plan schema unit hands s).cells ≡ true
+  all-held = by_current unit.currency.run_unit where
+    by_current : (r : Option DbKey) → list_all (λ (e : CellEdit). holds hands.cells e.name) (on_current_plan r (insert_checks_in schema unit hands s) (inserting schema unit hands s)).cells ≡ true
+    by_current None = refl
+    by_current (Some k) = by_checks (first_cause (insert_checks_in schema unit hands s k)) refl where
+      by_checks : (c : Option Cause) → first_cause (insert_checks_in schema unit hands s k) ≡ c → list_all (λ (e : CellEdit). holds hands.cells e.name) (unless_refusal c (inserting schema unit hands s k)).cells ≡ true
+      by_checks (Some cause) h = refl
+      by_checks None h =
+          let own = own-passed hands unit k (is_some (owner_in hands s k)) AlreadyMember (place_checks_in schema unit hands s (key_item schema s k.rtype (items_in hands k))) h in
+          let slot = slot-held hands k own.0 in
+          let ring = ring-held hands s here.owner (some-from-none (joined_occurrence schema unit hands s) (passes_check (is_none (joined_occurrence schema unit hands s)) Deleted _ own.2).0) in
+          and_from _ _ ring (and_from _ _ slot (and_from _ _ slot refl))
+
+  pub insert-is_prepared : IsPrepared schema capacity unit hands (Insert s) (insert_plan schema unit hands s)
+  insert-is_prepared = record { held = all-held; effects = is-effect }
+
+-- THAT IT CAN BE MADE
+
+-- what is prepared on some hands is prepared on hands that show the same
+pub prepared-same : (schema : Lists) (capacity : ℕ) (unit : Unit) (old new : Hands) (statement : Statement) (plan : Plan) → ShowsTheSame old new
+    → IsPrepared schema capacity unit old statement plan → IsPrepared schema capacity unit new statement plan
+prepared-same schema capacity unit old new statement plan same prepared = record {
+  held = (λ i. list_all (λ (e : CellEdit). holds-same old new same e.name i) plan.cells) ∙ prepared.held;
+  effects = λ db agrees.
+      subst (λ guesses. IsEffect schema capacity db unit guesses statement plan) (sym same.guesses)
+      (prepared.effects db (agrees-same schema capacity db unit new old (same-sym same) agrees));
+}
+
+module _ (schema : Lists) (capacity : ℕ) (unit : Unit) (old new : Hands) (s : ℕ) (may : MayPrepare schema capacity unit old (Insert s)) (passes : refused_at_once schema capacity unit (Insert s) ≡ None) (same : ShowsTheSame old new) where
+  abbrev ring_cell : CellName
+  ring_cell = Ring s (place_of (joined_place schema unit s).owner)
+
+  module _ (k : DbKey) (current : unit.currency.run_unit ≡ Some k) (free : first_cause (insert_checks_in schema unit old s k) ≡ None) (room : OfHeld ring_cell new.cells (CanTakeMember k)) where
+    own-free : (is_some (stored_in old k) ≡ true) × (is_some (owner_in old s k) ≡ false) × (first_cause (place_checks_in schema unit old s (key_item schema s k.rtype (items_in old k))) ≡ None)
+    own-free = own-passed old unit k (is_some (owner_in old s k)) AlreadyMember (place_checks_in schema unit old s (key_item schema s k.rtype (items_in old k))) free
+
+    occurrence-is : occurrence_in new s (joined_place schema unit s).owner ≡ joined_occurrence schema unit old s
+    occurrence-is = occurrence_in-same old new same s (joined_place schema unit s).owner
+
+    module _ (db : Database) (agrees : Agrees schema capacity db old unit) where
+      abbrev held-ring : holds old.cells ring_cell ≡ true
+      held-ring = ring_held schema capacity unit old s may passes db agrees
+
+      abbrev held-slot : holds old.cells (slot_name k) ≡ true
+      held-slot = slot_held schema capacity unit old s may passes db agrees k current
+
+      no-member : is_member k (keys_in (joined_occurrence schema unit old s)) ≡ false
+      no-member =
+          ap (is_member k) (sym (members_in_hand schema capacity db old unit agrees s (joined_place schema unit s).owner held-ring))
+          ∙ member_nowhere schema capacity db agrees.legal s k
+          (none_is (owner_of schema capacity db s k) (ap is_some (owner_in_hand schema capacity db old unit agrees k held-slot s (in_sets schema capacity unit old s may passes)) ∙ own-free.1)) (joined_place schema unit s).owner
+
+      can-place-here : CanPlace (order_of schema s) (joined_place schema unit s).at (key_item schema s k.rtype (items_in old k)) (joined_occurrence schema unit old s)
+      can-place-here =
+          can-join-in_hand schema capacity db old unit agrees s held-ring may.sound k.rtype (items_in old k) (clause schema capacity unit old s may passes k current)
+          (ap (values_fit (pictures schema k.rtype)) (sym (items_in_hand schema capacity db old unit agrees k held-slot))
+          ∙ agrees.legal.items k (live_in_hand schema capacity db old unit agrees k held-slot ∙ own-free.0))
+          own-free.2
+
+      ring-can : CanEditHeld (joining_edit schema unit s k (key_item schema s k.rtype (items_in old k))) new.cells
+      ring-can =
+          can-edit-ring new s (joined_place schema unit s).owner (placed_at schema s k (key_item schema s k.rtype (items_in old k)) (joined_place schema unit s))
+          (ap is_some occurrence-is ∙ some-from-none (joined_occurrence schema unit old s) (passes_check (is_none (joined_occurrence schema unit old s)) Deleted _ own-free.2).0)
+          (λ v there is. (
+            room (RingCell v) there (ap (λ (o : Option Occurrence). is_member k (keys_in o)) (is ∙ occurrence-is) ∙ no-member),
+            subst (CanPlace (order_of schema s) (joined_place schema unit s).at (key_item schema s k.rtype (items_in old k))) (sym (is ∙ occurrence-is)) can-place-here,
+          ))
+
+      can-make : CanMake (inserting schema unit old s k).cells new.cells
+      can-make =
+          can_make-raised (joining_edit schema unit s k (key_item schema s k.rtype (items_in old k)) ∷ []) (slot_name k) (ChangeOwner s (Some (joined_place schema unit s).owner)) new.cells refl refl
+          (ring-can, tt) (λ x there. free-owner s (Some (joined_place schema unit s).owner) x) (leaves-owner s (Some (joined_place schema unit s).owner))
+          (versions-same old new same may.versions)
+
+    -- an INSERT that nothing refuses
+    pub insert-can_finish : CanFinish schema capacity unit new (Insert s) (inserting schema unit old s k)
+    insert-can_finish = record {
+      prepared = prepared-same schema capacity unit old new (Insert s) (inserting schema unit old s k) same
+          (subst (IsPrepared schema capacity unit old (Insert s))
+          (ap (λ (r : Option DbKey). on_current_plan r (insert_checks_in schema unit old s) (inserting schema unit old s)) current ∙ ap (λ (c : Option Cause). unless_refusal c (inserting schema unit old s k)) free)
+          (insert-is_prepared schema capacity unit old s may passes));
+      can_make = λ db agrees. can-make db (agrees-same schema capacity db unit new old (same-sym same) agrees);
+    }
+
+-- an INSERT that is refused
+pub refused_insert-can_finish : (schema : Lists) (capacity : ℕ) (unit : Unit) (hands : Hands) (s : ℕ) → MayPrepare schema capacity unit hands (Insert s) → refused_at_once schema capacity unit (Insert s) ≡ None → (cause : Cause)
+    → insert_plan schema unit hands s ≡ refusal cause → CanFinish schema capacity unit hands (Insert s) (refusal cause)
+refused_insert-can_finish schema capacity unit hands s may passes cause is =
+    record { prepared = subst (IsPrepared schema capacity unit hands (Insert s)) is (insert-is_prepared schema capacity unit hands s may passes); can_make = λ db agrees. tt }

@@ -1,0 +1,6 @@
+use Rattle.std.proofs.Common.{◌≡◌, drop}
+use Rattle.dbtg_unit.specs.Effect.{changed_items}
+use Rattle.dbtg_plan.proofs.modifying.copy_changed.Given as goal
+
+abbrev pub invariant-loop-change : goal.invariant-loop-change
+invariant-loop-change l = changed_items (drop l.change-index l.changes) l.copies.items ≡ changed_items l.changes l.items

@@ -1,0 +1,163 @@
+//! FIND: what is found, read off the cells in hand. Nothing here takes memory.
+ghost use Rattle.std.specs.Prelude.{◌≡◌, ◌∷◌, [], true, take, None};
+ghost use Rattle.dbtg_unit.specs.Base.{Database};
+ghost use Rattle.dbtg_unit.specs.Belongs.{IsUnitOf, IsWithin};
+ghost use Rattle.dbtg_unit.specs.Checks.{refused_at_once};
+ghost use Rattle.dbtg_unit.specs.Fits.{form_fits};
+ghost use Rattle.dbtg_unit.specs.Local.{Agrees};
+ghost use Rattle.dbtg_unit.specs.Making.{CanFinish, MayPrepare};
+ghost use Rattle.dbtg_unit.specs.Needs.{current_owner, find_cells};
+ghost use Rattle.dbtg_unit.specs.declared.statement.Statement.TheVariants.{Find};
+ghost use Rattle.dbtg_plan.specs.Finding.{cells_to_find, found_in, next_cell_in, owners_in, plan_of_found};
+ghost use Rattle.dbtg_plan.specs.Missing.{first_missing};
+
+mod area;
+mod current;
+mod equal;
+mod numbered;
+mod set;
+
+use crate::joining::current_owner;
+use crate::missing::{missing, missing_ring, missing_slot};
+use crate::outcomes::{done, refused};
+use dbtg_cells::{CellName, DbKey};
+use dbtg_schema::Schema;
+use dbtg_unit::{Cause, Form, Held, Owners, Prepared, Suppress, Unit, UnitEdit, stored};
+use std::alloc::Global;
+
+// The key that is found, or the cause why none is.
+fn find_key(
+    schema: &Schema,
+    capacity: u16,
+    unit: &Unit,
+    form: &Form,
+    held: &Held,
+) -> Result<DbKey, Cause>
+    requires fits { form_fits schema.now form.now ≡ true }
+    requires within { IsWithin capacity unit.now }
+    ensures { result ≡ found_in schema.now unit.now held.now form.now }
+{
+    match form {
+        Form::Key(key) => current::stored_key(held, *key, Cause::NoneSatisfies),
+        Form::CurrentOfUnit => current::of_current(held, unit.currency.run_unit),
+        Form::CurrentOfType(rtype) => current::of_current(held, current::of_type(unit, *rtype)),
+        Form::CurrentOfSet(set) => current::of_current(held, unit.key_in(schema, *set)),
+        Form::CurrentOfArea(area) => current::of_current(held, current::of_area(unit, *area)),
+        Form::OwnerOf(set) => current::of_current(held, current::owner_key(schema, unit, *set)),
+        Form::InSet { which, rtype, set } => {
+            set::find_member(schema, unit, held, *which, *rtype, *set)
+        }
+        Form::Sorted { value, set } => set::find_by_sort_key(schema, unit, held, value, *set),
+        Form::InArea { which, rtype, area } => {
+            area::find_in_area(schema, capacity, unit, held, *which, *rtype, *area)
+        }
+        Form::Calc { rtype, values } => equal::find_calc(held, *rtype, values.as_slice()),
+        Form::NextDuplicate(rtype) => equal::find_duplicate(unit, held, *rtype),
+    }
+}
+
+// The first cell that is not in hand, of those by which it is found.
+fn missing_to_find(schema: &Schema, unit: &Unit, form: &Form, held: &Held) -> Option<CellName>
+    ensures { result ≡ first_missing held.now (cells_to_find schema.now unit.now form.now) }
+{
+    match form {
+        Form::Key(key) => missing_slot(held, Some(*key)),
+        Form::CurrentOfUnit => missing_slot(held, unit.currency.run_unit),
+        Form::CurrentOfType(rtype) => missing_slot(held, current::of_type(unit, *rtype)),
+        Form::CurrentOfSet(set) => missing_slot(held, unit.key_in(schema, *set)),
+        Form::CurrentOfArea(area) => missing_slot(held, current::of_area(unit, *area)),
+        Form::OwnerOf(set) => missing_slot(held, current::owner_key(schema, unit, *set)),
+        Form::InSet { set, .. } | Form::Sorted { set, .. } => {
+            missing_ring(held, *set, current_owner(schema, unit, *set))
+        }
+        Form::InArea { rtype, area, .. } => area::missing_extent(schema, held, *rtype, *area),
+        Form::Calc { rtype, .. } | Form::NextDuplicate(rtype) => {
+            missing(held, CellName::Extent(*rtype))
+        }
+    }
+}
+
+fn next_cell(
+    schema: &Schema,
+    capacity: u16,
+    unit: &Unit,
+    form: &Form,
+    held: &Held,
+) -> Option<CellName>
+    requires fits { form_fits schema.now form.now ≡ true }
+    requires within { IsWithin capacity unit.now }
+    ensures { result ≡ next_cell_in schema.now unit.now held.now form.now }
+{
+    match missing_to_find(schema, unit, form, held) {
+        Some(name) => Some(name),
+        None => match find_key(schema, capacity, unit, form, held) {
+            Ok(key) => missing_slot(held, Some(key)),
+            Err(_cause) => None,
+        },
+    }
+}
+
+/// The first cell of a FIND that is not in hand.
+pub(crate) fn next_cell_of_find(
+    schema: &Schema,
+    capacity: u16,
+    unit: &Unit,
+    form: &Form,
+    held: &Held,
+) -> Option<CellName>
+    requires fits { form_fits schema.now form.now ≡ true }
+    requires of_schema { IsUnitOf schema.now unit.now }
+    requires within { IsWithin capacity unit.now }
+    ensures { (db : Database) → Agrees schema.now capacity db held.now unit.now → result ≡ first_missing held.now (find_cells schema.now capacity db unit.now form.now) }
+{
+    next_cell(schema, capacity, unit, form, held)
+}
+
+// The owners of a record in hand, by set.
+fn owners_of(held: &Held, key: &DbKey) -> Owners
+    ensures { result ≡ take 16 (owners_in held.now key.now) }
+{
+    match stored(held, key) {
+        Some(stored) => Owners::of(stored.owners.as_slice()),
+        None => Owners::none(0),
+    }
+}
+
+fn plan_of_found(
+    alloc: Global,
+    held: &Held,
+    suppress: &Suppress,
+    found: Result<DbKey, Cause>,
+) -> Prepared
+    ensures { result ≡ plan_of_found held.now suppress.now found }
+{
+    match found {
+        Ok(key) => {
+            let change = UnitEdit::See {
+                key,
+                owners: owners_of(held, &key),
+                suppress: *suppress,
+            };
+            done(alloc, change, Some(key), None)
+        }
+        Err(cause) => refused(alloc, cause),
+    }
+}
+
+/// What a FIND does, once it needs nothing more.
+pub(crate) fn prepare_find(
+    alloc: Global,
+    schema: &Schema,
+    capacity: u16,
+    unit: &Unit,
+    form: &Form,
+    suppress: &Suppress,
+    held: &Held,
+) -> Prepared
+    requires may { MayPrepare schema.now capacity unit.now held.now (Find form.now suppress.now) }
+    requires passes { refused_at_once schema.now capacity unit.now (Find form.now suppress.now) ≡ None }
+    ensures { CanFinish schema.now capacity unit.now held.now (Find form.now suppress.now) result }
+{
+    let found = find_key(schema, capacity, unit, form, held);
+    plan_of_found(alloc, held, suppress, found)
+}

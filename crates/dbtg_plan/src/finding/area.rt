@@ -1,0 +1,309 @@
+//! FIND in an area: the live keys of its record types in key order, type by type.
+ghost use Rattle.std.specs.Prelude.{◌≡◌, ◌≢◌, ◌<◌, ◌+◌, ◌^◌, ◌≤◌, true, pos, map, filter, reverse, length, slice_get, IfSome, None};
+ghost use Rattle.std.specs.List.{range_with_len};
+ghost use Rattle.dbtg_schema.specs.Lookups.{at, final, first, nth};
+ghost use Rattle.dbtg_cells.specs.declared.name.CellName.TheVariants.{Extent};
+ghost use Rattle.dbtg_unit.specs.Belongs.{IsWithin};
+ghost use Rattle.dbtg_unit.specs.Fits.{which_fits};
+ghost use Rattle.dbtg_unit.specs.Found.{chosen_by_key, found_unless};
+ghost use Rattle.dbtg_unit.specs.declared.statement.Which.TheVariants.{Next, Prior};
+ghost use Rattle.dbtg_unit.specs.declared.unit.Cause.TheVariants.{End};
+ghost use Rattle.dbtg_plan.specs.Missing.{first_missing};
+ghost use Rattle.dbtg_plan.specs.Finding.{area_keys_in, is_above, is_below, is_wanted, keys_wanted};
+
+use crate::finding::current::of_area;
+use crate::finding::numbered;
+use crate::missing::is_missing;
+use dbtg_cells::{CellName, DbKey};
+use dbtg_schema::{AreaNo, RecordNo, Schema};
+use dbtg_unit::{Cause, Held, Unit, Which, numbers, type_count};
+
+// Is this a type of the area, and the named one where one is named?
+fn is_wanted(schema: &Schema, named: &Option<RecordNo>, area: AreaNo, rtype: RecordNo) -> bool
+    ensures { result ≡ is_wanted schema.now named.now area rtype }
+{
+    match named {
+        Some(named) => rtype.index() == named.index(),
+        None => schema.area_of(rtype).index() == area.index(),
+    }
+}
+
+fn first_of_type(
+    schema: &Schema,
+    held: &Held,
+    named: &Option<RecordNo>,
+    area: AreaNo,
+    rtype: RecordNo,
+    bound: &Option<DbKey>,
+) -> Option<DbKey>
+    ensures { result ≡ first (filter (is_above bound.now) (keys_wanted schema.now held.now named.now area rtype)) }
+{
+    if !is_wanted(schema, named, area, rtype) {
+        return None;
+    }
+    match numbers(held, rtype) {
+        Some(extent) => numbered::first_key(extent, rtype, bound),
+        None => None,
+    }
+}
+
+// The first key behind the bound, where there is one.
+fn first_key(
+    schema: &Schema,
+    held: &Held,
+    named: &Option<RecordNo>,
+    area: AreaNo,
+    bound: &Option<DbKey>,
+) -> Option<DbKey>
+    ensures { result ≡ first (filter (is_above bound.now) (area_keys_in schema.now held.now named.now area)) }
+{
+    for t in 0..type_count(schema) {
+        let found = first_of_type(schema, held, named, area, RecordNo::new(t), bound);
+        if found.is_some() {
+            return found;
+        }
+    }
+    None
+}
+
+fn last_of_type(
+    schema: &Schema,
+    held: &Held,
+    named: &Option<RecordNo>,
+    area: AreaNo,
+    rtype: RecordNo,
+    bound: &Option<DbKey>,
+) -> Option<DbKey>
+    requires { IfSome bound.now (λ k. k.number + 1 < 2 ^ 32) }
+    ensures { result ≡ final (filter (is_below bound.now) (keys_wanted schema.now held.now named.now area rtype)) }
+{
+    if !is_wanted(schema, named, area, rtype) {
+        return None;
+    }
+    match numbers(held, rtype) {
+        Some(extent) => numbered::last_key(extent, rtype, bound),
+        None => None,
+    }
+}
+
+// The last key before the bound, where there is one.
+fn last_key(
+    schema: &Schema,
+    held: &Held,
+    named: &Option<RecordNo>,
+    area: AreaNo,
+    bound: &Option<DbKey>,
+) -> Option<DbKey>
+    requires { IfSome bound.now (λ k. k.number + 1 < 2 ^ 32) }
+    ensures { result ≡ final (filter (is_below bound.now) (area_keys_in schema.now held.now named.now area)) }
+{
+    let mut last = None;
+    for t in 0..type_count(schema) {
+        last = last_of_type(schema, held, named, area, RecordNo::new(t), bound).or(last);
+    }
+    last
+}
+
+fn count_of_type(
+    schema: &Schema,
+    held: &Held,
+    named: &Option<RecordNo>,
+    area: AreaNo,
+    rtype: RecordNo,
+) -> u32
+    ensures count { result ≡ length (keys_wanted schema.now held.now named.now area rtype) }
+    ensures few { result < 2 ^ 16 }
+{
+    if !is_wanted(schema, named, area, rtype) {
+        return 0;
+    }
+    match numbers(held, rtype) {
+        Some(extent) => extent.count_live(),
+        None => 0,
+    }
+}
+
+fn count_keys(schema: &Schema, held: &Held, named: &Option<RecordNo>, area: AreaNo) -> u32
+    ensures { result ≡ length (area_keys_in schema.now held.now named.now area) }
+{
+    let mut count = 0;
+    for t in 0..type_count(schema) {
+        count += count_of_type(schema, held, named, area, RecordNo::new(t));
+    }
+    count
+}
+
+fn nth_of_type(
+    schema: &Schema,
+    held: &Held,
+    named: &Option<RecordNo>,
+    area: AreaNo,
+    rtype: RecordNo,
+    place: u32,
+) -> Option<DbKey>
+    requires { place < 2 ^ 16 }
+    ensures { result ≡ slice_get (keys_wanted schema.now held.now named.now area rtype) place }
+{
+    if !is_wanted(schema, named, area, rtype) {
+        return None;
+    }
+    match numbers(held, rtype) {
+        Some(extent) => numbered::key_at(extent, rtype, place),
+        None => None,
+    }
+}
+
+// The key at a place, from 0.
+fn key_at(
+    schema: &Schema,
+    held: &Held,
+    named: &Option<RecordNo>,
+    area: AreaNo,
+    place: u32,
+) -> Option<DbKey>
+    ensures { result ≡ slice_get (area_keys_in schema.now held.now named.now area) place }
+{
+    let mut left = place;
+    for t in 0..type_count(schema) {
+        let rtype = RecordNo::new(t);
+        let count = count_of_type(schema, held, named, area, rtype);
+        if left < count {
+            return nth_of_type(schema, held, named, area, rtype, left);
+        }
+        left -= count;
+    }
+    None
+}
+
+// The key at a place from the end, from 0.
+fn key_from_end(
+    schema: &Schema,
+    held: &Held,
+    named: &Option<RecordNo>,
+    area: AreaNo,
+    place: u32,
+) -> Option<DbKey>
+    ensures { result ≡ slice_get (reverse (area_keys_in schema.now held.now named.now area)) place }
+{
+    let count = count_keys(schema, held, named, area);
+    if place < count {
+        key_at(schema, held, named, area, count - 1 - place)
+    } else {
+        None
+    }
+}
+
+fn nth_key(
+    schema: &Schema,
+    held: &Held,
+    named: &Option<RecordNo>,
+    area: AreaNo,
+    n: i32,
+) -> Option<DbKey>
+    requires { n ≢ pos 0 }
+    ensures { result ≡ nth n (area_keys_in schema.now held.now named.now area) }
+{
+    let place = n.unsigned_abs() - 1;
+    if n > 0 {
+        key_at(schema, held, named, area, place)
+    } else {
+        key_from_end(schema, held, named, area, place)
+    }
+}
+
+// The next key behind the area's current.
+#[tactic(auto, using(crate::proofs::ChosenKeys::next_chosen, crate::proofs::ChosenKeys::no_next))]
+fn next_key(
+    schema: &Schema,
+    held: &Held,
+    named: &Option<RecordNo>,
+    area: AreaNo,
+    current: &Option<DbKey>,
+) -> Option<DbKey>
+    ensures { result ≡ chosen_by_key Next current.now (area_keys_in schema.now held.now named.now area) }
+{
+    if current.is_none() {
+        return None;
+    }
+    first_key(schema, held, named, area, current)
+}
+
+// The last key before the area's current.
+#[tactic(auto, using(crate::proofs::ChosenKeys::prior_chosen, crate::proofs::ChosenKeys::no_prior))]
+fn prior_key(
+    schema: &Schema,
+    held: &Held,
+    named: &Option<RecordNo>,
+    area: AreaNo,
+    current: &Option<DbKey>,
+) -> Option<DbKey>
+    requires { IfSome current.now (λ k. k.number + 1 < 2 ^ 32) }
+    ensures { result ≡ chosen_by_key Prior current.now (area_keys_in schema.now held.now named.now area) }
+{
+    if current.is_none() {
+        return None;
+    }
+    last_key(schema, held, named, area, current)
+}
+
+fn choose_key(
+    schema: &Schema,
+    held: &Held,
+    which: Which,
+    named: &Option<RecordNo>,
+    area: AreaNo,
+    current: &Option<DbKey>,
+) -> Option<DbKey>
+    requires fits { which_fits which ≡ true }
+    requires within { IfSome current.now (λ k. k.number + 1 < 2 ^ 32) }
+    ensures { result ≡ chosen_by_key which current.now (area_keys_in schema.now held.now named.now area) }
+{
+    match which {
+        Which::First => first_key(schema, held, named, area, &None),
+        Which::Last => last_key(schema, held, named, area, &None),
+        Which::Next => next_key(schema, held, named, area, current),
+        Which::Prior => prior_key(schema, held, named, area, current),
+        Which::Nth(n) => nth_key(schema, held, named, area, n),
+    }
+}
+
+/// The key of an area, of one record type or of all, from the area's current.
+pub(crate) fn find_in_area(
+    schema: &Schema,
+    capacity: u16,
+    unit: &Unit,
+    held: &Held,
+    which: Which,
+    named: Option<RecordNo>,
+    area: AreaNo,
+) -> Result<DbKey, Cause>
+    requires fits { which_fits which ≡ true }
+    requires within { IsWithin capacity unit.now }
+    ensures { result ≡ found_unless None (chosen_by_key which (at unit.now.currency.areas area) (area_keys_in schema.now held.now named area)) End }
+{
+    let current = of_area(unit, area);
+    match choose_key(schema, held, which, &named, area, &current) {
+        Some(key) => Ok(key),
+        None => Err(Cause::End),
+    }
+}
+
+/// The first extent of the area's record types that is not in hand.
+#[tactic(auto, using(dbtg_unit::proofs::NumberLemmas::numbers_next, dbtg_unit::proofs::NumberLemmas::numbers_end))]
+pub(crate) fn missing_extent(
+    schema: &Schema,
+    held: &Held,
+    named: Option<RecordNo>,
+    area: AreaNo,
+) -> Option<CellName>
+    ensures { result ≡ first_missing held.now (map Extent (filter (is_wanted schema.now named area) (range_with_len 0 (length schema.now.types)))) }
+{
+    for t in 0..type_count(schema) {
+        let rtype = RecordNo::new(t);
+        let name = CellName::Extent(rtype);
+        if is_wanted(schema, &named, area, rtype) && is_missing(held, &name) {
+            return Some(name);
+        }
+    }
+    None
+}

@@ -1,0 +1,144 @@
+//! INSERT: what it needs next, and what it does once it needs nothing more.
+ghost use Rattle.std.specs.Prelude.{◌≡◌, ℕ, [], ◌∷◌, None, Some, IfOk, OnOk};
+ghost use Rattle.dbtg_schema.specs.Lookups.{first_cause};
+ghost use Rattle.dbtg_unit.specs.declared.statement.Statement.TheVariants.{Insert};
+ghost use Rattle.dbtg_unit.specs.Base.{Database, key_item};
+ghost use Rattle.dbtg_unit.specs.CellNames.{place_of};
+ghost use Rattle.dbtg_unit.specs.Checks.{refused_at_once};
+ghost use Rattle.dbtg_unit.specs.EditsOf.{slot_edit};
+ghost use Rattle.dbtg_unit.specs.InHand.{items_in};
+ghost use Rattle.dbtg_unit.specs.Making.{CanFinish, HaveNextVersions, MayPrepare, ShowsTheSame};
+ghost use Rattle.dbtg_unit.specs.Needs.{cells_of, current_owner};
+ghost use Rattle.dbtg_unit.specs.Reserving.{CanTakeMember, OfHeld};
+ghost use Rattle.dbtg_plan.specs.Inserting.{insert_checks_in, inserting};
+ghost use Rattle.dbtg_plan.specs.Joining.{joined_place, joining_edit};
+ghost use Rattle.dbtg_plan.specs.Missing.{first_missing};
+
+use crate::joining::{current_owner, joined_place, joining_edit, make_room, place_refusal};
+use crate::members::{next_version, owner_of, ring_name, slot_edit, sort_key_in};
+use crate::missing::{missing_ring, missing_slot};
+use crate::outcomes::refused;
+use dbtg_cells::{CellName, DbKey, Owner, Value};
+use dbtg_schema::{Row, Schema, SetNo};
+use dbtg_unit::{
+    Answer, Cause, CellEdit, Edit, Held, Place, Prepared, Status, Unit, UnitEdit, own_refusal,
+    reserve_member,
+};
+use std::alloc::{AllocError, Global};
+
+/// The first cell that an INSERT needs and that is not in hand.
+pub(crate) fn next_cell_of_insert(
+    schema: &Schema,
+    unit: &Unit,
+    set: SetNo,
+    held: &Held,
+) -> Option<CellName>
+    ensures { (capacity : ℕ) (db : Database) → result ≡ first_missing held.now (cells_of schema.now capacity db unit.now held.now.guesses (Insert set)) }
+{
+    let ring = missing_ring(held, set, current_owner(schema, unit, set));
+    if ring.is_some() {
+        return ring;
+    }
+    missing_slot(held, unit.currency.run_unit)
+}
+
+// Why the record, which has this sort key, is not inserted.
+fn refusal(
+    schema: &Schema,
+    unit: &Unit,
+    set: SetNo,
+    held: &Held,
+    key: &DbKey,
+    sort_key: &Option<Value>,
+) -> Option<Cause>
+    requires { sort_key.now ≡ key_item schema.now set key.now.rtype (items_in held.now key.now) }
+    ensures { result ≡ first_cause (insert_checks_in schema.now unit.now held.now set key.now) }
+{
+    let own = own_refusal(held, unit, key);
+    if own.is_some() {
+        return own;
+    }
+    if owner_of(held, set, key).is_some() {
+        return Some(Cause::AlreadyMember);
+    }
+    place_refusal(schema, unit, held, set, sort_key)
+}
+
+// Its place in the ring, its owner, its version.
+fn edits_of(
+    alloc: Global,
+    schema: &Schema,
+    unit: &Unit,
+    set: SetNo,
+    key: &DbKey,
+    sort_key: Option<Value>,
+) -> Result<Row<CellEdit>, AllocError>
+    ensures { IfOk result (λ edits. edits ≡ joining_edit schema.now unit.now set key.now sort_key ∷ slot_edit key.now (Edit.ChangeOwner set (Some (joined_place schema.now unit.now set).owner)) ∷ slot_edit key.now Edit.RaiseVersion ∷ []) }
+{
+    let owner = Some(joined_place(schema, unit, set).owner);
+    let mut edits = Vec::new(alloc);
+    edits.push(joining_edit(schema, unit, set, key, sort_key))?;
+    edits.push(slot_edit(key, Edit::ChangeOwner { set, owner }))?;
+    edits.push(slot_edit(key, Edit::RaiseVersion))?;
+    Ok(Row::of(edits))
+}
+
+fn inserted(
+    alloc: Global,
+    schema: &Schema,
+    unit: &Unit,
+    set: SetNo,
+    held: &Held,
+    key: &DbKey,
+    sort_key: Option<Value>,
+) -> Result<Prepared, AllocError>
+    requires versions { HaveNextVersions held.now.cells }
+    requires sort_key { sort_key ≡ key_item schema.now set key.now.rtype (items_in held.now key.now) }
+    ensures { IfOk result (λ plan. plan ≡ inserting schema.now unit.now held.now set key.now) }
+{
+    let edits = edits_of(alloc, schema, unit, set, key, sort_key)?;
+    let mut versions = Vec::new(alloc);
+    versions.push((*key, next_version(held, key)))?;
+    let answer = Answer {
+        status: Status::Done,
+        key: None,
+        items: None,
+    };
+    let place = Place {
+        owner: joined_place(schema, unit, set).owner,
+        at: Some(*key),
+    };
+    Ok(Prepared::new(
+        answer,
+        edits,
+        Row::of(versions),
+        UnitEdit::Move { set, place },
+    ))
+}
+
+/// What an INSERT does that needs nothing more: the place in the current occurrence, the owner, the version.
+pub(crate) fn prepare_insert(
+    alloc: Global,
+    schema: &Schema,
+    capacity: u16,
+    unit: &Unit,
+    set: SetNo,
+    held: &mut Held,
+) -> Result<Prepared, AllocError>
+    requires may { MayPrepare schema.now capacity unit.now held.old (Insert set) }
+    requires passes { refused_at_once schema.now capacity unit.now (Insert set) ≡ None }
+    ensures shows { ShowsTheSame held.old held.new }
+    ensures prepared { IfOk result (λ plan. CanFinish schema.now capacity unit.now held.new (Insert set) plan) }
+{
+    let _ = capacity;
+    let Some(key) = unit.currency.run_unit else {
+        return Ok(refused(alloc, Cause::NoCurrentOfRunUnit));
+    };
+    let sort_key = sort_key_in(alloc, schema, set, held, &key)?;
+    if let Some(cause) = refusal(schema, unit, set, held, &key, &sort_key) {
+        return Ok(refused(alloc, cause));
+    }
+    let plan = inserted(alloc, schema, unit, set, held, &key, sort_key)?;
+    make_room(schema, unit, set, held, &key)?;
+    Ok(plan)
+}

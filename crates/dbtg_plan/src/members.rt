@@ -1,0 +1,93 @@
+//! A record in hand as a member of sets: its owner, its sort key, its next version; and how rings and slots are named.
+ghost use Rattle.std.specs.Prelude.{◌≡◌, ◌+◌, IfOk};
+ghost use Rattle.dbtg_unit.specs.Base.{key_item};
+ghost use Rattle.dbtg_unit.specs.CellNames.{place_of};
+ghost use Rattle.dbtg_unit.specs.EditsOf.{slot_edit};
+ghost use Rattle.dbtg_unit.specs.InHand.{items_in, owner_in, version_in};
+ghost use Rattle.dbtg_unit.specs.Making.{HaveNextVersions};
+
+use crate::calc::copy_item;
+use dbtg_cells::{CellName, DbKey, Owner, Value};
+use dbtg_schema::{RecordNo, Schema, SetNo};
+use dbtg_unit::{CellEdit, Edit, Held, stored};
+use std::alloc::{AllocError, Global};
+
+/// The name of an owner's ring in a set.
+pub(crate) fn ring_name(set: SetNo, owner: &Owner) -> CellName
+    ensures { result ≡ CellName.Ring set (place_of owner.now) }
+{
+    match owner {
+        Owner::System => CellName::Ring(set, None),
+        Owner::Rec(key) => CellName::Ring(set, Some((key.rtype, key.number))),
+    }
+}
+
+/// An edit of the slot of a key.
+pub(crate) fn slot_edit(key: &DbKey, edit: Edit) -> CellEdit
+    ensures { result ≡ slot_edit key.now edit }
+{
+    CellEdit {
+        name: CellName::Slot(key.rtype, key.number),
+        edit,
+    }
+}
+
+/// The owner of a record in hand in a set.
+pub(crate) fn owner_of(held: &Held, set: SetNo, key: &DbKey) -> Option<Owner>
+    ensures { result ≡ owner_in held.now set key.now }
+{
+    match stored(held, key) {
+        Some(stored) => match stored.owners.as_slice().get(set.index() as usize) {
+            Some(owner) => *owner,
+            None => None,
+        },
+        None => None,
+    }
+}
+
+/// The version of a record in hand once it is changed.
+#[tactic(auto, using(crate::proofs::VersionLemmas::has_next_version))]
+pub(crate) fn next_version(held: &Held, key: &DbKey) -> u64
+    requires { HaveNextVersions held.now.cells }
+    ensures { result ≡ version_in held.now key.now + 1 }
+{
+    match stored(held, key) {
+        Some(stored) => stored.version + 1,
+        None => 1,
+    }
+}
+
+/// A copy of the sort key in a set of a record with these items; none where the set is not sorted.
+pub(crate) fn copy_sort_key(
+    alloc: Global,
+    schema: &Schema,
+    set: SetNo,
+    rtype: RecordNo,
+    items: &[Value],
+) -> Result<Option<Value>, AllocError>
+    ensures { IfOk result (λ value. value ≡ key_item schema.now set rtype items.now) }
+{
+    let Some(member) = schema.member_clause(set, rtype) else {
+        return Ok(None);
+    };
+    match member.key {
+        Some(item) => Ok(Some(copy_item(alloc, items, item)?)),
+        None => Ok(None),
+    }
+}
+
+/// A copy of the sort key in a set of a record in hand.
+pub(crate) fn sort_key_in(
+    alloc: Global,
+    schema: &Schema,
+    set: SetNo,
+    held: &Held,
+    key: &DbKey,
+) -> Result<Option<Value>, AllocError>
+    ensures { IfOk result (λ value. value ≡ key_item schema.now set key.now.rtype (items_in held.now key.now)) }
+{
+    match stored(held, key) {
+        Some(stored) => copy_sort_key(alloc, schema, set, key.rtype, stored.items.as_slice()),
+        None => copy_sort_key(alloc, schema, set, key.rtype, &[]),
+    }
+}

@@ -1,0 +1,462 @@
+//! MODIFY: what it needs next, and what it does once it needs nothing more.
+ghost use Rattle.std.specs.Prelude.{◌≡◌, ◌∷◌, ◌++◌, ℕ, not, [], Some, None, is_some, map, option_and_then, option_copied, slice_set, IfOk, if◌then◌else◌};
+ghost use Rattle.std.specs.List.{flat_map, list_any};
+ghost use Rattle.std.specs.Option.{option_to_list};
+ghost use Rattle.dbtg_schema.specs.Lookups.{at, first_cause, some_and};
+ghost use Rattle.dbtg_schema.specs.Structure.{rekeyed_sets, set_numbers};
+ghost use Rattle.dbtg_cells.specs.Numbers.{entry_of, is_used};
+ghost use Rattle.dbtg_unit.specs.declared.statement.Statement.TheVariants.{Modify};
+ghost use Rattle.dbtg_unit.specs.Base.{Database};
+ghost use Rattle.dbtg_unit.specs.Checks.{refused_at_once};
+ghost use Rattle.dbtg_unit.specs.EditsOf.{slot_edit};
+ghost use Rattle.dbtg_unit.specs.Effect.{changed_items, names_calc, refuses_equal};
+ghost use Rattle.dbtg_unit.specs.InHand.{items_in};
+ghost use Rattle.dbtg_unit.specs.Making.{CanFinish, HaveNextVersions, MayPrepare};
+ghost use Rattle.dbtg_unit.specs.Needs.{cells_of, ring_names};
+ghost use Rattle.dbtg_unit.specs.Units.{place_in};
+ghost use Rattle.dbtg_plan.specs.Calc.{calc_taken_in};
+ghost use Rattle.dbtg_plan.specs.Missing.{first_missing};
+ghost use Rattle.dbtg_plan.specs.Modifying.{calc_checks_in, calc_edits_in, is_rekeyed, is_replaced, modified_plan, modify_checks_in, modify_edits_in, modify_plan, replacing_edits_in, sort_key_taken};
+ghost use Rattle.dbtg_plan.specs.Removing.{own_occurrence};
+
+use crate::calc::{copy_calc, is_calc_taken};
+use crate::members::{copy_sort_key, next_version, owner_of, ring_name, slot_edit};
+use crate::missing::{missing, missing_ring, missing_slot};
+use crate::outcomes::refused;
+use dbtg_cells::{CellName, DbKey, Extent, Ring, Value, copy_items};
+use dbtg_schema::{Duplicates, Order, RecordNo, Row, Schema, SetNo};
+use dbtg_unit::{
+    Answer, Cause, CellEdit, Change, Edit, Held, Prepared, Status, Unit, UnitEdit, is_rekeyed_in,
+    names_calc, numbers, occurrence, own_refusal, set_count, stored,
+};
+use std::alloc::{AllocError, Global};
+
+// The ring of the guessed owner, where the set is sorted by an item that is named and the ring is not in hand.
+fn missing_ring_of(
+    schema: &Schema,
+    set: SetNo,
+    rtype: RecordNo,
+    changes: &[Change],
+    held: &Held,
+) -> Option<CellName>
+    ensures { result ≡ (if is_rekeyed schema.now changes.now rtype set then first_missing held.now (ring_names set (at held.now.guesses set)) else None) }
+{
+    if is_rekeyed_in(schema, set, rtype, changes) {
+        missing_ring(held, set, held.guess(set))
+    } else {
+        None
+    }
+}
+
+fn missing_rings(
+    schema: &Schema,
+    rtype: RecordNo,
+    changes: &[Change],
+    held: &Held,
+) -> Option<CellName>
+    ensures { result ≡ first_missing held.now (flat_map (λ s. ring_names s (at held.now.guesses s)) (rekeyed_sets schema.now rtype (map (λ c. c.item) changes.now))) }
+{
+    for s in 0..set_count(schema) {
+        let name = missing_ring_of(schema, SetNo::new(s), rtype, changes, held);
+        if name.is_some() {
+            return name;
+        }
+    }
+    None
+}
+
+fn missing_extent(
+    schema: &Schema,
+    rtype: RecordNo,
+    changes: &[Change],
+    held: &Held,
+) -> Option<CellName>
+    ensures { result ≡ first_missing held.now (if names_calc schema.now rtype changes.now then CellName.Extent rtype ∷ [] else []) }
+{
+    if names_calc(schema, rtype, changes) {
+        missing(held, CellName::Extent(rtype))
+    } else {
+        None
+    }
+}
+
+/// The first cell that a MODIFY needs and that is not in hand.
+pub(crate) fn next_cell_of_modify(
+    schema: &Schema,
+    unit: &Unit,
+    rtype: RecordNo,
+    changes: &[Change],
+    held: &Held,
+) -> Option<CellName>
+    ensures { (capacity : ℕ) (db : Database) → result ≡ first_missing held.now (cells_of schema.now capacity db unit.now held.now.guesses (Modify rtype changes.now)) }
+{
+    let extent = missing_extent(schema, rtype, changes, held);
+    if extent.is_some() {
+        return extent;
+    }
+    let ring = missing_rings(schema, rtype, changes, held);
+    if ring.is_some() {
+        return ring;
+    }
+    missing_slot(held, unit.currency.run_unit)
+}
+
+fn set_item(items: &mut Vec<Value>, index: usize, value: Value)
+    ensures { items.new.items ≡ slice_set items.old.items index value }
+{
+    if index < items.len() {
+        items[index] = value;
+    }
+}
+
+fn copy_changed(
+    alloc: Global,
+    items: &Row<Value>,
+    changes: &[Change],
+) -> Result<Row<Value>, AllocError>
+    ensures { IfOk result (λ row. row ≡ changed_items changes.now items.now) }
+{
+    let mut copies = copy_items(items, alloc)?.into_vec();
+    for change in changes {
+        let value = change.value.copy(alloc)?;
+        set_item(&mut copies, change.item.index() as usize, value);
+    }
+    Ok(Row::of(copies))
+}
+
+// The items of a record in hand after the changes.
+fn changed(
+    alloc: Global,
+    held: &Held,
+    key: &DbKey,
+    changes: &[Change],
+) -> Result<Row<Value>, AllocError>
+    ensures { IfOk result (λ row. row ≡ changed_items changes.now (items_in held.now key.now)) }
+{
+    match stored(held, key) {
+        Some(stored) => copy_changed(alloc, &stored.items, changes),
+        None => copy_changed(alloc, &Row::of(Vec::new(alloc)), changes),
+    }
+}
+
+// The ring in hand of the owner of a record.
+fn ring_with<'a>(held: &'a Held, set: SetNo, key: &DbKey) -> Option<&'a Ring>
+    ensures there { is_some result ≡ is_some (own_occurrence held.now set key.now) }
+    ensures value { option_and_then (λ r. r.occurrence) (option_copied result) ≡ own_occurrence held.now set key.now }
+{
+    match owner_of(held, set, key) {
+        Some(owner) => occurrence(held, set, &owner),
+        None => None,
+    }
+}
+
+fn is_replaced(schema: &Schema, held: &Held, changes: &[Change], key: &DbKey, set: SetNo) -> bool
+    ensures { result ≡ is_replaced schema.now held.now changes.now key.now set }
+{
+    is_rekeyed_in(schema, set, key.rtype, changes) && ring_with(held, set, key).is_some()
+}
+
+fn refuses_equal(order: Order) -> bool
+    ensures { result ≡ refuses_equal order }
+{
+    match order {
+        Order::Sorted {
+            ascending: _,
+            duplicates: Duplicates::NotAllowed,
+        } => true,
+        _ => false,
+    }
+}
+
+fn position_in(schema: &Schema, unit: &Unit, set: SetNo) -> Option<DbKey>
+    ensures { result ≡ option_and_then (λ place. place.at) (place_in schema.now unit.now set) }
+{
+    match unit.place_in(schema, set) {
+        Some(place) => place.at,
+        None => None,
+    }
+}
+
+// With these items, does another member have the record's sort key in a set in which it is placed anew and equal keys are
+// refused?
+fn is_key_taken(
+    alloc: Global,
+    schema: &Schema,
+    held: &Held,
+    changes: &[Change],
+    key: &DbKey,
+    items: &[Value],
+    set: SetNo,
+) -> Result<bool, AllocError>
+    ensures { IfOk result (λ taken. taken ≡ sort_key_taken schema.now held.now changes.now key.now items.now set) }
+{
+    if !is_replaced(schema, held, changes, key, set) {
+        return Ok(false);
+    }
+    let Some(ring) = ring_with(held, set, key) else {
+        return Ok(false);
+    };
+    if !refuses_equal(schema.order_of(set)) {
+        return Ok(false);
+    }
+    let sort_key = copy_sort_key(alloc, schema, set, key.rtype, items)?;
+    Ok(ring.has_sort_key(&sort_key, Some(*key)))
+}
+
+fn is_any_key_taken(
+    alloc: Global,
+    schema: &Schema,
+    held: &Held,
+    changes: &[Change],
+    key: &DbKey,
+    items: &[Value],
+) -> Result<bool, AllocError>
+    ensures { IfOk result (λ taken. taken ≡ list_any (sort_key_taken schema.now held.now changes.now key.now items.now) (set_numbers schema.now)) }
+{
+    for s in 0..set_count(schema) {
+        if is_key_taken(alloc, schema, held, changes, key, items, SetNo::new(s))? {
+            return Ok(true);
+        }
+    }
+    Ok(false)
+}
+
+fn extent_refusal(schema: &Schema, extent: &Extent, key: &DbKey, items: &[Value]) -> Option<Cause>
+    ensures { result ≡ first_cause ((not (some_and is_used (entry_of key.now.number extent.now.numbers)), Cause.Deleted) ∷ (calc_taken_in schema.now extent.now.numbers key.now.rtype items.now (Some key.now.number), Cause.DuplicatesNotAllowed) ∷ []) }
+{
+    if !extent.is_live(key.number) {
+        return Some(Cause::Deleted);
+    }
+    if is_calc_taken(schema, extent, key.rtype, items, &Some(key.number)) {
+        return Some(Cause::DuplicatesNotAllowed);
+    }
+    None
+}
+
+// Why the new CALC values are refused, where one is named.
+fn calc_refusal(
+    schema: &Schema,
+    held: &Held,
+    changes: &[Change],
+    key: &DbKey,
+    items: &[Value],
+) -> Option<Cause>
+    ensures { result ≡ first_cause (calc_checks_in schema.now held.now changes.now key.now items.now) }
+{
+    if !names_calc(schema, key.rtype, changes) {
+        return None;
+    }
+    match numbers(held, key.rtype) {
+        Some(extent) => extent_refusal(schema, extent, key, items),
+        None => Some(Cause::Deleted),
+    }
+}
+
+fn refusal(
+    alloc: Global,
+    schema: &Schema,
+    unit: &Unit,
+    changes: &[Change],
+    held: &Held,
+    key: &DbKey,
+    items: &[Value],
+) -> Result<Option<Cause>, AllocError>
+    ensures { IfOk result (λ cause. cause ≡ first_cause (modify_checks_in schema.now held.now unit.now changes.now key.now items.now)) }
+{
+    let own = own_refusal(held, unit, key);
+    if own.is_some() {
+        return Ok(own);
+    }
+    let calc = calc_refusal(schema, held, changes, key, items);
+    if calc.is_some() {
+        return Ok(calc);
+    }
+    if is_any_key_taken(alloc, schema, held, changes, key, items)? {
+        return Ok(Some(Cause::DuplicatesNotAllowed));
+    }
+    Ok(None)
+}
+
+fn calc_edit(
+    alloc: Global,
+    schema: &Schema,
+    changes: &[Change],
+    key: &DbKey,
+    items: &[Value],
+) -> Result<Option<CellEdit>, AllocError>
+    ensures { IfOk result (λ edit. option_to_list edit ≡ calc_edits_in schema.now changes.now key.now items.now) }
+{
+    if !names_calc(schema, key.rtype, changes) {
+        return Ok(None);
+    }
+    let calc = copy_calc(alloc, schema, key.rtype, items)?;
+    Ok(Some(CellEdit {
+        name: CellName::Extent(key.rtype),
+        edit: Edit::ChangeNumber {
+            number: key.number,
+            calc,
+        },
+    }))
+}
+
+// The record placed anew in a set, where its key item there is named and it is connected.
+fn replacing_edit(
+    alloc: Global,
+    schema: &Schema,
+    unit: &Unit,
+    changes: &[Change],
+    held: &Held,
+    key: &DbKey,
+    items: &[Value],
+    set: SetNo,
+) -> Result<Option<CellEdit>, AllocError>
+    ensures { IfOk result (λ edit. option_to_list edit ≡ replacing_edits_in schema.now held.now unit.now changes.now key.now items.now set) }
+{
+    if !is_replaced(schema, held, changes, key, set) {
+        return Ok(None);
+    }
+    let Some(owner) = owner_of(held, set, key) else {
+        return Ok(None);
+    };
+    let sort_key = copy_sort_key(alloc, schema, set, key.rtype, items)?;
+    Ok(Some(CellEdit {
+        name: ring_name(set, &owner),
+        edit: Edit::ReplaceMember {
+            order: schema.order_of(set),
+            position: position_in(schema, unit, set),
+            key: *key,
+            sort_key,
+        },
+    }))
+}
+
+fn push_some(edits: &mut Vec<CellEdit>, edit: Option<CellEdit>) -> Result<(), AllocError>
+    ensures { IfOk result (λ _. edits.new.items ≡ edits.old.items ++ option_to_list edit) }
+{
+    match edit {
+        Some(edit) => {
+            edits.push(edit)?;
+            Ok(())
+        }
+        None => Ok(()),
+    }
+}
+
+fn push_replacing(
+    edits: &mut Vec<CellEdit>,
+    alloc: Global,
+    schema: &Schema,
+    unit: &Unit,
+    changes: &[Change],
+    held: &Held,
+    key: &DbKey,
+    items: &[Value],
+) -> Result<(), AllocError>
+    ensures { IfOk result (λ _. edits.new.items ≡ edits.old.items ++ flat_map (replacing_edits_in schema.now held.now unit.now changes.now key.now items.now) (set_numbers schema.now)) }
+{
+    for s in 0..set_count(schema) {
+        let set = SetNo::new(s);
+        let edit = replacing_edit(alloc, schema, unit, changes, held, key, items, set)?;
+        push_some(edits, edit)?;
+    }
+    Ok(())
+}
+
+fn push_slot(edits: &mut Vec<CellEdit>, key: &DbKey, items: Row<Value>) -> Result<(), AllocError>
+    ensures { IfOk result (λ _. edits.new.items ≡ edits.old.items ++ slot_edit key.now (Edit.ChangeItems items) ∷ (slot_edit key.now Edit.RaiseVersion ∷ [])) }
+{
+    edits.push(slot_edit(key, Edit::ChangeItems { items }))?;
+    edits.push(slot_edit(key, Edit::RaiseVersion))?;
+    Ok(())
+}
+
+fn edits_of(
+    alloc: Global,
+    schema: &Schema,
+    unit: &Unit,
+    changes: &[Change],
+    held: &Held,
+    key: &DbKey,
+    items: Row<Value>,
+) -> Result<Row<CellEdit>, AllocError>
+    ensures { IfOk result (λ edits. edits ≡ modify_edits_in schema.now held.now unit.now changes.now key.now items) }
+{
+    let mut edits = Vec::new(alloc);
+    let calc = calc_edit(alloc, schema, changes, key, items.as_slice())?;
+    push_some(&mut edits, calc)?;
+    push_replacing(
+        &mut edits,
+        alloc,
+        schema,
+        unit,
+        changes,
+        held,
+        key,
+        items.as_slice(),
+    )?;
+    push_slot(&mut edits, key, items)?;
+    Ok(Row::of(edits))
+}
+
+fn modified(
+    alloc: Global,
+    schema: &Schema,
+    unit: &Unit,
+    changes: &[Change],
+    held: &Held,
+    key: &DbKey,
+    items: Row<Value>,
+) -> Result<Prepared, AllocError>
+    requires { HaveNextVersions held.now.cells }
+    ensures { IfOk result (λ plan. plan ≡ modified_plan schema.now held.now unit.now changes.now key.now items) }
+{
+    let edits = edits_of(alloc, schema, unit, changes, held, key, items)?;
+    let mut versions = Vec::new(alloc);
+    versions.push((*key, next_version(held, key)))?;
+    let answer = Answer {
+        status: Status::Done,
+        key: None,
+        items: None,
+    };
+    Ok(Prepared::new(answer, edits, Row::of(versions), UnitEdit::Same))
+}
+
+fn plan_of(
+    alloc: Global,
+    schema: &Schema,
+    unit: &Unit,
+    changes: &[Change],
+    held: &Held,
+) -> Result<Prepared, AllocError>
+    requires { HaveNextVersions held.now.cells }
+    ensures { IfOk result (λ plan. plan ≡ modify_plan schema.now held.now unit.now changes.now) }
+{
+    let Some(key) = unit.currency.run_unit else {
+        return Ok(refused(alloc, Cause::NoCurrentOfRunUnit));
+    };
+    let items = changed(alloc, held, &key, changes)?;
+    match refusal(alloc, schema, unit, changes, held, &key, items.as_slice())? {
+        Some(cause) => Ok(refused(alloc, cause)),
+        None => modified(alloc, schema, unit, changes, held, &key, items),
+    }
+}
+
+/// What a MODIFY does that needs nothing more: the CALC values where one is named, the places in sets that are sorted by an
+/// item that is named, the items, the version.
+#[tactic(auto, using(crate::proofs::ModifyReady::modify_can_finish))]
+pub(crate) fn prepare_modify(
+    alloc: Global,
+    schema: &Schema,
+    capacity: u16,
+    unit: &Unit,
+    rtype: RecordNo,
+    changes: &[Change],
+    held: &Held,
+) -> Result<Prepared, AllocError>
+    requires may { MayPrepare schema.now capacity unit.now held.now (Modify rtype changes.now) }
+    requires passes { refused_at_once schema.now capacity unit.now (Modify rtype changes.now) ≡ None }
+    ensures { IfOk result (λ plan. CanFinish schema.now capacity unit.now held.now (Modify rtype changes.now) plan) }
+{
+    let _ = (rtype, capacity);
+    plan_of(alloc, schema, unit, changes, held)
+}

@@ -1,0 +1,82 @@
+//! What a statement needs next: its areas in order, then its cells in order, then other guesses where the record in hand shows
+//! them to be wrong. Nothing here takes memory.
+ghost use Rattle.std.specs.Prelude.{◌≡◌, true, false};
+ghost use Rattle.dbtg_unit.specs.Base.{Database};
+ghost use Rattle.dbtg_unit.specs.Belongs.{IsUnitOf, IsWithin};
+ghost use Rattle.dbtg_unit.specs.EditsOf.{is_delete};
+ghost use Rattle.dbtg_unit.specs.Fits.{fits};
+ghost use Rattle.dbtg_unit.specs.Local.{Agrees};
+ghost use Rattle.dbtg_unit.specs.Needs.{cells_of, need};
+ghost use Rattle.dbtg_plan.specs.Missing.{first_missing};
+
+use crate::finding::next_cell_of_find;
+use crate::inserting::next_cell_of_insert;
+use crate::missing::{missing, missing_slot};
+use crate::modifying::next_cell_of_modify;
+use crate::removing::next_cell_of_remove;
+use crate::stale::need_of_guesses;
+use crate::storing::next_cell_of_store;
+use dbtg_cells::CellName;
+use dbtg_schema::Schema;
+use dbtg_unit::{Held, Need, Statement, Unit, next_area, refused_at_once};
+
+// The first of a statement's cells that is not in hand.
+fn next_cell(
+    schema: &Schema,
+    capacity: u16,
+    unit: &Unit,
+    statement: &Statement,
+    held: &Held,
+) -> Option<CellName>
+    requires fits { fits schema.now statement.now ≡ true }
+    requires of_schema { IsUnitOf schema.now unit.now }
+    requires within { IsWithin capacity unit.now }
+    requires other { is_delete statement.now ≡ false }
+    ensures { (db : Database) → Agrees schema.now capacity db held.now unit.now → result ≡ first_missing held.now (cells_of schema.now capacity db unit.now held.now.guesses statement.now) }
+{
+    match statement {
+        Statement::OpenArea { area, mode: _ } => missing(held, CellName::Usage(*area)),
+        Statement::CloseArea(area) => missing(held, CellName::Usage(*area)),
+        Statement::Find(form, _) => next_cell_of_find(schema, capacity, unit, form, held),
+        Statement::Get(_) => missing_slot(held, unit.currency.run_unit),
+        Statement::Store {
+            rtype,
+            items,
+            suppress: _,
+        } => next_cell_of_store(schema, capacity, unit, *rtype, items, held),
+        Statement::Insert(set) => next_cell_of_insert(schema, unit, *set, held),
+        Statement::Remove(set) => next_cell_of_remove(schema, unit, *set, held),
+        Statement::Modify { rtype, changes } => {
+            next_cell_of_modify(schema, unit, *rtype, changes.as_slice(), held)
+        }
+        Statement::Keep => missing_slot(held, unit.currency.run_unit),
+        Statement::Delete(_) => None,
+        Statement::Free { all: _ } => None,
+    }
+}
+
+/// What a statement other than DELETE needs next, on every database of which these cells may be in hand.
+pub fn next_need(
+    schema: &Schema,
+    capacity: u16,
+    unit: &Unit,
+    statement: &Statement,
+    held: &Held,
+) -> Need
+    requires fits { fits schema.now statement.now ≡ true }
+    requires of_schema { IsUnitOf schema.now unit.now }
+    requires within { IsWithin capacity unit.now }
+    requires other { is_delete statement.now ≡ false }
+    ensures { (db : Database) → Agrees schema.now capacity db held.now unit.now → result ≡ need schema.now capacity db unit.now held.now statement.now }
+{
+    match refused_at_once(schema, capacity, unit, statement) {
+        Some(_cause) => Need::Ready,
+        None => match next_area(schema, unit, statement, held) {
+            Some(area) => Need::Area(area),
+            None => match next_cell(schema, capacity, unit, statement, held) {
+                Some(name) => Need::Take(name),
+                None => need_of_guesses(schema, unit, statement, held),
+            },
+        },
+    }
+}

@@ -1,0 +1,103 @@
+//! OPEN and CLOSE: what is done with the usage cell of an area.
+ghost use Rattle.std.specs.Prelude.{◌≡◌, ◌||◌, IfOk, None};
+ghost use Rattle.std.specs.List.{list_any};
+ghost use Rattle.dbtg_unit.specs.Checks.{refused_at_once};
+ghost use Rattle.dbtg_unit.specs.Effect.{conflict};
+ghost use Rattle.dbtg_unit.specs.InHand.{users_in};
+ghost use Rattle.dbtg_unit.specs.Making.{CanFinish, MayPrepare, ShowsTheSame};
+ghost use Rattle.dbtg_plan.specs.Missing.{is_missing};
+ghost use Rattle.dbtg_plan.specs.Opening.{close_plan, mode_plan, open_plan};
+
+use crate::missing::is_missing;
+use crate::outcomes::refused;
+use dbtg_cells::{CellName, Mode};
+use dbtg_schema::{AreaNo, Row, Schema};
+use dbtg_unit::{
+    Answer, Cause, CellEdit, Edit, Held, Prepared, Statement, Status, Unit, UnitEdit, reserve_user,
+    usage,
+};
+use std::alloc::{AllocError, Global};
+
+fn conflicts(held: &Held, area: AreaNo, mode: Mode) -> bool
+    ensures { result ≡ list_any (λ e. conflict e.1 mode) (users_in held.now area) }
+{
+    match usage(held, area) {
+        Some(usage) => usage.conflicts_with(mode),
+        None => false,
+    }
+}
+
+// Can it not be opened in this mode?
+fn is_closed_to(held: &Held, area: AreaNo, mode: Mode) -> bool
+    ensures { result ≡ (is_missing held.now (CellName.Usage area) || list_any (λ e. conflict e.1 mode) (users_in held.now area)) }
+{
+    is_missing(held, &CellName::Usage(area)) || conflicts(held, area, mode)
+}
+
+fn set_mode(
+    alloc: Global,
+    area: AreaNo,
+    edit: Edit,
+    mode: Option<Mode>,
+) -> Result<Prepared, AllocError>
+    ensures { IfOk result (λ plan. plan ≡ mode_plan area edit mode) }
+{
+    let answer = Answer {
+        status: Status::Done,
+        key: None,
+        items: None,
+    };
+    let mut edits = Vec::new(alloc);
+    edits.push(CellEdit {
+        name: CellName::Usage(area),
+        edit,
+    })?;
+    let change = UnitEdit::SetMode { area, mode };
+    Ok(Prepared::new(answer, Row::of(edits), Row::of(Vec::new(alloc)), change))
+}
+
+/// OPEN of an area in a mode.
+pub(crate) fn prepare_open(
+    alloc: Global,
+    schema: &Schema,
+    capacity: u16,
+    unit: &Unit,
+    area: AreaNo,
+    mode: Mode,
+    held: &mut Held,
+) -> Result<Prepared, AllocError>
+    requires may { MayPrepare schema.now capacity unit.now held.old (Statement.OpenArea area mode) }
+    requires passes { refused_at_once schema.now capacity unit.now (Statement.OpenArea area mode) ≡ None }
+    ensures shows { ShowsTheSame held.old held.new }
+    ensures prepared { IfOk result (λ plan. CanFinish schema.now capacity unit.now held.new (Statement.OpenArea area mode) plan) }
+{
+    if is_closed_to(held, area, mode) {
+        return Ok(refused(alloc, Cause::UsageConflict));
+    }
+    reserve_user(held, &CellName::Usage(area))?;
+    let edit = Edit::EnterUser {
+        unit: unit.number,
+        mode,
+    };
+    set_mode(alloc, area, edit, Some(mode))
+}
+
+/// CLOSE of an area.
+pub(crate) fn prepare_close(
+    alloc: Global,
+    schema: &Schema,
+    capacity: u16,
+    unit: &Unit,
+    area: AreaNo,
+    held: &Held,
+) -> Result<Prepared, AllocError>
+    requires may { MayPrepare schema.now capacity unit.now held.now (Statement.CloseArea area) }
+    requires passes { refused_at_once schema.now capacity unit.now (Statement.CloseArea area) ≡ None }
+    ensures { IfOk result (λ plan. CanFinish schema.now capacity unit.now held.now (Statement.CloseArea area) plan) }
+{
+    if is_missing(held, &CellName::Usage(area)) {
+        return Ok(refused(alloc, Cause::AreaNotOpen));
+    }
+    let edit = Edit::LeaveUser { unit: unit.number };
+    set_mode(alloc, area, edit, None)
+}

@@ -1,0 +1,69 @@
+//! What a statement prepares once it needs nothing more: its answer and its changes, with room for all of them.
+ghost use Rattle.std.specs.Prelude.{◌≡◌, false, IfOk};
+ghost use Rattle.dbtg_unit.specs.EditsOf.{is_delete};
+ghost use Rattle.dbtg_unit.specs.Making.{CanFinish, MayPrepare, ShowsTheSame};
+
+use crate::finding::prepare_find;
+use crate::inserting::prepare_insert;
+use crate::keeping::{prepare_free, prepare_get, prepare_keep};
+use crate::modifying::prepare_modify;
+use crate::opening::{prepare_close, prepare_open};
+use crate::outcomes::refused;
+use crate::removing::prepare_remove;
+use crate::storing::prepare_store;
+use dbtg_schema::Schema;
+use dbtg_unit::{Cause, Held, Prepared, Statement, Unit, refused_at_once};
+use std::alloc::{AllocError, Global};
+
+/// Prepares a statement other than DELETE that needs nothing more: makes room for what it adds to the cells in hand, which show
+/// what they did, and fixes its answer and its changes. Where no memory is found, only room was made.
+pub fn prepare(
+    alloc: Global,
+    schema: &Schema,
+    capacity: u16,
+    unit: &Unit,
+    statement: &Statement,
+    held: &mut Held,
+) -> Result<Prepared, AllocError>
+    requires may { MayPrepare schema.now capacity unit.now held.old statement.now }
+    requires other { is_delete statement.now ≡ false }
+    ensures shows { ShowsTheSame held.old held.new }
+    ensures prepared { IfOk result (λ plan. CanFinish schema.now capacity unit.now held.new statement.now plan) }
+{
+    if let Some(cause) = refused_at_once(schema, capacity, unit, statement) {
+        return Ok(refused(alloc, cause));
+    }
+    match statement {
+        Statement::OpenArea { area, mode } => {
+            prepare_open(alloc, schema, capacity, unit, *area, *mode, held)
+        }
+        Statement::CloseArea(area) => prepare_close(alloc, schema, capacity, unit, *area, held),
+        Statement::Get(rtype) => prepare_get(alloc, schema, capacity, unit, *rtype, held),
+        Statement::Insert(set) => prepare_insert(alloc, schema, capacity, unit, *set, held),
+        Statement::Remove(set) => prepare_remove(alloc, schema, capacity, unit, *set, held),
+        Statement::Modify { rtype, changes } => {
+            prepare_modify(
+                alloc,
+                schema,
+                capacity,
+                unit,
+                *rtype,
+                changes.as_slice(),
+                held,
+            )
+        }
+        Statement::Keep => prepare_keep(alloc, schema, capacity, unit, held),
+        Statement::Free { all } => Ok(prepare_free(alloc, schema, capacity, unit, *all, held)),
+        Statement::Find(form, suppress) => {
+            Ok(prepare_find(alloc, schema, capacity, unit, form, suppress, held))
+        }
+        Statement::Store {
+            rtype,
+            items,
+            suppress,
+        } => prepare_store(
+            alloc, schema, capacity, unit, *rtype, items, *suppress, held,
+        ),
+        Statement::Delete(_) => Ok(refused(alloc, Cause::Deleted)),
+    }
+}

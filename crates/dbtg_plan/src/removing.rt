@@ -1,0 +1,137 @@
+//! REMOVE: what it needs next, and what it does once it needs nothing more.
+ghost use Rattle.std.specs.Prelude.{◌≡◌, ℕ, [], ◌∷◌, ◌++◌, None, is_some, IfOk};
+ghost use Rattle.dbtg_schema.specs.Lookups.{first_cause};
+ghost use Rattle.dbtg_unit.specs.declared.statement.Statement.TheVariants.{Remove};
+ghost use Rattle.dbtg_unit.specs.Base.{Database};
+ghost use Rattle.dbtg_unit.specs.Checks.{refused_at_once};
+ghost use Rattle.dbtg_unit.specs.EditsOf.{ring_edits, slot_edit};
+ghost use Rattle.dbtg_unit.specs.InHand.{owner_in};
+ghost use Rattle.dbtg_unit.specs.Making.{CanFinish, HaveNextVersions, MayPrepare};
+ghost use Rattle.dbtg_unit.specs.Needs.{cells_of};
+ghost use Rattle.dbtg_plan.specs.Missing.{first_missing};
+ghost use Rattle.dbtg_plan.specs.Removing.{own_occurrence, remove_checks_in, removing};
+
+use crate::members::{next_version, owner_of, ring_name, slot_edit};
+use crate::missing::{missing_ring, missing_slot};
+use crate::outcomes::refused;
+use dbtg_cells::{CellName, DbKey, Owner};
+use dbtg_schema::{Row, Schema, SetNo};
+use dbtg_unit::{
+    Answer, Cause, CellEdit, Edit, Held, Prepared, Status, Unit, UnitEdit, occurrence, own_refusal,
+};
+use std::alloc::{AllocError, Global};
+
+/// The first cell that a REMOVE needs and that is not in hand.
+pub(crate) fn next_cell_of_remove(
+    schema: &Schema,
+    unit: &Unit,
+    set: SetNo,
+    held: &Held,
+) -> Option<CellName>
+    ensures { (capacity : ℕ) (db : Database) → result ≡ first_missing held.now (cells_of schema.now capacity db unit.now held.now.guesses (Remove set)) }
+{
+    let _ = schema;
+    let ring = missing_ring(held, set, held.guess(set));
+    if ring.is_some() {
+        return ring;
+    }
+    missing_slot(held, unit.currency.run_unit)
+}
+
+// Is the occurrence of the record's own owner in hand?
+fn is_member(held: &Held, set: SetNo, key: &DbKey) -> bool
+    ensures { result ≡ is_some (own_occurrence held.now set key.now) }
+{
+    match owner_of(held, set, key) {
+        Some(owner) => occurrence(held, set, &owner).is_some(),
+        None => false,
+    }
+}
+
+// Why the record is not removed.
+fn refusal(unit: &Unit, set: SetNo, held: &Held, key: &DbKey) -> Option<Cause>
+    ensures { result ≡ first_cause (remove_checks_in unit.now held.now set key.now) }
+{
+    let own = own_refusal(held, unit, key);
+    if own.is_some() {
+        return own;
+    }
+    if is_member(held, set, key) {
+        None
+    } else {
+        Some(Cause::NotMember)
+    }
+}
+
+// Out of the ring of its owner, where it has one.
+fn push_taking_out(
+    edits: &mut Vec<CellEdit>,
+    set: SetNo,
+    owner: Option<Owner>,
+    key: &DbKey,
+) -> Result<(), AllocError>
+    ensures { IfOk result (λ _. edits.new.items ≡ edits.old.items ++ ring_edits set owner (Edit.TakeOut key.now ∷ [])) }
+{
+    if let Some(owner) = owner {
+        edits.push(CellEdit {
+            name: ring_name(set, &owner),
+            edit: Edit::TakeOut { key: *key },
+        })?;
+    }
+    Ok(())
+}
+
+// Out of the ring, its owner, its version.
+fn edits_of(
+    alloc: Global,
+    set: SetNo,
+    owner: Option<Owner>,
+    key: &DbKey,
+) -> Result<Row<CellEdit>, AllocError>
+    ensures { IfOk result (λ edits. edits ≡ ring_edits set owner (Edit.TakeOut key.now ∷ []) ++ slot_edit key.now (Edit.ChangeOwner set None) ∷ slot_edit key.now Edit.RaiseVersion ∷ []) }
+{
+    let mut edits = Vec::new(alloc);
+    push_taking_out(&mut edits, set, owner, key)?;
+    edits.push(slot_edit(key, Edit::ChangeOwner { set, owner: None }))?;
+    edits.push(slot_edit(key, Edit::RaiseVersion))?;
+    Ok(Row::of(edits))
+}
+
+fn removed(alloc: Global, set: SetNo, held: &Held, key: &DbKey) -> Result<Prepared, AllocError>
+    requires { HaveNextVersions held.now.cells }
+    ensures { IfOk result (λ plan. plan ≡ removing held.now set key.now) }
+{
+    let edits = edits_of(alloc, set, owner_of(held, set, key), key)?;
+    let mut versions = Vec::new(alloc);
+    versions.push((*key, next_version(held, key)))?;
+    let answer = Answer {
+        status: Status::Done,
+        key: None,
+        items: None,
+    };
+    Ok(Prepared::new(answer, edits, Row::of(versions), UnitEdit::Leave { set }))
+}
+
+/// What a REMOVE does that needs nothing more: out of the list of its owner, no owner there, the version.
+pub(crate) fn prepare_remove(
+    alloc: Global,
+    schema: &Schema,
+    capacity: u16,
+    unit: &Unit,
+    set: SetNo,
+    held: &Held,
+) -> Result<Prepared, AllocError>
+    requires may { MayPrepare schema.now capacity unit.now held.now (Remove set) }
+    requires passes { refused_at_once schema.now capacity unit.now (Remove set) ≡ None }
+    ensures { IfOk result (λ plan. CanFinish schema.now capacity unit.now held.now (Remove set) plan) }
+{
+    let _ = schema;
+    let _ = capacity;
+    let Some(key) = unit.currency.run_unit else {
+        return Ok(refused(alloc, Cause::NoCurrentOfRunUnit));
+    };
+    match refusal(unit, set, held, &key) {
+        Some(cause) => Ok(refused(alloc, cause)),
+        None => removed(alloc, set, held, &key),
+    }
+}

@@ -1,0 +1,481 @@
+//! STORE: what it needs next, and what it does once it needs nothing more.
+ghost use Rattle.std.specs.Prelude.{◌≡◌, ℕ, ◌==◌, ◌++◌, [], ◌∷◌, is_none, if◌then◌else◌, IfOk, OnOk};
+ghost use Rattle.std.specs.List.{flat_map, list_any};
+ghost use Rattle.dbtg_cells.specs.declared.key.DbKey.{DbKey};
+ghost use Rattle.dbtg_schema.specs.Lookups.{first_cause};
+ghost use Rattle.dbtg_schema.specs.Structure.{automatic_sets, owns, set_numbers};
+ghost use Rattle.dbtg_unit.specs.declared.statement.Statement.TheVariants.{Store};
+ghost use Rattle.dbtg_unit.specs.Base.{Database, key_item};
+ghost use Rattle.dbtg_unit.specs.CellNames.{place_of};
+ghost use Rattle.dbtg_unit.specs.Checks.{refused_at_once};
+ghost use Rattle.dbtg_unit.specs.EditsOf.{first_owners, joining_edits, slot_edit, store_edits};
+ghost use Rattle.dbtg_unit.specs.InHand.{numbers_in};
+ghost use Rattle.dbtg_unit.specs.Local.{Agrees};
+ghost use Rattle.dbtg_unit.specs.Making.{CanFinish, MayPrepare, ShowsTheSame};
+ghost use Rattle.dbtg_unit.specs.Needs.{cells_of, current_owner, ring_names, store_rings};
+ghost use Rattle.dbtg_unit.specs.Reserving.{KeepsOthers};
+ghost use Rattle.dbtg_unit.specs.Units.{place_in};
+ghost use Rattle.dbtg_plan.specs.Calc.{calc_taken_in, fresh_key};
+ghost use Rattle.dbtg_plan.specs.Joining.{joined_place, place_checks_in};
+ghost use Rattle.dbtg_plan.specs.Missing.{first_missing};
+ghost use Rattle.dbtg_plan.specs.Plans.{unless_refusal};
+ghost use Rattle.dbtg_plan.specs.Store.{HasRoom, first_owner, join_checks, joins_of, missing_of_store, openings_of, store_checks_in, store_plan, store_rings_in, stored_plan};
+
+use crate::calc::{copy_calc, fresh_key, is_calc_taken};
+use crate::joining::{current_owner, joining_edit, make_room, place_refusal};
+use crate::members::{copy_sort_key, slot_edit};
+use crate::missing::{missing, missing_ring, missing_slot};
+use crate::outcomes::refused;
+use dbtg_cells::{CellName, DbKey, Owner, Value, copy_items};
+use dbtg_schema::{RecordNo, Row, Schema, SetNo};
+use dbtg_unit::{
+    Answer, Cause, CellEdit, Edit, Held, Owners, Prepared, Status, Suppress, Unit, UnitEdit,
+    is_automatic_in, numbers, set_count,
+};
+use std::alloc::{AllocError, Global};
+
+// Does STORE connect a record of this type in the set?
+#[tactic(auto, using(crate::proofs::StoreSteps::connected))]
+fn connects(schema: &Schema, set: SetNo, rtype: RecordNo) -> bool
+    ensures { result ≡ list_any (λ s. s == set) (automatic_sets schema.now rtype) }
+{
+    is_automatic_in(schema, set, rtype)
+}
+
+// WHAT IT NEEDS
+
+fn missing_joined(
+    schema: &Schema,
+    unit: &Unit,
+    held: &Held,
+    key: &DbKey,
+    set: SetNo,
+) -> Option<CellName>
+    ensures { result ≡ first_missing held.now (if list_any (λ s. s == set) (automatic_sets schema.now key.now.rtype) then ring_names set (current_owner schema.now unit.now set) else []) }
+{
+    if connects(schema, set, key.rtype) {
+        missing_ring(held, set, current_owner(schema, unit, set))
+    } else {
+        None
+    }
+}
+
+fn missing_own(schema: &Schema, held: &Held, key: &DbKey, set: SetNo) -> Option<CellName>
+    ensures { result ≡ first_missing held.now (if owns schema.now set key.now.rtype then CellName.Ring set (Some (key.now.rtype, key.now.number)) ∷ [] else []) }
+{
+    if schema.owns(set, key.rtype) {
+        missing(held, CellName::Ring(set, Some((key.rtype, key.number))))
+    } else {
+        None
+    }
+}
+
+fn missing_in_set(
+    schema: &Schema,
+    unit: &Unit,
+    held: &Held,
+    key: &DbKey,
+    set: SetNo,
+) -> Option<CellName>
+    ensures { result ≡ first_missing held.now (store_rings_in schema.now unit.now key.now set) }
+{
+    let joined = missing_joined(schema, unit, held, key, set);
+    if joined.is_some() {
+        return joined;
+    }
+    missing_own(schema, held, key, set)
+}
+
+fn missing_in_sets(schema: &Schema, unit: &Unit, held: &Held, key: &DbKey) -> Option<CellName>
+    ensures { result ≡ first_missing held.now (store_rings schema.now unit.now key.now) }
+{
+    for s in 0..set_count(schema) {
+        let set = SetNo::new(s);
+        let name = missing_in_set(schema, unit, held, key, set);
+        if name.is_some() {
+            return name;
+        }
+    }
+    None
+}
+
+fn missing_of_key(schema: &Schema, unit: &Unit, held: &Held, key: &DbKey) -> Option<CellName>
+    ensures { result ≡ first_missing held.now (store_rings schema.now unit.now key.now ++ CellName.Slot key.now.rtype key.now.number ∷ []) }
+{
+    let ring = missing_in_sets(schema, unit, held, key);
+    if ring.is_some() {
+        return ring;
+    }
+    missing_slot(held, Some(*key))
+}
+
+// The key of the new record.
+fn new_key(held: &Held, rtype: RecordNo) -> Option<DbKey>
+    ensures { result ≡ fresh_key (numbers_in held.now rtype) rtype }
+{
+    match numbers(held, rtype) {
+        Some(extent) => fresh_key(extent, rtype),
+        None => None,
+    }
+}
+
+#[tactic(auto, using(crate::proofs::StoreSteps::none_taken))]
+fn is_taken(schema: &Schema, held: &Held, rtype: RecordNo, items: &[Value]) -> bool
+    ensures { result ≡ calc_taken_in schema.now (numbers_in held.now rtype) rtype items.now None }
+{
+    match numbers(held, rtype) {
+        Some(extent) => is_calc_taken(schema, extent, rtype, items, &None),
+        None => false,
+    }
+}
+
+fn missing_cell(
+    schema: &Schema,
+    unit: &Unit,
+    rtype: RecordNo,
+    items: &[Value],
+    held: &Held,
+) -> Option<CellName>
+    ensures { result ≡ missing_of_store schema.now unit.now held.now rtype items.now }
+{
+    let extent = missing(held, CellName::Extent(rtype));
+    if extent.is_some() {
+        return extent;
+    }
+    match new_key(held, rtype) {
+        Some(key) => {
+            if is_taken(schema, held, rtype, items) {
+                None
+            } else {
+                missing_of_key(schema, unit, held, &key)
+            }
+        }
+        None => None,
+    }
+}
+
+/// The first cell that a STORE needs and that is not in hand.
+pub(crate) fn next_cell_of_store(
+    schema: &Schema,
+    capacity: u16,
+    unit: &Unit,
+    rtype: RecordNo,
+    items: &Row<Value>,
+    held: &Held,
+) -> Option<CellName>
+    ensures { (db : Database) (suppress : Suppress) → Agrees schema.now capacity db held.now unit.now → result ≡ first_missing held.now (cells_of schema.now capacity db unit.now held.now.guesses (Store rtype items.now suppress)) }
+{
+    let _ = capacity;
+    missing_cell(schema, unit, rtype, items.as_slice(), held)
+}
+
+// WHY IT IS REFUSED
+
+fn refusal_in_set(
+    alloc: Global,
+    schema: &Schema,
+    unit: &Unit,
+    held: &Held,
+    rtype: RecordNo,
+    items: &[Value],
+    set: SetNo,
+) -> Result<Option<Cause>, AllocError>
+    ensures { IfOk result (λ cause. cause ≡ first_cause (join_checks schema.now unit.now held.now rtype items.now set)) }
+{
+    if !connects(schema, set, rtype) {
+        return Ok(None);
+    }
+    let sort_key = copy_sort_key(alloc, schema, set, rtype, items)?;
+    Ok(place_refusal(schema, unit, held, set, &sort_key))
+}
+
+fn refusal_in_sets(
+    alloc: Global,
+    schema: &Schema,
+    unit: &Unit,
+    held: &Held,
+    rtype: RecordNo,
+    items: &[Value],
+) -> Result<Option<Cause>, AllocError>
+    ensures { IfOk result (λ cause. cause ≡ first_cause (flat_map (λ s. place_checks_in schema.now unit.now held.now s (key_item schema.now s rtype items.now)) (automatic_sets schema.now rtype))) }
+{
+    for s in 0..set_count(schema) {
+        let set = SetNo::new(s);
+        let cause = refusal_in_set(alloc, schema, unit, held, rtype, items, set)?;
+        if cause.is_some() {
+            return Ok(cause);
+        }
+    }
+    Ok(None)
+}
+
+fn refusal(
+    alloc: Global,
+    schema: &Schema,
+    unit: &Unit,
+    held: &Held,
+    rtype: RecordNo,
+    items: &[Value],
+) -> Result<Option<Cause>, AllocError>
+    ensures { IfOk result (λ cause. cause ≡ first_cause (store_checks_in schema.now unit.now held.now rtype items.now)) }
+{
+    if is_taken(schema, held, rtype, items) {
+        return Ok(Some(Cause::DuplicatesNotAllowed));
+    }
+    refusal_in_sets(alloc, schema, unit, held, rtype, items)
+}
+
+// ITS EDITS
+
+fn push_join(
+    alloc: Global,
+    schema: &Schema,
+    unit: &Unit,
+    key: &DbKey,
+    items: &[Value],
+    set: SetNo,
+    edits: &mut Vec<CellEdit>,
+) -> Result<(), AllocError>
+    ensures { OnOk result (edits.new.items ≡ edits.old.items ++ joins_of schema.now unit.now key.now items.now set) }
+{
+    if !connects(schema, set, key.rtype) {
+        return Ok(());
+    }
+    if unit.place_in(schema, set).is_none() {
+        return Ok(());
+    }
+    let sort_key = copy_sort_key(alloc, schema, set, key.rtype, items)?;
+    edits.push(joining_edit(schema, unit, set, key, sort_key))?;
+    Ok(())
+}
+
+fn push_joins(
+    alloc: Global,
+    schema: &Schema,
+    unit: &Unit,
+    key: &DbKey,
+    items: &[Value],
+    edits: &mut Vec<CellEdit>,
+) -> Result<(), AllocError>
+    ensures { OnOk result (edits.new.items ≡ edits.old.items ++ flat_map (λ s. joining_edits schema.now unit.now s key.now (key_item schema.now s key.now.rtype items.now)) (automatic_sets schema.now key.now.rtype)) }
+{
+    for s in 0..set_count(schema) {
+        push_join(alloc, schema, unit, key, items, SetNo::new(s), edits)?;
+    }
+    Ok(())
+}
+
+fn push_opening(
+    schema: &Schema,
+    key: &DbKey,
+    set: SetNo,
+    edits: &mut Vec<CellEdit>,
+) -> Result<(), AllocError>
+    ensures { OnOk result (edits.new.items ≡ edits.old.items ++ openings_of schema.now key.now set) }
+{
+    if !schema.owns(set, key.rtype) {
+        return Ok(());
+    }
+    edits.push(CellEdit {
+        name: CellName::Ring(set, Some((key.rtype, key.number))),
+        edit: Edit::OpenRing {
+            owner: Owner::Rec(*key),
+        },
+    })?;
+    Ok(())
+}
+
+fn push_openings(schema: &Schema, key: &DbKey, edits: &mut Vec<CellEdit>) -> Result<(), AllocError>
+    ensures { OnOk result (edits.new.items ≡ edits.old.items ++ flat_map (openings_of schema.now key.now) (set_numbers schema.now)) }
+{
+    for s in 0..set_count(schema) {
+        push_opening(schema, key, SetNo::new(s), edits)?;
+    }
+    Ok(())
+}
+
+fn first_owner(schema: &Schema, unit: &Unit, rtype: RecordNo, set: SetNo) -> Option<Owner>
+    ensures { result ≡ first_owner schema.now unit.now rtype set }
+{
+    if connects(schema, set, rtype) {
+        current_owner(schema, unit, set)
+    } else {
+        None
+    }
+}
+
+fn first_owners(schema: &Schema, unit: &Unit, rtype: RecordNo) -> Owners
+    ensures { result ≡ first_owners schema.now unit.now rtype }
+{
+    let mut owners = Owners::none(schema.sets().len());
+    for s in 0..set_count(schema) {
+        let owner = first_owner(schema, unit, rtype, SetNo::new(s));
+        owners.set(s as usize, owner);
+    }
+    owners
+}
+
+fn filling(
+    alloc: Global,
+    schema: &Schema,
+    unit: &Unit,
+    key: &DbKey,
+    items: &Row<Value>,
+) -> Result<CellEdit, AllocError>
+    ensures { IfOk result (λ edit. edit ≡ slot_edit key.now (Edit.Fill key.now.generation items.now (first_owners schema.now unit.now key.now.rtype))) }
+{
+    let owners = first_owners(schema, unit, key.rtype);
+    let owners = Row::of(Vec::from_slice(alloc, owners.as_slice())?);
+    let items = copy_items(items, alloc)?;
+    Ok(slot_edit(
+        key,
+        Edit::Fill {
+            generation: key.generation,
+            items,
+            owners,
+        },
+    ))
+}
+
+fn edits_of(
+    alloc: Global,
+    schema: &Schema,
+    unit: &Unit,
+    key: &DbKey,
+    items: &Row<Value>,
+) -> Result<Row<CellEdit>, AllocError>
+    ensures { IfOk result (λ edits. edits ≡ store_edits schema.now unit.now key.now items.now) }
+{
+    let calc = copy_calc(alloc, schema, key.rtype, items.as_slice())?;
+    let mut edits = Vec::new(alloc);
+    edits.push(CellEdit {
+        name: CellName::Extent(key.rtype),
+        edit: Edit::EnterNumber {
+            number: key.number,
+            calc,
+        },
+    })?;
+    push_joins(alloc, schema, unit, key, items.as_slice(), &mut edits)?;
+    push_openings(schema, key, &mut edits)?;
+    edits.push(filling(alloc, schema, unit, key, items)?)?;
+    Ok(Row::of(edits))
+}
+
+fn stored(
+    alloc: Global,
+    schema: &Schema,
+    unit: &Unit,
+    key: &DbKey,
+    items: &Row<Value>,
+    suppress: Suppress,
+) -> Result<Prepared, AllocError>
+    ensures { IfOk result (λ plan. plan ≡ stored_plan schema.now unit.now items.now suppress key.now) }
+{
+    let edits = edits_of(alloc, schema, unit, key, items)?;
+    let answer = Answer {
+        status: Status::Done,
+        key: Some(*key),
+        items: None,
+    };
+    let change = UnitEdit::See {
+        key: *key,
+        owners: first_owners(schema, unit, key.rtype),
+        suppress,
+    };
+    Ok(Prepared::new(answer, edits, Row::of(Vec::new(alloc)), change))
+}
+
+// ITS PLACES
+
+fn make_place(
+    schema: &Schema,
+    unit: &Unit,
+    held: &mut Held,
+    key: &DbKey,
+    set: SetNo,
+) -> Result<(), AllocError>
+    ensures same { ShowsTheSame held.old held.new }
+    ensures others { KeepsOthers (CellName.Ring set (place_of (joined_place schema.now unit.now set).owner)) held.old.cells held.new.cells }
+    ensures room { OnOk result (HasRoom schema.now unit.now held.new key.now set) }
+{
+    if !connects(schema, set, key.rtype) {
+        return Ok(());
+    }
+    make_room(schema, unit, set, held, key)
+}
+
+fn make_places(schema: &Schema, unit: &Unit, held: &mut Held, key: &DbKey) -> Result<(), AllocError>
+    ensures same { ShowsTheSame held.old held.new }
+    ensures rooms { OnOk result ((s : ℕ) → HasRoom schema.now unit.now held.new key.now s) }
+{
+    for s in 0..set_count(schema) {
+        make_place(schema, unit, held, key, SetNo::new(s))?;
+    }
+    Ok(())
+}
+
+// THE WHOLE
+
+fn plan_of_key(
+    alloc: Global,
+    schema: &Schema,
+    unit: &Unit,
+    rtype: RecordNo,
+    items: &Row<Value>,
+    suppress: Suppress,
+    held: &mut Held,
+    key: &DbKey,
+) -> Result<Prepared, AllocError>
+    ensures same { ShowsTheSame held.old held.new }
+    ensures plan { IfOk result (λ plan. plan ≡ unless_refusal (first_cause (store_checks_in schema.now unit.now held.old rtype items.now)) (stored_plan schema.now unit.now items.now suppress key.now)) }
+    ensures rooms { IfOk result (λ plan. (k : DbKey) (s : ℕ) → plan.answer.key ≡ Some k → HasRoom schema.now unit.now held.new k s) }
+{
+    if let Some(cause) = refusal(alloc, schema, unit, held, rtype, items.as_slice())? {
+        return Ok(refused(alloc, cause));
+    }
+    let plan = stored(alloc, schema, unit, key, items, suppress)?;
+    make_places(schema, unit, held, key)?;
+    Ok(plan)
+}
+
+fn plan_store(
+    alloc: Global,
+    schema: &Schema,
+    unit: &Unit,
+    rtype: RecordNo,
+    items: &Row<Value>,
+    suppress: Suppress,
+    held: &mut Held,
+) -> Result<Prepared, AllocError>
+    ensures same { ShowsTheSame held.old held.new }
+    ensures plan { IfOk result (λ plan. plan ≡ store_plan schema.now unit.now held.old rtype items.now suppress) }
+    ensures rooms { IfOk result (λ plan. (k : DbKey) (s : ℕ) → plan.answer.key ≡ Some k → HasRoom schema.now unit.now held.new k s) }
+{
+    if missing_cell(schema, unit, rtype, items.as_slice(), held).is_some() {
+        return Ok(refused(alloc, Cause::NoRoom));
+    }
+    match new_key(held, rtype) {
+        Some(key) => plan_of_key(alloc, schema, unit, rtype, items, suppress, held, &key),
+        None => Ok(refused(alloc, Cause::NoRoom)),
+    }
+}
+
+/// What a STORE does that needs nothing more: the number, the places in the sets, the occurrences, the record.
+pub(crate) fn prepare_store(
+    alloc: Global,
+    schema: &Schema,
+    capacity: u16,
+    unit: &Unit,
+    rtype: RecordNo,
+    items: &Row<Value>,
+    suppress: Suppress,
+    held: &mut Held,
+) -> Result<Prepared, AllocError>
+    requires may { MayPrepare schema.now capacity unit.now held.old (Store rtype items.now suppress) }
+    requires passes { refused_at_once schema.now capacity unit.now (Store rtype items.now suppress) ≡ None }
+    ensures shows { ShowsTheSame held.old held.new }
+    ensures prepared { IfOk result (λ plan. CanFinish schema.now capacity unit.now held.new (Store rtype items.now suppress) plan) }
+{
+    let _ = capacity;
+    plan_store(alloc, schema, unit, rtype, items, suppress, held)
+}
