@@ -58,7 +58,7 @@ still_at order news i d e =
     ap (λ zs. slice_get zs i) r.1 ∙ slice_get_front order r.0 i (slice_get_within order i d e) ∙ e
 
 module _ (taken : DbKey → List DbKey) where
-  prefix : (n i : ℕ) (order : List DbKey) → (ys : List DbKey) × (brought taken n i order ≡ order ++ ys)
+  pub prefix : (n i : ℕ) (order : List DbKey) → (ys : List DbKey) × (brought taken n i order ≡ order ++ ys)
   prefix zero i order = ([], sym (append-nil order))
   prefix (suc n) i order = by (slice_get order i) (λ zs. prefix n (suc i) zs) where
     by : (d : Option DbKey) → ((zs : List DbKey) → (ys : List DbKey) × (brought taken n (suc i) zs ≡ zs ++ ys)) → (ys : List DbKey) × (brought taken n (suc i) (brought_from taken order d) ≡ order ++ ys)

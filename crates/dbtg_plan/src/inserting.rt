@@ -1,28 +1,25 @@
 //! INSERT: what it needs next, and what it does once it needs nothing more.
-ghost use Rattle.std.specs.Prelude.{◌≡◌, ℕ, [], ◌∷◌, None, Some, IfOk, OnOk};
+ghost use Rattle.std.specs.Prelude.{◌≡◌, ℕ, [], ◌∷◌, Some, IfOk};
 ghost use Rattle.dbtg_schema.specs.Lookups.{first_cause};
 ghost use Rattle.dbtg_unit.specs.declared.statement.Statement.TheVariants.{Insert};
 ghost use Rattle.dbtg_unit.specs.Base.{Database, key_item};
-ghost use Rattle.dbtg_unit.specs.CellNames.{place_of};
 ghost use Rattle.dbtg_unit.specs.Checks.{refused_at_once};
 ghost use Rattle.dbtg_unit.specs.EditsOf.{slot_edit};
 ghost use Rattle.dbtg_unit.specs.InHand.{items_in};
 ghost use Rattle.dbtg_unit.specs.Making.{CanFinish, HaveNextVersions, MayPrepare, ShowsTheSame};
-ghost use Rattle.dbtg_unit.specs.Needs.{cells_of, current_owner};
-ghost use Rattle.dbtg_unit.specs.Reserving.{CanTakeMember, OfHeld};
+ghost use Rattle.dbtg_unit.specs.Needs.{cells_of};
 ghost use Rattle.dbtg_plan.specs.Inserting.{insert_checks_in, inserting};
 ghost use Rattle.dbtg_plan.specs.Joining.{joined_place, joining_edit};
 ghost use Rattle.dbtg_plan.specs.Missing.{first_missing};
 
 use crate::joining::{current_owner, joined_place, joining_edit, make_room, place_refusal};
-use crate::members::{next_version, owner_of, ring_name, slot_edit, sort_key_in};
+use crate::members::{next_version, owner_of, slot_edit, sort_key_in};
 use crate::missing::{missing_ring, missing_slot};
 use crate::outcomes::refused;
-use dbtg_cells::{CellName, DbKey, Owner, Value};
+use dbtg_cells::{CellName, DbKey, Value};
 use dbtg_schema::{Row, Schema, SetNo};
 use dbtg_unit::{
     Answer, Cause, CellEdit, Edit, Held, Place, Prepared, Status, Unit, UnitEdit, own_refusal,
-    reserve_member,
 };
 use std::alloc::{AllocError, Global};
 

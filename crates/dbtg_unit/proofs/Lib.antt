@@ -83,3 +83,5 @@ pub mod ReadyParts
 pub mod SameHands
 pub mod ReservingLemmas
 pub mod FinishedCells
+pub mod NameOrder
+pub mod Ascending
