@@ -32,7 +32,7 @@ use Rattle.dbtg_unit.proofs.EditLemmas.{edited_at-append, has_number, has_number
 use Rattle.dbtg_unit.proofs.ErasedLemmas.{set_of_member}
 use Rattle.dbtg_unit.proofs.InTurn.{all_from, all_pass, doomed_as_met, each_once, has_those, met_are_live}
 use Rattle.dbtg_unit.proofs.KeyLemmas.{key_eq-refl, same_key}
-use Rattle.dbtg_unit.proofs.LiveKeys.{In, all_at, any_element, any_in, in_filter, in_flat_map, in_member, latest, listed, member_in, member_nowhere, member_of_owner, no_owner, of_filter, of_flat_map, owner_is, some_and_is, some_is}
+use Rattle.dbtg_unit.proofs.LiveKeys.{In, all_at, any_element, any_in, in_filter, in_flat_map, in_member, latest, member_in, member_nowhere, member_of_owner, no_owner, of_filter, of_flat_map, owner_is, some_and_is, some_is}
 use Rattle.dbtg_unit.proofs.LocalCells.{map_agree, place_of_owner_at}
 use Rattle.dbtg_unit.proofs.LocalDelete.{after_delete, deleted_local, gone, is_taken_out, staying, staying_of_items, stays_member}
 use Rattle.dbtg_unit.proofs.LocalStatements.{set_of_owner}
