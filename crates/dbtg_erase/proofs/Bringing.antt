@@ -1,8 +1,7 @@
 -- Two work lists that bring the same of each key whose cells are in hand are the same as far as the cells in hand go.
-use Rattle.std.proofs.Common.{◌≡◌, refl, sym, ◌∙◌, ap, subst, ℕ, zero, suc, ◌+◌, ◌<◌, ◌≤◌, Bool, true, false, cond, List, [], ◌∷◌, ◌++◌, length, Option, Some, None, arith, inl, inr, append_assoc, length-append}
+use Rattle.std.proofs.Common.{◌≡◌, refl, sym, ◌∙◌, ap, subst, ℕ, zero, suc, ◌+◌, ◌≤◌, Bool, true, false, cond, List, [], ◌∷◌, ◌++◌, length, Option, Some, None, arith, append_assoc, length-append}
 use Rattle.std.specs.Prelude.{slice_get}
 use Rattle.std.specs.List.{find, flat_map}
-use Rattle.std.proofs.lemmas.Bool.{cases_Bool}
 use Rattle.std.proofs.lemmas.Option.{none-some, slice_get_within}
 use Rattle.dbtg_cells.specs.declared.key.DbKey.{DbKey}
 use Rattle.dbtg_cells.specs.declared.name.CellName.{CellName}
@@ -58,7 +57,7 @@ still_at order news i d e =
     ap (λ zs. slice_get zs i) r.1 ∙ slice_get_front order r.0 i (slice_get_within order i d e) ∙ e
 
 module _ (taken : DbKey → List DbKey) where
-  prefix : (n i : ℕ) (order : List DbKey) → (ys : List DbKey) × (brought taken n i order ≡ order ++ ys)
+  pub prefix : (n i : ℕ) (order : List DbKey) → (ys : List DbKey) × (brought taken n i order ≡ order ++ ys)
   prefix zero i order = ([], sym (append-nil order))
   prefix (suc n) i order = by (slice_get order i) (λ zs. prefix n (suc i) zs) where
     by : (d : Option DbKey) → ((zs : List DbKey) → (ys : List DbKey) × (brought taken n (suc i) zs ≡ zs ++ ys)) → (ys : List DbKey) × (brought taken n (suc i) (brought_from taken order d) ≡ order ++ ys)

@@ -19,7 +19,6 @@ use Rattle.dbtg_unit.specs.declared.edit.CellEdit.{CellEdit}
 use Rattle.dbtg_unit.specs.declared.edit.Edit.TheVariants.{ChangeOwner, CloseRing, RaiseVersion, TakeOut, Vacate}
 use Rattle.dbtg_unit.specs.declared.edit.UnitEdit.TheVariants.{LoseCurrent}
 use Rattle.dbtg_unit.specs.declared.statement.Erase.{Erase}
-use Rattle.dbtg_unit.specs.declared.statement.Statement.TheVariants.{Delete}
 use Rattle.dbtg_unit.specs.declared.unit.Cause.{Cause}
 use Rattle.dbtg_unit.specs.declared.unit.Cause.TheVariants.{OwnerHasMembers}
 use Rattle.dbtg_unit.specs.declared.unit.Status.TheVariants.{Done}
@@ -44,7 +43,7 @@ use Rattle.dbtg_unit.proofs.LocalDelete.{after_delete, is_taken_out}
 use Rattle.dbtg_unit.proofs.LocalStatements.{once_has}
 use Rattle.dbtg_erase.specs.ErasePlan.{checks_in, edits_in_hand, erasing_plan, has_members_in, raised_versions}
 use Rattle.dbtg_erase.specs.WorkList.{gone_in, list_in, members_in_hand, own_sets}
-use Rattle.dbtg_erase.proofs.Reading.{all_members_are, filter-agree, flat-agree, gone_agrees, list_is, unowned}
+use Rattle.dbtg_erase.proofs.Reading.{all_members_are, filter-agree, flat-agree, gone_agrees, unowned}
 
 -- THE FIRST CAUSE
 
@@ -58,7 +57,7 @@ pub cause_append : (xs ys : List (Bool × Cause)) → first_cause (xs ++ ys) ≡
 cause_append [] ys = refl
 cause_append (x ∷ xs) ys = elim x.0 as (λ b. cond b (Some x.1) (first_cause (xs ++ ys)) ≡ option_or (cond b (Some x.1) (first_cause xs)) (first_cause ys)) [ true ↦ refl | false ↦ cause_append xs ys ]
 
-any-filter : (p q : ℕ → Bool) (xs : List ℕ) → ((x : ℕ) → q x ≡ false → p x ≡ false) → list_any p (filter q xs) ≡ list_any p xs
+pub any-filter : (p q : ℕ → Bool) (xs : List ℕ) → ((x : ℕ) → q x ≡ false → p x ≡ false) → list_any p (filter q xs) ≡ list_any p xs
 any-filter p q [] h = refl
 any-filter p q (x ∷ xs) h =
     elim (cases_Bool (q x)) [
@@ -66,7 +65,7 @@ any-filter p q (x ∷ xs) h =
       | inr e ↦ ap (λ b. list_any p (cond b (x ∷ filter q xs) (filter q xs))) e ∙ any-filter p q xs h ∙ ap (λ b. b || list_any p xs) (sym (h x e))
     ]
 
-any-both : (p q : ℕ → Bool) (xs : List ℕ) → list_any (λ x. q x && p x) xs ≡ list_any p (filter q xs)
+pub any-both : (p q : ℕ → Bool) (xs : List ℕ) → list_any (λ x. q x && p x) xs ≡ list_any p (filter q xs)
 any-both p q [] = refl
 any-both p q (x ∷ xs) =
     elim (q x) as (λ b. ((b && p x) || list_any (λ x. q x && p x) xs) ≡ list_any p (cond b (x ∷ filter q xs) (filter q xs))) [
@@ -74,7 +73,7 @@ any-both p q (x ∷ xs) =
       | false ↦ any-both p q xs
     ]
 
-any-same : (p q : ℕ → Bool) (xs : List ℕ) → ((x : ℕ) → In x xs → p x ≡ q x) → list_any p xs ≡ list_any q xs
+pub any-same : (p q : ℕ → Bool) (xs : List ℕ) → ((x : ℕ) → In x xs → p x ≡ q x) → list_any p xs ≡ list_any q xs
 any-same p q [] h = refl
 any-same p q (x ∷ xs) h = λ i. h x (inl refl) i || any-same p q xs (λ y j. h y (inr j)) i
 

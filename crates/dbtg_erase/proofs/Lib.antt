@@ -8,3 +8,8 @@ pub mod CanFinish
 pub mod KeyLists
 pub mod EditLists
 pub mod NextVersions
+pub mod FirstNames
+pub mod LeastName
+pub mod OuterCells
+pub mod NextCell
+pub mod NextNeed

@@ -1,2 +1,3 @@
 pub mod WorkList
 pub mod ErasePlan
+pub mod NextCell

@@ -19,7 +19,7 @@ use dbtg_schema::{Row, Schema, SetNo};
 use dbtg_unit::{CellEdit, Edit, Held, set_count};
 use std::alloc::{AllocError, Global};
 
-fn is_held(held: &Held, name: &CellName) -> bool
+pub(crate) fn is_held(held: &Held, name: &CellName) -> bool
     ensures { result ≡ holds held.now.cells name.now }
 {
     match held.cell(name) {
@@ -51,7 +51,7 @@ fn push_slot_edit(
     push_edit(held, CellEdit { name, edit }, edits)
 }
 
-fn ring_name(set: SetNo, owner: &Owner) -> CellName
+pub(crate) fn ring_name(set: SetNo, owner: &Owner) -> CellName
     ensures { result ≡ CellName.Ring set (place_of owner.now) }
 {
     match owner {

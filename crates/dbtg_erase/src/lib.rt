@@ -4,7 +4,9 @@
 mod edits;
 mod keys;
 mod left;
+mod next;
 mod preparing;
 mod work_list;
 
+pub use next::next_need;
 pub use preparing::prepare;

@@ -22,7 +22,7 @@ use dbtg_unit::{
 use std::alloc::{AllocError, Global};
 
 // Has a record a member in its list of this set?
-fn has_any(held: &Held, key: &DbKey, set: SetNo) -> bool
+pub(crate) fn has_any(held: &Held, key: &DbKey, set: SetNo) -> bool
     ensures { result ≡ nat_lt 0 (length (list_in held.now key.now set)) }
 {
     match occurrence(held, set, &Owner::Rec(*key)) {

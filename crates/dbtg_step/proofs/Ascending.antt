@@ -1,32 +1,10 @@
 -- The first element of an ascending list that isn't held: all below it are held.
-use Rattle.std.proofs.Common.{◌≡◌, refl, sym, ◌∙◌, subst, ℕ, zero, suc, ◌+◌, ◌<◌, Bool, true, false, not, List, [], ◌∷◌, ◌++◌, Some, ◌⊎◌, inl, inr, arith}
-use Rattle.std.specs.Prelude.{nat_lt, filter}
-use Rattle.std.specs.List.{list_all, range_with_len, find}
-use Rattle.std.proofs.lemmas.Bool.{and_parts, and_from, cond_both, false≢true, lt-ltb}
-use Rattle.std.proofs.lemmas.List.Folds.{list_all-append}
+use Rattle.std.proofs.Common.{◌≡◌, refl, sym, ◌∙◌, subst, Bool, true, false, not, List, [], ◌∷◌, Some, ◌⊎◌, inl, inr}
+use Rattle.std.specs.List.{find}
+use Rattle.std.proofs.lemmas.Bool.{and_parts, false≢true}
 use Rattle.dbtg_unit.specs.Legal.{pairwise}
 use Rattle.dbtg_unit.proofs.LiveKeys.{In, all_at, find_element}
-
-all_filtered : {X : Type 0} (p test : X → Bool) (xs : List X) → list_all p xs ≡ true → list_all p (filter test xs) ≡ true
-all_filtered p test [] h = refl
-all_filtered p test (x ∷ xs) h = let hs = and_parts _ _ h in cond_both (test x) _ _ (λ ys. list_all p ys ≡ true) (λ e. and_from _ _ hs.0 (all_filtered p test xs hs.1)) (λ e. all_filtered p test xs hs.1)
-
-pub ascending_filter : {X : Type 0} (lt : X → X → Bool) (test : X → Bool) (xs : List X) → pairwise lt xs ≡ true → pairwise lt (filter test xs) ≡ true
-ascending_filter lt test [] h = refl
-ascending_filter lt test (x ∷ xs) h = let hs = and_parts _ _ h in cond_both (test x) _ _ (λ ys. pairwise lt ys ≡ true) (λ e. and_from _ _ (all_filtered (lt x) test xs hs.0) (ascending_filter lt test xs hs.1)) (λ e. ascending_filter lt test xs hs.1)
-
-above_range : (m a n : ℕ) → m < a → list_all (nat_lt m) (range_with_len a n) ≡ true
-above_range m a zero h = refl
-above_range m a (suc n) h = and_from _ _ (lt-ltb m a h) (above_range m (a + 1) n (omega arith))
-
-pub ascending_range : (a n : ℕ) → pairwise nat_lt (range_with_len a n) ≡ true
-ascending_range a zero = refl
-ascending_range a (suc n) = and_from _ _ (above_range a (a + 1) n (omega arith)) (ascending_range (a + 1) n)
-
--- one ascending list behind another, each element of which is below
-pub ascending_join : {X : Type 0} (lt : X → X → Bool) (xs ys : List X) → pairwise lt xs ≡ true → pairwise lt ys ≡ true → ((x : X) → In x xs → list_all (lt x) ys ≡ true) → pairwise lt (xs ++ ys) ≡ true
-ascending_join lt [] ys h g f = g
-ascending_join lt (x ∷ xs) ys h g f = let hs = and_parts _ _ h in and_from _ _ (list_all-append (lt x) xs ys ∙ and_from _ _ hs.0 (f x (inl refl))) (ascending_join lt xs ys hs.1 g (λ z i. f z (inr i)))
+pub use Rattle.dbtg_unit.proofs.Ascending.{ascending_filter, ascending_join, ascending_range}
 
 not_false : (b : Bool) → not b ≡ false → b ≡ true
 not_false true h = refl

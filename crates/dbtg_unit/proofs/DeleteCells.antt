@@ -1,19 +1,16 @@
 -- DELETE changes the cells by its edits, and no other cell.
-use Rattle.std.proofs.Common.{◌⊎◌, ◌≡◌, refl, sym, ◌∙◌, ap, subst, ℕ, ◌+◌, arith, Bool, true, false, cond, not, ◌&&◌, ◌||◌, List, [], ◌∷◌, ◌++◌, length, Option, Some, None, eqb, inl, inr, map}
+use Rattle.std.proofs.Common.{◌≡◌, refl, sym, ◌∙◌, ap, subst, ℕ, ◌+◌, arith, Bool, true, false, cond, not, ◌&&◌, List, [], ◌∷◌, ◌++◌, length, Option, Some, None, eqb, inl, inr, map}
 use Rattle.std.specs.Prelude.{filter, is_some, option_map, unwrap_or}
-use Rattle.std.specs.List.{flat_map, list_all, list_any, range_with_len}
-use Rattle.std.proofs.lemmas.Bool.{and_parts, and_from, cases_Bool, cond-false, cond-true, eq-eqb, eqb-true, false≢true, false_from_ne_true, not-true, or_left, or_right}
+use Rattle.std.specs.List.{flat_map, list_any}
+use Rattle.std.proofs.lemmas.Bool.{and_parts, and_from, cases_Bool, cond-false, eq-eqb, eqb-true, false≢true, false_from_ne_true, not-true, or_left, or_right}
 use Rattle.dbtg_schema.specs.Lists.{Lists}
 use Rattle.dbtg_schema.specs.Lookups.{some_and}
 use Rattle.dbtg_schema.specs.Structure.{owns, set_numbers}
-use Rattle.dbtg_cells.specs.declared.extent.Number.{Number}
 use Rattle.dbtg_cells.specs.declared.key.DbKey.{DbKey}
 use Rattle.dbtg_cells.specs.declared.key.Owner.{Owner}
 use Rattle.dbtg_cells.specs.declared.key.Owner.TheVariants.{System, Rec}
-use Rattle.dbtg_cells.specs.declared.key.Value.{Value}
 use Rattle.dbtg_cells.specs.declared.name.CellName.{CellName}
 use Rattle.dbtg_cells.specs.declared.name.CellName.TheVariants.{Usage, Extent, Ring, Slot}
-use Rattle.dbtg_cells.specs.declared.slot.Stored.{Stored}
 use Rattle.dbtg_cells.specs.Keys.{key_eq}
 use Rattle.dbtg_cells.specs.Names.{name_eq}
 use Rattle.dbtg_cells.specs.Shown.{CellValue, ExtentValue, RingValue, SlotValue}
@@ -26,21 +23,20 @@ use Rattle.dbtg_unit.specs.CellNames.{place_of, slot_name}
 use Rattle.dbtg_unit.specs.Cells.{cell, number_of, owner_at, ring_of, slot_of}
 use Rattle.dbtg_unit.specs.Edits.{edited, edited_at, vacated, with_members}
 use Rattle.dbtg_unit.specs.EditsOf.{closing_edits, delete_edits, leave_number, leaving_edits, left_behind, losing_edits, lost_sets, ring_edits, slot_edit, staying_owner}
-use Rattle.dbtg_unit.specs.Effect.{deleted, is_gone, next_version, version_of}
+use Rattle.dbtg_unit.specs.Effect.{is_gone, next_version, version_of}
 use Rattle.dbtg_unit.specs.Erasing.{doomed_in_turn, members_of_all}
 use Rattle.dbtg_unit.specs.Legal.{Legal, differ, pairwise}
 use Rattle.dbtg_unit.specs.Units.{owners_of}
-use Rattle.dbtg_unit.proofs.CellNameLemmas.{name_eq-refl, same_name, same_place, place_eq-refl}
+use Rattle.dbtg_unit.proofs.CellNameLemmas.{name_eq-refl, same_place}
 use Rattle.dbtg_unit.proofs.EditLemmas.{edited_at-append, has_number, has_number-filter, has_number-passes}
 use Rattle.dbtg_unit.proofs.ErasedLemmas.{set_of_member}
-use Rattle.dbtg_unit.proofs.InTurn.{all_from, all_pass, doomed_as_met, each_once, has_those, met_are_live, met_once}
+use Rattle.dbtg_unit.proofs.InTurn.{all_from, all_pass, doomed_as_met, each_once, has_those, met_are_live}
 use Rattle.dbtg_unit.proofs.KeyLemmas.{key_eq-refl, same_key}
-use Rattle.dbtg_unit.proofs.LiveKeys.{In, all_at, any_element, any_in, in_filter, in_flat_map, in_member, latest, listed, member_in, member_nowhere, member_of_owner, no_owner, of_filter, of_flat_map, owner_is, some_and_is, some_is}
+use Rattle.dbtg_unit.proofs.LiveKeys.{In, all_at, any_element, any_in, in_filter, in_flat_map, in_member, latest, member_in, member_nowhere, member_of_owner, no_owner, of_filter, of_flat_map, owner_is, some_and_is, some_is}
 use Rattle.dbtg_unit.proofs.LocalCells.{map_agree, place_of_owner_at}
 use Rattle.dbtg_unit.proofs.LocalDelete.{after_delete, deleted_local, gone, is_taken_out, staying, staying_of_items, stays_member}
 use Rattle.dbtg_unit.proofs.LocalStatements.{set_of_owner}
-use Rattle.dbtg_unit.proofs.ManyEdits.{Closes, Skips, Thins, closes-flat, closes-map, edits-of_one, is_of_number, numbers-left, owners-lost, skips-flat, skips-map, slots-vacated, thins-flat, thins-none, thins-ring, with_owners}
-use Rattle.dbtg_unit.proofs.OwnersFound.{some_list}
+use Rattle.dbtg_unit.proofs.ManyEdits.{Closes, Skips, Thins, closes-flat, closes-map, edits-of_one, is_of_number, numbers-left, owners-lost, skips-flat, skips-map, slots-vacated, thins-flat, thins-ring, with_owners}
 use Rattle.dbtg_unit.proofs.PlacedMaps.{map-filter}
 use Rattle.dbtg_unit.proofs.RangeMaps.{map-range_same}
 

@@ -2,7 +2,6 @@
 use Rattle.std.proofs.Common.{refl, sym, ◌∙◌, ap, ℕ, ◌&&◌, [], ◌∷◌}
 use Rattle.dbtg_schema.specs.Lists.{Lists}
 use Rattle.dbtg_unit.specs.declared.statement.Erase.{Erase}
-use Rattle.dbtg_unit.specs.declared.statement.Statement.{Statement}
 use Rattle.dbtg_unit.specs.declared.statement.Statement.TheVariants.{OpenArea, CloseArea, Find, Get, Store, Insert, Remove, Modify, Delete, Keep, Free}
 use Rattle.dbtg_unit.specs.declared.unit.Cause.TheVariants.{OwnerHasMembers}
 use Rattle.dbtg_unit.specs.declared.unit.Unit.{Unit}

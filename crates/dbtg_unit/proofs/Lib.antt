@@ -82,3 +82,6 @@ pub mod ExtentInHand
 pub mod ReadyParts
 pub mod SameHands
 pub mod ReservingLemmas
+pub mod FinishedCells
+pub mod NameOrder
+pub mod Ascending

@@ -9,7 +9,7 @@ use Rattle.dbtg_cells.specs.declared.key.DbKey.{DbKey}
 use Rattle.dbtg_cells.specs.declared.key.Owner.{Owner}
 use Rattle.dbtg_cells.specs.declared.key.Value.{Value}
 use Rattle.dbtg_cells.specs.declared.name.CellName.{CellName}
-use Rattle.dbtg_cells.specs.declared.name.CellName.TheVariants.{Extent, Ring, Slot}
+use Rattle.dbtg_cells.specs.declared.name.CellName.TheVariants.{Extent, Ring}
 use Rattle.dbtg_cells.specs.declared.ring.Occurrence.{Occurrence}
 use Rattle.dbtg_cells.specs.declared.slot.Stored.{Stored}
 use Rattle.dbtg_cells.specs.Keys.{is_member, key_eq}

@@ -32,7 +32,7 @@ use Rattle.dbtg_unit.proofs.InHandLemmas.{numbers_show, occurrence_shows, stored
 use Rattle.dbtg_unit.proofs.Determined.{extent_in, ring_in, slot_in, usage_in}
 use Rattle.dbtg_unit.proofs.MakingLemmas.{Held}
 
-abbrev Values : Type 0
+abbrev pub Values : Type 0
 Values = List (CellName × CellValue)
 
 pub same-refl : (hands : Hands) → ShowsTheSame hands hands
@@ -132,16 +132,16 @@ module _ (old new : Hands) (same : ShowsTheSame old new) where
 -- WHAT STAYS SO
 
 -- each value is as the database has it
-abbrev EachAgrees : Lists → ℕ → Database → Values → Type 0
+abbrev pub EachAgrees : Lists → ℕ → Database → Values → Type 0
 EachAgrees schema capacity db [] = ⊤
 EachAgrees schema capacity db (v ∷ vs) = (v.1 ≡ cell schema capacity db v.0) × EachAgrees schema capacity db vs
 
 module _ (schema : Lists) (capacity : ℕ) (db : Database) where
-  values_agree : (cells : Held) → AllAgree schema capacity db cells → EachAgrees schema capacity db (values_of cells)
+  pub values_agree : (cells : Held) → AllAgree schema capacity db cells → EachAgrees schema capacity db (values_of cells)
   values_agree [] h = tt
   values_agree (e ∷ es) h = (h.0, values_agree es h.1)
 
-  cells_agree : (cells : Held) → EachAgrees schema capacity db (values_of cells) → AllAgree schema capacity db cells
+  pub cells_agree : (cells : Held) → EachAgrees schema capacity db (values_of cells) → AllAgree schema capacity db cells
   cells_agree [] h = tt
   cells_agree (e ∷ es) h = (h.0, cells_agree es h.1)
 

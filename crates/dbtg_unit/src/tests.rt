@@ -11,6 +11,7 @@ use std::test::*;
 
 mod cells;
 mod copies;
+mod prepared;
 mod units;
 
 fn key(number: u32, generation: u8) -> DbKey {

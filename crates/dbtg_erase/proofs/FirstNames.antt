@@ -1,0 +1,72 @@
+-- The first of some names that passes, as they are gone through.
+use Rattle.std.proofs.Common.{◌≡◌, refl, sym, ◌∙◌, ap, arith, get_or, length, ℕ, suc, ◌+◌, ◌<◌, ◌≤◌, Bool, true, false, cond, List, [], ◌∷◌, ◌++◌, Option, Some, None, drop, map}
+use Rattle.std.proofs.Math.Seq.{drop-cons}
+use Rattle.std.specs.Prelude.{filter}
+use Rattle.std.specs.List.{find, flat_map, range_with_len}
+use Rattle.std.specs.Option.{option_or}
+use Rattle.dbtg_cells.specs.declared.key.DbKey.{DbKey}
+use Rattle.dbtg_cells.specs.declared.name.CellName.{CellName}
+use Rattle.dbtg_unit.proofs.NumberLemmas.{numbers_end, numbers_next}
+use Rattle.dbtg_erase.proofs.KeyLists.{append_nil}
+
+pub find_or : (p : CellName → Bool) (xs ys : List CellName) → find p (xs ++ ys) ≡ option_or (find p xs) (find p ys)
+find_or p [] ys = refl
+find_or p (x ∷ xs) ys = elim (p x) as (λ b. cond b (Some x) (find p (xs ++ ys)) ≡ option_or (cond b (Some x) (find p xs)) (find p ys)) [ true ↦ refl | false ↦ find_or p xs ys ]
+
+-- names that are made number by number
+abbrev pub Splits : (List ℕ → List CellName) → Type 0
+Splits names = (i : ℕ) (xs : List ℕ) → names (i ∷ xs) ≡ names (i ∷ []) ++ names xs
+
+pub splits_map : (f : ℕ → CellName) (p : ℕ → Bool) → Splits (λ xs. map f (filter p xs))
+splits_map f p i xs = elim (p i) as (λ b. map f (cond b (i ∷ filter p xs) (filter p xs)) ≡ map f (cond b (i ∷ []) []) ++ map f (filter p xs)) [ true ↦ refl | false ↦ refl ]
+
+map_append : (g : DbKey → CellName) (xs ys : List DbKey) → map g (xs ++ ys) ≡ map g xs ++ map g ys
+map_append g [] ys = refl
+map_append g (x ∷ xs) ys = ap (λ zs. g x ∷ zs) (map_append g xs ys)
+
+pub splits_flat : (g : DbKey → CellName) (f : ℕ → List DbKey) (p : ℕ → Bool) → Splits (λ xs. map g (flat_map f (filter p xs)))
+splits_flat g f p i xs =
+    elim (p i) as (λ b. map g (flat_map f (cond b (i ∷ filter p xs) (filter p xs))) ≡ map g (flat_map f (cond b (i ∷ []) [])) ++ map g (flat_map f (filter p xs))) [
+      | true ↦ map_append g (f i) (flat_map f (filter p xs)) ∙ ap (λ ks. map g ks ++ map g (flat_map f (filter p xs))) (sym (append_nil (f i)))
+      | false ↦ refl
+    ]
+
+module _ (p : CellName → Bool) (names : List ℕ → List CellName) (n i set : ℕ) (goal : Option CellName) where
+  next_is : Splits names → i < n → set ≡ i → find p (names (drop i (range_with_len 0 n))) ≡ option_or (find p (names (set ∷ []))) (find p (names (drop (i + 1) (range_with_len 0 n))))
+  next_is splits below is =
+      ap (λ xs. find p (names xs)) (numbers_next n i below) ∙ ap (find p) (splits i (drop (i + 1) (range_with_len 0 n)))
+      ∙ find_or p (names (i ∷ [])) (names (drop (i + 1) (range_with_len 0 n)))
+      ∙ ap (λ s. option_or (find p (names (s ∷ []))) (find p (names (drop (i + 1) (range_with_len 0 n))))) (sym is)
+
+  -- none passes of this number
+  pub first_further : Splits names → i < n → set ≡ i → None ≡ find p (names (set ∷ [])) → find p (names (drop i (range_with_len 0 n))) ≡ goal → find p (names (drop (i + 1) (range_with_len 0 n))) ≡ goal
+  first_further splits below is none h =
+      ap (λ o. option_or o (find p (names (drop (i + 1) (range_with_len 0 n))))) none ∙ sym (next_is splits below is) ∙ h
+
+  -- one does
+  pub first_found : (c : CellName) → Splits names → i < n → set ≡ i → Some c ≡ find p (names (set ∷ [])) → find p (names (drop i (range_with_len 0 n))) ≡ goal → Some c ≡ goal
+  first_found c splits below is found h =
+      ap (λ o. option_or o (find p (names (drop (i + 1) (range_with_len 0 n))))) found ∙ sym (next_is splits below is) ∙ h
+
+  -- none is left
+  pub first_end : names [] ≡ [] → n ≤ i → find p (names (drop i (range_with_len 0 n))) ≡ goal → None ≡ goal
+  first_end none past h = sym (ap (λ xs. find p (names xs)) (numbers_end n i past) ∙ ap (find p) none) ∙ h
+
+-- the keys from a place on
+pub drop_at : (keys : List DbKey) (i : ℕ) (key : DbKey) → i < length keys → key ≡ get_or keys i key → drop i keys ≡ key ∷ drop (i + 1) keys
+drop_at keys i key below at =
+    let next : suc i ≡ i + 1 = omega arith in
+    drop-cons keys i key below ∙ ap (λ k. k ∷ drop (suc i) keys) (sym at) ∙ ap (λ j. key ∷ drop j keys) next
+
+-- the names of one key after another
+module _ (p : CellName → Bool) (names : DbKey → List CellName) (keys : List DbKey) (i : ℕ) (key : DbKey) (goal : Option CellName) (below : i < length keys) (at : key ≡ get_or keys i key) where
+  key_is : find p (flat_map names (drop i keys)) ≡ option_or (find p (names key)) (find p (flat_map names (drop (i + 1) keys)))
+  key_is = ap (λ ks. find p (flat_map names ks)) (drop_at keys i key below at) ∙ find_or p (names key) (flat_map names (drop (i + 1) keys))
+
+  -- none passes of this key
+  pub further_key : None ≡ find p (names key) → find p (flat_map names (drop i keys)) ≡ goal → find p (flat_map names (drop (i + 1) keys)) ≡ goal
+  further_key none h = ap (λ o. option_or o (find p (flat_map names (drop (i + 1) keys)))) none ∙ sym key_is ∙ h
+
+  -- one does
+  pub found_key : (c : CellName) → Some c ≡ find p (names key) → find p (flat_map names (drop i keys)) ≡ goal → Some c ≡ goal
+  found_key c found h = ap (λ o. option_or o (find p (flat_map names (drop (i + 1) keys)))) found ∙ sym key_is ∙ h

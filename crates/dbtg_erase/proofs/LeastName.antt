@@ -1,0 +1,100 @@
+-- The first of some names in the order of cells that passes.
+use Rattle.std.proofs.Common.{◌≡◌, ◌⊎◌, refl, sym, ◌∙◌, ap, drop, get_or, length, subst, ℕ, ◌+◌, ◌<◌, Bool, true, false, cond, List, [], ◌∷◌, ◌++◌, Option, Some, None, inl, inr}
+use Rattle.std.specs.Prelude.{filter}
+use Rattle.std.specs.List.{find, flat_map}
+use Rattle.std.proofs.lemmas.Bool.{and_parts, cases_Bool, false≢true, false_from_ne_true}
+use Rattle.std.proofs.lemmas.Option.{none-some, same_Some}
+use Rattle.dbtg_cells.specs.declared.key.DbKey.{DbKey}
+use Rattle.dbtg_cells.specs.declared.name.CellName.{CellName}
+use Rattle.dbtg_cells.specs.Names.{name_lt}
+use Rattle.dbtg_unit.specs.Legal.{pairwise}
+use Rattle.dbtg_unit.proofs.LiveKeys.{In, all_at, in_filter, of_filter}
+use Rattle.dbtg_unit.proofs.NameOrder.{name_chain, name_never}
+use Rattle.dbtg_erase.specs.NextCell.{least_name, nearer}
+use Rattle.dbtg_erase.proofs.FirstNames.{drop_at}
+use Rattle.dbtg_erase.proofs.KeyLists.{filter_append}
+
+pub least_append : (best : Option CellName) (xs ys : List CellName) → least_name best (xs ++ ys) ≡ least_name (least_name best xs) ys
+least_append best [] ys = refl
+least_append best (x ∷ xs) ys = least_append (Some (nearer best x)) xs ys
+
+-- of two lists, those that pass
+pub least_of_both : (p : CellName → Bool) (best : Option CellName) (xs ys : List CellName) → least_name best (filter p (xs ++ ys)) ≡ least_name (least_name best (filter p xs)) (filter p ys)
+least_of_both p best xs ys = ap (least_name best) (filter_append p xs ys) ∙ least_append best (filter p xs) (filter p ys)
+
+-- c, or a name behind it
+abbrev AtOrBehind : CellName → CellName → Type 0
+AtOrBehind c d = (d ≡ c) ⊎ (name_lt c d ≡ true)
+
+not_before : (c d : CellName) → AtOrBehind c d → name_lt d c ≡ false
+not_before c d (inl e) = false_from_ne_true _ (λ h. name_never c (subst (λ (x : CellName). name_lt x c ≡ true) e h))
+not_before c d (inr b) = false_from_ne_true _ (λ h. name_never c (name_chain c d c b h))
+
+-- once it is the best it stays
+stays_best : (c : CellName) (xs : List CellName) → ((d : CellName) → In d xs → AtOrBehind c d) → least_name (Some c) xs ≡ Some c
+stays_best c [] h = refl
+stays_best c (x ∷ xs) h = ap (λ b. least_name (Some (cond b x c)) xs) (not_before c x (h x (inl refl))) ∙ stays_best c xs (λ d i. h d (inr i))
+
+either : (t : Bool) (c : CellName) → cond t c c ≡ c
+either true c = refl
+either false c = refl
+
+-- it becomes the best where it is among the names, and the others are behind it
+becomes_best : (c : CellName) (best : Option CellName) (xs : List CellName) → ((b : CellName) → best ≡ Some b → AtOrBehind c b) → In c xs → ((d : CellName) → In d xs → AtOrBehind c d) → least_name best xs ≡ Some c
+becomes_best c best [] behind i h = absurd i
+becomes_best c best (x ∷ xs) behind (inl e) h = ap (λ (b : CellName). least_name (Some b) xs) (now best behind) ∙ stays_best c xs (λ d j. h d (inr j)) where
+  now : (best : Option CellName) → ((b : CellName) → best ≡ Some b → AtOrBehind c b) → nearer best x ≡ c
+  now None behind = e
+  now (Some b) behind = by (behind b refl) where
+    by : AtOrBehind c b → cond (name_lt x b) x b ≡ c
+    by (inl same) = ap (λ (y : CellName). cond (name_lt y b) y b) e ∙ ap (λ (y : CellName). cond (name_lt c y) c y) same ∙ either (name_lt c c) c
+    by (inr later) = ap (λ (y : CellName). cond (name_lt y b) y b) e ∙ ap (λ t. cond t c b) later
+becomes_best c best (x ∷ xs) behind (inr i) h = becomes_best c (Some (nearer best x)) xs (λ b e. subst (AtOrBehind c) (same_Some (nearer best x) b e) (one best behind)) i (λ d j. h d (inr j)) where
+  one : (best : Option CellName) → ((b : CellName) → best ≡ Some b → AtOrBehind c b) → AtOrBehind c (nearer best x)
+  one None behind = h x (inl refl)
+  one (Some b) behind = elim (name_lt x b) as (λ t. AtOrBehind c (cond t x b)) [ true ↦ h x (inl refl) | false ↦ behind b refl ]
+
+nothing_passes : (p : CellName → Bool) (ys : List CellName) → ((y : CellName) → In y ys → p y ≡ false) → filter p ys ≡ []
+nothing_passes p [] h = refl
+nothing_passes p (y ∷ ys) h = ap (λ b. cond b (y ∷ filter p ys) (filter p ys)) (h y (inl refl)) ∙ nothing_passes p ys (λ z i. h z (inr i))
+
+-- the first of an ascending list that passes, as the least of the same names in any order
+pub first_is_least : (p : CellName → Bool) (xs ys : List CellName) → pairwise name_lt xs ≡ true → ((c : CellName) → In c xs → In c ys) → ((c : CellName) → In c ys → In c xs) → find p xs ≡ least_name None (filter p ys)
+first_is_least p xs ys ascends there back = by (find p xs) refl where
+  fails : (zs : List CellName) → find p zs ≡ None → (c : CellName) → In c zs → p c ≡ false
+  fails [] h c i = absurd i
+  fails (z ∷ zs) h c i =
+      elim (cases_Bool (p z)) [
+        | inl e ↦ absurd (none-some z (sym h ∙ ap (λ b. cond b (Some z) (find p zs)) e))
+        | inr e ↦ elim i [ inl same ↦ ap p (sym same) ∙ e | inr j ↦ fails zs (sym (ap (λ b. cond b (Some z) (find p zs)) e) ∙ h) c j ]
+      ]
+
+  found : (zs : List CellName) (c : CellName) → pairwise name_lt zs ≡ true → find p zs ≡ Some c → In c zs × (p c ≡ true) × ((d : CellName) → In d zs → p d ≡ true → AtOrBehind c d)
+  found [] c a h = absurd (none-some c h)
+  found (z ∷ zs) c a h =
+      let parts = and_parts _ _ a in
+      elim (cases_Bool (p z)) [
+        | inl e ↦
+            let same : z ≡ c = same_Some z c (sym (ap (λ b. cond b (Some z) (find p zs)) e) ∙ h) in
+            (inl same, ap p (sym same) ∙ e, λ d i q. elim i [ inl f ↦ inl (sym f ∙ same) | inr j ↦ inr (subst (λ (y : CellName). name_lt y d ≡ true) same (all_at (name_lt z) d zs parts.0 j)) ])
+        | inr e ↦
+            let rest = found zs c parts.1 (sym (ap (λ b. cond b (Some z) (find p zs)) e) ∙ h) in
+            (inr rest.0, rest.1, λ d i q. elim i [ inl f ↦ absurd (false≢true (sym e ∙ ap p f ∙ q)) | inr j ↦ rest.2 d j q ])
+      ]
+
+  by : (o : Option CellName) → find p xs ≡ o → find p xs ≡ least_name None (filter p ys)
+  by None h = h ∙ sym (ap (least_name None) (nothing_passes p ys (λ y i. fails xs h y (back y i))))
+  by (Some c) h =
+      let f = found xs c ascends h in
+      h ∙ sym (becomes_best c None (filter p ys) (λ b e. absurd (none-some b e)) (in_filter p c ys (there c f.0) f.1) (λ d i. let of = of_filter p d ys i in f.2 d (back d of.0) of.1))
+
+-- the names of one key after another
+pub least_further : (p : CellName → Bool) (names : DbKey → List CellName) (keys : List DbKey) (i : ℕ) (key : DbKey) (goal best first second : Option CellName) (c : CellName) (cs : List CellName)
+    → i < length keys → key ≡ get_or keys i key → names key ≡ c ∷ cs → first ≡ least_name best (filter p (c ∷ [])) → second ≡ least_name first (filter p cs)
+    → least_name best (filter p (flat_map names (drop i keys))) ≡ goal → least_name second (filter p (flat_map names (drop (i + 1) keys))) ≡ goal
+least_further p names keys i key goal best first second c cs below at names_are first_is second_is h =
+    let rest = flat_map names (drop (i + 1) keys) in
+    ap (λ b. least_name b (filter p rest)) (second_is ∙ ap (λ b. least_name b (filter p cs)) first_is ∙ sym (least_of_both p best (c ∷ []) cs) ∙ ap (λ ns. least_name best (filter p ns)) (sym names_are))
+    ∙ sym (least_of_both p best (names key) rest)
+    ∙ ap (λ ks. least_name best (filter p (flat_map names ks))) (sym (drop_at keys i key below at))
+    ∙ h

@@ -1,0 +1,13 @@
+use Rattle.std.proofs.Common.{◌≡◌, drop}
+use Rattle.std.specs.Prelude.{filter}
+use Rattle.std.specs.List.{flat_map}
+use Rattle.dbtg_schema.specs.Structure.{set_numbers}
+use Rattle.dbtg_unit.specs.InHand.{owner_in}
+use Rattle.dbtg_unit.specs.Needs.{ring_names}
+use Rattle.dbtg_erase.specs.NextCell.{is_missing, least_name}
+use Rattle.dbtg_erase.proofs.next.nearest_rings.Given as goal
+
+abbrev pub invariant-loop-s : goal.invariant-loop-s
+invariant-loop-s l =
+    least_name l.nearest (filter (is_missing l.held) (flat_map (λ s. ring_names s (owner_in l.held s l.key)) (drop l.s (set_numbers l.schema))))
+    ≡ least_name l.fn.best (filter (is_missing l.held) (flat_map (λ s. ring_names s (owner_in l.held s l.key)) (set_numbers l.schema)))
