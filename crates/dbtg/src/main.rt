@@ -34,7 +34,6 @@ fn print_text(rt: &HostRuntime, text: &[u8]) -> ExitCode {
 fn carry_out(rt: &HostRuntime, call: &Call) -> ExitCode {
     let text = match call {
         Call::Check { schema, scripts } => check_files(rt, schema, scripts.as_slice()),
-        Call::Replay { .. } => Err(Fault::Memory),
     };
     match text {
         Ok(text) => print_text(rt, text.as_slice()),
