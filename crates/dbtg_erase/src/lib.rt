@@ -6,6 +6,8 @@ mod keys;
 mod left;
 mod next;
 mod preparing;
+#[cfg(test)]
+mod tests;
 mod work_list;
 
 pub use next::next_need;
