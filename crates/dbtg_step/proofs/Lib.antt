@@ -43,3 +43,4 @@ mod DrawnShown
 mod QuitShown
 mod OpeningShown
 mod ReadingShown
+mod MovesShown

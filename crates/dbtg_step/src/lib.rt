@@ -12,6 +12,7 @@ mod parts;
 mod quitting;
 mod reading;
 mod runner;
+mod running;
 mod statements;
 mod stepping;
 mod table;
