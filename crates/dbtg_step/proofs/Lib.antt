@@ -43,3 +43,6 @@ mod DrawnShown
 mod QuitShown
 mod OpeningShown
 mod ReadingShown
+mod RangePushes
+mod ImagesRead
+mod CellsFound
