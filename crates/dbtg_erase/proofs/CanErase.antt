@@ -1,8 +1,8 @@
 -- The edits of a DELETE can be made in turn.
-use Rattle.std.proofs.Common.{◌≡◌, ◌≢◌, refl, sym, ◌∙◌, ap, subst, ℕ, zero, suc, ◌+◌, ◌<◌, ◌≤◌, ◌^◌, arith, Bool, true, false, cond, not, ◌&&◌, ◌||◌, eqb, List, [], ◌∷◌, ◌++◌, length, Option, Some, None, inl, inr, map}
-use Rattle.std.specs.Prelude.{filter, is_some, option_map, slice_get, unwrap_or}
+use Rattle.std.proofs.Common.{◌≡◌, refl, sym, ◌∙◌, ap, subst, ℕ, zero, suc, ◌+◌, ◌<◌, ◌≤◌, ◌^◌, arith, Bool, true, false, cond, not, ◌&&◌, ◌||◌, eqb, List, [], ◌∷◌, ◌++◌, Option, Some, None, inl, inr, map}
+use Rattle.std.specs.Prelude.{filter, option_map, slice_get}
 use Rattle.std.specs.List.{flat_map, list_any, range_with_len}
-use Rattle.std.proofs.lemmas.Bool.{and_from, and_parts, and_right, cases_Bool, cond-false, cond-true, eq-eqb, eqb-true, false≢true, false_from_ne_true, not-true, not_from_false, or_left, or_right}
+use Rattle.std.proofs.lemmas.Bool.{and_parts, cases_Bool, cond-false, eq-eqb, eqb-true, false≢true, false_from_ne_true, not-true, or_left, or_right}
 use Rattle.dbtg_schema.specs.Lists.{Lists}
 use Rattle.dbtg_schema.specs.Lookups.{some_and}
 use Rattle.dbtg_schema.specs.Structure.{set_numbers}
@@ -13,10 +13,9 @@ use Rattle.dbtg_cells.specs.declared.key.DbKey.{DbKey}
 use Rattle.dbtg_cells.specs.declared.key.Owner.{Owner}
 use Rattle.dbtg_cells.specs.declared.key.Value.{Value}
 use Rattle.dbtg_cells.specs.declared.name.CellName.{CellName}
-use Rattle.dbtg_cells.specs.declared.name.CellName.TheVariants.{Extent, Ring, Slot}
+use Rattle.dbtg_cells.specs.declared.name.CellName.TheVariants.{Extent, Ring}
 use Rattle.dbtg_cells.specs.declared.ring.Occurrence.{Occurrence}
 use Rattle.dbtg_cells.specs.declared.slot.Stored.{Stored}
-use Rattle.dbtg_cells.specs.Cells.{shown}
 use Rattle.dbtg_cells.specs.Keys.{is_member, key_eq}
 use Rattle.dbtg_cells.specs.Members.{keys_in}
 use Rattle.dbtg_cells.specs.Names.{name_eq, place_eq}
@@ -32,7 +31,7 @@ use Rattle.dbtg_unit.specs.Legal.{differ, pairwise}
 use Rattle.dbtg_unit.proofs.EditLemmas.{distinct, edited_at-append}
 use Rattle.dbtg_unit.proofs.KeyLemmas.{same_key}
 use Rattle.dbtg_unit.proofs.LiveKeys.{In, all_at, any_element}
-use Rattle.dbtg_unit.proofs.ManyEdits.{Skips, Thins, is_of_number, numbers-left, skips-map, thins-flat, thins-ring}
+use Rattle.dbtg_unit.proofs.ManyEdits.{Thins, is_of_number, numbers-left, skips-map, thins-flat, thins-ring}
 use Rattle.dbtg_erase.proofs.Possible.{CanEditShown, Possible, after, possible-append, possible-flat, possible-map}
 
 -- NUMBERS

@@ -1,21 +1,18 @@
 -- What a DELETE that needs nothing more prepares can be made of the cells in hand.
-use Rattle.std.proofs.Common.{◌≡◌, refl, sym, ◌∙◌, ap, subst, ℕ, ◌+◌, ◌<◌, ◌≤◌, ◌^◌, arith, Bool, true, false, cond, not, ◌&&◌, eqb, List, [], ◌∷◌, ◌++◌, length, Option, Some, None, inl, inr, map}
+use Rattle.std.proofs.Common.{◌≡◌, refl, sym, ◌∙◌, ap, subst, ℕ, ◌≤◌, arith, true, false, cond, List, [], ◌∷◌, length, Option, Some, None, map}
 use Rattle.std.specs.Prelude.{is_some, option_map, unwrap_or}
-use Rattle.std.specs.List.{flat_map, list_all, list_any, range_with_len}
-use Rattle.std.proofs.lemmas.Bool.{and_parts, cases_Bool, eqb-true, false≢true, false_from_ne_true, not-true, not_from_false}
+use Rattle.std.specs.List.{flat_map, list_all, list_any}
+use Rattle.std.proofs.lemmas.Bool.{and_parts, eqb-true, false≢true, false_from_ne_true, not-true, not_from_false}
 use Rattle.std.proofs.lemmas.Option.{none-some}
 use Rattle.dbtg_schema.specs.Lists.{Lists}
 use Rattle.dbtg_schema.specs.Lookups.{first_cause}
-use Rattle.dbtg_schema.specs.Structure.{set_numbers}
 use Rattle.dbtg_cells.specs.declared.cell.Cell.{Cell}
 use Rattle.dbtg_cells.specs.declared.cell.Cell.TheVariants.{Usage as UsageCell, Extent as ExtentCell, Ring as RingCell, Slot as SlotCell}
 use Rattle.dbtg_cells.specs.declared.key.DbKey.{DbKey}
 use Rattle.dbtg_cells.specs.declared.key.Owner.{Owner}
-use Rattle.dbtg_cells.specs.declared.key.Owner.TheVariants.{Rec}
 use Rattle.dbtg_cells.specs.declared.key.Value.{Value}
 use Rattle.dbtg_cells.specs.declared.name.CellName.{CellName}
-use Rattle.dbtg_cells.specs.declared.name.CellName.TheVariants.{Extent, Ring, Slot}
-use Rattle.dbtg_cells.specs.declared.slot.Stored.{Stored}
+use Rattle.dbtg_cells.specs.declared.name.CellName.TheVariants.{Ring, Slot}
 use Rattle.dbtg_cells.specs.Cells.{shown}
 use Rattle.dbtg_cells.specs.Keys.{is_member, key_eq}
 use Rattle.dbtg_cells.specs.Members.{keys_in}
@@ -28,30 +25,30 @@ use Rattle.dbtg_unit.specs.declared.statement.Erase.{Erase}
 use Rattle.dbtg_unit.specs.declared.statement.Statement.TheVariants.{Delete}
 use Rattle.dbtg_unit.specs.declared.unit.Cause.{Cause}
 use Rattle.dbtg_unit.specs.declared.unit.Unit.{Unit}
-use Rattle.dbtg_unit.specs.Base.{Database, Record, calc_items, is_live, key_at, members_of, owner_of, sort_key}
+use Rattle.dbtg_unit.specs.Base.{Database, Record, calc_items, is_live, key_at, owner_of, sort_key}
 use Rattle.dbtg_unit.specs.CellNames.{place_of, slot_name}
 use Rattle.dbtg_unit.specs.Cells.{cell, number_of, owner_at, ring_of, slot_of}
 use Rattle.dbtg_unit.specs.Checks.{refused_at_once}
 use Rattle.dbtg_unit.specs.Edits.{edited_at}
 use Rattle.dbtg_unit.specs.EditsOf.{closing_edits, delete_edits, leave_number, leaving_edits, left_behind, losing_edits, slot_edit, staying_owner}
-use Rattle.dbtg_unit.specs.Effect.{delete_checks, has_members, is_gone, is_plain, own_checks}
+use Rattle.dbtg_unit.specs.Effect.{delete_checks, is_gone}
 use Rattle.dbtg_unit.specs.Erasing.{delete_cells, delete_cells_of, doomed_in_turn, members_of_all}
-use Rattle.dbtg_unit.specs.Hands.{Hands, cell_of}
+use Rattle.dbtg_unit.specs.Hands.{Hands}
 use Rattle.dbtg_unit.specs.Legal.{differ, pairwise}
 use Rattle.dbtg_unit.specs.Local.{Agrees, holds}
 use Rattle.dbtg_unit.specs.Making.{CanFinish, CanMake, HaveNextVersions, MayPrepare}
-use Rattle.dbtg_unit.proofs.DeleteCells.{goes_live, left_live, left_once, skips_closings, skips_leavings}
+use Rattle.dbtg_unit.proofs.DeleteCells.{left_live, left_once, skips_closings, skips_leavings}
 use Rattle.dbtg_unit.proofs.EditLemmas.{range-distinct}
 use Rattle.dbtg_unit.proofs.InHandLemmas.{held_shows}
 use Rattle.dbtg_unit.proofs.InTurn.{all_from, met_are_live, met_once}
 use Rattle.dbtg_unit.proofs.KeyLemmas.{key_eq-refl}
-use Rattle.dbtg_unit.proofs.LiveKeys.{In, all_at, in_member, latest, listed, member_of_owner, some_is}
-use Rattle.dbtg_unit.proofs.ManyEdits.{is_of_number, skips-map, slots-vacated}
+use Rattle.dbtg_unit.proofs.LiveKeys.{In, all_at, in_member, latest, listed, member_of_owner}
+use Rattle.dbtg_unit.proofs.ManyEdits.{skips-map, slots-vacated}
 use Rattle.dbtg_unit.proofs.OwnersFound.{standing}
 use Rattle.dbtg_unit.proofs.PlacingOrder.{pairwise-weaker}
 use Rattle.dbtg_unit.proofs.ReadingCells.{held_cell}
 use Rattle.dbtg_unit.proofs.ReadyParts.{prepared_has_all}
-use Rattle.dbtg_erase.specs.ErasePlan.{checks_in, delete_plan, erasing_plan, unless_refusal, whole_plan}
+use Rattle.dbtg_erase.specs.ErasePlan.{delete_plan, erasing_plan, unless_refusal, whole_plan}
 use Rattle.dbtg_erase.specs.WorkList.{gone_in}
 use Rattle.dbtg_erase.proofs.CanErase.{HasNext, IsIn, apart, closings_possible, losings_possible, numbers_possible, places_possible, vacatings_possible}
 use Rattle.dbtg_erase.proofs.ErasePlan.{cells_are, checks_are, left_held}

@@ -19,7 +19,6 @@ use Rattle.dbtg_unit.specs.declared.edit.CellEdit.{CellEdit}
 use Rattle.dbtg_unit.specs.declared.edit.Edit.TheVariants.{ChangeOwner, CloseRing, RaiseVersion, TakeOut, Vacate}
 use Rattle.dbtg_unit.specs.declared.edit.UnitEdit.TheVariants.{LoseCurrent}
 use Rattle.dbtg_unit.specs.declared.statement.Erase.{Erase}
-use Rattle.dbtg_unit.specs.declared.statement.Statement.TheVariants.{Delete}
 use Rattle.dbtg_unit.specs.declared.unit.Cause.{Cause}
 use Rattle.dbtg_unit.specs.declared.unit.Cause.TheVariants.{OwnerHasMembers}
 use Rattle.dbtg_unit.specs.declared.unit.Status.TheVariants.{Done}
@@ -44,7 +43,7 @@ use Rattle.dbtg_unit.proofs.LocalDelete.{after_delete, is_taken_out}
 use Rattle.dbtg_unit.proofs.LocalStatements.{once_has}
 use Rattle.dbtg_erase.specs.ErasePlan.{checks_in, edits_in_hand, erasing_plan, has_members_in, raised_versions}
 use Rattle.dbtg_erase.specs.WorkList.{gone_in, list_in, members_in_hand, own_sets}
-use Rattle.dbtg_erase.proofs.Reading.{all_members_are, filter-agree, flat-agree, gone_agrees, list_is, unowned}
+use Rattle.dbtg_erase.proofs.Reading.{all_members_are, filter-agree, flat-agree, gone_agrees, unowned}
 
 -- THE FIRST CAUSE
 

@@ -1,5 +1,5 @@
 -- Lists of keys, each once, as they grow.
-use Rattle.std.proofs.Common.{◌≡◌, refl, sym, ◌∙◌, ap, ℕ, suc, ◌+◌, ◌-◌, ◌<◌, ◌≤◌, arith, append_assoc, drop, Bool, true, false, cond, List, [], ◌∷◌, ◌++◌, Option, Some, None}
+use Rattle.std.proofs.Common.{◌≡◌, refl, sym, ◌∙◌, ap, ℕ, suc, ◌+◌, ◌-◌, ◌<◌, ◌≤◌, arith, append_assoc, drop, Bool, true, false, cond, List, [], ◌∷◌, ◌++◌, Some, None}
 use Rattle.std.specs.Prelude.{filter, slice_get}
 use Rattle.std.specs.List.{flat_map, range_with_len}
 use Rattle.dbtg_cells.specs.declared.key.DbKey.{DbKey}

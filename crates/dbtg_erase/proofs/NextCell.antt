@@ -1,5 +1,5 @@
 -- The next cell that is read off the cells in hand is that of each database that agrees with them.
-use Rattle.std.proofs.Common.{◌≡◌, refl, sym, ◌∙◌, ap, subst, ℕ, ◌&&◌, ◌||◌, Bool, true, false, cond, not, List, [], ◌∷◌, ◌++◌, length, Option, Some, None, inl, inr, map}
+use Rattle.std.proofs.Common.{◌≡◌, refl, sym, ◌∙◌, ap, ℕ, ◌&&◌, ◌||◌, Bool, true, false, cond, not, List, [], ◌∷◌, ◌++◌, length, Option, Some, None, inl, inr, map}
 use Rattle.std.specs.Prelude.{filter, is_some, nat_lt}
 use Rattle.std.specs.List.{find, flat_map, list_any}
 use Rattle.std.specs.Option.{option_or}
@@ -11,7 +11,6 @@ use Rattle.dbtg_schema.specs.Structure.{owns, set_numbers}
 use Rattle.dbtg_cells.specs.declared.key.DbKey.{DbKey}
 use Rattle.dbtg_cells.specs.declared.key.Owner.TheVariants.{Rec}
 use Rattle.dbtg_cells.specs.declared.name.CellName.{CellName}
-use Rattle.dbtg_cells.specs.declared.name.CellName.TheVariants.{Ring}
 use Rattle.dbtg_cells.specs.Names.{name_eq}
 use Rattle.dbtg_unit.specs.declared.statement.Erase.{Erase}
 use Rattle.dbtg_unit.specs.declared.unit.Cause.{Cause}
@@ -32,7 +31,7 @@ use Rattle.dbtg_unit.proofs.InTurn.{met_are_live}
 use Rattle.dbtg_unit.proofs.LiveKeys.{In, all_at, in_flat_map, in_map}
 use Rattle.dbtg_erase.specs.ErasePlan.{has_members_in}
 use Rattle.dbtg_erase.specs.NextCell.{first_missing, is_missing, least_name, next_cell_in, next_of_gone, next_of_passed, outer_names, ring_of, stops_at, unless_stopped}
-use Rattle.dbtg_erase.specs.WorkList.{cells_of_gone, gone_in, list_in, own_sets, taken_in}
+use Rattle.dbtg_erase.specs.WorkList.{cells_of_gone, gone_in, list_in, own_sets}
 use Rattle.dbtg_erase.proofs.Bringing.{prefix}
 use Rattle.dbtg_erase.proofs.ErasePlan.{any-both, any-filter, any-same}
 use Rattle.dbtg_erase.proofs.FirstNames.{find_or}

@@ -1,5 +1,5 @@
 -- What a DELETE needs next by the cells in hand is what it needs on each database that agrees with them.
-use Rattle.std.proofs.Common.{◌≡◌, refl, sym, ◌∙◌, ap, subst, ℕ, false, cond, not, ◌&&◌, [], Option, Some, None}
+use Rattle.std.proofs.Common.{◌≡◌, refl, sym, ◌∙◌, ap, ℕ, false, cond, not, ◌&&◌, [], Option, Some, None}
 use Rattle.std.specs.Prelude.{◌==◌, is_some}
 use Rattle.std.specs.List.{find, list_any}
 use Rattle.std.proofs.lemmas.Bool.{and_right}
@@ -8,8 +8,7 @@ use Rattle.dbtg_schema.specs.Lookups.{at, some_and}
 use Rattle.dbtg_cells.specs.declared.key.DbKey.{DbKey}
 use Rattle.dbtg_cells.specs.declared.name.CellName.{CellName}
 use Rattle.dbtg_cells.specs.Names.{name_eq}
-use Rattle.dbtg_unit.specs.declared.held.Need.{Need}
-use Rattle.dbtg_unit.specs.declared.held.Need.TheVariants.{Area, Take, Ready}
+use Rattle.dbtg_unit.specs.declared.held.Need.TheVariants.{Area, Ready}
 use Rattle.dbtg_unit.specs.declared.statement.Erase.{Erase}
 use Rattle.dbtg_unit.specs.declared.statement.Statement.TheVariants.{Delete}
 use Rattle.dbtg_unit.specs.declared.unit.Cause.{Cause}
@@ -21,7 +20,7 @@ use Rattle.dbtg_unit.specs.Hands.{Hands}
 use Rattle.dbtg_unit.specs.Local.{Agrees}
 use Rattle.dbtg_unit.specs.Needs.{areas_in_order, cells_of, is_stale, is_wrong_guess, need, need_of_cells, next_of, stale_owners}
 use Rattle.dbtg_unit.proofs.LocalReady.{holds_any}
-use Rattle.dbtg_erase.specs.NextCell.{is_missing, need_of, next_cell_of}
+use Rattle.dbtg_erase.specs.NextCell.{need_of, next_cell_of}
 use Rattle.dbtg_erase.proofs.NextCell.{next_cell_is}
 
 module _ (schema : Lists) (capacity : ℕ) (unit : Unit) (option : Erase) (hands : Hands) (db : Database) where

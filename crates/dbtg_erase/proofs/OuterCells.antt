@@ -1,5 +1,5 @@
 -- The cells around the records that go, as they are read off those, and in the order of cells.
-use Rattle.std.proofs.Common.{◌≡◌, refl, sym, ◌∙◌, ap, subst, ℕ, zero, suc, ◌+◌, arith, Bool, true, false, cond, ◌&&◌, ◌||◌, eqb, List, [], ◌∷◌, ◌++◌, length, Option, Some, None, inl, inr, ⊎_elim, map}
+use Rattle.std.proofs.Common.{◌≡◌, refl, sym, ◌∙◌, ap, subst, ℕ, arith, Bool, true, false, cond, eqb, List, [], ◌∷◌, length, Option, Some, None, inl, inr, ⊎_elim, map}
 use Rattle.std.specs.Prelude.{filter, nat_lt, option_map, unwrap_or}
 use Rattle.std.specs.List.{flat_map, list_all, list_any, range_with_len}
 use Rattle.std.proofs.lemmas.Bool.{and_from, and_parts, eq-eqb, eqb-true, or_left, or_right}

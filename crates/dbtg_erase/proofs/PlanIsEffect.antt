@@ -1,5 +1,5 @@
 -- A DELETE that needs nothing more prepares its effect, whatever database agrees with the cells in hand.
-use Rattle.std.proofs.Common.{◌≡◌, refl, sym, ◌∙◌, ap, subst, ℕ, Bool, true, false, cond, not, ◌&&◌, List, [], ◌∷◌, ◌++◌, Option, Some, None, inl, inr}
+use Rattle.std.proofs.Common.{◌≡◌, refl, sym, ◌∙◌, ap, subst, ℕ, Bool, true, false, cond, not, ◌&&◌, List, [], ◌∷◌, Option, Some, None, inl, inr}
 use Rattle.std.specs.Prelude.{filter}
 use Rattle.std.specs.List.{list_all}
 use Rattle.std.proofs.lemmas.Bool.{and_from, cases_Bool, not-false}
@@ -26,7 +26,7 @@ use Rattle.dbtg_unit.specs.Guesses.{guesses_after}
 use Rattle.dbtg_unit.specs.Hands.{Hands}
 use Rattle.dbtg_unit.specs.Local.{Agrees, holds}
 use Rattle.dbtg_unit.specs.Making.{MayPrepare}
-use Rattle.dbtg_unit.specs.Prepared.{IsEffect, IsPrepared, Plan}
+use Rattle.dbtg_unit.specs.Prepared.{IsEffect, IsPrepared}
 use Rattle.dbtg_unit.specs.Units.{forgotten}
 use Rattle.dbtg_unit.proofs.CheckLemmas.{passes, passes-append, passes_check}
 use Rattle.dbtg_unit.proofs.EveryEdit.{every_effect_is_its_edits}

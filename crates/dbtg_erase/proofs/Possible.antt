@@ -1,6 +1,6 @@
 -- When edits in turn can be made, by what the cells show.
 -- c is the name of a cell, e an edit of a cell, V what each cell shows.
-use Rattle.std.proofs.Common.{◌≡◌, refl, sym, ◌∙◌, ap, subst, ◌+◌, ◌<◌, ◌^◌, Bool, true, false, cond, List, [], ◌∷◌, ◌++◌, Option, Some, None, inl, inr, map}
+use Rattle.std.proofs.Common.{◌≡◌, sym, ◌∙◌, ap, cond, List, [], ◌∷◌, ◌++◌, Some, inl, inr, map}
 use Rattle.std.specs.Prelude.{⊤}
 use Rattle.std.specs.List.{flat_map}
 use Rattle.std.proofs.lemmas.Bool.{cases_Bool}
@@ -17,7 +17,6 @@ use Rattle.dbtg_unit.specs.Hands.{cell_of}
 use Rattle.dbtg_unit.specs.Lends.{with_cell}
 use Rattle.dbtg_unit.specs.Making.{CanMake, ShowsEdited}
 use Rattle.dbtg_unit.proofs.CellNameLemmas.{same_name}
-use Rattle.dbtg_unit.proofs.EditLemmas.{edited_at-append}
 use Rattle.dbtg_unit.proofs.MakingLemmas.{Held, cell_of-other, written_over}
 
 -- the edit can be made of each cell that shows this

@@ -1,10 +1,10 @@
 -- What is read off the cells in hand of a record that goes is so in each database that agrees with them.
-use Rattle.std.proofs.Common.{◌≡◌, refl, sym, ◌∙◌, ap, subst, ℕ, suc, ◌+◌, ◌*◌, ◌≤◌, Bool, true, false, cond, not, ◌&&◌, ◌||◌, List, [], ◌∷◌, ◌++◌, length, Option, Some, None, arith, eqb, inl, inr, map, length-append}
+use Rattle.std.proofs.Common.{◌≡◌, refl, sym, ◌∙◌, ap, subst, ℕ, suc, ◌+◌, ◌*◌, ◌≤◌, Bool, true, false, cond, not, ◌&&◌, ◌||◌, List, [], ◌∷◌, ◌++◌, length, Option, Some, None, arith, inl, inr, map, length-append}
 use Rattle.std.proofs.Math.Nat.{suc-mul}
 use Rattle.std.proofs.lemmas.List.FromFn.{length-map-range_with_len, length-range_with_len}
-use Rattle.std.specs.Prelude.{filter, is_some, unwrap_or, ◌==◌}
+use Rattle.std.specs.Prelude.{filter, unwrap_or, ◌==◌}
 use Rattle.std.specs.List.{find, flat_map, list_any, range_with_len}
-use Rattle.std.proofs.lemmas.Bool.{and_from, and_parts, cases_Bool, false≢true, false_from_ne_true, not-false, not-true}
+use Rattle.std.proofs.lemmas.Bool.{and_from, and_parts, cases_Bool, false≢true, false_from_ne_true}
 use Rattle.std.proofs.lemmas.Option.{none-some}
 use Rattle.dbtg_schema.specs.Lists.{Lists}
 use Rattle.dbtg_schema.specs.Lookups.{some_and}
@@ -22,13 +22,12 @@ use Rattle.dbtg_unit.specs.CellNames.{slot_name}
 use Rattle.dbtg_unit.specs.Doomed.{all_keys, is_elsewhere, takes, takes_member}
 use Rattle.dbtg_unit.specs.Erasing.{cells_of_doomed, doomed_in_turn, members_of_all, own_rings, taken_with}
 use Rattle.dbtg_unit.specs.Hands.{Hands}
-use Rattle.dbtg_unit.specs.InHand.{owner_in}
 use Rattle.dbtg_unit.specs.Local.{Agrees, holds}
 use Rattle.dbtg_unit.proofs.InHandLemmas.{members_in_hand as members_are, owner_in_hand}
 use Rattle.dbtg_unit.proofs.InTurn.{met_few}
-use Rattle.dbtg_unit.proofs.LiveKeys.{In, any_element, any_in, in_filter, in_flat_map, in_left, in_map, in_member, in_right, listed, member_in, member_nowhere, member_of_owner, none_is, of_filter, owner_in as among_owners}
+use Rattle.dbtg_unit.proofs.LiveKeys.{In, any_element, any_in, in_flat_map, in_left, in_map, in_right, listed, member_nowhere, member_of_owner, none_is, of_filter, owner_in as among_owners}
 use Rattle.dbtg_erase.specs.WorkList.{cells_of_gone, elsewhere_in, gone_in, list_in, members_in_hand, most_gone, own_sets, taken_in, taken_of_set}
-use Rattle.dbtg_erase.proofs.Bringing.{Agree, agree, find-second}
+use Rattle.dbtg_erase.proofs.Bringing.{Agree, agree}
 
 -- LISTS
 

@@ -1,9 +1,7 @@
 -- The first element of an ascending list that isn't held: all below it are held.
-use Rattle.std.proofs.Common.{◌≡◌, refl, sym, ◌∙◌, subst, ℕ, zero, suc, ◌+◌, ◌<◌, Bool, true, false, not, List, [], ◌∷◌, ◌++◌, Some, ◌⊎◌, inl, inr, arith}
-use Rattle.std.specs.Prelude.{nat_lt, filter}
-use Rattle.std.specs.List.{list_all, range_with_len, find}
-use Rattle.std.proofs.lemmas.Bool.{and_parts, and_from, cond_both, false≢true, lt-ltb}
-use Rattle.std.proofs.lemmas.List.Folds.{list_all-append}
+use Rattle.std.proofs.Common.{◌≡◌, refl, sym, ◌∙◌, subst, Bool, true, false, not, List, [], ◌∷◌, Some, ◌⊎◌, inl, inr}
+use Rattle.std.specs.List.{find}
+use Rattle.std.proofs.lemmas.Bool.{and_parts, false≢true}
 use Rattle.dbtg_unit.specs.Legal.{pairwise}
 use Rattle.dbtg_unit.proofs.LiveKeys.{In, all_at, find_element}
 pub use Rattle.dbtg_unit.proofs.Ascending.{ascending_filter, ascending_join, ascending_range}

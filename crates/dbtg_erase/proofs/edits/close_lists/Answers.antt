@@ -1,4 +1,4 @@
-use Rattle.std.proofs.Common.{◌≡◌, refl, subst, ℕ, ◌<◌, ◌≤◌, arith, length}
+use Rattle.std.proofs.Common.{refl, subst, ◌<◌, ◌≤◌, arith, length}
 use Rattle.std.specs.Prelude.{filter, map}
 use Rattle.dbtg_schema.specs.Structure.{owns}
 use Rattle.dbtg_erase.specs.ErasePlan.{close_ring}

@@ -1,4 +1,4 @@
-use Rattle.std.proofs.Common.{◌≡◌, refl, [], ◌∷◌, ◌≤◌, arith, length}
+use Rattle.std.proofs.Common.{refl, [], ◌∷◌, ◌≤◌, arith, length}
 use Rattle.std.specs.List.{flat_map}
 use Rattle.dbtg_unit.specs.declared.edit.Edit.TheVariants.{TakeOut}
 use Rattle.dbtg_unit.specs.EditsOf.{ring_edits, staying_owner}

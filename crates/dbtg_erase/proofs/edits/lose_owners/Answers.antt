@@ -1,4 +1,4 @@
-use Rattle.std.proofs.Common.{◌≡◌, refl, subst, ℕ, ◌<◌, ◌≤◌, arith, length}
+use Rattle.std.proofs.Common.{refl, subst, ◌<◌, ◌≤◌, arith, length}
 use Rattle.std.specs.Prelude.{filter, map}
 use Rattle.dbtg_schema.specs.Lookups.{some_and}
 use Rattle.dbtg_unit.specs.Effect.{is_gone}

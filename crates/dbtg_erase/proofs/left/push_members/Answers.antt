@@ -1,4 +1,4 @@
-use Rattle.std.proofs.Common.{◌≡◌, subst, ◌<◌, ◌≤◌, arith, length}
+use Rattle.std.proofs.Common.{subst, ◌<◌, ◌≤◌, arith, length}
 use Rattle.dbtg_schema.specs.Structure.{owns}
 use Rattle.dbtg_erase.specs.WorkList.{list_in}
 use Rattle.dbtg_erase.proofs.KeyLists.{keys_of_end, keys_of_next}
