@@ -17,25 +17,25 @@ use Rattle.dbtg_unit.specs.declared.unit.Cause.{Cause}
 use Rattle.dbtg_unit.specs.declared.unit.Unit.{Unit}
 use Rattle.dbtg_unit.specs.Base.{Database}
 use Rattle.dbtg_unit.specs.Belongs.{IsUnitOf, IsWithin}
-use Rattle.dbtg_unit.specs.Checks.{refused_at_once}
+use Rattle.dbtg_unit.specs.Checks.{changes_records, refused_at_once}
 use Rattle.dbtg_unit.specs.EditsOf.{is_delete}
 use Rattle.dbtg_unit.specs.Effect.{effect}
 use Rattle.dbtg_unit.specs.Fits.{fits}
 use Rattle.dbtg_unit.specs.Hands.{Hands}
 use Rattle.dbtg_unit.specs.Local.{Agrees}
 use Rattle.dbtg_unit.specs.Locality.{DoTheSame}
-use Rattle.dbtg_unit.specs.Making.{HaveNextVersions, IsReady, MayPrepare}
+use Rattle.dbtg_unit.specs.Making.{IsReady}
 use Rattle.dbtg_unit.specs.Needs.{areas_in_order, cells_of, need}
 use Rattle.dbtg_unit.proofs.AlikeInsert.{insert_is_determined}
 use Rattle.dbtg_unit.proofs.AlikeReading.{reading_is_determined}
 use Rattle.dbtg_unit.proofs.AlikeRemove.{remove_is_determined}
-use Rattle.dbtg_unit.proofs.OnePlan.{HasPlan, one_plan_does_the_same}
+use Rattle.dbtg_unit.proofs.OnePlan.{HasPlan, MayPlan, one_plan_does_the_same}
 use Rattle.dbtg_plan.specs.Locality.{EachIsDetermined}
 use Rattle.dbtg_plan.specs.Missing.{first_missing}
 use Rattle.dbtg_plan.specs.Modifying.{modify_plan}
 use Rattle.dbtg_plan.specs.Plans.{refusal}
 use Rattle.dbtg_plan.specs.Store.{store_plan}
-use Rattle.dbtg_plan.proofs.ModifyReady.{modify_can_finish}
+use Rattle.dbtg_plan.proofs.ModifyReady.{modify_is_effect}
 use Rattle.dbtg_plan.proofs.OutcomeLemmas.{refused_finishes}
 use Rattle.dbtg_plan.proofs.StaleLemmas.{area_needed, cell_needed, guesses_needed, refused_needs}
 use Rattle.dbtg_plan.proofs.StoreInHand.{missing-in_hand, plan-is_effect}
@@ -85,53 +85,52 @@ module _ (schema : Lists) (capacity : ℕ) (unit : Unit) (hands : Hands) where
   refused_plan : (statement : Statement) (cause : Cause) → refused_at_once schema capacity unit statement ≡ Some cause → HasPlan schema capacity unit hands statement
   refused_plan statement cause e = (refusal cause, (refused_finishes schema capacity unit hands statement cause e).prepared.effects)
 
-  store_has_plan : (t : ℕ) (items : List Value) (suppress : Suppress) → MayPrepare schema capacity unit hands (Store t items suppress) → HasPlan schema capacity unit hands (Store t items suppress)
+  store_has_plan : (t : ℕ) (items : List Value) (suppress : Suppress) → MayPlan schema capacity unit hands (Store t items suppress) → HasPlan schema capacity unit hands (Store t items suppress)
   store_has_plan t items suppress may = by_check (refused_at_once schema capacity unit (Store t items suppress)) refl where
     by_check : (o : Option Cause) → refused_at_once schema capacity unit (Store t items suppress) ≡ o → HasPlan schema capacity unit hands (Store t items suppress)
     by_check (Some cause) e = refused_plan (Store t items suppress) cause e
     by_check None e = (store_plan schema unit hands t items suppress, plan-is_effect schema capacity unit hands t items suppress may e)
 
-  modify_has_plan : (t : ℕ) (changes : List Change) → MayPrepare schema capacity unit hands (Modify t changes) → HasPlan schema capacity unit hands (Modify t changes)
+  modify_has_plan : (t : ℕ) (changes : List Change) → MayPlan schema capacity unit hands (Modify t changes) → HasPlan schema capacity unit hands (Modify t changes)
   modify_has_plan t changes may = by_check (refused_at_once schema capacity unit (Modify t changes)) refl where
     by_check : (o : Option Cause) → refused_at_once schema capacity unit (Modify t changes) ≡ o → HasPlan schema capacity unit hands (Modify t changes)
     by_check (Some cause) e = refused_plan (Modify t changes) cause e
-    by_check None e = (modify_plan schema hands unit changes, (modify_can_finish schema capacity unit hands t changes may e).prepared.effects)
+    by_check None e = (modify_plan schema hands unit changes, modify_is_effect schema capacity unit hands t changes may e)
+
+-- the parts of a plan's conditions beside the statement's own
+module _ (schema : Lists) (capacity : ℕ) (db eb : Database) (hands : Hands) (unit : Unit) (sound : IsSound schema) (of_schema : IsUnitOf schema unit) (within : IsWithin capacity unit)
+    (agrees : Agrees schema capacity db hands unit) (agrees_too : Agrees schema capacity eb hands unit) where
+  abbrev Determined : Statement → Type 0
+  Determined statement = need schema capacity db unit hands statement ≡ Ready → DoTheSame schema capacity hands (effect schema capacity db unit statement) (effect schema capacity eb unit statement)
+
+  by_reading : (statement : Statement) → changes_records statement ≡ false → Determined statement
+  by_reading statement reads = reading_is_determined schema capacity db eb hands unit statement of_schema agrees agrees_too reads
+
+  by_plan : (statement : Statement) → fits schema statement ≡ true → (MayPlan schema capacity unit hands statement → HasPlan schema capacity unit hands statement)
+      → (need schema capacity db unit hands statement ≡ Ready → IsReady schema capacity unit hands statement) → Determined statement
+  by_plan statement fit plan each_ready ready =
+      one_plan_does_the_same schema capacity db eb hands unit statement (plan (record {
+        sound = sound;
+        fits = fit;
+        of_schema = of_schema;
+        within = within;
+        ready = each_ready ready;
+      })) agrees agrees_too
+
+  of_each : (statement : Statement) → fits schema statement ≡ true → is_delete statement ≡ false → Determined statement
+  of_each (Store t items suppress) fit other =
+      by_plan (Store t items suppress) fit (store_has_plan schema capacity unit hands t items suppress) (store_ready schema capacity unit hands t items suppress fit db agrees)
+  of_each (Modify t changes) fit other = by_plan (Modify t changes) fit (modify_has_plan schema capacity unit hands t changes) (modify_ready schema capacity unit hands t changes fit db agrees)
+  of_each (Remove s) fit other = remove_is_determined schema capacity db eb hands unit s fit agrees agrees_too
+  of_each (Insert s) fit other = insert_is_determined schema capacity db eb hands unit s fit agrees agrees_too
+  of_each (Delete option) fit other = absurd (false≢true (sym other))
+  of_each (OpenArea a mode) fit other = by_reading (OpenArea a mode) refl
+  of_each (CloseArea a) fit other = by_reading (CloseArea a) refl
+  of_each (Find form suppress) fit other = by_reading (Find form suppress) refl
+  of_each (Get r) fit other = by_reading (Get r) refl
+  of_each Keep fit other = by_reading Keep refl
+  of_each (Free all) fit other = by_reading (Free all) refl
 
 pub each_is_determined : EachIsDetermined
-each_is_determined schema capacity db eb hands unit (Store t items suppress) sound of_schema within fit other versions agrees agrees_too ready =
-    one_plan_does_the_same schema capacity db eb hands unit (Store t items suppress)
-    (store_has_plan schema capacity unit hands t items suppress (record {
-      sound = sound;
-      fits = fit;
-      of_schema = of_schema;
-      within = within;
-      ready = store_ready schema capacity unit hands t items suppress fit db agrees ready;
-      versions = versions;
-    })) agrees agrees_too
-each_is_determined schema capacity db eb hands unit (Modify t changes) sound of_schema within fit other versions agrees agrees_too ready =
-    one_plan_does_the_same schema capacity db eb hands unit (Modify t changes)
-    (modify_has_plan schema capacity unit hands t changes (record {
-      sound = sound;
-      fits = fit;
-      of_schema = of_schema;
-      within = within;
-      ready = modify_ready schema capacity unit hands t changes fit db agrees ready;
-      versions = versions;
-    })) agrees agrees_too
-each_is_determined schema capacity db eb hands unit (Delete option) sound of_schema within fit other versions agrees agrees_too ready = absurd (false≢true (sym other))
-each_is_determined schema capacity db eb hands unit (Remove s) sound of_schema within fit other versions agrees agrees_too ready =
-    remove_is_determined schema capacity db eb hands unit s fit agrees agrees_too ready
-each_is_determined schema capacity db eb hands unit (Insert s) sound of_schema within fit other versions agrees agrees_too ready =
-    insert_is_determined schema capacity db eb hands unit s fit agrees agrees_too ready
-each_is_determined schema capacity db eb hands unit (OpenArea a mode) sound of_schema within fit other versions agrees agrees_too ready =
-    reading_is_determined schema capacity db eb hands unit (OpenArea a mode) of_schema agrees agrees_too refl ready
-each_is_determined schema capacity db eb hands unit (CloseArea a) sound of_schema within fit other versions agrees agrees_too ready =
-    reading_is_determined schema capacity db eb hands unit (CloseArea a) of_schema agrees agrees_too refl ready
-each_is_determined schema capacity db eb hands unit (Find form suppress) sound of_schema within fit other versions agrees agrees_too ready =
-    reading_is_determined schema capacity db eb hands unit (Find form suppress) of_schema agrees agrees_too refl ready
-each_is_determined schema capacity db eb hands unit (Get r) sound of_schema within fit other versions agrees agrees_too ready =
-    reading_is_determined schema capacity db eb hands unit (Get r) of_schema agrees agrees_too refl ready
-each_is_determined schema capacity db eb hands unit Keep sound of_schema within fit other versions agrees agrees_too ready =
-    reading_is_determined schema capacity db eb hands unit Keep of_schema agrees agrees_too refl ready
-each_is_determined schema capacity db eb hands unit (Free all) sound of_schema within fit other versions agrees agrees_too ready =
-    reading_is_determined schema capacity db eb hands unit (Free all) of_schema agrees agrees_too refl ready
+each_is_determined schema capacity db eb hands unit statement sound of_schema within fit other agrees agrees_too =
+    of_each schema capacity db eb hands unit sound of_schema within agrees agrees_too statement fit other

@@ -1,16 +1,31 @@
 -- One plan, the effect of a statement on two databases, has one outcome in what is in hand.
-use Rattle.std.proofs.Common.{◌≡◌, sym, ◌∙◌, ap, ℕ}
+use Rattle.std.proofs.Common.{◌≡◌, sym, ◌∙◌, ap, ℕ, true}
 use Rattle.dbtg_schema.specs.Lists.{Lists}
+use Rattle.dbtg_schema.specs.Sound.{IsSound}
 use Rattle.dbtg_unit.specs.declared.statement.Statement.{Statement}
 use Rattle.dbtg_unit.specs.declared.unit.Unit.{Unit}
 use Rattle.dbtg_unit.specs.Base.{Database}
+use Rattle.dbtg_unit.specs.Belongs.{IsUnitOf, IsWithin}
 use Rattle.dbtg_unit.specs.Edits.{edited_at}
 use Rattle.dbtg_unit.specs.Effect.{effect}
+use Rattle.dbtg_unit.specs.Fits.{fits}
 use Rattle.dbtg_unit.specs.Hands.{Hands}
 use Rattle.dbtg_unit.specs.Local.{Agrees}
 use Rattle.dbtg_unit.specs.Locality.{DoTheSame}
+use Rattle.dbtg_unit.specs.Making.{IsReady, MayPrepare}
 use Rattle.dbtg_unit.specs.Prepared.{IsEffect, Plan}
 use Rattle.dbtg_unit.proofs.AlikeReading.{held_alike}
+
+-- what a plan of a statement is read from; to carry it out, there must be next versions too
+pub record MayPlan (schema : Lists) (capacity : ℕ) (unit : Unit) (hands : Hands) (statement : Statement) : Type 0 where
+  pub sound : IsSound schema
+  pub fits : fits schema statement ≡ true
+  pub of_schema : IsUnitOf schema unit
+  pub within : IsWithin capacity unit
+  pub ready : IsReady schema capacity unit hands statement
+
+pub may_plan : {schema : Lists} {capacity : ℕ} {unit : Unit} {hands : Hands} {statement : Statement} → MayPrepare schema capacity unit hands statement → MayPlan schema capacity unit hands statement
+may_plan may = record { sound = may.sound; fits = may.fits; of_schema = may.of_schema; within = may.within; ready = may.ready }
 
 -- a plan that is the statement's effect on every database that agrees with what is in hand
 abbrev pub HasPlan : Lists → ℕ → Unit → Hands → Statement → Type 0
