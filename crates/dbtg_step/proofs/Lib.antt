@@ -34,3 +34,12 @@ mod SoundSchemas
 mod StatementsLocal
 mod NetworkFacts
 mod TurnsBack
+mod PlacesOfCells
+mod EventsShown
+mod NeedsShown
+mod FollowsShown
+mod Makings
+mod DrawnShown
+mod QuitShown
+mod OpeningShown
+mod ReadingShown

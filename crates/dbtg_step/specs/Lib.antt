@@ -9,3 +9,7 @@ pub mod Laws
 pub mod Headline
 pub mod Serial
 pub mod TurningBack
+pub mod Parts
+pub mod Events
+pub mod CoreSteps
+pub mod Openings
