@@ -38,13 +38,14 @@ module _ (schema : Lists) (capacity : ℕ) (unit : Unit) (option : Erase) (hands
 
 pub delete_is_determined : DeleteIsDetermined
 delete_is_determined schema capacity db eb hands unit option sound of_schema within agrees agrees_too ready =
-    one_plan_does_the_same schema capacity db eb hands unit (Delete option)
-    (whole_plan schema capacity hands unit option,
-    plan_is_effect schema capacity unit hands option (record {
-      sound = sound;
-      fits = refl;
-      of_schema = of_schema;
-      within = within;
-      ready = λ other agrees_there. sym (same_need schema capacity unit option hands db other agrees agrees_there) ∙ ready;
-    }))
+    one_plan_does_the_same schema capacity db eb hands unit (Delete option) (
+      whole_plan schema capacity hands unit option,
+      plan_is_effect schema capacity unit hands option (record {
+        sound = sound;
+        fits = refl;
+        of_schema = of_schema;
+        within = within;
+        ready = λ other agrees_there. sym (same_need schema capacity unit option hands db other agrees agrees_there) ∙ ready;
+      }),
+    )
     agrees agrees_too
