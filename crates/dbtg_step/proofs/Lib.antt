@@ -44,3 +44,6 @@ mod QuitShown
 mod OpeningShown
 mod ReadingShown
 mod MovesShown
+mod RangePushes
+mod ImagesRead
+mod CellsFound
