@@ -1,12 +1,10 @@
 -- What a step and a quit of the core come to.
-use Rattle.std.specs.Prelude.{ℕ, ◌≡◌, Bool, true, false, List}
-use Rattle.dbtg_step.specs.declared.moves.Move.{Move}
-use Rattle.dbtg_step.specs.declared.moves.Move.TheVariants.{Step, Quit}
+use Rattle.std.specs.Prelude.{ℕ, ◌≡◌}
 use Rattle.dbtg_step.specs.declared.moves.Stepped.{Stepped}
 use Rattle.dbtg_step.specs.declared.moves.Stepped.TheVariants.{Moved, Blocked, Idle, NoMemory}
 use Rattle.dbtg_step.specs.Machine.{State}
 use Rattle.dbtg_step.specs.Network.{network}
-use Rattle.dbtg_step.specs.Step.{IsBlocked, IsIdle, MovedTo, Transition, quit, results, run, step}
+use Rattle.dbtg_step.specs.Step.{IsBlocked, IsIdle, MovedTo, Transition, quit, step}
 use Rattle.dbtg_step.specs.Events.{IsBeforeTicket}
 use Rattle.dbtg_step.specs.Parts.{CoreState, with_state}
 
@@ -32,21 +30,3 @@ IsQuitStep old u Moved new = (t : State (network old.schema old.capacity)) × (q
 IsQuitStep old u Blocked new = ⊥
 IsQuitStep old u Idle new = (quit_of old u ≡ IsIdle) × (new ≡ old)
 IsQuitStep old u NoMemory new = ⊥
-
--- what one move of a core comes to
-abbrev pub IsMove : CoreState → Move → Stepped → CoreState → Type 0
-IsMove old (Step u) result new = IsStep old u result new
-IsMove old (Quit u) result new = IsQuitStep old u result new
-
--- the core after moves
-unfoldable pub after_moves : CoreState → List Move → CoreState
-after_moves c moves = with_state c (run (network c.schema c.capacity) c.opening c.state moves)
-
--- what each of the moves comes to
-unfoldable pub results_of_moves : CoreState → List Move → List Stepped
-results_of_moves c moves = results (network c.schema c.capacity) c.opening c.state moves
-
--- a growth was refused
-abbrev pub is_no_memory : Stepped → Bool
-is_no_memory NoMemory = true
-is_no_memory _ = false

@@ -13,7 +13,6 @@ mod parts;
 mod quitting;
 mod reading;
 mod runner;
-mod running;
 mod statements;
 mod stepping;
 mod table;
