@@ -3,6 +3,7 @@
 
 mod edits;
 mod keys;
+mod laws;
 mod left;
 mod next;
 mod preparing;
@@ -10,5 +11,6 @@ mod preparing;
 mod tests;
 mod work_list;
 
+pub use laws::delete_is_determined;
 pub use next::next_need;
 pub use preparing::prepare;

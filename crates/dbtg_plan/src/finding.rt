@@ -77,6 +77,7 @@ fn missing_to_find(schema: &Schema, unit: &Unit, form: &Form, held: &Held) -> Op
     }
 }
 
+// The first cell that is not in hand, of those by which it is found and then the slot of what is found.
 fn next_cell(
     schema: &Schema,
     capacity: u16,
@@ -123,6 +124,7 @@ fn owners_of(held: &Held, key: &DbKey) -> Owners
     }
 }
 
+// What is done with what is found.
 fn plan_of_found(
     alloc: Global,
     held: &Held,

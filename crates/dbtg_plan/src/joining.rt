@@ -33,7 +33,8 @@ pub(crate) fn joined_place(schema: &Schema, unit: &Unit, set: SetNo) -> Place
     }
 }
 
-fn is_position_lost(at: Option<DbKey>, ring: &Ring) -> bool
+/// Is the position a key that is no longer in the list?
+pub(crate) fn is_position_lost(at: Option<DbKey>, ring: &Ring) -> bool
     ensures { result ≡ is_lost at (keys_in ring.now.occurrence) }
 {
     match at {

@@ -34,3 +34,16 @@ mod SoundSchemas
 mod StatementsLocal
 mod NetworkFacts
 mod TurnsBack
+mod PlacesOfCells
+mod EventsShown
+mod NeedsShown
+mod FollowsShown
+mod Makings
+mod DrawnShown
+mod QuitShown
+mod OpeningShown
+mod ReadingShown
+mod MovesShown
+mod RangePushes
+mod ImagesRead
+mod CellsFound

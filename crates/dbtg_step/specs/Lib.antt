@@ -9,3 +9,8 @@ pub mod Laws
 pub mod Headline
 pub mod Serial
 pub mod TurningBack
+pub mod Parts
+pub mod Events
+pub mod CoreSteps
+pub mod Openings
+pub mod Imaging

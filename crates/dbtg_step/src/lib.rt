@@ -1,9 +1,21 @@
 //! The core: run-units that make their statements event by event, in every interleaving.
 #![tactic(auto)]
 
+mod drawing;
 mod image;
+mod imaging;
 mod laws;
+mod machine;
 mod moves;
+mod needing;
+mod opening_parts;
+mod parts;
+mod quitting;
+mod reading;
+mod runner;
+mod statements;
+mod stepping;
+mod table;
 
 pub use image::{Image, Run};
 pub use laws::{
@@ -11,4 +23,5 @@ pub use laws::{
     every_run_is_lawful, every_run_is_sequential, every_serial_run_is_a_run, machine_is_opening,
     needs_are_in_order, needs_come_to_an_end, no_run_is_stuck, statements_have_their_events,
 };
+pub use machine::Core;
 pub use moves::{Move, Stepped};

@@ -1,6 +1,6 @@
 //! What a statement has in hand: areas and cells in the order of taking, and the unit's guesses of owners. Short lists
 //! live in place, so that most statements take no memory for them.
-ghost use Rattle.std.specs.Prelude.{◌≡◌, ◌==◌, [], ◌∷◌, ◌++◌, length, map, option_copied, slice_get, slice_set, IfErr, OnErr, OnOk};
+ghost use Rattle.std.specs.Prelude.{◌≡◌, ◌==◌, [], ◌∷◌, ◌++◌, length, map, option_copied, slice_get, slice_set, IfErr, IfNone, OnErr, OnOk};
 ghost use Rattle.std.specs.Borrow.{sem};
 ghost use Rattle.std.specs.List.{list_any, position_from};
 ghost use Rattle.std.specs.Option.{option_copied_mut, option_to_list};
@@ -141,6 +141,7 @@ impl Held {
     /// Gives the area back that was taken last.
     pub fn pop_area(&mut self) -> Option<AreaNo>
         ensures areas { self.old.areas ≡ self.new.areas ++ option_to_list result }
+        ensures none { IfNone result (self.old.areas ≡ []) }
         ensures rest { self.new ≡ record self.old { areas = self.new.areas } }
     {
         match self.areas.pop() {
@@ -166,11 +167,27 @@ impl Held {
     /// Gives the cell back that was taken last, under its name.
     pub fn pop_cell(&mut self) -> Option<(CellName, Cell)>
         ensures cells { self.old.cells ≡ self.new.cells ++ option_to_list result }
+        ensures none { IfNone result (self.old.cells ≡ []) }
         ensures rest { self.new ≡ record self.old { cells = self.new.cells } }
     {
         let name = self.names.pop()?;
         let cell = self.cells.pop()?;
         Some((name, cell))
+    }
+
+    /// How many areas are in hand.
+    pub fn area_count(&self) -> usize
+        ensures { result ≡ length self.now.areas }
+    {
+        self.areas.len()
+    }
+
+    /// How many cells are in hand.
+    pub fn cell_count(&self) -> usize
+        ensures { result ≡ length self.now.cells }
+    {
+        let _ = &self.cells;
+        self.names.len()
     }
 
     /// The owner in a set of the unit's current of run-unit, as the unit last saw it.

@@ -28,6 +28,7 @@ fn is_wanted(schema: &Schema, named: &Option<RecordNo>, area: AreaNo, rtype: Rec
     }
 }
 
+// The first key of one type behind the bound; none where the type is not wanted.
 fn first_of_type(
     schema: &Schema,
     held: &Held,
@@ -66,6 +67,7 @@ fn first_key(
     None
 }
 
+// The last key of one type before the bound; none where the type is not wanted.
 fn last_of_type(
     schema: &Schema,
     held: &Held,
@@ -104,6 +106,7 @@ fn last_key(
     last
 }
 
+// How many keys of one type there are; none where the type is not wanted.
 fn count_of_type(
     schema: &Schema,
     held: &Held,
@@ -123,6 +126,7 @@ fn count_of_type(
     }
 }
 
+// How many keys there are.
 fn count_keys(schema: &Schema, held: &Held, named: &Option<RecordNo>, area: AreaNo) -> u32
     ensures { result ≡ length (area_keys_in schema.now held.now named.now area) }
 {
@@ -133,6 +137,7 @@ fn count_keys(schema: &Schema, held: &Held, named: &Option<RecordNo>, area: Area
     count
 }
 
+// The key of one type at a place, from 0; none where the type is not wanted.
 fn nth_of_type(
     schema: &Schema,
     held: &Held,
@@ -193,6 +198,7 @@ fn key_from_end(
     }
 }
 
+// The n-th key: n counts from 1 at the first, and from -1 at the last.
 fn nth_key(
     schema: &Schema,
     held: &Held,
@@ -246,6 +252,7 @@ fn prior_key(
     last_key(schema, held, named, area, current)
 }
 
+// The key by which it is asked for.
 fn choose_key(
     schema: &Schema,
     held: &Held,

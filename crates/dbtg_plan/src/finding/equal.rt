@@ -35,6 +35,7 @@ fn values_of<'a>(extent: &'a Extent, key: &DbKey) -> Option<&'a [Value]>
     extent.values(key.number)
 }
 
+// The next record with the CALC values of another.
 fn next_equal(extent: &Extent, rtype: RecordNo, key: &DbKey) -> Result<DbKey, Cause>
     ensures { result ≡ duplicate_found rtype extent.now.numbers key.now }
 {

@@ -22,6 +22,7 @@ pub(crate) fn key_of(extent: &Extent, rtype: RecordNo, number: Option<u32>) -> O
     }
 }
 
+// Keys of the bound's type lie behind it above its number, and at it where the number was used again.
 fn number_above(extent: &Extent, bound: &DbKey) -> u32
     ensures { result ≡ number_above extent.now.numbers bound.now }
 {
@@ -32,6 +33,7 @@ fn number_above(extent: &Extent, bound: &DbKey) -> u32
     }
 }
 
+// Keys of the bound's type lie before it below its number, and at it where the number was not used so often.
 fn number_below(extent: &Extent, bound: &DbKey) -> u32
     requires { bound.now.number + 1 < 2 ^ 32 }
     ensures { result ≡ number_below extent.now.numbers bound.now }
@@ -43,6 +45,7 @@ fn number_below(extent: &Extent, bound: &DbKey) -> u32
     }
 }
 
+// The first key behind the bound.
 fn next_key(extent: &Extent, rtype: RecordNo, bound: &DbKey) -> Option<DbKey>
     ensures { result ≡ first (filter (key_lt bound.now) (keys_of_type rtype extent.now.numbers)) }
 {
@@ -55,6 +58,7 @@ fn next_key(extent: &Extent, rtype: RecordNo, bound: &DbKey) -> Option<DbKey>
     key_of(extent, rtype, extent.next_live(number_above(extent, bound)))
 }
 
+// The last key before the bound.
 fn prior_key(extent: &Extent, rtype: RecordNo, bound: &DbKey) -> Option<DbKey>
     requires { bound.now.number + 1 < 2 ^ 32 }
     ensures { result ≡ final (filter (λ k. key_lt k bound.now) (keys_of_type rtype extent.now.numbers)) }

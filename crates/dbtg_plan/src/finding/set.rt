@@ -8,25 +8,23 @@ ghost use Rattle.dbtg_unit.specs.Units.{place_in};
 ghost use Rattle.dbtg_unit.specs.declared.statement.Which.TheVariants.{Next, Prior};
 ghost use Rattle.dbtg_plan.specs.Finding.{member_found, sorted_found};
 
+use crate::joining::is_position_lost;
 use dbtg_cells::{DbKey, Ring, Value};
 use dbtg_schema::{RecordNo, Schema, SetNo};
 use dbtg_unit::{Cause, Held, Unit, Which, occurrence};
 
-fn is_gone(ring: &Ring, position: &Option<DbKey>) -> bool
-    ensures { result ≡ is_lost position.now (keys_in ring.now.occurrence) }
+// Is the position lost, where NEXT or PRIOR goes on from it?
+fn loses_position(ring: &Ring, which: Which, position: &Option<DbKey>) -> bool
+    ensures { result ≡ needs_position which && is_lost position.now (keys_in ring.now.occurrence) }
 {
-    match position {
-        Some(key) => !ring.contains(*key),
-        None => false,
+    match which {
+        Which::Next => is_position_lost(*position, ring),
+        Which::Prior => is_position_lost(*position, ring),
+        _ => false,
     }
 }
 
-fn goes_on(which: Which) -> bool
-    ensures { result ≡ needs_position which }
-{
-    matches!(which, Which::Next | Which::Prior)
-}
-
+// The first member behind the position, of a record type or of any.
 fn next_member(ring: &Ring, rtype: Option<RecordNo>, position: Option<DbKey>) -> Option<DbKey>
     requires { is_lost position (keys_in ring.now.occurrence) ≡ false }
     ensures { result ≡ chosen Next (has_type rtype) position (keys_in ring.now.occurrence) }
@@ -37,6 +35,7 @@ fn next_member(ring: &Ring, rtype: Option<RecordNo>, position: Option<DbKey>) ->
     }
 }
 
+// The last member before the position, of a record type or of any.
 fn prior_member(ring: &Ring, rtype: Option<RecordNo>, position: Option<DbKey>) -> Option<DbKey>
     requires { is_lost position (keys_in ring.now.occurrence) ≡ false }
     ensures { result ≡ chosen Prior (has_type rtype) position (keys_in ring.now.occurrence) }
@@ -47,6 +46,7 @@ fn prior_member(ring: &Ring, rtype: Option<RecordNo>, position: Option<DbKey>) -
     }
 }
 
+// The member from a position that is not lost.
 fn choose(
     ring: &Ring,
     which: Which,
@@ -66,6 +66,7 @@ fn choose(
     }
 }
 
+// The member, or the cause why there is none.
 fn choose_member(
     ring: &Ring,
     which: Which,
@@ -78,7 +79,7 @@ fn choose_member(
     if !ring.is_present() {
         return Err(Cause::Deleted);
     }
-    if goes_on(which) && is_gone(ring, &position) {
+    if loses_position(ring, which, &position) {
         return Err(Cause::PositionLost);
     }
     match choose(ring, which, rtype, position) {
@@ -108,6 +109,7 @@ pub(crate) fn find_member(
     }
 }
 
+// The first member with a sort key, or the cause why there is none.
 fn first_with_key(ring: &Ring, value: &Value) -> Result<DbKey, Cause>
     ensures { result ≡ sorted_found value.now ring.now.occurrence }
 {

@@ -10,7 +10,7 @@ use std::alloc::{AllocError, Global};
 use std::test::*;
 
 // A unit of a schema with two record types, areas and sets: nothing is current, open or kept.
-fn opening(alloc: Global) -> Result<Unit, AllocError> {
+pub(super) fn opening(alloc: Global) -> Result<Unit, AllocError> {
     Ok(Unit {
         number: 1,
         currency: Currency {

@@ -1,0 +1,201 @@
+-- The core before its first step is the machine before its scripts.
+use Rattle.std.proofs.Common.{ℕ, zero, suc, ◌≡◌, ◌+◌, Bool, true, false, ◌&&◌, List, [], ◌∷◌, ◌++◌, Option, Some, None, map, length, replicate, slice_get, refl, sym, ap, ◌∙◌, subst, arith, append_assoc}
+use Rattle.std.specs.Prelude.{is_some, option_map, if◌then◌else◌}
+use Rattle.std.specs.List.{flat_map, range_with_len}
+use Rattle.std.proofs.lemmas.List.{length-append, length-map, map-append}
+use Rattle.std.proofs.lemmas.List.FromFn.{map-range_with_len_more}
+use Rattle.std.proofs.lemmas.Option.{slice_get-map}
+use Rattle.dbtg_schema.specs.Lists.{Lists}
+use Rattle.dbtg_schema.specs.Sound.{IsSound}
+use Rattle.dbtg_schema.specs.Structure.{is_system}
+use Rattle.dbtg_cells.specs.declared.extent.Number.{Number}
+use Rattle.dbtg_cells.specs.declared.key.Owner.{Owner}
+use Rattle.dbtg_cells.specs.declared.key.Owner.TheVariants.{System, Rec}
+use Rattle.dbtg_cells.specs.declared.name.CellName.{CellName}
+use Rattle.dbtg_cells.specs.declared.name.CellName.TheVariants.{Usage, Extent, Ring, Slot}
+use Rattle.dbtg_cells.specs.Shown.{CellValue, UsageValue, ExtentValue, RingValue, SlotValue}
+use Rattle.dbtg_cells.specs.CellNumbers.{cell_count, cell_number, cells_in_order}
+use Rattle.dbtg_unit.specs.declared.statement.Statement.{Statement}
+use Rattle.dbtg_unit.specs.Base.{opening}
+use Rattle.dbtg_unit.specs.Cells.{cell, number_of, ring_of}
+use Rattle.dbtg_step.specs.declared.parts.Parts.{Parts}
+use Rattle.dbtg_step.specs.declared.parts.Place.{Place}
+use Rattle.dbtg_step.specs.declared.parts.Runner.{Runner}
+use Rattle.dbtg_step.specs.Machine.{Location, Home}
+use Rattle.dbtg_step.specs.Network.{network}
+use Rattle.dbtg_step.specs.Headline.{machine_of, opening_of, units_from}
+use Rattle.dbtg_step.specs.Laws.{scripts_fit}
+use Rattle.dbtg_step.specs.Lawful.{Lawful}
+use Rattle.dbtg_step.specs.Parts.{core_of, found_location, location_at, location_in, location_of, note_of, state_from, state_of, unit_state_of}
+use Rattle.dbtg_step.specs.Events.{IsWell, RunnerFits, RunnersFit}
+use Rattle.dbtg_step.specs.Openings.{homes_of, locations_of, opening_runner, runners_from}
+use Rattle.dbtg_step.proofs.Headlines.{machine_is_opening}
+use Rattle.dbtg_step.proofs.NetworkFacts.{network_is_sequential}
+use Rattle.dbtg_step.proofs.Opening.{opening_is_lawful}
+use Rattle.dbtg_step.proofs.PlacesOfCells.{stands_at}
+use Rattle.dbtg_unit.proofs.LegalHistory.{opening_is_legal}
+
+length_replicated : {X : Type 0} (m : ℕ) (x : X) → length (replicate m x) ≡ m
+length_replicated zero x = refl
+length_replicated (suc m) x = ap suc (length_replicated m x)
+
+pub unowned : (o : Option (ℕ × ℕ)) → is_some o ≡ false → o ≡ None
+unowned None e = refl
+unowned (Some p) e = absurd (cc (e))
+
+-- THE CELLS OF THE OPENING DATABASE
+
+none_numbers : (schema : Lists) (t a n : ℕ) → map (number_of schema (opening schema) t) (range_with_len a n) ≡ replicate n (record { last = 0; calc = None })
+none_numbers schema t a zero = refl
+none_numbers schema t a (suc n) = ap (λ (xs : List Number). record { last = 0; calc = None } ∷ xs) (none_numbers schema t (a + 1) n)
+
+module _ (schema : Lists) (capacity : ℕ) where
+  pub usage_opens : (a : ℕ) → UsageValue [] ≡ cell schema capacity (opening schema) (Usage a)
+  unfolding cell
+  usage_opens a = refl
+
+  pub extent_opens : (t : ℕ) → ExtentValue (replicate capacity (record { last = 0; calc = None })) ≡ cell schema capacity (opening schema) (Extent t)
+  unfolding cell
+  extent_opens t = ap ExtentValue (sym (none_numbers schema t 1 capacity))
+
+  system_list : (s : ℕ) (b : Bool) → option_map (ring_of schema (opening schema) s System) (if b && true then Some [] else None) ≡ (if b then Some (record { owner = System; members = [] }) else None)
+  system_list s true = refl
+  system_list s false = refl
+
+  pub system_opens : (s : ℕ) → RingValue (if is_system schema s then Some (record { owner = System; members = [] }) else None) ≡ cell schema capacity (opening schema) (Ring s None)
+  unfolding cell
+  system_opens s = ap RingValue (sym (system_list s (is_system schema s)))
+
+  pub system_is_open : (s : ℕ) → is_system schema s ≡ true → RingValue (Some (record { owner = System; members = [] })) ≡ cell schema capacity (opening schema) (Ring s None)
+  system_is_open s e = sym (ap (λ b. RingValue (if b then Some (record { owner = System; members = [] }) else None)) e) ∙ system_opens s
+
+  pub owned_is_absent : (s : ℕ) → is_system schema s ≡ false → RingValue None ≡ cell schema capacity (opening schema) (Ring s None)
+  owned_is_absent s e = sym (ap (λ b. RingValue (if b then Some (record { owner = System; members = [] }) else None)) e) ∙ system_opens s
+
+  owned_list : (s : ℕ) (o : Owner) (b : Bool) → None ≡ option_map (ring_of schema (opening schema) s o) (if b && false then Some [] else None)
+  owned_list s o true = refl
+  owned_list s o false = refl
+
+  pub owned_opens : (s : ℕ) (p : ℕ × ℕ) → RingValue None ≡ cell schema capacity (opening schema) (Ring s (Some p))
+  unfolding cell
+  owned_opens s p = ap RingValue (owned_list s (Rec _) (is_system schema s))
+
+  pub any_owned_opens : (s : ℕ) (o : Option (ℕ × ℕ)) → is_some o ≡ true → RingValue None ≡ cell schema capacity (opening schema) (Ring s o)
+  any_owned_opens s None e = absurd (cc (e))
+  any_owned_opens s (Some p) e = owned_opens s p
+
+  pub slot_opens : (t n : ℕ) → SlotValue None ≡ cell schema capacity (opening schema) (Slot t n)
+  unfolding cell
+  slot_opens t n = refl
+
+  -- ONE CELL MORE, ONE PART MORE
+
+  pub home_more : (before locs after : List (Location CellValue)) (names : ℕ → CellName) (a i : ℕ) (c : CellName) → locs ≡ before ++ homes_of schema capacity (map names (range_with_len a i)) → after ≡ locs ++ homes_of schema capacity (c ∷ []) → c ≡ names (a + i) →
+      after ≡ before ++ homes_of schema capacity (map names (range_with_len a (i + 1)))
+  home_more before locs after names a i c e f q =
+      f ∙ ap (λ l. l ++ homes_of schema capacity (c ∷ [])) e
+      ∙ append_assoc before (homes_of schema capacity (map names (range_with_len a i))) (homes_of schema capacity (c ∷ []))
+      ∙ ap (λ l. before ++ l) (sym (map-append (λ d. Home (cell schema capacity (opening schema) d)) (map names (range_with_len a i)) (c ∷ []))
+      ∙ ap (homes_of schema capacity) (ap (λ d. map names (range_with_len a i) ++ d ∷ []) q ∙ sym (map-range_with_len_more names a i (a + i) refl)))
+
+  parts_more : (f : ℕ → List CellName) (a i : ℕ) → flat_map f (range_with_len a (i + 1)) ≡ flat_map f (range_with_len a i) ++ f (a + i)
+  parts_more f a zero = empty_end (f a) ∙ ap f (let e : a ≡ a + 0 = omega arith in e)
+    where
+      empty_end : (xs : List CellName) → xs ++ [] ≡ xs
+      empty_end [] = refl
+      empty_end (x ∷ xs) = ap (λ ys. x ∷ ys) (empty_end xs)
+  parts_more f a (suc i) =
+      let more : suc i + 1 ≡ suc (i + 1) = omega arith in
+      let place : (a + 1) + i ≡ a + suc i = omega arith in
+      ap (λ m. flat_map f (range_with_len a m)) more
+      ∙ ap (λ l. f a ++ l) (parts_more f (a + 1) i ∙ ap (λ m. flat_map f (range_with_len (a + 1) i) ++ f m) place)
+      ∙ sym (append_assoc (f a) (flat_map f (range_with_len (a + 1) i)) (f (a + suc i)))
+
+  pub part_more : (before locs after : List (Location CellValue)) (f : ℕ → List CellName) (i : ℕ) → locs ≡ before ++ homes_of schema capacity (flat_map f (range_with_len 0 i)) → after ≡ locs ++ homes_of schema capacity (f i) →
+      after ≡ before ++ homes_of schema capacity (flat_map f (range_with_len 0 (i + 1)))
+  part_more before locs after f i e g =
+      let place : 0 + i ≡ i = omega arith in
+      g ∙ ap (λ l. l ++ homes_of schema capacity (f i)) e
+      ∙ append_assoc before (homes_of schema capacity (flat_map f (range_with_len 0 i))) (homes_of schema capacity (f i))
+      ∙ ap (λ l. before ++ l) (sym (map-append (λ d. Home (cell schema capacity (opening schema) d)) (flat_map f (range_with_len 0 i)) (f i))
+      ∙ ap (homes_of schema capacity) (sym (parts_more f 0 i ∙ ap (λ m. flat_map f (range_with_len 0 i) ++ f m) place)))
+
+  pub nothing_more : (locs : List (Location CellValue)) → locs ≡ locs ++ homes_of schema capacity []
+  nothing_more [] = refl
+  nothing_more (x ∷ xs) = ap (λ ys. x ∷ ys) (nothing_more xs)
+
+  -- the four kinds one after another
+  pub all_homes : (usages extents rings slots : List CellName) (a b c d : List (Location CellValue)) → a ≡ [] ++ homes_of schema capacity usages → b ≡ a ++ homes_of schema capacity extents → c ≡ b ++ homes_of schema capacity rings → d ≡ c ++ homes_of schema capacity slots →
+      d ≡ homes_of schema capacity (usages ++ (extents ++ (rings ++ slots)))
+  all_homes usages extents rings slots a b c d e f g h =
+      let at = λ (c : CellName). Home (cell schema capacity (opening schema) c) in
+      let two : b ≡ homes_of schema capacity (usages ++ extents) = f ∙ ap (λ l. l ++ homes_of schema capacity extents) e ∙ sym (map-append at usages extents) in
+      let three : c ≡ homes_of schema capacity ((usages ++ extents) ++ rings) = g ∙ ap (λ l. l ++ homes_of schema capacity rings) two ∙ sym (map-append at (usages ++ extents) rings) in
+      h ∙ ap (λ l. l ++ homes_of schema capacity slots) three ∙ sym (map-append at ((usages ++ extents) ++ rings) slots)
+      ∙ ap (homes_of schema capacity) (append_assoc (usages ++ extents) rings slots ∙ append_assoc usages extents (rings ++ slots))
+
+  -- THE OPENING STATE
+
+  get_of_map : (o : Option Place) (c : CellName) → option_map location_of o ≡ Some (Home (cell schema capacity (opening schema) c)) → found_location schema capacity c o ≡ Home (cell schema capacity (opening schema) c)
+  get_of_map None c e = refl
+  get_of_map (Some p) c e = cc (e)
+
+  pub table_opens : (table : List Place) → locations_of table ≡ homes_of schema capacity (cells_in_order schema capacity) → (c : CellName) → location_at schema capacity table c ≡ Home (cell schema capacity (opening schema) c)
+  unfolding location_at
+  table_opens table e c = by (cell_number schema capacity c) refl
+    where
+      by : (o : Option ℕ) → cell_number schema capacity c ≡ o → location_in schema capacity table c o ≡ Home (cell schema capacity (opening schema) c)
+      by None f = refl
+      by (Some n) f =
+          get_of_map (slice_get table n) c
+          (sym (slice_get-map location_of table n) ∙ ap (λ l. slice_get l n) e ∙ slice_get-map (λ d. Home (cell schema capacity (opening schema) d)) (cells_in_order schema capacity) n
+          ∙ ap (option_map (λ d. Home (cell schema capacity (opening schema) d))) (stands_at c (cells_in_order schema capacity) n f))
+
+  pub table_count : (table : List Place) → locations_of table ≡ homes_of schema capacity (cells_in_order schema capacity) → length table ≡ cell_count schema capacity
+  table_count table e = sym (length-map table location_of) ∙ ap length e ∙ length-map (cells_in_order schema capacity) (λ d. Home (cell schema capacity (opening schema) d))
+
+  units_open : (n : ℕ) (scripts : List (List Statement)) → map (unit_state_of schema capacity) (runners_from schema n scripts) ≡ units_from schema capacity n scripts
+  units_open n [] = refl
+  units_open n (script ∷ scripts) = ap (λ us. unit_state_of schema capacity (opening_runner schema n script) ∷ us) (units_open (suc n) scripts)
+
+  runners_count : (n : ℕ) (scripts : List (List Statement)) → length (runners_from schema n scripts) ≡ length scripts
+  runners_count n [] = refl
+  runners_count n (script ∷ scripts) = ap suc (runners_count (suc n) scripts)
+
+  runners_fit : (n : ℕ) (scripts : List (List Statement)) → RunnersFit schema (runners_from schema n scripts)
+  runners_fit n [] i r e = absurd (cc (e))
+  runners_fit n (script ∷ scripts) zero r e =
+      let same : opening_runner schema n script ≡ r = cc (e) in
+      subst (RunnerFits schema) same (record { settled = λ q. (refl, refl); guesses = length_replicated (length schema.sets) None })
+  runners_fit n (script ∷ scripts) (suc i) r e = runners_fit (suc n) scripts i r e
+
+  module _ (parts : Parts) (scripts : List (List Statement)) (table : locations_of parts.table.items ≡ homes_of schema capacity (cells_in_order schema capacity)) (history : parts.history.items ≡ []) (runners : parts.runners.items ≡ runners_from schema 1 scripts) where
+    pub opens_state : state_of schema capacity parts ≡ machine_of schema capacity scripts
+    unfolding state_from
+    opens_state =
+        let units = ap (map (unit_state_of schema capacity)) runners ∙ units_open 1 scripts in
+        λ i. record { location = λ c. table_opens parts.table.items table c i; history = map note_of (history i); counter = length (history i); units = units i }
+
+    count : length parts.runners.items ≡ length scripts
+    count = ap length runners ∙ runners_count 1 scripts
+
+    pub opens_core : core_of schema capacity parts ≡ record { schema = schema; capacity = capacity; opening = opening_of schema capacity (length scripts); state = machine_of schema capacity scripts }
+    opens_core = λ i. record { schema = schema; capacity = capacity; opening = opening_of schema capacity (count i); state = opens_state i }
+
+    pub opens_well : IsSound schema → scripts_fit schema scripts ≡ true → IsWell schema capacity parts
+    opens_well sound fit =
+        let facts = network_is_sequential schema capacity sound in
+        let lawful = opening_is_lawful (network schema capacity) facts (opening_of schema capacity (length scripts)) (machine_of schema capacity scripts) (machine_is_opening schema capacity scripts (opening_is_legal schema capacity (length scripts)) fit) in
+        record {
+          sound = sound;
+          table = table_count parts.table.items table;
+          runners = subst (RunnersFit schema) (sym runners) (runners_fit 1 scripts);
+          lawful = subst (λ n. Lawful (network schema capacity) (opening_of schema capacity n) (state_of schema capacity parts)) (sym count) (subst (Lawful (network schema capacity) (opening_of schema capacity (length scripts))) (sym opens_state) lawful);
+        }
+
+-- one unit more stands before its script
+pub runner_more : (schema : Lists) (made all : List Runner) (script : List Statement) (left : List (List Statement)) (n : ℕ) → n ≡ length made + 1 → made ++ runners_from schema n (script ∷ left) ≡ all →
+    (made ++ opening_runner schema n script ∷ []) ++ runners_from schema (length (made ++ opening_runner schema n script ∷ []) + 1) left ≡ all
+runner_more schema made all script left n e h =
+    let count : length (made ++ opening_runner schema n script ∷ []) + 1 ≡ suc n = let l = length-append made (opening_runner schema n script ∷ []) in omega (arith, l, e) in
+    ap (λ m. (made ++ opening_runner schema n script ∷ []) ++ runners_from schema m left) count ∙ append_assoc made (opening_runner schema n script ∷ []) (runners_from schema (suc n) left) ∙ h

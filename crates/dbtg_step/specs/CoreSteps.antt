@@ -1,0 +1,32 @@
+-- What a step and a quit of the core come to.
+use Rattle.std.specs.Prelude.{ℕ, ◌≡◌}
+use Rattle.dbtg_step.specs.declared.moves.Stepped.{Stepped}
+use Rattle.dbtg_step.specs.declared.moves.Stepped.TheVariants.{Moved, Blocked, Idle, NoMemory}
+use Rattle.dbtg_step.specs.Machine.{State}
+use Rattle.dbtg_step.specs.Network.{network}
+use Rattle.dbtg_step.specs.Step.{IsBlocked, IsIdle, MovedTo, Transition, quit, step}
+use Rattle.dbtg_step.specs.Events.{IsBeforeTicket}
+use Rattle.dbtg_step.specs.Parts.{CoreState, with_state}
+
+-- the machine's step of unit u
+abbrev pub step_of : (c : CoreState) → ℕ → Transition (network c.schema c.capacity)
+step_of c u = step (network c.schema c.capacity) c.opening c.state u
+
+-- the machine's quit of unit u
+abbrev pub quit_of : (c : CoreState) → ℕ → Transition (network c.schema c.capacity)
+quit_of c u = quit (network c.schema c.capacity) c.state u
+
+-- Moved just where the machine moves, to its next state; Blocked and Idle just where it is; want of memory only where the
+-- unit has something to do and no ticket. What isn't moved isn't changed
+abbrev pub IsStep : CoreState → ℕ → Stepped → CoreState → Type 0
+IsStep old u Moved new = (t : State (network old.schema old.capacity)) × (step_of old u ≡ MovedTo t) × (new ≡ with_state old t)
+IsStep old u Blocked new = (step_of old u ≡ IsBlocked) × (new ≡ old)
+IsStep old u Idle new = (step_of old u ≡ IsIdle) × (new ≡ old)
+IsStep old u NoMemory new = IsBeforeTicket old.state u × (new ≡ old)
+
+-- Moved just where the machine's quit is an event, else Idle
+abbrev pub IsQuitStep : CoreState → ℕ → Stepped → CoreState → Type 0
+IsQuitStep old u Moved new = (t : State (network old.schema old.capacity)) × (quit_of old u ≡ MovedTo t) × (new ≡ with_state old t)
+IsQuitStep old u Blocked new = ⊥
+IsQuitStep old u Idle new = (quit_of old u ≡ IsIdle) × (new ≡ old)
+IsQuitStep old u NoMemory new = ⊥

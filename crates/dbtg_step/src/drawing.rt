@@ -1,0 +1,128 @@
+//! The ticket: the statement is made on the cells in hand, and its entry joins the history.
+ghost use Rattle.std.specs.Prelude.{◌≡◌, ℕ, ◌≤◌, ◌<◌, ◌+◌, ◌-◌, ◌^◌, true, not, length, slice_get, Some, IfOk, OnOk, OnErr};
+ghost use Rattle.std.specs.Vec.{vec_capacity};
+ghost use Rattle.dbtg_unit.specs.declared.held.Need.{Need};
+ghost use Rattle.dbtg_unit.specs.declared.statement.Statement.{Statement};
+ghost use Rattle.dbtg_unit.specs.Base.{Database};
+ghost use Rattle.dbtg_cells.specs.Names.{name_eq};
+ghost use Rattle.dbtg_unit.specs.Legal.{pairwise};
+ghost use Rattle.dbtg_unit.specs.Local.{Agrees};
+ghost use Rattle.dbtg_unit.specs.Making.{MayPrepare, ShowsTheSame};
+ghost use Rattle.dbtg_step.specs.declared.parts.Runner.{Runner};
+ghost use Rattle.dbtg_step.specs.Events.{IsDrawn, IsMadeOn, IsStepped, IsUnmade, IsWell, NeedsNext, StandsNeeding};
+
+use crate::moves::Stepped;
+use crate::parts::{Parts, Runner, Stage};
+use crate::runner::{close, pass, statement_of};
+use crate::statements::prepare;
+use dbtg_schema::Schema;
+use dbtg_unit::{Answer, Entry, Held, Statement, Unit, finish};
+use std::alloc::{AllocError, Global};
+
+/// Makes the statement on the cells in hand. Where memory is refused, all shows the same.
+pub fn make(
+    alloc: Global,
+    schema: &Schema,
+    capacity: u16,
+    unit: &mut Unit,
+    held: &mut Held,
+    statement: &Statement,
+) -> Result<Answer, AllocError>
+    requires may { MayPrepare schema.now capacity unit.old held.old statement.now }
+    requires agrees { (db : Database) × Agrees schema.now capacity db held.old unit.old }
+    requires once { pairwise (λ e f. not (name_eq e.0 f.0)) held.old.cells ≡ true }
+    ensures made { IfOk result (λ answer. (db : Database) → Agrees schema.now capacity db held.old unit.old → IsMadeOn schema.now capacity db statement.now unit.old held.old unit.new held.new answer) }
+    ensures unit { OnErr result (unit.new ≡ unit.old) }
+    ensures shows { OnErr result (ShowsTheSame held.old held.new) }
+{
+    let prepared = prepare(alloc, schema, capacity, unit, statement, held)?;
+    Ok(finish(schema, prepared, held, unit))
+}
+
+// Makes room for one more entry; there are fewer entries than a list can have.
+fn make_room(history: &mut Vec<Entry>) -> Result<(), AllocError>
+    ensures items { history.new.items ≡ history.old.items }
+    ensures room { OnOk result (length history.new.items < vec_capacity history.new) }
+    ensures few { OnOk result (length history.new.items + 1 < 2 ^ 64) }
+{
+    history.reserve(1)?;
+    let _capacity = history.capacity();
+    Ok(())
+}
+
+/// Draws the ticket. Where memory is refused, all shows the same.
+fn draw(
+    alloc: Global,
+    schema: &Schema,
+    capacity: u16,
+    history: &mut Vec<Entry>,
+    runner: &mut Runner,
+    unit: u8,
+    stage: Stage,
+) -> Result<(), AllocError>
+    requires left { runner.old.next < length runner.old.script }
+    requires may { length history.old.items + 1 < 2 ^ 64 → (x : Statement) → slice_get runner.old.script runner.old.next ≡ Some x → MayPrepare schema.now capacity runner.old.unit runner.old.held x }
+    requires agrees { (db : Database) × Agrees schema.now capacity db runner.old.held runner.old.unit }
+    requires once { pairwise (λ e f. not (name_eq e.0 f.0)) runner.old.held.cells ≡ true }
+    ensures drawn { OnOk result ((x : Statement) (db : Database) → slice_get runner.old.script runner.old.next ≡ Some x → Agrees schema.now capacity db runner.old.held runner.old.unit → IsDrawn schema.now capacity db x unit stage history.old.items history.new.items runner.old runner.new) }
+    ensures history { OnErr result (history.new.items ≡ history.old.items) }
+    ensures unmade { OnErr result (IsUnmade runner.old runner.new) }
+{
+    make_room(history)?;
+    let statement = statement_of(runner).copy(alloc)?;
+    let answer = make(
+        alloc,
+        schema,
+        capacity,
+        &mut runner.unit,
+        &mut runner.held,
+        &statement,
+    )?;
+    let ticket = history.len() as u64;
+    history.push_reserved(Entry {
+        ticket,
+        unit,
+        statement,
+        answer,
+    });
+    pass(runner);
+    runner.stage = Some(Stage {
+        exclusive: stage.exclusive,
+        turning_back: false,
+        ticket: Some(ticket),
+        linked: 0,
+    });
+    close(runner);
+    Ok(())
+}
+
+/// A statement that needs nothing more draws its ticket.
+pub fn draws(
+    alloc: Global,
+    schema: &Schema,
+    capacity: u16,
+    parts: &mut Parts,
+    unit: u8,
+    stage: Stage,
+) -> Stepped
+    requires numbered { 0 < unit }
+    requires within { unit ≤ length parts.old.runners.items }
+    requires well { IsWell schema.now capacity parts.old }
+    requires stands { (r : Runner) → slice_get parts.old.runners.items (unit - 1) ≡ Some r → StandsNeeding r stage }
+    requires needs { NeedsNext schema.now capacity parts.old unit stage Need.Ready }
+    ensures { IsStepped schema.now capacity unit result parts.old parts.new }
+{
+    let runner = &mut parts.runners[unit as usize - 1];
+    match draw(
+        alloc,
+        schema,
+        capacity,
+        &mut parts.history,
+        runner,
+        unit,
+        stage,
+    ) {
+        Ok(()) => Stepped::Moved,
+        Err(_) => Stepped::NoMemory,
+    }
+}

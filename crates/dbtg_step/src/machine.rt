@@ -1,0 +1,119 @@
+//! The core: a database and its run-units, stepped event by event.
+ghost use Rattle.std.specs.Prelude.{◌≡◌, ◌≤◌, true, length, option_map, IfOk};
+ghost use Rattle.dbtg_unit.specs.Image.{image_of};
+ghost use Rattle.dbtg_unit.specs.Replay.{opening_state, replay};
+ghost use Rattle.dbtg_step.specs.SequentialDatabase.{unit_at};
+ghost use Rattle.dbtg_step.specs.CoreSteps.{IsQuitStep, IsStep};
+ghost use Rattle.dbtg_schema.specs.Sound.{IsSound};
+ghost use Rattle.dbtg_step.specs.Headline.{machine_of, opening_of};
+ghost use Rattle.dbtg_step.specs.Laws.{scripts_fit};
+ghost use Rattle.dbtg_step.specs.Parts.{machine};
+
+use crate::image::Image;
+use crate::imaging::read_image;
+use crate::moves::Stepped;
+use crate::opening_parts::{opening_runners, opening_table};
+use crate::parts::Parts;
+use crate::quitting::quit;
+use crate::stepping::step;
+use dbtg_schema::{Row, Schema};
+use dbtg_unit::{Entry, Statement, Unit};
+use std::alloc::{AllocError, Global};
+use std::marker::Model;
+
+/// A database and its run-units in mid-statement: the machine of events, in a lawful state.
+#[derive(Drop)]
+pub struct Core {
+    alloc: Global,
+    schema: Schema,
+    capacity: u16,
+    parts: Parts,
+}
+
+impl Model for Core {
+    ghost use Rattle.dbtg_step.specs.Parts.{CoreParts};
+    ghost use Rattle.dbtg_step.specs.Events.{IsWell};
+
+    ghost Value = { CoreParts };
+
+    ghost view = { λ c. record { schema = c.schema; capacity = c.capacity; table = c.parts.table.items; history = c.parts.history.items; runners = c.parts.runners.items } };
+
+    ghost invariant = { λ c. IsWell c.schema c.capacity c.parts };
+}
+
+impl Core {
+    /// The core before its first step: the opening database, and a unit for each script, numbered from 1. It keeps a copy of
+    /// the schema.
+    pub fn new(
+        alloc: Global,
+        schema: &Schema,
+        capacity: u16,
+        scripts: Row<Row<Statement>>,
+    ) -> Result<Core, AllocError>
+        requires sound { IsSound schema.now }
+        requires units { length scripts ≤ 255 }
+        requires fit { scripts_fit schema.now scripts ≡ true }
+        ensures { IfOk result (λ core. machine core ≡ record { schema = schema.now; capacity = capacity; opening = opening_of schema.now capacity (length scripts); state = machine_of schema.now capacity scripts }) }
+    {
+        let own = schema.copy(alloc)?;
+        let table = opening_table(alloc, schema, capacity)?;
+        let runners = opening_runners(alloc, schema, scripts)?;
+        let parts = Parts {
+            table,
+            history: Vec::new(alloc),
+            runners,
+        };
+        Ok(Core {
+            alloc,
+            schema: own,
+            capacity,
+            parts,
+        })
+    }
+
+    /// One step of the unit with this number: the machine's step, or want of memory before its ticket.
+    pub fn step(&mut self, unit: u8) -> Stepped
+        ensures { IsStep (machine self.old) unit result (machine self.new) }
+    {
+        step(
+            self.alloc,
+            &self.schema,
+            self.capacity,
+            &mut self.parts,
+            unit,
+        )
+    }
+
+    /// The unit with this number gives back all that it holds, unless its statement has its ticket. It takes no memory.
+    pub fn quit(&mut self, unit: u8) -> Stepped
+        ensures { IsQuitStep (machine self.old) unit result (machine self.new) }
+    {
+        quit(&self.schema, self.capacity, &mut self.parts, unit)
+    }
+
+    /// The statements that drew a ticket, in the order of their tickets.
+    pub fn history(&self) -> &[Entry]
+        ensures { result.now ≡ self.now.history }
+    {
+        self.parts.history.as_slice()
+    }
+
+    /// The unit with this number, as its statements with a ticket left it.
+    pub fn unit(&self, number: u8) -> Option<&Unit>
+        ensures { option_map (λ u. u.now) result ≡ option_map (λ s. s.unit) (unit_at (machine self.now).state.units number) }
+    {
+        if number == 0 || self.parts.runners.len() < number as usize {
+            return None;
+        }
+        Some(&self.parts.runners[number as usize - 1].unit)
+    }
+}
+
+impl Core {
+    /// The image, also in mid-statement: that of the database to which the history leads, one statement after another.
+    pub fn image(&self, alloc: Global) -> Result<Image, AllocError>
+        ensures { IfOk result (λ image. image ≡ image_of self.now.schema self.now.capacity (replay self.now.schema self.now.capacity (opening_state self.now.schema (length self.now.runners)) self.now.history).database) }
+    {
+        read_image(alloc, &self.schema, self.capacity, &self.parts)
+    }
+}

@@ -1,0 +1,228 @@
+//! The events of a statement before its ticket: it takes the area or the cell that it needs next, or turns back.
+ghost use Rattle.std.specs.Prelude.{◌≡◌, ℕ, ◌≤◌, ◌<◌, ◌-◌, ◌++◌, ◌∷◌, ◌||◌, [], length, drop, take, slice_get, Some, IfOk};
+ghost use Rattle.std.specs.List.{list_any};
+ghost use Rattle.dbtg_schema.specs.Lists.{Lists};
+ghost use Rattle.dbtg_unit.specs.declared.held.Need.{Need};
+ghost use Rattle.dbtg_unit.specs.Guesses.{with_owners};
+ghost use Rattle.dbtg_step.specs.declared.parts.Runner.{Runner};
+ghost use Rattle.dbtg_step.specs.Events.{holds_against, IsStepped, IsTaken, IsWell, NeedsNext, StandsNeeding};
+
+use crate::drawing::draws;
+use crate::moves::Stepped;
+use crate::parts::{Parts, Place, Runner, Stage};
+use crate::runner::{statement_of, turn_back};
+use crate::statements::next_need;
+use dbtg_cells::{CellName, Owner, cell_number};
+use dbtg_schema::{AreaNo, Schema};
+use dbtg_unit::{Held, Need, Owners};
+use std::alloc::{AllocError, Global};
+use std::mem;
+
+/// What the unit needs next.
+fn need_now(
+    alloc: Global,
+    schema: &Schema,
+    capacity: u16,
+    parts: &Parts,
+    unit: u8,
+    stage: Stage,
+) -> Result<Need, AllocError>
+    requires well { IsWell schema.now capacity parts.now }
+    requires numbered { 0 < unit }
+    requires within { unit ≤ length parts.now.runners.items }
+    requires stands { (r : Runner) → slice_get parts.now.runners.items (unit - 1) ≡ Some r → StandsNeeding r stage }
+    ensures { IfOk result (λ n. NeedsNext schema.now capacity parts.now unit stage n) }
+{
+    let _ = stage.linked;
+    let runner = &parts.runners[unit as usize - 1];
+    next_need(
+        alloc,
+        schema,
+        capacity,
+        &runner.unit,
+        statement_of(runner),
+        &runner.held,
+    )
+}
+
+fn holds_against(runner: &Runner, exclusive: bool, area: AreaNo) -> bool
+    ensures { result ≡ holds_against exclusive area runner.now }
+{
+    match runner.stage {
+        None => false,
+        Some(stage) => runner.held.has(area) && (exclusive || stage.exclusive),
+    }
+}
+
+// Some unit of these holds the area in a way that conflicts.
+fn any_holds_against(runners: &[Runner], exclusive: bool, area: AreaNo) -> bool
+    ensures { result ≡ list_any (holds_against exclusive area) runners.now }
+{
+    runners
+        .iter()
+        .any(|runner| holds_against(runner, exclusive, area))
+}
+
+// Some unit but this one does.
+fn other_holds_against(runners: &[Runner], unit: u8, exclusive: bool, area: AreaNo) -> bool
+    requires numbered { 0 < unit }
+    requires within { unit ≤ length runners.now }
+    ensures { result ≡ list_any (holds_against exclusive area) (take (unit - 1) runners.now) || list_any (holds_against exclusive area) (drop unit runners.now) }
+{
+    let next = unit as usize;
+    any_holds_against(&runners[..next - 1], exclusive, area)
+        || any_holds_against(&runners[next..], exclusive, area)
+}
+
+/// Takes an area, unless another unit holds it in a way that conflicts.
+fn takes_area(parts: &mut Parts, unit: u8, stage: Stage, area: AreaNo) -> Stepped
+    requires numbered { 0 < unit }
+    requires within { unit ≤ length parts.old.runners.items }
+    requires stands { (r : Runner) → slice_get parts.old.runners.items (unit - 1) ≡ Some r → StandsNeeding r stage }
+    ensures { (schema : Lists) (capacity : ℕ) → IsWell schema capacity parts.old → NeedsNext schema capacity parts.old unit stage (Need.Area area) → IsStepped schema capacity unit result parts.old parts.new }
+{
+    if other_holds_against(&parts.runners, unit, stage.exclusive, area) {
+        return Stepped::Blocked;
+    }
+    match parts.runners[unit as usize - 1].held.push_area(area) {
+        Ok(()) => Stepped::Moved,
+        Err(_) => Stepped::NoMemory,
+    }
+}
+
+// Takes the cell of this number out of the table, if it is at home.
+fn take_cell(
+    table: &mut Vec<Place>,
+    held: &mut Held,
+    unit: u8,
+    number: usize,
+    name: CellName,
+) -> Stepped
+    requires { number < length table.old.items }
+    ensures { IsTaken unit number name table.old.items table.new.items held.old held.new result }
+{
+    match mem::replace(&mut table[number], Place::HeldBy(unit)) {
+        Place::HeldBy(other) => {
+            table[number] = Place::HeldBy(other);
+            Stepped::Blocked
+        }
+        Place::Home(cell) => {
+            match held.push_cell(name, cell) {
+                Ok(()) => Stepped::Moved,
+                Err(failed) => {
+                    table[number] = Place::Home(failed.value);
+                    Stepped::NoMemory
+                }
+            }
+        }
+    }
+}
+
+/// Takes a cell, if it is at home.
+fn takes_cell(
+    schema: &Schema,
+    capacity: u16,
+    parts: &mut Parts,
+    unit: u8,
+    stage: Stage,
+    name: CellName,
+) -> Stepped
+    requires numbered { 0 < unit }
+    requires within { unit ≤ length parts.old.runners.items }
+    requires well { IsWell schema.now capacity parts.old }
+    requires stands { (r : Runner) → slice_get parts.old.runners.items (unit - 1) ≡ Some r → StandsNeeding r stage }
+    requires needs { NeedsNext schema.now capacity parts.old unit stage (Need.Take name) }
+    ensures { IsStepped schema.now capacity unit result parts.old parts.new }
+{
+    let _ = stage.linked;
+    match cell_number(schema, capacity, &name) {
+        Some(number) => {
+            let runner = &mut parts.runners[unit as usize - 1];
+            take_cell(&mut parts.table, &mut runner.held, unit, number, name)
+        }
+        None => Stepped::NoMemory,
+    }
+}
+
+// The guesses with the true owners, where there is one.
+fn with_true_owners(guesses: &[Option<Owner>], mut owners: Owners) -> Owners
+    requires { length guesses.now ≡ length owners }
+    ensures { result ≡ with_owners guesses.now owners }
+{
+    for set in 0..guesses.len() {
+        let owner = owners.as_slice()[set].or(guesses[set]);
+        owners.set(set, owner);
+    }
+    owners
+}
+
+/// Turns back with the true owners as guesses.
+fn notes_owners(
+    schema: &Schema,
+    capacity: u16,
+    parts: &mut Parts,
+    unit: u8,
+    stage: Stage,
+    owners: Owners,
+) -> Stepped
+    requires numbered { 0 < unit }
+    requires within { unit ≤ length parts.old.runners.items }
+    requires well { IsWell schema.now capacity parts.old }
+    requires stands { (r : Runner) → slice_get parts.old.runners.items (unit - 1) ≡ Some r → StandsNeeding r stage }
+    requires needs { NeedsNext schema.now capacity parts.old unit stage (Need.Stale owners) }
+    ensures { IsStepped schema.now capacity unit result parts.old parts.new }
+{
+    let _ = schema.is_well_formed();
+    let _ = capacity;
+    let runner = &mut parts.runners[unit as usize - 1];
+    let guesses = with_true_owners(runner.held.guesses(), owners);
+    runner.held.set_guesses(guesses);
+    turn_back(runner, stage);
+    Stepped::Moved
+}
+
+// Meets the need.
+fn meets(
+    alloc: Global,
+    schema: &Schema,
+    capacity: u16,
+    parts: &mut Parts,
+    unit: u8,
+    stage: Stage,
+    need: Need,
+) -> Stepped
+    requires numbered { 0 < unit }
+    requires within { unit ≤ length parts.old.runners.items }
+    requires well { IsWell schema.now capacity parts.old }
+    requires stands { (r : Runner) → slice_get parts.old.runners.items (unit - 1) ≡ Some r → StandsNeeding r stage }
+    requires needs { NeedsNext schema.now capacity parts.old unit stage need }
+    ensures { IsStepped schema.now capacity unit result parts.old parts.new }
+{
+    match need {
+        Need::Area(area) => takes_area(parts, unit, stage, area),
+        Need::Take(name) => takes_cell(schema, capacity, parts, unit, stage, name),
+        Need::Stale(owners) => notes_owners(schema, capacity, parts, unit, stage, owners),
+        Need::Ready => draws(alloc, schema, capacity, parts, unit, stage),
+    }
+}
+
+/// A statement without a ticket follows its needs.
+pub fn follows(
+    alloc: Global,
+    schema: &Schema,
+    capacity: u16,
+    parts: &mut Parts,
+    unit: u8,
+    stage: Stage,
+) -> Stepped
+    requires numbered { 0 < unit }
+    requires within { unit ≤ length parts.old.runners.items }
+    requires well { IsWell schema.now capacity parts.old }
+    requires stands { (r : Runner) → slice_get parts.old.runners.items (unit - 1) ≡ Some r → StandsNeeding r stage }
+    ensures { IsStepped schema.now capacity unit result parts.old parts.new }
+{
+    match need_now(alloc, schema, capacity, parts, unit, stage) {
+        Ok(need) => meets(alloc, schema, capacity, parts, unit, stage, need),
+        Err(_) => Stepped::NoMemory,
+    }
+}

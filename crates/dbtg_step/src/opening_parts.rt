@@ -1,0 +1,264 @@
+//! The core before its first step: all cells at home as the opening database has them, each unit before its script.
+ghost use Rattle.std.specs.Prelude.{◌≡◌, ℕ, ◌≤◌, ◌++◌, ◌∷◌, [], None, map, length, replicate, IfOk, OnOk};
+ghost use Rattle.std.specs.List.{flat_map, range_with_len};
+ghost use Rattle.dbtg_schema.specs.Structure.{set_numbers};
+ghost use Rattle.dbtg_cells.specs.Cells.{shown};
+ghost use Rattle.dbtg_cells.specs.Shown.{RingValue};
+ghost use Rattle.dbtg_cells.specs.CellNumbers.{cells_in_order, rings_of, slots_of};
+ghost use Rattle.dbtg_unit.specs.Base.{opening};
+ghost use Rattle.dbtg_unit.specs.Cells.{cell};
+ghost use Rattle.dbtg_unit.specs.Units.{opening_unit};
+ghost use Rattle.dbtg_step.specs.Openings.{homes_of, locations_of, opening_runner, runners_from};
+
+use crate::parts::{Place, Runner};
+use dbtg_cells::{Cell, CellName, Extent, Owner, Ring, Slot, Usage};
+use dbtg_schema::{AreaNo, RecordNo, Row, Schema, SetNo};
+use dbtg_unit::{Currency, Held, Kept, Owners, Statement, Unit};
+use std::alloc::{AllocError, Global};
+
+fn opening_ring(alloc: Global, schema: &Schema, set: SetNo, owner: &Option<(RecordNo, u32)>) -> Ring
+    ensures { (capacity : ℕ) → RingValue result.occurrence ≡ cell schema.now capacity (opening schema.now) (CellName.Ring set owner.now) }
+{
+    let mut ring = Ring::absent(alloc);
+    if owner.is_some() {
+        return ring;
+    }
+    if !schema.is_system(set) {
+        return ring;
+    }
+    ring.open(Owner::System);
+    ring
+}
+
+// The cell of this name in the opening database.
+fn opening_cell(
+    alloc: Global,
+    schema: &Schema,
+    capacity: u16,
+    name: &CellName,
+) -> Result<Cell, AllocError>
+    ensures { IfOk result (λ x. shown x ≡ cell schema.now capacity (opening schema.now) name.now) }
+{
+    match name {
+        CellName::Usage(_area) => Ok(Cell::Usage(Usage::new(alloc))),
+        CellName::Extent(_rtype) => Ok(Cell::Extent(Extent::new(alloc, capacity)?)),
+        CellName::Ring(set, owner) => { Ok(Cell::Ring(opening_ring(alloc, schema, *set, owner))) }
+        CellName::Slot(_rtype, _number) => Ok(Cell::Slot(Slot::vacant())),
+    }
+}
+
+// The table with one cell more.
+fn add_cell(
+    alloc: Global,
+    schema: &Schema,
+    capacity: u16,
+    table: &mut Vec<Place>,
+    name: &CellName,
+) -> Result<(), AllocError>
+    ensures { OnOk result (locations_of table.new.items ≡ locations_of table.old.items ++ homes_of schema.now capacity (name.now ∷ [])) }
+{
+    let cell = opening_cell(alloc, schema, capacity, name)?;
+    table.push(Place::Home(cell))?;
+    Ok(())
+}
+
+fn add_usages(
+    alloc: Global,
+    schema: &Schema,
+    capacity: u16,
+    table: &mut Vec<Place>,
+) -> Result<(), AllocError>
+    ensures { OnOk result (locations_of table.new.items ≡ locations_of table.old.items ++ homes_of schema.now capacity (map CellName.Usage (range_with_len 0 (length schema.now.areas)))) }
+{
+    for area in 0..schema.areas().len() as u8 {
+        add_cell(
+            alloc,
+            schema,
+            capacity,
+            table,
+            &CellName::Usage(AreaNo::new(area)),
+        )?;
+    }
+    Ok(())
+}
+
+fn add_extents(
+    alloc: Global,
+    schema: &Schema,
+    capacity: u16,
+    table: &mut Vec<Place>,
+) -> Result<(), AllocError>
+    ensures { OnOk result (locations_of table.new.items ≡ locations_of table.old.items ++ homes_of schema.now capacity (map CellName.Extent (range_with_len 0 (length schema.now.types)))) }
+{
+    for rtype in 0..schema.types().len() as u8 {
+        add_cell(
+            alloc,
+            schema,
+            capacity,
+            table,
+            &CellName::Extent(RecordNo::new(rtype)),
+        )?;
+    }
+    Ok(())
+}
+
+fn add_owned_rings(
+    alloc: Global,
+    schema: &Schema,
+    capacity: u16,
+    set: SetNo,
+    owner: RecordNo,
+    table: &mut Vec<Place>,
+) -> Result<(), AllocError>
+    ensures { OnOk result (locations_of table.new.items ≡ locations_of table.old.items ++ homes_of schema.now capacity (map (λ n. CellName.Ring set (Some (owner, n))) (range_with_len 1 capacity))) }
+{
+    for lower in 0..capacity {
+        let name = CellName::Ring(set, Some((owner, lower as u32 + 1)));
+        add_cell(alloc, schema, capacity, table, &name)?;
+    }
+    Ok(())
+}
+
+fn add_rings_of(
+    alloc: Global,
+    schema: &Schema,
+    capacity: u16,
+    set: SetNo,
+    table: &mut Vec<Place>,
+) -> Result<(), AllocError>
+    ensures { OnOk result (locations_of table.new.items ≡ locations_of table.old.items ++ homes_of schema.now capacity (rings_of schema.now capacity set)) }
+{
+    if schema.is_system(set) {
+        return add_cell(alloc, schema, capacity, table, &CellName::Ring(set, None));
+    }
+    match schema.owner_type(set) {
+        Some(owner) => add_owned_rings(alloc, schema, capacity, set, owner, table),
+        None => Ok(()),
+    }
+}
+
+fn add_rings(
+    alloc: Global,
+    schema: &Schema,
+    capacity: u16,
+    table: &mut Vec<Place>,
+) -> Result<(), AllocError>
+    ensures { OnOk result (locations_of table.new.items ≡ locations_of table.old.items ++ homes_of schema.now capacity (flat_map (rings_of schema.now capacity) (set_numbers schema.now))) }
+{
+    for set in 0..schema.sets().len() as u8 {
+        add_rings_of(alloc, schema, capacity, SetNo::new(set), table)?;
+    }
+    Ok(())
+}
+
+fn add_slots_of(
+    alloc: Global,
+    schema: &Schema,
+    capacity: u16,
+    rtype: RecordNo,
+    table: &mut Vec<Place>,
+) -> Result<(), AllocError>
+    ensures { OnOk result (locations_of table.new.items ≡ locations_of table.old.items ++ homes_of schema.now capacity (slots_of capacity rtype)) }
+{
+    for lower in 0..capacity {
+        let name = CellName::Slot(rtype, lower as u32 + 1);
+        add_cell(alloc, schema, capacity, table, &name)?;
+    }
+    Ok(())
+}
+
+fn add_slots(
+    alloc: Global,
+    schema: &Schema,
+    capacity: u16,
+    table: &mut Vec<Place>,
+) -> Result<(), AllocError>
+    ensures { OnOk result (locations_of table.new.items ≡ locations_of table.old.items ++ homes_of schema.now capacity (flat_map (slots_of capacity) (range_with_len 0 (length schema.now.types)))) }
+{
+    for rtype in 0..schema.types().len() as u8 {
+        add_slots_of(alloc, schema, capacity, RecordNo::new(rtype), table)?;
+    }
+    Ok(())
+}
+
+/// All cells of the schema at this capacity, as the opening database has them.
+pub fn opening_table(
+    alloc: Global,
+    schema: &Schema,
+    capacity: u16,
+) -> Result<Vec<Place>, AllocError>
+    ensures { IfOk result (λ table. locations_of table.items ≡ homes_of schema.now capacity (cells_in_order schema.now capacity)) }
+{
+    let mut table = Vec::new(alloc);
+    add_usages(alloc, schema, capacity, &mut table)?;
+    add_extents(alloc, schema, capacity, &mut table)?;
+    add_rings(alloc, schema, capacity, &mut table)?;
+    add_slots(alloc, schema, capacity, &mut table)?;
+    Ok(table)
+}
+
+fn nones<T: Copy>(alloc: Global, count: usize) -> Result<Row<Option<T>>, AllocError>
+    ensures { IfOk result (λ row. row ≡ replicate count None) }
+{
+    let mut items = Vec::with_capacity(alloc, count)?;
+    for _turn in 0..count {
+        items.push(None)?;
+    }
+    Ok(Row::of(items))
+}
+
+fn opening_unit(alloc: Global, schema: &Schema, number: u8) -> Result<Unit, AllocError>
+    ensures { IfOk result (λ unit. unit ≡ opening_unit schema.now number) }
+{
+    let types = nones(alloc, schema.types().len())?;
+    let areas = nones(alloc, schema.areas().len())?;
+    let sets = nones(alloc, schema.sets().len())?;
+    let modes = nones(alloc, schema.areas().len())?;
+    Ok(Unit {
+        number,
+        currency: Currency {
+            run_unit: None,
+            types,
+            areas,
+            sets,
+        },
+        modes,
+        kept: Kept::of(Vec::new(alloc)),
+    })
+}
+
+fn new_runner(
+    alloc: Global,
+    schema: &Schema,
+    number: u8,
+    script: Row<Statement>,
+) -> Result<Runner, AllocError>
+    ensures { IfOk result (λ r. r ≡ opening_runner schema.now number script) }
+{
+    let unit = opening_unit(alloc, schema, number)?;
+    let held = Held::new(alloc, Owners::none(schema.sets().len()));
+    Ok(Runner {
+        unit,
+        held,
+        script,
+        next: 0,
+        stage: None,
+    })
+}
+
+/// The units, numbered from 1, each before its script.
+pub fn opening_runners(
+    alloc: Global,
+    schema: &Schema,
+    scripts: Row<Row<Statement>>,
+) -> Result<Vec<Runner>, AllocError>
+    requires { length scripts ≤ 255 }
+    ensures { IfOk result (λ runners. runners.items ≡ runners_from schema.now 1 scripts) }
+{
+    let mut runners = Vec::new(alloc);
+    for script in scripts.into_vec() {
+        let number = runners.len() as u8 + 1;
+        runners.push(new_runner(alloc, schema, number, script)?)?;
+    }
+    Ok(runners)
+}

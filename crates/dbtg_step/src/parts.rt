@@ -1,0 +1,39 @@
+//! The parts of the core: where each cell is, the history, and the run-units.
+
+use dbtg_cells::Cell;
+use dbtg_schema::Row;
+use dbtg_unit::{Entry, Held, Statement, Unit};
+
+/// Where a cell is: at home, or with the unit of this number.
+#[derive(Drop)]
+pub enum Place {
+    Home(Cell),
+    HeldBy(u8),
+}
+
+/// How far a unit is with its statement; `linked` counts the cells that are linked after the ticket.
+#[derive(Clone, Copy, Debug, PartialEq, Eq)]
+pub struct Stage {
+    pub exclusive: bool,
+    pub turning_back: bool,
+    pub ticket: Option<u64>,
+    pub linked: usize,
+}
+
+/// A run-unit: what it holds, its script, how many statements of it have their ticket, and, in mid-statement, its stage.
+#[derive(Drop)]
+pub struct Runner {
+    pub unit: Unit,
+    pub held: Held,
+    pub script: Row<Statement>,
+    pub next: usize,
+    pub stage: Option<Stage>,
+}
+
+/// The cells by number, the statements that drew a ticket, and the units in their order.
+#[derive(Drop)]
+pub struct Parts {
+    pub table: Vec<Place>,
+    pub history: Vec<Entry>,
+    pub runners: Vec<Runner>,
+}

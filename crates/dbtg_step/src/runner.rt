@@ -1,0 +1,126 @@
+//! What the events change of a run-unit.
+ghost use Rattle.std.specs.Prelude.{◌≡◌, ℕ, ◌<◌, ◌+◌, ◌∷◌, [], ◌++◌, OnOk, OnErr, Some, None, true, false, length, nat_lt, slice_get};
+ghost use Rattle.dbtg_step.specs.Network.{is_delete};
+ghost use Rattle.dbtg_step.specs.Parts.{stage_while_held};
+ghost use Rattle.dbtg_step.specs.Events.{IsStanding};
+ghost use Rattle.dbtg_unit.specs.declared.statement.Statement.{Statement};
+
+use crate::parts::{Runner, Stage};
+use dbtg_schema::AreaNo;
+use dbtg_unit::Statement;
+use std::alloc::AllocError;
+
+/// Where a unit stands.
+#[derive(Clone, Copy, Debug, PartialEq, Eq)]
+pub enum Standing {
+    /// It has nothing to do.
+    Over,
+    /// It is between statements, and there is a next one.
+    Between,
+    /// Its statement turns back, and still has a cell.
+    TurningBack(Stage),
+    /// Its statement follows its needs.
+    Needing(Stage),
+    /// Its statement has its ticket.
+    Ticketed(Stage),
+}
+
+/// Where the unit stands.
+pub fn where_it_stands(runner: &Runner) -> Standing
+    ensures { IsStanding runner.now result }
+{
+    let is_over = runner.script.len() <= runner.next;
+    match runner.stage {
+        None => {
+            if is_over {
+                Standing::Over
+            } else {
+                Standing::Between
+            }
+        }
+        Some(stage) => {
+            if stage.ticket.is_some() {
+                Standing::Ticketed(stage)
+            } else if is_over {
+                Standing::Over
+            } else if stage.turning_back && 0 < runner.held.cell_count() {
+                Standing::TurningBack(stage)
+            } else {
+                Standing::Needing(stage)
+            }
+        }
+    }
+}
+
+/// The statement that is made, or comes next.
+pub fn statement_of(runner: &Runner) -> &Statement
+    requires { runner.now.next < length runner.now.script }
+    ensures { slice_get runner.now.script runner.now.next ≡ Some result.now }
+{
+    &runner.script.as_slice()[runner.next]
+}
+
+/// Whether the statement takes its areas exclusively.
+fn is_delete(statement: &Statement) -> bool
+    ensures { result ≡ is_delete statement.now }
+{
+    matches!(statement, Statement::Delete(_))
+}
+
+/// Begins the next statement.
+pub fn begin(runner: &mut Runner)
+    requires { runner.old.next < length runner.old.script }
+    ensures { (x : Statement) → slice_get runner.old.script runner.old.next ≡ Some x → runner.new ≡ record runner.old { stage = Some (record { exclusive = is_delete x; turning_back = false; ticket = None; linked = 0 }) } }
+{
+    let exclusive = is_delete(statement_of(runner));
+    runner.stage = Some(Stage {
+        exclusive,
+        turning_back: false,
+        ticket: None,
+        linked: 0,
+    });
+}
+
+/// Links a cell.
+pub fn link(runner: &mut Runner, stage: Stage)
+    requires { stage.linked < length runner.old.held.cells }
+    ensures { runner.new ≡ record runner.old { stage = Some (record stage { linked = stage.linked + 1 }) } }
+{
+    let _ = runner.held.cell_count();
+    runner.stage = Some(Stage {
+        exclusive: stage.exclusive,
+        turning_back: stage.turning_back,
+        ticket: stage.ticket,
+        linked: stage.linked + 1,
+    });
+}
+
+/// The statement has its ticket.
+pub fn pass(runner: &mut Runner)
+    requires { runner.old.next < length runner.old.script }
+    ensures { runner.new ≡ record runner.old { next = runner.old.next + 1 } }
+{
+    let _count = runner.script.len();
+    runner.next += 1;
+}
+
+/// With nothing left in hand the statement is over.
+pub fn close(runner: &mut Runner)
+    ensures { runner.new ≡ record runner.old { stage = stage_while_held runner.old.held.areas runner.old.held.cells runner.old.stage } }
+{
+    if runner.held.area_count() == 0 && runner.held.cell_count() == 0 {
+        runner.stage = None;
+    }
+}
+
+/// Turns back as long as a cell is in hand.
+pub fn turn_back(runner: &mut Runner, stage: Stage)
+    ensures { runner.new ≡ record runner.old { stage = Some (record stage { turning_back = nat_lt 0 (length runner.old.held.cells) }) } }
+{
+    runner.stage = Some(Stage {
+        exclusive: stage.exclusive,
+        turning_back: 0 < runner.held.cell_count(),
+        ticket: stage.ticket,
+        linked: stage.linked,
+    });
+}

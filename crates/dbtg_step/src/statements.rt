@@ -1,0 +1,62 @@
+//! What each statement needs next, and what it prepares: DELETE by its own crate, the others by theirs.
+ghost use Rattle.std.specs.Prelude.{◌≡◌, true, false, IfOk, MatchOption};
+ghost use Rattle.dbtg_unit.specs.Base.{Database};
+ghost use Rattle.dbtg_unit.specs.Belongs.{IsUnitOf, IsWithin};
+ghost use Rattle.dbtg_unit.specs.EditsOf.{is_delete};
+ghost use Rattle.dbtg_unit.specs.Fits.{fits};
+ghost use Rattle.dbtg_unit.specs.Local.{Agrees};
+ghost use Rattle.dbtg_unit.specs.Making.{CanFinish, MayPrepare, ShowsTheSame};
+ghost use Rattle.dbtg_unit.specs.Needs.{need};
+
+use dbtg_schema::Schema;
+use dbtg_unit::{Erase, Held, Need, Prepared, Statement, Unit};
+use std::alloc::{AllocError, Global};
+
+// The option of a DELETE.
+fn delete_option(statement: &Statement) -> Option<Erase>
+    ensures { MatchOption result (is_delete statement.now ≡ false) (λ option. statement.now ≡ Statement.Delete option) }
+{
+    match statement {
+        Statement::Delete(option) => Some(*option),
+        _ => None,
+    }
+}
+
+/// What the statement needs next.
+pub fn next_need(
+    alloc: Global,
+    schema: &Schema,
+    capacity: u16,
+    unit: &Unit,
+    statement: &Statement,
+    held: &Held,
+) -> Result<Need, AllocError>
+    requires fits { fits schema.now statement.now ≡ true }
+    requires of_schema { IsUnitOf schema.now unit.now }
+    requires within { IsWithin capacity unit.now }
+    ensures { IfOk result (λ n. (db : Database) → Agrees schema.now capacity db held.now unit.now → n ≡ need schema.now capacity db unit.now held.now statement.now) }
+{
+    match delete_option(statement) {
+        Some(option) => dbtg_erase::next_need(alloc, schema, capacity, unit, option, held),
+        None => Ok(dbtg_plan::next_need(schema, capacity, unit, statement, held)),
+    }
+}
+
+/// Makes every growth of the statement, and fixes its outcome.
+pub fn prepare(
+    alloc: Global,
+    schema: &Schema,
+    capacity: u16,
+    unit: &Unit,
+    statement: &Statement,
+    held: &mut Held,
+) -> Result<Prepared, AllocError>
+    requires may { MayPrepare schema.now capacity unit.now held.old statement.now }
+    ensures shows { ShowsTheSame held.old held.new }
+    ensures prepared { IfOk result (λ plan. CanFinish schema.now capacity unit.now held.new statement.now plan) }
+{
+    match delete_option(statement) {
+        Some(option) => dbtg_erase::prepare(alloc, schema, capacity, unit, option, held),
+        None => dbtg_plan::prepare(alloc, schema, capacity, unit, statement, held),
+    }
+}
