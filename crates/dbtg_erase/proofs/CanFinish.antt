@@ -44,6 +44,7 @@ use Rattle.dbtg_unit.proofs.InTurn.{all_from, met_are_live, met_once}
 use Rattle.dbtg_unit.proofs.KeyLemmas.{key_eq-refl}
 use Rattle.dbtg_unit.proofs.LiveKeys.{In, all_at, in_member, latest, listed, member_of_owner}
 use Rattle.dbtg_unit.proofs.ManyEdits.{skips-map, slots-vacated}
+use Rattle.dbtg_unit.proofs.OnePlan.{may_plan}
 use Rattle.dbtg_unit.proofs.OwnersFound.{standing}
 use Rattle.dbtg_unit.proofs.PlacingOrder.{pairwise-weaker}
 use Rattle.dbtg_unit.proofs.ReadingCells.{held_cell}
@@ -197,4 +198,4 @@ module _ (schema : Lists) (capacity : ℕ) (unit : Unit) (hands : Hands) (option
 
   -- a DELETE that needs nothing more can finish what it prepares
   pub delete_can_finish : CanFinish schema capacity unit hands (Delete option) (whole_plan schema capacity hands unit option)
-  delete_can_finish = record { prepared = is_prepared schema capacity unit hands option may; can_make = can_make }
+  delete_can_finish = record { prepared = is_prepared schema capacity unit hands option (may_plan may); can_make = can_make }

@@ -13,3 +13,4 @@ pub mod LeastName
 pub mod OuterCells
 pub mod NextCell
 pub mod NextNeed
+pub mod DeleteDetermined

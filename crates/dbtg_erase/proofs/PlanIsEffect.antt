@@ -25,13 +25,13 @@ use Rattle.dbtg_unit.specs.Erasing.{delete_cells_of}
 use Rattle.dbtg_unit.specs.Guesses.{guesses_after}
 use Rattle.dbtg_unit.specs.Hands.{Hands}
 use Rattle.dbtg_unit.specs.Local.{Agrees, holds}
-use Rattle.dbtg_unit.specs.Making.{MayPrepare}
 use Rattle.dbtg_unit.specs.Prepared.{IsEffect, IsPrepared}
 use Rattle.dbtg_unit.specs.Units.{forgotten}
 use Rattle.dbtg_unit.proofs.CheckLemmas.{passes, passes-append, passes_check}
 use Rattle.dbtg_unit.proofs.EveryEdit.{every_effect_is_its_edits}
 use Rattle.dbtg_unit.proofs.LiveKeys.{In}
 use Rattle.dbtg_unit.proofs.LocalReady.{legal_after}
+use Rattle.dbtg_unit.proofs.OnePlan.{MayPlan}
 use Rattle.dbtg_unit.proofs.ReadyParts.{prepared_has_all}
 use Rattle.dbtg_erase.specs.ErasePlan.{checks_in, delete_plan, erasing_plan, refusal, unless_refusal, whole_plan}
 use Rattle.dbtg_erase.specs.WorkList.{gone_in}
@@ -66,7 +66,7 @@ passed schema db unit option k h =
       live = not-false _ (passes_check (not (is_live db k)) Deleted _ parts.0).0;
     }
 
-module _ (schema : Lists) (capacity : ℕ) (unit : Unit) (hands : Hands) (option : Erase) (may : MayPrepare schema capacity unit hands (Delete option)) where
+module _ (schema : Lists) (capacity : ℕ) (unit : Unit) (hands : Hands) (option : Erase) (may : MayPlan schema capacity unit hands (Delete option)) where
   module _ (db : Database) (agrees : Agrees schema capacity db hands unit) where
     abbrev result : Outcome
     result = effect schema capacity db unit (Delete option)

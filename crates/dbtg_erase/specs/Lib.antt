@@ -1,3 +1,4 @@
 pub mod WorkList
 pub mod ErasePlan
 pub mod NextCell
+pub mod Locality

@@ -3,10 +3,14 @@
 
 mod edits;
 mod keys;
+mod laws;
 mod left;
 mod next;
 mod preparing;
+#[cfg(test)]
+mod tests;
 mod work_list;
 
+pub use laws::delete_is_determined;
 pub use next::next_need;
 pub use preparing::prepare;

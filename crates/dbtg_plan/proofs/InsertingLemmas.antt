@@ -48,6 +48,7 @@ use Rattle.dbtg_unit.proofs.LegalEffect.{passed, some_from}
 use Rattle.dbtg_unit.proofs.LiveKeys.{In, in_left, in_range, in_right, member_nowhere, none_is}
 use Rattle.dbtg_unit.proofs.LocalReady.{legal_after}
 use Rattle.dbtg_unit.proofs.MakingLemmas.{can_make-raised, leaves-owner}
+use Rattle.dbtg_unit.proofs.OnePlan.{may_plan}
 use Rattle.dbtg_unit.proofs.OwnersFound.{owner_is}
 use Rattle.dbtg_unit.proofs.ReadyParts.{prepared_has_all}
 use Rattle.dbtg_unit.proofs.SameHands.{agrees-same, holds-same, occurrence_in-same, same-sym, versions-same}
@@ -186,7 +187,7 @@ module _ (schema : Lists) (capacity : ℕ) (unit : Unit) (hands : Hands) (s : �
 
         inserts : IsEffect schema capacity db unit hands.guesses (Insert s) (inserting schema unit hands s k)
         inserts =
-            done-is_effect schema capacity db unit hands (Insert s) (inserting schema unit hands s k) refl may agrees refl
+            done-is_effect schema capacity db unit hands (Insert s) (inserting schema unit hands s k) refl (may_plan may) agrees refl
             (sym (ap (λ (o : Outcome). o.answer) done)) edits-are
             (unit-is ∙ sym (ap (λ (o : Outcome). o.unit) done))
             (guesses-are ∙ sym (ap (guesses_after schema capacity (Insert s) hands.guesses) done))

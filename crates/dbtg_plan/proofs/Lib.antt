@@ -26,3 +26,4 @@ pub mod StoreMaking
 pub mod StoreFinish
 pub mod StaleLemmas
 pub mod StoreSteps
+pub mod EachDetermined

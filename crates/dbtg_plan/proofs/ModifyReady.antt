@@ -13,6 +13,7 @@ use Rattle.dbtg_cells.specs.Keys.{key_eq}
 use Rattle.dbtg_cells.specs.Numbers.{entry_of, is_used}
 use Rattle.dbtg_unit.specs.declared.edit.UnitEdit.TheVariants.{Same}
 use Rattle.dbtg_unit.specs.declared.statement.Change.{Change}
+use Rattle.dbtg_unit.specs.declared.statement.Statement.{Statement}
 use Rattle.dbtg_unit.specs.declared.statement.Statement.TheVariants.{Modify}
 use Rattle.dbtg_unit.specs.declared.unit.Cause.{Cause}
 use Rattle.dbtg_unit.specs.declared.unit.Cause.TheVariants.{NoCurrentOfRunUnit}
@@ -25,13 +26,14 @@ use Rattle.dbtg_unit.specs.Fits.{change_fits, distinct_items, is_type, values_fi
 use Rattle.dbtg_unit.specs.Hands.{Hands}
 use Rattle.dbtg_unit.specs.InHand.{items_in, numbers_in}
 use Rattle.dbtg_unit.specs.Local.{Agrees, holds}
-use Rattle.dbtg_unit.specs.Making.{CanFinish, CanMake, MayPrepare}
+use Rattle.dbtg_unit.specs.Making.{CanFinish, CanMake, HaveNextVersions, MayPrepare}
 use Rattle.dbtg_unit.specs.Prepared.{IsEffect, Plan}
 use Rattle.dbtg_unit.proofs.CheckLemmas.{passes_check}
 use Rattle.dbtg_unit.proofs.ExtentInHand.{live_by_extent, taken_by_another}
 use Rattle.dbtg_unit.proofs.InHandLemmas.{items_in_hand, live_in_hand, numbers_in_hand, version_in_hand}
 use Rattle.dbtg_unit.proofs.ItemLemmas.{changed_fit}
 use Rattle.dbtg_unit.proofs.LocalReady.{legal_after, modify_typed}
+use Rattle.dbtg_unit.proofs.OnePlan.{MayPlan, may_plan}
 use Rattle.dbtg_unit.proofs.ReadyParts.{HasAll, prepared_has_all}
 use Rattle.dbtg_plan.specs.Calc.{calc_taken_in}
 use Rattle.dbtg_plan.specs.Modifying.{is_numbered_in, modified_plan, modify_checks_in, modify_edits_in, modify_plan}
@@ -41,7 +43,7 @@ use Rattle.dbtg_plan.proofs.ModifyPlan.{done_plan, extent_held, is_effect, rings
 use Rattle.dbtg_plan.proofs.ModifyReading.{checks_read, edits_read}
 
 module _ (schema : Lists) (capacity : ℕ) (unit : Unit) (hands : Hands) (changes : List Change) (k : DbKey)
-    (may : MayPrepare schema capacity unit hands (Modify k.rtype changes)) (passes : refused_at_once schema capacity unit (Modify k.rtype changes) ≡ None)
+    (may : MayPlan schema capacity unit hands (Modify k.rtype changes)) (passes : refused_at_once schema capacity unit (Modify k.rtype changes) ≡ None)
     (current : unit.currency.run_unit ≡ Some k) where
   abbrev items_now : List Value
   items_now = changed_items changes (items_in hands k)
@@ -103,24 +105,24 @@ module _ (schema : Lists) (capacity : ℕ) (unit : Unit) (hands : Hands) (change
         ap (λ items. values_fit (pictures schema k.rtype) (changed_items changes items)) (sym (items_in_hand schema capacity db hands unit agrees k slot))
         ∙ changed_fit schema k.rtype changes (items_of db k) fit.1 (agrees.legal.items k live)
 
-    can_make : CanMake plan.cells hands.cells
-    can_make =
+    can_make : HaveNextVersions hands.cells → CanMake plan.cells hands.cells
+    can_make versions =
         by_cause (λ p. CanMake p.cells hands.cells) (λ p none. subst (λ es. CanMake es hands.cells) (sym none) tt)
         (λ e p made.
         let live = live_in_hand schema capacity db hands unit agrees k slot ∙ stored_there schema hands unit changes k items_now e in
         subst (λ es. CanMake es hands.cells) (sym made)
         (edits_can schema capacity db hands unit agrees changes k items_now may.sound (items_fit live) slot
-        (rings_held schema capacity db hands unit agrees changes k current has.cells has.fresh) may.versions (numbered_there schema hands unit changes k items_now e)))
+        (rings_held schema capacity db hands unit agrees changes k current has.cells has.fresh) versions (numbered_there schema hands unit changes k items_now e)))
 
-  prepared_at : CanFinish schema capacity unit hands (Modify k.rtype changes) plan
-  prepared_at =
+  prepared_at : HaveNextVersions hands.cells → CanFinish schema capacity unit hands (Modify k.rtype changes) plan
+  prepared_at versions =
       record {
         prepared = record {
           held = by_cause (λ p. list_all (λ e. holds hands.cells e.name) p.cells ≡ true) (λ p none. ap (list_all (λ e. holds hands.cells e.name)) none)
               (λ e p made. ap (list_all (λ e. holds hands.cells e.name)) made ∙ edits_held schema hands unit changes k items_now e);
           effects = effect_read;
         };
-        can_make = can_make;
+        can_make = λ db agrees. can_make db agrees versions;
       }
 
 -- the plan about a current of run-unit
@@ -128,13 +130,30 @@ abbrev plan_at : Lists → Hands → Unit → List Change → Option DbKey → P
 plan_at schema hands unit changes o =
     on_current_plan o (λ k. modify_checks_in schema hands unit changes k (changed_items changes (items_in hands k))) (λ k. modified_plan schema hands unit changes k (changed_items changes (items_in hands k)))
 
--- what is prepared of the current of run-unit
-pub modify_can_finish : (schema : Lists) (capacity : ℕ) (unit : Unit) (hands : Hands) (t : ℕ) (changes : List Change) → MayPrepare schema capacity unit hands (Modify t changes)
-    → refused_at_once schema capacity unit (Modify t changes) ≡ None → CanFinish schema capacity unit hands (Modify t changes) (modify_plan schema hands unit changes)
-modify_can_finish schema capacity unit hands t changes may passes = of_current unit.currency.run_unit refl where
-  of_current : (o : Option DbKey) → unit.currency.run_unit ≡ o → CanFinish schema capacity unit hands (Modify t changes) (plan_at schema hands unit changes o)
+-- what holds of the plan about each current holds of the statement's plan
+by_current : (schema : Lists) (capacity : ℕ) (unit : Unit) (hands : Hands) (t : ℕ) (changes : List Change) (P : Statement → Plan → Type 0)
+    → ((k : DbKey) → MayPlan schema capacity unit hands (Modify k.rtype changes) → refused_at_once schema capacity unit (Modify k.rtype changes) ≡ None → unit.currency.run_unit ≡ Some k
+    → P (Modify k.rtype changes) (plan_at schema hands unit changes (Some k)))
+    → MayPlan schema capacity unit hands (Modify t changes) → refused_at_once schema capacity unit (Modify t changes) ≡ None → P (Modify t changes) (modify_plan schema hands unit changes)
+by_current schema capacity unit hands t changes P each may passes = of_current unit.currency.run_unit refl where
+  of_current : (o : Option DbKey) → unit.currency.run_unit ≡ o → P (Modify t changes) (plan_at schema hands unit changes o)
   of_current None none = absurd (false≢true (sym (passes_check (needs_current (Modify t changes) && is_none unit.currency.run_unit) NoCurrentOfRunUnit _ passes).0 ∙ ap is_none none))
   of_current (Some k) current =
       let typed = modify_typed schema capacity (opening schema) unit hands t changes passes k current in
-      subst (λ u. MayPrepare schema capacity unit hands (Modify u changes) → refused_at_once schema capacity unit (Modify u changes) ≡ None → CanFinish schema capacity unit hands (Modify u changes) (plan_at schema hands unit changes (Some k))) typed
-      (λ may passes. prepared_at schema capacity unit hands changes k may passes current) may passes
+      subst (λ u. MayPlan schema capacity unit hands (Modify u changes) → refused_at_once schema capacity unit (Modify u changes) ≡ None → P (Modify u changes) (plan_at schema hands unit changes (Some k))) typed
+      (λ may passes. each k may passes current) may passes
+
+-- the plan is the effect
+pub modify_is_effect : (schema : Lists) (capacity : ℕ) (unit : Unit) (hands : Hands) (t : ℕ) (changes : List Change) → MayPlan schema capacity unit hands (Modify t changes)
+    → refused_at_once schema capacity unit (Modify t changes) ≡ None → (db : Database) → Agrees schema capacity db hands unit
+    → IsEffect schema capacity db unit hands.guesses (Modify t changes) (modify_plan schema hands unit changes)
+modify_is_effect schema capacity unit hands t changes may passes db agrees =
+    by_current schema capacity unit hands t changes (IsEffect schema capacity db unit hands.guesses)
+    (λ k may passes current. effect_read schema capacity unit hands changes k may passes current db agrees) may passes
+
+-- what is prepared of the current of run-unit
+pub modify_can_finish : (schema : Lists) (capacity : ℕ) (unit : Unit) (hands : Hands) (t : ℕ) (changes : List Change) → MayPrepare schema capacity unit hands (Modify t changes)
+    → refused_at_once schema capacity unit (Modify t changes) ≡ None → CanFinish schema capacity unit hands (Modify t changes) (modify_plan schema hands unit changes)
+modify_can_finish schema capacity unit hands t changes may passes =
+    by_current schema capacity unit hands t changes (CanFinish schema capacity unit hands)
+    (λ k asked passes current. prepared_at schema capacity unit hands changes k asked passes current may.versions) (may_plan may) passes

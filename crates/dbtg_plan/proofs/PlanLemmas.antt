@@ -21,11 +21,11 @@ use Rattle.dbtg_unit.specs.Guesses.{guesses_after}
 use Rattle.dbtg_unit.specs.Hands.{Hands}
 use Rattle.dbtg_unit.specs.Kept.{entry_again, noted_again}
 use Rattle.dbtg_unit.specs.Local.{Agrees}
-use Rattle.dbtg_unit.specs.Making.{MayPrepare}
 use Rattle.dbtg_unit.specs.Prepared.{IsEffect, Plan, guesses_edited, unit_after}
 use Rattle.dbtg_unit.proofs.EffectEdits.{effect_is_its_edits}
 use Rattle.dbtg_unit.proofs.KeyLemmas.{same_key}
 use Rattle.dbtg_unit.proofs.LocalReady.{legal_after}
+use Rattle.dbtg_unit.proofs.OnePlan.{MayPlan}
 use Rattle.dbtg_plan.specs.Plans.{refusal}
 
 -- where no check without cells refuses, the effect is that on the cells
@@ -46,7 +46,7 @@ refusal-is_effect schema capacity db unit guesses statement cause e = record {
 
 -- a plan is the effect of a statement that is done, where its edits are the statement's
 pub done-is_effect : (schema : Lists) (capacity : ℕ) (db : Database) (unit : Unit) (hands : Hands) (statement : Statement) (plan : Plan) → is_delete statement ≡ false
-    → MayPrepare schema capacity unit hands statement → Agrees schema capacity db hands unit
+    → MayPlan schema capacity unit hands statement → Agrees schema capacity db hands unit
     → plan.answer.status ≡ Done → plan.answer ≡ (effect schema capacity db unit statement).answer → plan.cells ≡ edits_of schema capacity db unit statement
     → unit_after schema plan unit ≡ (effect schema capacity db unit statement).unit
     → guesses_edited plan.unit hands.guesses ≡ guesses_after schema capacity statement hands.guesses (effect schema capacity db unit statement)

@@ -36,6 +36,7 @@ use Rattle.dbtg_unit.proofs.InHandLemmas.{listed_in_hand, live_in_hand, members_
 use Rattle.dbtg_unit.proofs.KeyLemmas.{same_owner}
 use Rattle.dbtg_unit.proofs.LiveKeys.{In, in_left, in_range, in_right, some_and_is}
 use Rattle.dbtg_unit.proofs.MakingLemmas.{can_make-raised, leaves-owner}
+use Rattle.dbtg_unit.proofs.OnePlan.{may_plan}
 use Rattle.dbtg_unit.proofs.OwnersFound.{owner_has, some_list}
 use Rattle.dbtg_unit.proofs.ReadyParts.{prepared_has_all}
 use Rattle.dbtg_plan.specs.Plans.{on_current_plan, refusal, unless_refusal}
@@ -128,7 +129,7 @@ module _ (schema : Lists) (capacity : ℕ) (unit : Unit) (hands : Hands) (s : �
 
       removes : IsEffect schema capacity db unit hands.guesses (Remove s) (removing hands s k)
       removes =
-          done-is_effect schema capacity db unit hands (Remove s) (removing hands s k) refl may agrees refl
+          done-is_effect schema capacity db unit hands (Remove s) (removing hands s k) refl (may_plan may) agrees refl
           (sym (ap (λ (o : Outcome). o.answer) done)) edits-are
           (unit-is ∙ sym (ap (λ (o : Outcome). o.unit) done))
           (guesses-are ∙ sym (ap (guesses_after schema capacity (Remove s) hands.guesses) done))

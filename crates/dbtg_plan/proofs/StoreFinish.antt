@@ -29,6 +29,7 @@ use Rattle.dbtg_unit.specs.Local.{Agrees, holds}
 use Rattle.dbtg_unit.specs.Making.{CanFinish, CanMake, MayPrepare, ShowsTheSame}
 use Rattle.dbtg_unit.specs.Prepared.{IsEffect, Plan}
 use Rattle.dbtg_unit.proofs.CheckLemmas.{passes_check}
+use Rattle.dbtg_unit.proofs.OnePlan.{may_plan}
 use Rattle.dbtg_unit.proofs.SameHands.{agrees-same, holds-same, same-sym}
 use Rattle.dbtg_plan.specs.Calc.{calc_taken_in, fresh_key}
 use Rattle.dbtg_plan.specs.Missing.{first_missing}
@@ -78,15 +79,15 @@ module _ (schema : Lists) (capacity : ℕ) (unit : Unit) (old new : Hands) (t : 
         → CanMakeWithRooms (unless_refusal o (stored_plan schema unit items suppress (new_key db t n)))
     made-by_cause n free (Some cause) e rooms = tt
     made-by_cause n free None e rooms =
-        store_can_make schema capacity db new unit agrees t n items free (has-places schema capacity unit old t items suppress may passes db agrees_old)
-        (checks-in_hand schema capacity unit old t items suppress may passes db agrees_old n free ∙ e) may.sound fit (λ s. rooms (new_key db t n) s refl)
+        store_can_make schema capacity db new unit agrees t n items free (has-places schema capacity unit old t items suppress (may_plan may) passes db agrees_old)
+        (checks-in_hand schema capacity unit old t items suppress (may_plan may) passes db agrees_old n free ∙ e) may.sound fit (λ s. rooms (new_key db t n) s refl)
 
     made-by_number : (o : Option ℕ) → free_number capacity db t ≡ o → CanMakeWithRooms (key_plan schema unit old t items suppress (option_map (new_key db t) o))
     made-by_number None e rooms = tt
     made-by_number (Some n) e rooms = made-by_cause n e (first_cause (store_checks_in schema unit old t items)) refl rooms
 
     made : CanMakeWithRooms (store_plan schema unit old t items suppress)
-    made = subst CanMakeWithRooms (sym (plan-is schema capacity unit old t items suppress may passes db agrees_old)) (made-by_number (free_number capacity db t) refl)
+    made = subst CanMakeWithRooms (sym (plan-is schema capacity unit old t items suppress (may_plan may) passes db agrees_old)) (made-by_number (free_number capacity db t) refl)
 
   -- what is prepared can be finished, where there is a place for the new record
   pub store_finishes : ((k : DbKey) (s : ℕ) → (store_plan schema unit old t items suppress).answer.key ≡ Some k → HasRoom schema unit new k s)
@@ -97,7 +98,7 @@ module _ (schema : Lists) (capacity : ℕ) (unit : Unit) (old new : Hands) (t : 
           held = (λ i. list_all (λ (e : CellEdit). holds-same old new same e.name i) (store_plan schema unit old t items suppress).cells) ∙ held-by_missing (missing_of_store schema unit old t items) refl;
           effects = λ db agrees.
               subst (λ (guesses : List (Option Owner)). IsEffect schema capacity db unit guesses (Store t items suppress) (store_plan schema unit old t items suppress)) (sym same.guesses)
-              (plan-is_effect schema capacity unit old t items suppress may passes db (agrees_old db agrees));
+              (plan-is_effect schema capacity unit old t items suppress (may_plan may) passes db (agrees_old db agrees));
         };
         can_make = λ db agrees. made db agrees rooms;
       }

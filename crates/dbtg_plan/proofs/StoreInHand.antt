@@ -29,7 +29,6 @@ use Rattle.dbtg_unit.specs.Hands.{Hands}
 use Rattle.dbtg_unit.specs.InHand.{numbers_in}
 use Rattle.dbtg_unit.specs.Legal.{Legal}
 use Rattle.dbtg_unit.specs.Local.{Agrees, holds}
-use Rattle.dbtg_unit.specs.Making.{MayPrepare}
 use Rattle.dbtg_unit.specs.Needs.{cells_of, current_owner, ring_names, store_cells, store_rings}
 use Rattle.dbtg_unit.specs.Prepared.{IsEffect}
 use Rattle.dbtg_unit.specs.Units.{owners_of, place_in, seen_with}
@@ -39,6 +38,7 @@ use Rattle.dbtg_unit.proofs.InHandLemmas.{numbers_in_hand}
 use Rattle.dbtg_unit.proofs.LegalEffect.{none_at, passed, some_from}
 use Rattle.dbtg_unit.proofs.LiveKeys.{In, any_in, in_flat_map, in_left, of_filter}
 use Rattle.dbtg_unit.proofs.LocalReady.{holds_any, legal_after}
+use Rattle.dbtg_unit.proofs.OnePlan.{MayPlan}
 use Rattle.dbtg_unit.proofs.ReadyParts.{prepared_has_all}
 use Rattle.dbtg_unit.proofs.StoreCells.{owners-first}
 use Rattle.dbtg_unit.proofs.TwoDatabases.{flat_map_agrees}
@@ -96,7 +96,7 @@ module _ (schema : Lists) (capacity : ℕ) (unit : Unit) (hands : Hands) (t : �
         | inr free ↦ missing-first hands (Extent t) _ _ free
       ]
 
-  module _ (suppress : Suppress) (may : MayPrepare schema capacity unit hands (Store t items suppress)) (passes : refused_at_once schema capacity unit (Store t items suppress) ≡ None)
+  module _ (suppress : Suppress) (may : MayPlan schema capacity unit hands (Store t items suppress)) (passes : refused_at_once schema capacity unit (Store t items suppress) ≡ None)
       (db : Database) (agrees : Agrees schema capacity db hands unit) where
     held : (c : CellName) → In c (cells_of schema capacity db unit hands.guesses (Store t items suppress)) → holds hands.cells c ≡ true
     held = (prepared_has_all schema capacity unit hands (Store t items suppress) passes may.ready db agrees).cells

@@ -10,3 +10,4 @@ pub mod Missing
 pub mod Keeping
 pub mod Opening
 pub mod Stale
+pub mod Locality

@@ -6,6 +6,7 @@ mod finding;
 mod inserting;
 mod joining;
 mod keeping;
+mod laws;
 mod members;
 mod missing;
 mod modifying;
@@ -17,5 +18,6 @@ mod removing;
 mod stale;
 mod storing;
 
+pub use laws::each_statement_is_determined;
 pub use need::next_need;
 pub use preparing::prepare;

@@ -16,7 +16,7 @@ first_in : {X : Type 0} (xs : List X) (x : X) → first xs ≡ Some x → In x x
 first_in [] x e = absurd (cc (e))
 first_in (y ∷ ys) x e = inl (same_Some y x e)
 
-of_reverse : {X : Type 0} (x : X) (xs : List X) → In x (reverse xs) → In x xs
+pub of_reverse : {X : Type 0} (x : X) (xs : List X) → In x (reverse xs) → In x xs
 of_reverse x [] i = i
 of_reverse {X} x (y ∷ ys) i = ⊎_elim (λ j. inr (of_reverse x ys j)) (λ j. ⊎_elim (λ e. inl e) (λ n. absurd n) j)
     (of_append x (reverse ys) (y ∷ []) (subst (λ (zs : List X). In x zs) (reverse-append (y ∷ []) ys) i))

@@ -43,3 +43,7 @@ mod DrawnShown
 mod QuitShown
 mod OpeningShown
 mod ReadingShown
+mod MovesShown
+mod RangePushes
+mod ImagesRead
+mod CellsFound

@@ -13,3 +13,4 @@ pub mod Parts
 pub mod Events
 pub mod CoreSteps
 pub mod Openings
+pub mod Imaging

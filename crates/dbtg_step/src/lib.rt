@@ -3,6 +3,7 @@
 
 mod drawing;
 mod image;
+mod imaging;
 mod laws;
 mod machine;
 mod moves;

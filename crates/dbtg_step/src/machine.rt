@@ -1,5 +1,7 @@
 //! The core: a database and its run-units, stepped event by event.
 ghost use Rattle.std.specs.Prelude.{◌≡◌, ◌≤◌, true, length, option_map, IfOk};
+ghost use Rattle.dbtg_unit.specs.Image.{image_of};
+ghost use Rattle.dbtg_unit.specs.Replay.{opening_state, replay};
 ghost use Rattle.dbtg_step.specs.SequentialDatabase.{unit_at};
 ghost use Rattle.dbtg_step.specs.CoreSteps.{IsQuitStep, IsStep};
 ghost use Rattle.dbtg_schema.specs.Sound.{IsSound};
@@ -7,6 +9,8 @@ ghost use Rattle.dbtg_step.specs.Headline.{machine_of, opening_of};
 ghost use Rattle.dbtg_step.specs.Laws.{scripts_fit};
 ghost use Rattle.dbtg_step.specs.Parts.{machine};
 
+use crate::image::Image;
+use crate::imaging::read_image;
 use crate::moves::Stepped;
 use crate::opening_parts::{opening_runners, opening_table};
 use crate::parts::Parts;
@@ -102,5 +106,14 @@ impl Core {
             return None;
         }
         Some(&self.parts.runners[number as usize - 1].unit)
+    }
+}
+
+impl Core {
+    /// The image, also in mid-statement: that of the database to which the history leads, one statement after another.
+    pub fn image(&self, alloc: Global) -> Result<Image, AllocError>
+        ensures { IfOk result (λ image. image ≡ image_of self.now.schema self.now.capacity (replay self.now.schema self.now.capacity (opening_state self.now.schema (length self.now.runners)) self.now.history).database) }
+    {
+        read_image(alloc, &self.schema, self.capacity, &self.parts)
     }
 }

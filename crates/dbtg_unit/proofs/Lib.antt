@@ -85,3 +85,4 @@ pub mod ReservingLemmas
 pub mod FinishedCells
 pub mod NameOrder
 pub mod Ascending
+pub mod OnePlan

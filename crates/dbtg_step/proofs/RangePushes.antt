@@ -1,0 +1,27 @@
+-- Lists that are made number by number.
+use Rattle.std.proofs.Common.{◌≡◌, sym, ◌∙◌, ap, ℕ, zero, suc, ◌+◌, List, [], ◌∷◌, ◌++◌, map, arith, append_assoc, append-nil}
+use Rattle.std.specs.List.{flat_map, range_with_len}
+use Rattle.std.proofs.lemmas.List.{map-append}
+use Rattle.std.proofs.lemmas.Grind.{flat_map-append}
+
+range_push : (a n j : ℕ) → a + n ≡ j → range_with_len a (n + 1) ≡ range_with_len a n ++ j ∷ []
+range_push a zero j e = let here : a ≡ j = omega arith in ap (λ m. m ∷ []) here
+range_push a (suc n) j e =
+    let more : suc n + 1 ≡ suc (n + 1) = omega arith in
+    ap (range_with_len a) more ∙ ap (λ ms. a ∷ ms) (range_push (a + 1) n j (omega arith))
+
+-- one more part
+pub flat_pushed : {X : Type 0} (f : ℕ → List X) (a n j : ℕ) → a + n ≡ j → (before old new : List X) → old ≡ before ++ flat_map f (range_with_len a n) → new ≡ old ++ f j
+    → new ≡ before ++ flat_map f (range_with_len a (n + 1))
+flat_pushed f a n j at before old new e g =
+    g ∙ ap (λ xs. xs ++ f j) e ∙ append_assoc before (flat_map f (range_with_len a n)) (f j)
+    ∙ ap (λ xs. before ++ xs)
+    (sym
+    (ap (flat_map f) (range_push a n j at)
+    ∙ flat_map-append f (range_with_len a n) (j ∷ [])
+    ∙ ap (λ xs. flat_map f (range_with_len a n) ++ xs) (append-nil (f j))))
+
+-- one more element
+pub map_pushed : {X : Type 0} (f : ℕ → X) (a n j : ℕ) → a + n ≡ j → (x : X) (old new : List X) → old ≡ map f (range_with_len a n) → new ≡ old ++ x ∷ [] → x ≡ f j → new ≡ map f (range_with_len a (n + 1))
+map_pushed f a n j at x old new e g is =
+    g ∙ (λ i. e i ++ is i ∷ []) ∙ sym (ap (map f) (range_push a n j at) ∙ map-append f (range_with_len a n) (j ∷ []))

@@ -1,0 +1,417 @@
+//! The image of the core's database, read off each cell where it is.
+ghost use Rattle.std.specs.Prelude.{◌≡◌, ◌++◌, [], IfOk, OnOk, Some, length, map, option_and_then, option_copied, option_map, slice_get, unwrap_or};
+ghost use Rattle.std.specs.List.{flat_map, range_with_len};
+ghost use Rattle.dbtg_schema.specs.Structure.{set_numbers};
+ghost use Rattle.dbtg_unit.specs.Hands.{cell_of};
+ghost use Rattle.dbtg_unit.specs.InHand.{numbers_of, users_of};
+ghost use Rattle.dbtg_step.specs.SequentialDatabase.{unit_at};
+ghost use Rattle.dbtg_step.specs.Imaging.{cell_in, found_cell, generations_in, image_from, list_of, lists_of, next_in, occurrence_at, record_of, records_of, stored_at, version_of, versions_of};
+
+use crate::image::Image;
+use crate::parts::{Parts, Place, Runner};
+use dbtg_cells::{
+    Cell, CellName, DbKey, Extent, Mode, Owner, Ring, Stored, Usage, Value, cell_number, copy_items,
+};
+use dbtg_schema::{AreaNo, RecordNo, Row, Schema, SetNo};
+use std::alloc::{AllocError, Global};
+
+fn place_at(table: &[Place], number: usize) -> Option<&Place>
+    ensures { option_copied result ≡ slice_get table.now number }
+{
+    table.get(number)
+}
+
+fn runner_at(runners: &[Runner], index: usize) -> Option<&Runner>
+    ensures { option_copied result ≡ slice_get runners.now index }
+{
+    runners.get(index)
+}
+
+fn holder(runners: &[Runner], unit: u8) -> Option<&Runner>
+    ensures { option_copied result ≡ unit_at runners.now unit }
+{
+    if unit == 0 {
+        return None;
+    }
+    runner_at(runners, unit as usize - 1)
+}
+
+fn held_cell<'a>(runners: &'a [Runner], unit: u8, name: &CellName) -> Option<&'a Cell>
+    ensures { option_copied result ≡ option_and_then (λ r. cell_of name.now r.held.cells) (unit_at runners.now unit) }
+{
+    match holder(runners, unit) {
+        Some(runner) => runner.held.cell(name),
+        None => None,
+    }
+}
+
+fn cell_in<'a>(runners: &'a [Runner], place: &'a Place, name: &CellName) -> Option<&'a Cell>
+    ensures { option_copied result ≡ cell_in runners.now name.now place.now }
+{
+    match place {
+        Place::Home(cell) => Some(cell),
+        Place::HeldBy(unit) => held_cell(runners, *unit, name),
+    }
+}
+
+// The cell of this name, at home or in the hands of its holder.
+fn find_cell<'a>(
+    schema: &Schema,
+    capacity: u16,
+    parts: &'a Parts,
+    name: &CellName,
+) -> Option<&'a Cell>
+    ensures { option_copied result ≡ found_cell schema.now capacity parts.now name.now }
+{
+    match cell_number(schema, capacity, name) {
+        Some(number) => match place_at(parts.table.as_slice(), number) {
+            Some(place) => cell_in(parts.runners.as_slice(), place, name),
+            None => None,
+        },
+        None => None,
+    }
+}
+
+fn find_stored<'a>(
+    schema: &Schema,
+    capacity: u16,
+    parts: &'a Parts,
+    rtype: RecordNo,
+    number: u32,
+) -> Option<&'a Stored>
+    ensures { option_copied result ≡ stored_at (found_cell schema.now capacity parts.now (CellName.Slot rtype number)) }
+{
+    match find_cell(schema, capacity, parts, &CellName::Slot(rtype, number)) {
+        Some(Cell::Slot(slot)) => slot.record(),
+        _ => None,
+    }
+}
+
+fn find_ring<'a>(
+    schema: &Schema,
+    capacity: u16,
+    parts: &'a Parts,
+    name: &CellName,
+) -> Option<&'a Ring>
+    ensures { option_and_then (λ r. r.occurrence) (option_copied result) ≡ occurrence_at (found_cell schema.now capacity parts.now name.now) }
+{
+    match find_cell(schema, capacity, parts, name) {
+        Some(Cell::Ring(ring)) => Some(ring),
+        _ => None,
+    }
+}
+
+fn find_extent<'a>(
+    schema: &Schema,
+    capacity: u16,
+    parts: &'a Parts,
+    rtype: RecordNo,
+) -> Option<&'a Extent>
+    ensures { unwrap_or (option_map (λ e. e.numbers) (option_copied result)) [] ≡ numbers_of (found_cell schema.now capacity parts.now (CellName.Extent rtype)) }
+{
+    match find_cell(schema, capacity, parts, &CellName::Extent(rtype)) {
+        Some(Cell::Extent(extent)) => Some(extent),
+        _ => None,
+    }
+}
+
+fn find_usage<'a>(
+    schema: &Schema,
+    capacity: u16,
+    parts: &'a Parts,
+    area: AreaNo,
+) -> Option<&'a Usage>
+    ensures { unwrap_or (option_map (λ u. u.users) (option_copied result)) [] ≡ users_of (found_cell schema.now capacity parts.now (CellName.Usage area)) }
+{
+    match find_cell(schema, capacity, parts, &CellName::Usage(area)) {
+        Some(Cell::Usage(usage)) => Some(usage),
+        _ => None,
+    }
+}
+
+fn add_record(
+    alloc: Global,
+    rtype: RecordNo,
+    number: u32,
+    stored: Option<&Stored>,
+    records: &mut Vec<(DbKey, Row<Value>)>,
+) -> Result<(), AllocError>
+    ensures { OnOk result (records.new.items ≡ records.old.items ++ record_of rtype number (option_copied stored.entry)) }
+{
+    if let Some(stored) = stored {
+        let key = DbKey {
+            rtype,
+            number,
+            generation: stored.generation,
+        };
+        records.push((key, copy_items(&stored.items, alloc)?))?;
+    }
+    Ok(())
+}
+
+fn add_version(
+    rtype: RecordNo,
+    number: u32,
+    stored: Option<&Stored>,
+    versions: &mut Vec<(DbKey, u64)>,
+) -> Result<(), AllocError>
+    ensures { OnOk result (versions.new.items ≡ versions.old.items ++ version_of rtype number (option_copied stored.entry)) }
+{
+    if let Some(stored) = stored {
+        let key = DbKey {
+            rtype,
+            number,
+            generation: stored.generation,
+        };
+        versions.push((key, stored.version))?;
+    }
+    Ok(())
+}
+
+fn add_records(
+    alloc: Global,
+    schema: &Schema,
+    capacity: u16,
+    parts: &Parts,
+    rtype: RecordNo,
+    records: &mut Vec<(DbKey, Row<Value>)>,
+) -> Result<(), AllocError>
+    ensures { OnOk result (records.new.items ≡ records.old.items ++ records_of capacity (found_cell schema.now capacity parts.now) rtype) }
+{
+    for turn in 0..capacity {
+        let number = turn as u32 + 1;
+        let stored = find_stored(schema, capacity, parts, rtype, number);
+        add_record(alloc, rtype, number, stored, records)?;
+    }
+    Ok(())
+}
+
+fn add_versions(
+    schema: &Schema,
+    capacity: u16,
+    parts: &Parts,
+    rtype: RecordNo,
+    versions: &mut Vec<(DbKey, u64)>,
+) -> Result<(), AllocError>
+    ensures { OnOk result (versions.new.items ≡ versions.old.items ++ versions_of capacity (found_cell schema.now capacity parts.now) rtype) }
+{
+    for turn in 0..capacity {
+        let number = turn as u32 + 1;
+        let stored = find_stored(schema, capacity, parts, rtype, number);
+        add_version(rtype, number, stored, versions)?;
+    }
+    Ok(())
+}
+
+fn all_records(
+    alloc: Global,
+    schema: &Schema,
+    capacity: u16,
+    parts: &Parts,
+) -> Result<Row<(DbKey, Row<Value>)>, AllocError>
+    ensures { IfOk result (λ row. row ≡ flat_map (records_of capacity (found_cell schema.now capacity parts.now)) (range_with_len 0 (length schema.now.types))) }
+{
+    let mut records = Vec::new(alloc);
+    let types = schema.types().len() as u8;
+    for rtype in 0..types {
+        let rtype = RecordNo::new(rtype);
+        add_records(alloc, schema, capacity, parts, rtype, &mut records)?;
+    }
+    Ok(Row::of(records))
+}
+
+fn all_versions(
+    alloc: Global,
+    schema: &Schema,
+    capacity: u16,
+    parts: &Parts,
+) -> Result<Row<(DbKey, u64)>, AllocError>
+    ensures { IfOk result (λ row. row ≡ flat_map (versions_of capacity (found_cell schema.now capacity parts.now)) (range_with_len 0 (length schema.now.types))) }
+{
+    let mut versions = Vec::new(alloc);
+    let types = schema.types().len() as u8;
+    for rtype in 0..types {
+        let rtype = RecordNo::new(rtype);
+        add_versions(schema, capacity, parts, rtype, &mut versions)?;
+    }
+    Ok(Row::of(versions))
+}
+
+fn add_list(
+    alloc: Global,
+    ring: Option<&Ring>,
+    lists: &mut Vec<(Owner, Row<DbKey>)>,
+) -> Result<(), AllocError>
+    ensures { OnOk result (lists.new.items ≡ lists.old.items ++ list_of (option_and_then (λ r. r.occurrence) (option_copied ring.entry))) }
+{
+    if let Some(ring) = ring {
+        if let Some(owner) = ring.owner() {
+            lists.push((owner, Row::of(ring.keys(alloc)?)))?;
+        }
+    }
+    Ok(())
+}
+
+// The lists of the live owners of a record type.
+fn add_owned_lists(
+    alloc: Global,
+    schema: &Schema,
+    capacity: u16,
+    parts: &Parts,
+    set: SetNo,
+    rtype: RecordNo,
+    lists: &mut Vec<(Owner, Row<DbKey>)>,
+) -> Result<(), AllocError>
+    ensures { OnOk result (lists.new.items ≡ lists.old.items ++ flat_map (λ n. list_of (occurrence_at (found_cell schema.now capacity parts.now (CellName.Ring set (Some (rtype, n)))))) (range_with_len 1 capacity)) }
+{
+    for turn in 0..capacity {
+        let name = CellName::Ring(set, Some((rtype, turn as u32 + 1)));
+        add_list(alloc, find_ring(schema, capacity, parts, &name), lists)?;
+    }
+    Ok(())
+}
+
+fn add_lists(
+    alloc: Global,
+    schema: &Schema,
+    capacity: u16,
+    parts: &Parts,
+    set: SetNo,
+    lists: &mut Vec<(Owner, Row<DbKey>)>,
+) -> Result<(), AllocError>
+    ensures { OnOk result (lists.new.items ≡ lists.old.items ++ lists_of schema.now capacity (found_cell schema.now capacity parts.now) set) }
+{
+    if schema.is_system(set) {
+        let name = CellName::Ring(set, None);
+        return add_list(alloc, find_ring(schema, capacity, parts, &name), lists);
+    }
+    match schema.owner_type(set) {
+        Some(rtype) => add_owned_lists(alloc, schema, capacity, parts, set, rtype, lists),
+        None => Ok(()),
+    }
+}
+
+fn all_lists(
+    alloc: Global,
+    schema: &Schema,
+    capacity: u16,
+    parts: &Parts,
+) -> Result<Row<Row<(Owner, Row<DbKey>)>>, AllocError>
+    ensures { IfOk result (λ row. row ≡ map (lists_of schema.now capacity (found_cell schema.now capacity parts.now)) (set_numbers schema.now)) }
+{
+    let mut all = Vec::new(alloc);
+    let sets = schema.sets().len() as u8;
+    for set in 0..sets {
+        let mut lists = Vec::new(alloc);
+        add_lists(alloc, schema, capacity, parts, SetNo::new(set), &mut lists)?;
+        all.push(Row::of(lists))?;
+    }
+    Ok(Row::of(all))
+}
+
+fn next_number(extent: Option<&Extent>) -> u32
+    ensures { result ≡ next_in (unwrap_or (option_map (λ e. e.numbers) (option_copied extent.entry)) []) }
+{
+    match extent {
+        Some(extent) => extent.least_free().unwrap_or(0),
+        None => 0,
+    }
+}
+
+fn next_numbers(
+    alloc: Global,
+    schema: &Schema,
+    capacity: u16,
+    parts: &Parts,
+) -> Result<Row<u32>, AllocError>
+    ensures { IfOk result (λ row. row ≡ map (λ t. next_in (numbers_of (found_cell schema.now capacity parts.now (CellName.Extent t)))) (range_with_len 0 (length schema.now.types))) }
+{
+    let mut all = Vec::new(alloc);
+    let types = schema.types().len() as u8;
+    for rtype in 0..types {
+        let rtype = RecordNo::new(rtype);
+        all.push(next_number(find_extent(schema, capacity, parts, rtype)))?;
+    }
+    Ok(Row::of(all))
+}
+
+fn generations(alloc: Global, extent: &Extent) -> Result<Row<u8>, AllocError>
+    ensures { IfOk result (λ row. row ≡ generations_in extent.now.numbers) }
+{
+    let mut all = Vec::new(alloc);
+    for turn in 0..extent.capacity() {
+        all.push(extent.generation(turn + 1))?;
+    }
+    Ok(Row::of(all))
+}
+
+fn generations_of(alloc: Global, extent: Option<&Extent>) -> Result<Row<u8>, AllocError>
+    ensures { IfOk result (λ row. row ≡ generations_in (unwrap_or (option_map (λ e. e.numbers) (option_copied extent.entry)) [])) }
+{
+    match extent {
+        Some(extent) => generations(alloc, extent),
+        None => Ok(Row::of(Vec::new(alloc))),
+    }
+}
+
+fn all_generations(
+    alloc: Global,
+    schema: &Schema,
+    capacity: u16,
+    parts: &Parts,
+) -> Result<Row<Row<u8>>, AllocError>
+    ensures { IfOk result (λ row. row ≡ map (λ t. generations_in (numbers_of (found_cell schema.now capacity parts.now (CellName.Extent t)))) (range_with_len 0 (length schema.now.types))) }
+{
+    let mut all = Vec::new(alloc);
+    let types = schema.types().len() as u8;
+    for rtype in 0..types {
+        let extent = find_extent(schema, capacity, parts, RecordNo::new(rtype));
+        all.push(generations_of(alloc, extent)?)?;
+    }
+    Ok(Row::of(all))
+}
+
+fn users_of(alloc: Global, usage: Option<&Usage>) -> Result<Row<(u8, Mode)>, AllocError>
+    ensures { IfOk result (λ row. row ≡ unwrap_or (option_map (λ u. u.users) (option_copied usage.entry)) []) }
+{
+    match usage {
+        Some(usage) => Ok(Row::of(Vec::from_slice(alloc, usage.users())?)),
+        None => Ok(Row::of(Vec::new(alloc))),
+    }
+}
+
+fn all_users(
+    alloc: Global,
+    schema: &Schema,
+    capacity: u16,
+    parts: &Parts,
+) -> Result<Row<Row<(u8, Mode)>>, AllocError>
+    ensures { IfOk result (λ row. row ≡ map (λ a. users_of (found_cell schema.now capacity parts.now (CellName.Usage a))) (range_with_len 0 (length schema.now.areas))) }
+{
+    let mut all = Vec::new(alloc);
+    let areas = schema.areas().len() as u8;
+    for area in 0..areas {
+        let usage = find_usage(schema, capacity, parts, AreaNo::new(area));
+        all.push(users_of(alloc, usage)?)?;
+    }
+    Ok(Row::of(all))
+}
+
+/// The image that the cells show, each read where it is.
+pub fn read_image(
+    alloc: Global,
+    schema: &Schema,
+    capacity: u16,
+    parts: &Parts,
+) -> Result<Image, AllocError>
+    ensures { IfOk result (λ image. image ≡ image_from schema.now capacity (found_cell schema.now capacity parts.now)) }
+{
+    Ok(Image {
+        records: all_records(alloc, schema, capacity, parts)?,
+        versions: all_versions(alloc, schema, capacity, parts)?,
+        lists: all_lists(alloc, schema, capacity, parts)?,
+        next: next_numbers(alloc, schema, capacity, parts)?,
+        last: all_generations(alloc, schema, capacity, parts)?,
+        usage: all_users(alloc, schema, capacity, parts)?,
+    })
+}

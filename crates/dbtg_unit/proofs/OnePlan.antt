@@ -1,0 +1,43 @@
+-- One plan, the effect of a statement on two databases, has one outcome in what is in hand.
+use Rattle.std.proofs.Common.{◌≡◌, sym, ◌∙◌, ap, ℕ, true}
+use Rattle.dbtg_schema.specs.Lists.{Lists}
+use Rattle.dbtg_schema.specs.Sound.{IsSound}
+use Rattle.dbtg_unit.specs.declared.statement.Statement.{Statement}
+use Rattle.dbtg_unit.specs.declared.unit.Unit.{Unit}
+use Rattle.dbtg_unit.specs.Base.{Database}
+use Rattle.dbtg_unit.specs.Belongs.{IsUnitOf, IsWithin}
+use Rattle.dbtg_unit.specs.Edits.{edited_at}
+use Rattle.dbtg_unit.specs.Effect.{effect}
+use Rattle.dbtg_unit.specs.Fits.{fits}
+use Rattle.dbtg_unit.specs.Hands.{Hands}
+use Rattle.dbtg_unit.specs.Local.{Agrees}
+use Rattle.dbtg_unit.specs.Locality.{DoTheSame}
+use Rattle.dbtg_unit.specs.Making.{IsReady, MayPrepare}
+use Rattle.dbtg_unit.specs.Prepared.{IsEffect, Plan}
+use Rattle.dbtg_unit.proofs.AlikeReading.{held_alike}
+
+-- what a plan of a statement is read from; to carry it out, there must be next versions too
+pub record MayPlan (schema : Lists) (capacity : ℕ) (unit : Unit) (hands : Hands) (statement : Statement) : Type 0 where
+  pub sound : IsSound schema
+  pub fits : fits schema statement ≡ true
+  pub of_schema : IsUnitOf schema unit
+  pub within : IsWithin capacity unit
+  pub ready : IsReady schema capacity unit hands statement
+
+pub may_plan : {schema : Lists} {capacity : ℕ} {unit : Unit} {hands : Hands} {statement : Statement} → MayPrepare schema capacity unit hands statement → MayPlan schema capacity unit hands statement
+may_plan may = record { sound = may.sound; fits = may.fits; of_schema = may.of_schema; within = may.within; ready = may.ready }
+
+-- a plan that is the statement's effect on every database that agrees with what is in hand
+abbrev pub HasPlan : Lists → ℕ → Unit → Hands → Statement → Type 0
+HasPlan schema capacity unit hands statement = (plan : Plan) × ((db : Database) → Agrees schema capacity db hands unit → IsEffect schema capacity db unit hands.guesses statement plan)
+
+pub one_plan_does_the_same : (schema : Lists) (capacity : ℕ) (db eb : Database) (hands : Hands) (unit : Unit) (statement : Statement) → HasPlan schema capacity unit hands statement
+    → Agrees schema capacity db hands unit → Agrees schema capacity eb hands unit → DoTheSame schema capacity hands (effect schema capacity db unit statement) (effect schema capacity eb unit statement)
+one_plan_does_the_same schema capacity db eb hands unit statement has agrees agrees_too =
+    let here = has.1 db agrees in
+    let there = has.1 eb agrees_too in
+    record {
+      answer = sym here.answer ∙ there.answer;
+      unit = sym here.unit_is ∙ there.unit_is;
+      cells = λ c held. here.cells c ∙ ap (edited_at c has.0.cells) (held_alike schema capacity db eb hands.cells agrees.cells agrees_too.cells c held) ∙ sym (there.cells c);
+    }
