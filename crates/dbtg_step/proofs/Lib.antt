@@ -42,7 +42,6 @@ mod Makings
 mod DrawnShown
 mod QuitShown
 mod OpeningShown
-mod ReadingShown
 mod RangePushes
 mod ImagesRead
 mod CellsFound
