@@ -42,6 +42,8 @@ mod Makings
 mod DrawnShown
 mod QuitShown
 mod OpeningShown
+mod ReadingShown
+mod MovesShown
 mod RangePushes
 mod ImagesRead
 mod CellsFound
