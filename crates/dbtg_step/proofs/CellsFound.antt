@@ -11,7 +11,6 @@ use Rattle.dbtg_cells.specs.Names.{name_eq}
 use Rattle.dbtg_cells.specs.Shown.{CellValue}
 use Rattle.dbtg_cells.proofs.PlaceNumbers.{extent_number, ring_number, slot_number, system_ring_number, usage_number}
 use Rattle.dbtg_unit.specs.declared.unit.Entry.{Entry}
-use Rattle.dbtg_unit.specs.Base.{Database}
 use Rattle.dbtg_unit.specs.Hands.{cell_of}
 use Rattle.dbtg_unit.specs.Image.{image_of}
 use Rattle.dbtg_unit.specs.Local.{holds}
@@ -24,12 +23,12 @@ use Rattle.dbtg_step.specs.declared.parts.Place.TheVariants.{Home as AtHome, Hel
 use Rattle.dbtg_step.specs.declared.parts.Runner.{Runner}
 use Rattle.dbtg_step.specs.declared.parts.Stage.{Stage}
 use Rattle.dbtg_step.specs.SequentialDatabase.{HeldCell, In, unit_at}
-use Rattle.dbtg_step.specs.Machine.{UnitState, held_cells, replay}
+use Rattle.dbtg_step.specs.Machine.{UnitState, held_cells}
 use Rattle.dbtg_step.specs.Lawful.{HoldsCell}
 use Rattle.dbtg_step.specs.Network.{network}
 use Rattle.dbtg_step.specs.Headline.{entry_of}
-use Rattle.dbtg_step.specs.Parts.{held_of, note_of, progress_of, state_from, state_of, unit_state_of}
-use Rattle.dbtg_step.specs.Events.{IsWell, opening_for}
+use Rattle.dbtg_step.specs.Parts.{held_of, note_of, progress_of, state_from, unit_state_of}
+use Rattle.dbtg_step.specs.Events.{IsWell, database_of, opening_for}
 use Rattle.dbtg_step.specs.Imaging.{cell_in, found_cell, image_from}
 use Rattle.dbtg_step.proofs.EventsShown.{there_is}
 use Rattle.dbtg_step.proofs.FoundKeys.{of_reverse}
@@ -92,10 +91,6 @@ entries_again schema capacity [] = refl
 entries_again schema capacity (e ∷ es) = ap (λ rest. e ∷ rest) (entries_again schema capacity es)
 
 module _ (schema : Lists) (capacity : ℕ) (parts : Parts) (well : IsWell schema capacity parts) where
-  -- the database of the history
-  abbrev database : Database
-  database = (replay (network schema capacity) (opening_for schema capacity parts) (state_of schema capacity parts).history).database
-
   held_there : (r : Runner) (c : CellName) → HoldsCell (network schema capacity) (progress_of schema capacity r.held r.stage) c → holds r.held.cells c ≡ true
   unfolding held_cells
   held_there r c h = by r.stage h where
@@ -106,7 +101,7 @@ module _ (schema : Lists) (capacity : ℕ) (parts : Parts) (well : IsWell schema
   placed : (c : CellName) (n : ℕ) → cell_number schema capacity c ≡ Some n → (p : Place) → slice_get parts.table.items n ≡ Some p → found_cell schema capacity parts c ≡ cell_in parts.runners.items c p
   placed c n e p f = ap (option_and_then (λ m. option_and_then (cell_in parts.runners.items c) (slice_get parts.table.items m))) e ∙ ap (option_and_then (cell_in parts.runners.items c)) f
 
-  shows_home : (c : CellName) (n : ℕ) → cell_number schema capacity c ≡ Some n → (x : Cell) → slice_get parts.table.items n ≡ Some (AtHome x) → ShowsCell schema capacity database (found_cell schema capacity parts) c
+  shows_home : (c : CellName) (n : ℕ) → cell_number schema capacity c ≡ Some n → (x : Cell) → slice_get parts.table.items n ≡ Some (AtHome x) → ShowsCell schema capacity (database_of schema capacity parts) (found_cell schema capacity parts) c
   unfolding state_from
   shows_home c n e x f = record {
     which = x;
@@ -114,7 +109,7 @@ module _ (schema : Lists) (capacity : ℕ) (parts : Parts) (well : IsWell schema
     shows = well.lawful.home c (shown x) (location_placed schema capacity parts.table.items c n (AtHome x) e f);
   }
 
-  shows_held : (c : CellName) (n : ℕ) → cell_number schema capacity c ≡ Some n → (u : ℕ) → slice_get parts.table.items n ≡ Some (WithUnit u) → ShowsCell schema capacity database (found_cell schema capacity parts) c
+  shows_held : (c : CellName) (n : ℕ) → cell_number schema capacity c ≡ Some n → (u : ℕ) → slice_get parts.table.items n ≡ Some (WithUnit u) → ShowsCell schema capacity (database_of schema capacity parts) (found_cell schema capacity parts) c
   unfolding state_from
   shows_held c n e u f =
       let holder = well.lawful.holder c u (location_placed schema capacity parts.table.items c n (WithUnit u) e f) in
@@ -126,21 +121,21 @@ module _ (schema : Lists) (capacity : ℕ) (parts : Parts) (well : IsWell schema
       record {
         which = x.0;
         there = placed c n e (WithUnit u) f ∙ ap (option_and_then (λ (r : Runner). cell_of c r.held.cells)) unit.at ∙ x.1;
-        shows = held_cell schema capacity database r.held.cells c x.0 (agrees_now schema capacity u parts r well number.0 number.1).cells x.1;
+        shows = held_cell schema capacity (database_of schema capacity parts) r.held.cells c x.0 (agrees_now schema capacity u parts r well number.0 number.1).cells x.1;
       }
 
-  shows_placed : (c : CellName) (n : ℕ) → cell_number schema capacity c ≡ Some n → (p : Place) → slice_get parts.table.items n ≡ Some p → ShowsCell schema capacity database (found_cell schema capacity parts) c
+  shows_placed : (c : CellName) (n : ℕ) → cell_number schema capacity c ≡ Some n → (p : Place) → slice_get parts.table.items n ≡ Some p → ShowsCell schema capacity (database_of schema capacity parts) (found_cell schema capacity parts) c
   shows_placed c n e (AtHome x) f = shows_home c n e x f
   shows_placed c n e (WithUnit u) f = shows_held c n e u f
 
-  shows_each : (c : CellName) → is_cell schema capacity c ≡ true → ShowsCell schema capacity database (found_cell schema capacity parts) c
+  shows_each : (c : CellName) → is_cell schema capacity c ≡ true → ShowsCell schema capacity (database_of schema capacity parts) (found_cell schema capacity parts) c
   shows_each c h =
       let number = number_there schema capacity c h in
       let within : number.0 < length parts.table.items = subst (λ m. number.0 < m) (sym well.table) (number_within schema capacity c number.0 number.1) in
       let place = there_is parts.table.items number.0 within in
       shows_placed c number.0 number.1 place.0 place.1
 
-  database_is : database ≡ (replay_entries schema capacity (opening_state schema (length parts.runners.items)) parts.history.items).database
+  database_is : database_of schema capacity parts ≡ (replay_entries schema capacity (opening_state schema (length parts.runners.items)) parts.history.items).database
   unfolding state_from
   database_is =
       ap (λ (q : DatabaseState). q.database)
@@ -149,4 +144,4 @@ module _ (schema : Lists) (capacity : ℕ) (parts : Parts) (well : IsWell schema
 
   -- the image that is read is of the database of the history
   pub read_is : image_from schema capacity (found_cell schema capacity parts) ≡ image_of schema capacity (replay_entries schema capacity (opening_state schema (length parts.runners.items)) parts.history.items).database
-  read_is = read_is_image schema capacity database well.lawful.legal.legal (found_cell schema capacity parts) shows_each ∙ ap (image_of schema capacity) database_is
+  read_is = read_is_image schema capacity (database_of schema capacity parts) well.lawful.legal.legal (found_cell schema capacity parts) shows_each ∙ ap (image_of schema capacity) database_is

@@ -42,8 +42,6 @@ mod Makings
 mod DrawnShown
 mod QuitShown
 mod OpeningShown
-mod ReadingShown
-mod MovesShown
 mod RangePushes
 mod ImagesRead
 mod CellsFound

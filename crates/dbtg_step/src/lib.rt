@@ -11,7 +11,6 @@ mod needing;
 mod opening_parts;
 mod parts;
 mod quitting;
-mod reading;
 mod runner;
 mod statements;
 mod stepping;
