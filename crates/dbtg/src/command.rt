@@ -42,9 +42,7 @@ pub fn command<'a>(alloc: Global) -> Result<Command<'a>, AllocError> {
         .about("Reads the schema of a CODASYL network database, and the scripts of its run-units")
         .subcommand_required(true)
         .disable_help_subcommand(true)
-        .after_help(
-            "Example: dbtg check shop.schema unit1.script unit2.script",
-        )
+        .after_help("Example: dbtg check shop.schema unit1.script unit2.script")
         .subcommand(check_command(alloc)?)
 }
 
