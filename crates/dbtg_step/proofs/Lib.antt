@@ -45,3 +45,4 @@ mod OpeningShown
 mod RangePushes
 mod ImagesRead
 mod CellsFound
+mod RunsShown

@@ -1,10 +1,11 @@
 -- What a step and a quit of the core come to.
 use Rattle.std.specs.Prelude.{ℕ, ◌≡◌}
+use Rattle.dbtg_step.specs.declared.moves.Move.{Move}
 use Rattle.dbtg_step.specs.declared.moves.Stepped.{Stepped}
 use Rattle.dbtg_step.specs.declared.moves.Stepped.TheVariants.{Moved, Blocked, Idle, NoMemory}
 use Rattle.dbtg_step.specs.Machine.{State}
 use Rattle.dbtg_step.specs.Network.{network}
-use Rattle.dbtg_step.specs.Step.{IsBlocked, IsIdle, MovedTo, Transition, quit, step}
+use Rattle.dbtg_step.specs.Step.{IsBlocked, IsIdle, MovedTo, Transition, quit, result_of, state_after, step, transition}
 use Rattle.dbtg_step.specs.Events.{IsBeforeTicket}
 use Rattle.dbtg_step.specs.Parts.{CoreState, with_state}
 
@@ -30,3 +31,14 @@ IsQuitStep old u Moved new = (t : State (network old.schema old.capacity)) × (q
 IsQuitStep old u Blocked new = ⊥
 IsQuitStep old u Idle new = (quit_of old u ≡ IsIdle) × (new ≡ old)
 IsQuitStep old u NoMemory new = ⊥
+
+-- the machine's transition of a move
+abbrev pub transition_of : (c : CoreState) → Move → Transition (network c.schema c.capacity)
+transition_of c m = transition (network c.schema c.capacity) c.opening c.state m
+
+-- what a move comes to, and the machine after it
+abbrev pub result_of_move : CoreState → Move → Stepped
+result_of_move c m = result_of (network c.schema c.capacity) (transition_of c m)
+
+abbrev pub after_move : CoreState → Move → CoreState
+after_move c m = with_state c (state_after (network c.schema c.capacity) c.state (transition_of c m))

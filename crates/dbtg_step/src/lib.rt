@@ -12,6 +12,7 @@ mod opening_parts;
 mod parts;
 mod quitting;
 mod runner;
+mod running;
 mod statements;
 mod stepping;
 mod table;
@@ -24,3 +25,4 @@ pub use laws::{
 };
 pub use machine::Core;
 pub use moves::{Move, Stepped};
+pub use running::run;

@@ -8,13 +8,15 @@ ghost use Rattle.dbtg_schema.specs.Sound.{IsSound};
 ghost use Rattle.dbtg_step.specs.Headline.{machine_of, opening_of};
 ghost use Rattle.dbtg_step.specs.Laws.{scripts_fit};
 ghost use Rattle.dbtg_step.specs.Parts.{machine};
+ghost use Rattle.dbtg_step.specs.Runs.{IsHandedOut};
 
-use crate::image::Image;
+use crate::image::{Image, Run};
 use crate::imaging::read_image;
 use crate::moves::Stepped;
 use crate::opening_parts::{opening_runners, opening_table};
 use crate::parts::Parts;
 use crate::quitting::quit;
+use crate::runner::units_of;
 use crate::stepping::step;
 use dbtg_schema::{Row, Schema};
 use dbtg_unit::{Entry, Statement, Unit};
@@ -115,5 +117,20 @@ impl Core {
         ensures { IfOk result (λ image. image ≡ image_of self.now.schema self.now.capacity (replay self.now.schema self.now.capacity (opening_state self.now.schema (length self.now.runners)) self.now.history).database) }
     {
         read_image(alloc, &self.schema, self.capacity, &self.parts)
+    }
+
+    /// The core taken apart, with the results of the moves that led to it.
+    pub fn into_run(self, results: Vec<Stepped>) -> Result<Run, AllocError>
+        ensures { IfOk result (λ given. IsHandedOut self results.items given) }
+    {
+        let image = self.image(self.alloc)?;
+        let alloc = self.alloc;
+        let parts = self.parts;
+        Ok(Run {
+            results: Row::of(results),
+            image,
+            history: Row::of(parts.history),
+            units: units_of(alloc, parts.runners)?,
+        })
     }
 }

@@ -1,14 +1,14 @@
 //! What the events change of a run-unit.
-ghost use Rattle.std.specs.Prelude.{◌≡◌, ℕ, ◌<◌, ◌+◌, ◌∷◌, [], ◌++◌, OnOk, OnErr, Some, None, true, false, length, nat_lt, slice_get};
+ghost use Rattle.std.specs.Prelude.{◌≡◌, ℕ, ◌<◌, ◌+◌, ◌∷◌, [], ◌++◌, OnOk, OnErr, Some, None, true, false, length, map, nat_lt, slice_get, IfOk};
 ghost use Rattle.dbtg_step.specs.Network.{is_delete};
 ghost use Rattle.dbtg_step.specs.Parts.{stage_while_held};
 ghost use Rattle.dbtg_step.specs.Events.{IsStanding};
 ghost use Rattle.dbtg_unit.specs.declared.statement.Statement.{Statement};
 
 use crate::parts::{Runner, Stage};
-use dbtg_schema::AreaNo;
-use dbtg_unit::Statement;
-use std::alloc::AllocError;
+use dbtg_schema::Row;
+use dbtg_unit::{Statement, Unit};
+use std::alloc::{AllocError, Global};
 
 /// Where a unit stands.
 #[derive(Clone, Copy, Debug, PartialEq, Eq)]
@@ -123,4 +123,15 @@ pub fn turn_back(runner: &mut Runner, stage: Stage)
         ticket: stage.ticket,
         linked: stage.linked,
     });
+}
+
+/// The units alone, in their order.
+pub fn units_of(alloc: Global, runners: Vec<Runner>) -> Result<Row<Unit>, AllocError>
+    ensures { IfOk result (λ units. units ≡ map (λ r. r.unit) runners.items) }
+{
+    let mut units = Vec::with_capacity(alloc, runners.len())?;
+    for runner in runners {
+        units.push(runner.unit)?;
+    }
+    Ok(Row::of(units))
 }

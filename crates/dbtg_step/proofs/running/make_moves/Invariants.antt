@@ -1,0 +1,8 @@
+use Rattle.std.proofs.Common.{drop}
+use Rattle.dbtg_step.specs.Parts.{machine}
+use Rattle.dbtg_step.proofs.RunsShown.{IsUnderWay}
+use Rattle.dbtg_step.proofs.running.make_moves.Given as goal
+
+-- what is left is made from where the core stands
+abbrev pub invariant-loop-one : goal.invariant-loop-one
+invariant-loop-one l = IsUnderWay (machine l.initial.core) (machine l.core) l.results.items (drop l.one-index l.moves) l.moves

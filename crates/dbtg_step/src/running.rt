@@ -1,0 +1,60 @@
+//! Runs: what a list of moves comes to, and one unit after another.
+ghost use Rattle.std.specs.Prelude.{◌≡◌, ◌≤◌, true, length, map, IfOk, OnOk};
+ghost use Rattle.dbtg_schema.specs.Sound.{IsSound};
+ghost use Rattle.dbtg_step.specs.CoreSteps.{after_move, result_of_move};
+ghost use Rattle.dbtg_step.specs.Headline.{RunIs};
+ghost use Rattle.dbtg_step.specs.Laws.{scripts_fit};
+ghost use Rattle.dbtg_step.specs.Parts.{machine};
+ghost use Rattle.dbtg_step.specs.Runs.{after_moves, results_of_moves};
+
+use crate::image::Run;
+use crate::machine::Core;
+use crate::moves::{Move, Stepped};
+use dbtg_schema::{Row, Schema};
+use dbtg_unit::Statement;
+use std::alloc::{AllocError, Global};
+
+// Makes one move; a step that finds no memory is an error, and changes nothing.
+fn make_move(core: &mut Core, one: Move) -> Result<Stepped, AllocError>
+    ensures core { OnOk result (machine core.new ≡ after_move (machine core.old) one) }
+    ensures result { IfOk result (λ stepped. stepped ≡ result_of_move (machine core.old) one) }
+{
+    let stepped = match one {
+        Move::Step(unit) => core.step(unit),
+        Move::Quit(unit) => core.quit(unit),
+    };
+    match stepped {
+        Stepped::NoMemory => Err(AllocError),
+        stepped => Ok(stepped),
+    }
+}
+
+// Makes the moves in turn, and gives what they came to.
+fn make_moves(alloc: Global, core: &mut Core, moves: &[Move]) -> Result<Vec<Stepped>, AllocError>
+    ensures core { OnOk result (machine core.new ≡ after_moves (machine core.old) moves.now) }
+    ensures results { IfOk result (λ results. results.items ≡ results_of_moves (machine core.old) moves.now) }
+{
+    let mut results = Vec::with_capacity(alloc, moves.len())?;
+    for one in moves {
+        results.push(make_move(core, *one)?)?;
+    }
+    Ok(results)
+}
+
+/// Makes the moves in turn, from the opening database on, with a unit for each script. A step that finds no memory ends it.
+pub fn run(
+    alloc: Global,
+    schema: &Schema,
+    capacity: u16,
+    scripts: Row<Row<Statement>>,
+    moves: &[Move],
+) -> Result<Run, AllocError>
+    requires sound { IsSound schema.now }
+    requires units { length scripts ≤ 255 }
+    requires fit { scripts_fit schema.now scripts ≡ true }
+    ensures { IfOk result (λ given. RunIs schema.now capacity scripts moves.now given) }
+{
+    let mut core = Core::new(alloc, schema, capacity, scripts)?;
+    let results = make_moves(alloc, &mut core, moves)?;
+    core.into_run(results)
+}
