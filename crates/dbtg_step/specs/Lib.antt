@@ -12,5 +12,6 @@ pub mod TurningBack
 pub mod Parts
 pub mod Events
 pub mod CoreSteps
+pub mod SerialSteps
 pub mod Openings
 pub mod Imaging

@@ -12,6 +12,7 @@ mod opening_parts;
 mod parts;
 mod quitting;
 mod runner;
+mod serially;
 mod statements;
 mod stepping;
 mod table;
