@@ -21,6 +21,7 @@ mod NetworkNeeds
 mod NameOrder
 mod Headlines
 mod Serials
+mod SerialShown
 mod FoundKeys
 mod AreasOfCells
 mod AreasOfDelete

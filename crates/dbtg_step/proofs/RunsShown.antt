@@ -1,14 +1,13 @@
 -- The moves of a run, one after another, and what a core hands out.
-use Rattle.std.proofs.Common.{ℕ, zero, suc, ◌+◌, ◌<◌, ◌≤◌, ◌≡◌, true, List, drop, get_or, [], ◌∷◌, ◌++◌, length, map, Option, Some, None, refl, sym, ap, ◌∙◌, subst, append_assoc, append-nil, arith}
+use Rattle.std.proofs.Common.{ℕ, suc, ◌+◌, ◌<◌, ◌≤◌, ◌≡◌, true, List, drop, get_or, [], ◌∷◌, ◌++◌, length, map, refl, sym, ap, ◌∙◌, subst, append_assoc, append-nil, arith}
 use Rattle.std.proofs.Math.Seq.{drop-cons}
 use Rattle.std.proofs.lemmas.Option.{slice_get_past}
 use Rattle.std.proofs.lemmas.List.FromFn.{length-map-range_with_len}
 use Rattle.dbtg_schema.specs.Lists.{Lists}
 use Rattle.dbtg_schema.specs.Sound.{IsSound}
 use Rattle.dbtg_unit.specs.declared.statement.Statement.{Statement}
-use Rattle.dbtg_unit.specs.declared.unit.Unit.{Unit}
 use Rattle.dbtg_unit.specs.declared.unit.Entry.{Entry}
-use Rattle.dbtg_unit.specs.Image.{Image, image_of}
+use Rattle.dbtg_unit.specs.Image.{image_of}
 use Rattle.dbtg_unit.specs.Replay.{opening_state, replay as replay_entries}
 use Rattle.dbtg_unit.specs.Units.{opening_unit}
 use Rattle.dbtg_unit.proofs.FitLemmas.{drop_none}
@@ -19,13 +18,14 @@ use Rattle.dbtg_step.specs.declared.moves.Move.TheVariants.{Step, Quit}
 use Rattle.dbtg_step.specs.declared.moves.Stepped.{Stepped}
 use Rattle.dbtg_step.specs.declared.moves.Stepped.TheVariants.{Moved, Blocked, Idle, NoMemory}
 use Rattle.dbtg_step.specs.declared.parts.Runner.{Runner}
-use Rattle.dbtg_step.specs.Machine.{State, SequentialState, UnitState, replay}
+use Rattle.dbtg_step.specs.Machine.{State, UnitState, replay}
 use Rattle.dbtg_step.specs.Step.{Transition, MovedTo, IsBlocked, IsIdle, transition, state_after, result_of, run, results}
 use Rattle.dbtg_step.specs.Network.{network}
 use Rattle.dbtg_step.specs.Headline.{IsSequential, RunIs, entry_of, machine_after, machine_of, machine_results, opening_of}
 use Rattle.dbtg_step.specs.Parts.{CoreParts, CoreState, machine, note_of, state_from, unit_state_of, with_state}
-use Rattle.dbtg_step.specs.CoreSteps.{IsQuitStep, IsStep, after_move, quit_of, result_of_move, step_of, transition_of}
-use Rattle.dbtg_step.specs.Runs.{IsHandedOut, after_moves, after_units, results_of_moves}
+use Rattle.dbtg_step.specs.CoreSteps.{IsQuitStep, IsStep, after_move, result_of_move, transition_of}
+use Rattle.dbtg_step.specs.Runs.{IsHandedOut, after_moves, results_of_moves}
+use Rattle.dbtg_step.specs.SerialSteps.{serial_from}
 use Rattle.dbtg_step.specs.Serial.{SerialRunIs, machine_after_scripts, serial_limit}
 use Rattle.dbtg_step.specs.Laws.{scripts_fit}
 use Rattle.dbtg_step.proofs.Headlines.{run_is_sequential}
@@ -116,7 +116,7 @@ units_again schema capacity (r ∷ rs) = ap (λ xs. r.unit ∷ xs) (units_again 
 module _ (schema : Lists) (capacity : ℕ) (scripts : List (List Statement)) (core : CoreParts) (last : State (network schema capacity))
     (is : machine core ≡ record { schema = schema; capacity = capacity; opening = opening_of schema capacity (length scripts); state = last })
     (law : IsSequential schema capacity scripts (map entry_of last.history) (image_of schema capacity (replay (network schema capacity) (opening_of schema capacity (length scripts)) last.history).database) (map (λ (x : UnitState (network schema capacity)). x.unit) last.units))
-    (results : List Stepped) (given : Run) (handed : IsHandedOut core results given) where
+    (stepped : List Stepped) (given : Run) (handed : IsHandedOut core stepped given) where
   pub history_handed : given.history ≡ map entry_of last.history
   unfolding state_from
   history_handed = handed.history_is ∙ (sym (entries_again core.schema core.capacity core.history) ∙ ap (λ (c : CoreState). map entry_of c.state.history) is)
@@ -142,30 +142,32 @@ module _ (schema : Lists) (capacity : ℕ) (scripts : List (List Statement)) (co
       (subst (λ us. IsSequential schema capacity scripts (map entry_of last.history) (image_of schema capacity (replay (network schema capacity) (opening_of schema capacity (length scripts)) last.history).database) us) (sym units_handed) law))
 
 -- a run of moves from the opening state on
-pub run_handed : (schema : Lists) (capacity : ℕ) (scripts : List (List Statement)) (moves : List Move) (opened moved : CoreParts) (results : List Stepped) (given : Run) → IsSound schema → scripts_fit schema scripts ≡ true
+pub run_handed : (schema : Lists) (capacity : ℕ) (scripts : List (List Statement)) (moves : List Move) (opened moved : CoreParts) (stepped : List Stepped) (given : Run) → IsSound schema → scripts_fit schema scripts ≡ true
     → machine opened ≡ record { schema = schema; capacity = capacity; opening = opening_of schema capacity (length scripts); state = machine_of schema capacity scripts }
-    → machine moved ≡ after_moves (machine opened) moves → results ≡ results_of_moves (machine opened) moves → IsHandedOut moved results given → RunIs schema capacity scripts moves given
+    → machine moved ≡ after_moves (machine opened) moves → stepped ≡ results_of_moves (machine opened) moves → IsHandedOut moved stepped given → RunIs schema capacity scripts moves given
 unfolding machine_after machine_results
-run_handed schema capacity scripts moves opened moved results given sound fit first then came handed =
+run_handed schema capacity scripts moves opened moved stepped given sound fit first then came handed =
     let law = run_is_sequential schema capacity scripts (opening_is_legal schema capacity (length scripts)) fit (network_is_sequential schema capacity sound) moves in
     let last = then ∙ ap (λ c. after_moves c moves) first in
     record {
       results_are = handed.results_are ∙ (came ∙ ap (λ c. results_of_moves c moves) first);
-      history_is = history_handed schema capacity scripts moved _ last law results given handed;
-      sequential = handed_sequential schema capacity scripts moved _ last law results given handed;
+      history_is = history_handed schema capacity scripts moved _ last law stepped given handed;
+      sequential = handed_sequential schema capacity scripts moved _ last law stepped given handed;
     }
 
 -- and a serial run, which is a run of some moves
-pub serial_handed : (schema : Lists) (capacity : ℕ) (scripts : List (List Statement)) (opened moved : CoreParts) (given : Run) → IsSound schema → scripts_fit schema scripts ≡ true
+pub serial_handed : (schema : Lists) (capacity : ℕ) (scripts : List (List Statement)) (opened moved : CoreParts) (stepped : List Stepped) (given : Run) → IsSound schema → scripts_fit schema scripts ≡ true
     → machine opened ≡ record { schema = schema; capacity = capacity; opening = opening_of schema capacity (length scripts); state = machine_of schema capacity scripts }
-    → machine moved ≡ after_units (machine opened) (length scripts) → IsHandedOut moved [] given → SerialRunIs schema capacity scripts given
+    → machine moved ≡ serial_from (machine opened) (length scripts) 1 serial_limit → stepped ≡ [] → IsHandedOut moved stepped given → SerialRunIs schema capacity scripts given
 unfolding machine_after machine_after_scripts
-serial_handed schema capacity scripts opened moved given sound fit first then handed =
+serial_handed schema capacity scripts opened moved stepped given sound fit first then empty handed =
     let reached = serial_reached (network schema capacity) (opening_of schema capacity (length scripts)) (length scripts) 1 serial_limit (machine_of schema capacity scripts) in
     let law = run_is_sequential schema capacity scripts (opening_is_legal schema capacity (length scripts)) fit (network_is_sequential schema capacity sound) reached.0 in
-    let last = then ∙ ap (λ c. after_units c (length scripts)) first in
-    let law = subst (λ s. IsSequential schema capacity scripts (map entry_of s.history) (image_of schema capacity (replay (network schema capacity) (opening_of schema capacity (length scripts)) s.history).database) (map (λ (x : UnitState (network schema capacity)). x.unit) s.units)) (sym reached.1) law in
-    (handed.results_are, record {
-      history_is = history_handed schema capacity scripts moved _ last law [] given handed;
-      sequential = handed_sequential schema capacity scripts moved _ last law [] given handed;
-    })
+    let last = then ∙ ap (λ c. serial_from c (length scripts) 1 serial_limit) first in
+    let law = subst (λ s. IsSequential schema capacity scripts (map entry_of s.history) (image_of schema capacity (replay (network schema capacity) (opening_of schema capacity (length scripts)) s.history).database) (map (λ (x : UnitState (network schema capacity)). x.unit) s.units)) (sym reached.1) law in (
+      handed.results_are ∙ empty,
+      record {
+        history_is = history_handed schema capacity scripts moved _ last law stepped given handed;
+        sequential = handed_sequential schema capacity scripts moved _ last law stepped given handed;
+      },
+    )

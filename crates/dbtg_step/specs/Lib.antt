@@ -13,5 +13,6 @@ pub mod Parts
 pub mod Events
 pub mod CoreSteps
 pub mod Runs
+pub mod SerialSteps
 pub mod Openings
 pub mod Imaging

@@ -1,5 +1,5 @@
 -- What a list of moves makes of the core.
-use Rattle.std.specs.Prelude.{ℕ, ◌≡◌, List, map, length}
+use Rattle.std.specs.Prelude.{◌≡◌, List, map, length}
 use Rattle.dbtg_unit.specs.Image.{image_of}
 use Rattle.dbtg_unit.specs.Replay.{opening_state, replay}
 use Rattle.dbtg_step.specs.declared.image.Run.{Run}
@@ -7,7 +7,6 @@ use Rattle.dbtg_step.specs.declared.moves.Move.{Move}
 use Rattle.dbtg_step.specs.declared.moves.Stepped.{Stepped}
 use Rattle.dbtg_step.specs.Network.{network}
 use Rattle.dbtg_step.specs.Step.{results, run}
-use Rattle.dbtg_step.specs.Serial.{serial, serial_limit}
 use Rattle.dbtg_step.specs.Parts.{CoreParts, CoreState, with_state}
 
 -- the machine after these moves
@@ -17,10 +16,6 @@ after_moves c moves = with_state c (run (network c.schema c.capacity) c.opening 
 -- what each of them comes to
 abbrev pub results_of_moves : CoreState → List Move → List Stepped
 results_of_moves c moves = results (network c.schema c.capacity) c.opening c.state moves
-
--- the machine after so many units were stepped one after another, each until its next step was idle
-abbrev pub after_units : CoreState → ℕ → CoreState
-after_units c units = with_state c (serial (network c.schema c.capacity) c.opening units 1 serial_limit c.state)
 
 -- what a core hands out with these results: the image of the database to which its history leads, its history and its units
 pub record IsHandedOut (core : CoreParts) (results : List Stepped) (given : Run) : Type 0 where

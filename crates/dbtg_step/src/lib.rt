@@ -13,6 +13,7 @@ mod parts;
 mod quitting;
 mod runner;
 mod running;
+mod serially;
 mod statements;
 mod stepping;
 mod table;
@@ -25,4 +26,4 @@ pub use laws::{
 };
 pub use machine::Core;
 pub use moves::{Move, Stepped};
-pub use running::run;
+pub use running::{run, run_serial};

@@ -6,10 +6,12 @@ ghost use Rattle.dbtg_step.specs.Headline.{RunIs};
 ghost use Rattle.dbtg_step.specs.Laws.{scripts_fit};
 ghost use Rattle.dbtg_step.specs.Parts.{machine};
 ghost use Rattle.dbtg_step.specs.Runs.{after_moves, results_of_moves};
+ghost use Rattle.dbtg_step.specs.Serial.{SerialRunIs};
 
 use crate::image::Run;
 use crate::machine::Core;
 use crate::moves::{Move, Stepped};
+use crate::serially::step_serially;
 use dbtg_schema::{Row, Schema};
 use dbtg_unit::Statement;
 use std::alloc::{AllocError, Global};
@@ -57,4 +59,23 @@ pub fn run(
     let mut core = Core::new(alloc, schema, capacity, scripts)?;
     let results = make_moves(alloc, &mut core, moves)?;
     core.into_run(results)
+}
+
+/// Steps unit 1 until it is idle, then unit 2, and so on; at most 4,000,000,000 steps in all, which no scripts need. It has no
+/// results. A step that finds no memory ends it.
+pub fn run_serial(
+    alloc: Global,
+    schema: &Schema,
+    capacity: u16,
+    scripts: Row<Row<Statement>>,
+) -> Result<Run, AllocError>
+    requires sound { IsSound schema.now }
+    requires units { length scripts ≤ 255 }
+    requires fit { scripts_fit schema.now scripts ≡ true }
+    ensures { IfOk result (λ given. SerialRunIs schema.now capacity scripts given) }
+{
+    let units = scripts.len() as u8;
+    let mut core = Core::new(alloc, schema, capacity, scripts)?;
+    step_serially(&mut core, units)?;
+    core.into_run(Vec::new(alloc))
 }
