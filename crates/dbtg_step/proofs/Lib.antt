@@ -45,3 +45,5 @@ mod OpeningShown
 mod RangePushes
 mod ImagesRead
 mod CellsFound
+mod Alone
+mod Audits

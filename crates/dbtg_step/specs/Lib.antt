@@ -14,3 +14,4 @@ pub mod Events
 pub mod CoreSteps
 pub mod Openings
 pub mod Imaging
+pub mod Audit
