@@ -86,7 +86,7 @@ number_there schema capacity (Ring s None) h = (_, system_ring_number schema cap
 number_there schema capacity (Ring s (Some p)) h = (_, ring_number schema capacity s p.0 p.1 h)
 number_there schema capacity (Slot t n) h = (_, slot_number schema capacity t n h)
 
-entries_again : (schema : Lists) (capacity : ℕ) (history : List Entry) → map (entry_of {schema = schema} {capacity = capacity}) (map note_of history) ≡ history
+pub entries_again : (schema : Lists) (capacity : ℕ) (history : List Entry) → map (entry_of {schema = schema} {capacity = capacity}) (map note_of history) ≡ history
 entries_again schema capacity [] = refl
 entries_again schema capacity (e ∷ es) = ap (λ rest. e ∷ rest) (entries_again schema capacity es)
 

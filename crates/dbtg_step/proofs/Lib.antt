@@ -47,3 +47,5 @@ mod RangePushes
 mod ImagesRead
 mod CellsFound
 mod RunsShown
+mod Alone
+mod Audits

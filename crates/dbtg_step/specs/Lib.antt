@@ -16,3 +16,4 @@ pub mod Runs
 pub mod SerialSteps
 pub mod Openings
 pub mod Imaging
+pub mod Audit

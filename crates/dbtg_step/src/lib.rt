@@ -1,6 +1,8 @@
 //! The core: run-units that make their statements event by event, in every interleaving.
 #![tactic(auto)]
 
+mod auditing;
+mod comparing;
 mod drawing;
 mod image;
 mod imaging;
@@ -18,6 +20,7 @@ mod statements;
 mod stepping;
 mod table;
 
+pub use auditing::audit;
 pub use image::{Image, Run};
 pub use laws::{
     each_event_keeps_lawful, every_image_is_of_its_history, every_run_extends_history,

@@ -1,0 +1,36 @@
+//! Whether two answers are the same.
+ghost use Rattle.std.specs.Prelude.{◌≡◌};
+ghost use Rattle.std.specs.Bool.{Decides};
+
+use dbtg_cells::{DbKey, Value, same_values};
+use dbtg_schema::Row;
+use dbtg_unit::{Answer, Status};
+
+fn same_status(a: Status, b: Status) -> bool
+    ensures { Decides result (a ≡ b) }
+{
+    a == b
+}
+
+fn same_key(a: Option<DbKey>, b: Option<DbKey>) -> bool
+    ensures { Decides result (a ≡ b) }
+{
+    a == b
+}
+
+fn same_items(a: &Option<Row<Value>>, b: &Option<Row<Value>>) -> bool
+    ensures { Decides result (a.now ≡ b.now) }
+{
+    match (a, b) {
+        (Some(these), Some(those)) => same_values(these.as_slice(), those.as_slice()),
+        (None, None) => true,
+        _ => false,
+    }
+}
+
+/// Whether two answers have the same status, key and items.
+pub fn same_answer(a: &Answer, b: &Answer) -> bool
+    ensures { Decides result (a.now ≡ b.now) }
+{
+    same_status(a.status, b.status) & same_key(a.key, b.key) & same_items(&a.items, &b.items)
+}
