@@ -19,6 +19,7 @@ use crate::imaging::read_image;
 use crate::moves::Stepped;
 use crate::opening_parts::{opening_runners, opening_table};
 use crate::parts::{Parts, Runner};
+use crate::runner::units_of;
 use crate::stepping::step;
 use dbtg_schema::{Row, Schema};
 use dbtg_unit::{Answer, Entry, Statement, Unit};
@@ -158,16 +159,6 @@ fn takes(
     }
     make_whole(alloc, schema, capacity, parts, entry.unit, &entry.statement)?;
     Ok(newest_has(&parts.history, &entry.answer))
-}
-
-fn units_of(alloc: Global, runners: Vec<Runner>) -> Result<Row<Unit>, AllocError>
-    ensures { IfOk result (λ units. units ≡ map (λ r. r.unit) runners.items) }
-{
-    let mut units = Vec::new(alloc);
-    for runner in runners {
-        units.push(runner.unit)?;
-    }
-    Ok(Row::of(units))
 }
 
 /// Whether a history is one of the sequential database with so many units, numbered from 1: tickets 0, 1, 2, .. in order,
