@@ -47,3 +47,4 @@ mod ImagesRead
 mod CellsFound
 mod Alone
 mod Audits
+mod Work
