@@ -173,7 +173,8 @@ fn units_of(alloc: Global, runners: Vec<Runner>) -> Result<Row<Unit>, AllocError
 
 /// Whether a history is one of the sequential database with so many units, numbered from 1: tickets 0, 1, 2, .. in order,
 /// each unit one of them, statements that fit, and each answer the sequential database's. Then that database and its units.
-/// It takes the statements of the entries one after another, each whole, on a database of its own.
+/// It makes the statements anew, one after another, on a database of its own, and stops at the first entry that is none of
+/// its history.
 pub fn audit(
     alloc: Global,
     schema: &Schema,
