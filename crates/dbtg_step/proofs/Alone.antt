@@ -8,21 +8,21 @@ use Rattle.dbtg_step.proofs.UnitLists.{set_at, set_elsewhere}
 
 module _ (D : SequentialDatabase) (opening : SequentialState D) (s : State D) (u : ℕ) (state : UnitState D) where
   -- the next statement drew its ticket
-  record DrawsNext (new : UnitState D) (t : State D) : Type 0 where
-    x : D.Statement
-    xs : List D.Statement
-    before : state.remaining ≡ x ∷ xs
-    after : new.remaining ≡ xs
-    entry : HistoryEntry D
-    history : t.history ≡ s.history ++ entry ∷ []
-    unit : entry.unit ≡ u
-    statement : entry.statement ≡ x
+  pub record DrawsNext (new : UnitState D) (t : State D) : Type 0 where
+    pub x : D.Statement
+    pub xs : List D.Statement
+    pub before : state.remaining ≡ x ∷ xs
+    pub after : new.remaining ≡ xs
+    pub entry : HistoryEntry D
+    pub history : t.history ≡ s.history ++ entry ∷ []
+    pub unit : entry.unit ≡ u
+    pub statement : entry.statement ≡ x
 
   -- the unit alone is changed
-  record StepsAlone (t : State D) : Type 0 where
-    new : UnitState D
-    units : t.units ≡ with_unit_at s.units u new
-    drawn : ((t.history ≡ s.history) × (new.remaining ≡ state.remaining)) ⊎ DrawsNext new t
+  pub record StepsAlone (t : State D) : Type 0 where
+    pub new : UnitState D
+    pub units : t.units ≡ with_unit_at s.units u new
+    pub drawn : ((t.history ≡ s.history) × (new.remaining ≡ state.remaining)) ⊎ DrawsNext new t
 
   updated_alone : (location : D.Cell → Location D.Value) (g : D.Guesses) (p : Option (Progress D)) → StepsAlone (updated D s u state location g p)
   unfolding updated
@@ -72,7 +72,7 @@ module _ (D : SequentialDatabase) (opening : SequentialState D) (s : State D) (u
   step_of_unit_alone None (x ∷ xs) e = updated_alone _ _ _
   step_of_unit_alone None [] e = tt
 
-  step_alone : unit_at s.units u ≡ Some state → IfMoved D (step D opening s u) StepsAlone
+  pub step_alone : unit_at s.units u ≡ Some state → IfMoved D (step D opening s u) StepsAlone
   unfolding step step_if_unit IfMoved
   step_alone at = subst (λ o. IfMoved D (step_if_unit D opening s u o) StepsAlone) (sym at) (step_of_unit_alone state.progress state.remaining refl)
 

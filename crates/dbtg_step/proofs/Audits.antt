@@ -1,6 +1,6 @@
 -- An audit takes one entry after another: what it finds of each, and of the whole.
-use Rattle.std.proofs.Common.{ℕ, zero, suc, ◌+◌, ◌-◌, ◌<◌, ◌≤◌, ◌≡◌, Bool, true, false, ◌&&◌, List, [], ◌∷◌, ◌++◌, length, map, replicate, Some, Result, Ok, Err, ◌⊎◌, inl, inr, slice_get, slice_set, refl, sym, ap, ◌∙◌, subst, arith, append-nil, length-append}
-use Rattle.std.specs.Prelude.{nat_lt, nat_le, option_map, ◌==◌}
+use Rattle.std.proofs.Common.{ℕ, zero, suc, ◌+◌, ◌-◌, ◌<◌, ◌≤◌, ◌≡◌, Bool, true, false, ◌&&◌, List, [], ◌∷◌, ◌++◌, length, map, replicate, Some, Result, Ok, Err, ◌⊎◌, inl, inr, slice_get, slice_set, refl, sym, ap, ◌∙◌, subst, arith, append-nil, length-append, None}
+use Rattle.std.specs.Prelude.{nat_lt, nat_le, option_map, ◌==◌, ◌≢◌}
 use Rattle.std.specs.Bool.{Decides, MatchBool}
 use Rattle.std.specs.List.{list_all, range_with_len}
 use Rattle.std.specs.Result.{OnOk}
@@ -33,7 +33,7 @@ use Rattle.dbtg_step.specs.Laws.{scripts_fit}
 use Rattle.dbtg_step.specs.Parts.{location_at, note_of, progress_of, state_from, state_of, unit_state_of}
 use Rattle.dbtg_step.specs.Events.{IsStepped, IsWell, RunnersFit, opening_for}
 use Rattle.dbtg_step.specs.Openings.{homes_of, locations_of, runners_from}
-use Rattle.dbtg_step.specs.Audit.{AllRest, GoesOn, HasDrawn, HasJoined, HasMade, IsHanded, IsMaking, IsOpened, IsReady, LeadsTo, Rests}
+use Rattle.dbtg_step.specs.Audit.{AllRest, GoesOn, HasDrawn, HasJoined, HasMade, IsHanded, IsMaking, IsOpened, IsReady, LeadsTo, Rests, IsAtWork}
 use Rattle.dbtg_step.proofs.Alone.{making_goes_on}
 use Rattle.dbtg_step.proofs.CellsFound.{entries_again, unit_before}
 use Rattle.dbtg_step.proofs.EventsShown.{found, unit_written, written_fit}
@@ -42,7 +42,7 @@ use Rattle.dbtg_step.proofs.NetworkFacts.{network_is_sequential}
 use Rattle.dbtg_step.proofs.OpeningShown.{opens_state, opens_well}
 use Rattle.dbtg_step.proofs.PlacesOfCells.{length_written}
 use Rattle.dbtg_step.proofs.Scripts.{rescript_keeps}
-use Rattle.dbtg_step.proofs.UnitLists.{map_set, set_at, set_elsewhere}
+use Rattle.dbtg_step.proofs.UnitLists.{map_set, set_at, set_elsewhere, set_found}
 use Rattle.dbtg_step.proofs.Waiting.{came_from}
 
 -- LISTS
@@ -112,6 +112,15 @@ module _ (schema : Lists) (capacity u : ℕ) (x : Statement) (old new : Parts) (
   after_lawful : Lawful (network schema capacity) (opening_for schema capacity old) after
   after_lawful = rescript_keeps (network schema capacity) (network_is_sequential schema capacity ready.well.sound) (opening_for schema capacity old) (state_of schema capacity old) u state (r.script ++ x ∷ []) (x ∷ []) ready.well.lawful here script_made script_fits
 
+  others : (w : ℕ) (other : UnitState (network schema capacity)) → w ≢ u → unit_at after.units w ≡ Some other → Rests (network schema capacity) other
+  others w other n e = ready.resting w other (sym (set_elsewhere (state_of schema capacity old).units u w longer n) ∙ e)
+
+  idle : (w : ℕ) (other : UnitState (network schema capacity)) → unit_at after.units w ≡ Some other → other.progress ≡ None
+  idle w other e = elim (set_found (state_of schema capacity old).units u w longer other e) [
+    | inl p ↦ ap (λ (b : UnitState (network schema capacity)). b.progress) (sym p.1) ∙ (ready.resting u state here).between
+    | inr p ↦ (ready.resting w other p.1).between
+  ]
+
   pub handed : new.table.items ≡ old.table.items → new.history.items ≡ old.history.items → new.runners.items ≡ slice_set old.runners.items (u - 1) given → IsHanded schema capacity u x old new
   unfolding state_from
   handed table history runners =
@@ -132,7 +141,14 @@ module _ (schema : Lists) (capacity u : ℕ) (x : Statement) (old new : Parts) (
           state = longer;
           found = set_at (state_of schema capacity old).units u state longer here;
           drawn = inl (refl, refl);
-          others = λ w other n e. ready.resting w other (sym (set_elsewhere (state_of schema capacity old).units u w longer n) ∙ e);
+          others = others;
+        });
+        work = subst (IsAtWork schema capacity u) (sym is) (record {
+          state = longer;
+          found = set_at (state_of schema capacity old).units u state longer here;
+          few = (let few : 1 ≤ 1 = omega arith in few);
+          others = others;
+          in_turn = record { each = λ w b p e q. λ t. (let rests = idle w b e in absurd (cc (rests, q))) };
         });
       }
 
@@ -285,15 +301,15 @@ module _ (schema : Lists) (capacity units : ℕ) (parts : Parts) (table : locati
   counted zero from = refl
   counted (suc n) from = ap suc (counted n (suc from))
 
-  idle : (n from i : ℕ) (state : UnitState (network schema capacity)) → slice_get (units_from schema capacity from (replicate n [])) i ≡ Some state → Rests (network schema capacity) state
-  idle zero from i state e = absurd (cc (e))
-  idle (suc n) from zero state e = subst (Rests (network schema capacity)) (same_Some _ state e) (record { between = refl; ended = refl })
-  idle (suc n) from (suc i) state e = idle n (suc from) i state e
+  idle_from : (n from i : ℕ) (state : UnitState (network schema capacity)) → slice_get (units_from schema capacity from (replicate n [])) i ≡ Some state → Rests (network schema capacity) state
+  idle_from zero from i state e = absurd (cc (e))
+  idle_from (suc n) from zero state e = subst (Rests (network schema capacity)) (same_Some _ state e) (record { between = refl; ended = refl })
+  idle_from (suc n) from (suc i) state e = idle_from n (suc from) i state e
 
   all_idle : AllRest (network schema capacity) (machine_of schema capacity (replicate units []))
   unfolding unit_at
   all_idle zero state e = absurd (cc (e))
-  all_idle (suc i) state e = idle units 1 i state e
+  all_idle (suc i) state e = idle_from units 1 i state e
 
   pub opened : IsSound schema → IsOpened schema capacity units parts
   opened sound = record {

@@ -53,7 +53,7 @@ slice_in [] i x e = absurd (cc)
 slice_in (y ∷ ys) zero x e = let h : y ≡ x = cc in inl (sym h)
 slice_in (y ∷ ys) (suc i) x e = inr (slice_in ys i x e)
 
-drop_past : {X : Type 0} (xs : List X) (i : ℕ) → length xs ≤ i → drop i xs ≡ []
+pub drop_past : {X : Type 0} (xs : List X) (i : ℕ) → length xs ≤ i → drop i xs ≡ []
 drop_past [] zero l = refl
 drop_past [] (suc i) l = refl
 drop_past (x ∷ xs) zero l = absurd (omega arith)

@@ -49,3 +49,4 @@ mod CellsFound
 mod RunsShown
 mod Alone
 mod Audits
+mod Work

@@ -63,7 +63,7 @@ but_found p (suc i) (x ∷ xs) e = elim (or_cases (p x) (any_but p i xs) e) [
   | inr h ↦ let r = but_found p i xs h in (suc r.0, r.1, r.2, (λ q. r.3 (cc (q))), r.4)
 ]
 
-other_found : {X : Type 0} (p : X → Bool) (u : ℕ) (xs : List X) → any_other p u xs ≡ true → Other p u xs
+pub other_found : {X : Type 0} (p : X → Bool) (u : ℕ) (xs : List X) → any_other p u xs ≡ true → Other p u xs
 unfolding any_other unit_at
 other_found p zero xs e = let r = any_found p xs e in record { who = suc r.0; it = r.1; at = r.2; other = omega arith; passes = r.3 }
 other_found p (suc u) xs e = let r = but_found p u xs e in record { who = suc r.0; it = r.1; at = r.2; other = λ q. r.3 (cc (q)); passes = r.4 }

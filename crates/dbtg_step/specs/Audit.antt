@@ -1,6 +1,7 @@
 -- What an audit of a history says, and how it goes: one entry after another, each made whole by its unit.
-use Rattle.std.specs.Prelude.{ℕ, ◌≡◌, ◌≢◌, ◌⊎◌, true, List, [], ◌∷◌, ◌++◌, Option, Some, None, length}
+use Rattle.std.specs.Prelude.{ℕ, ◌≡◌, ◌≢◌, ◌≤◌, ◌⊎◌, true, List, [], ◌∷◌, ◌++◌, Option, Some, None, length}
 use Rattle.dbtg_schema.specs.Lists.{Lists}
+use Rattle.dbtg_cells.specs.Names.{name_lt}
 use Rattle.dbtg_unit.specs.declared.statement.Statement.{Statement}
 use Rattle.dbtg_unit.specs.declared.unit.Answer.{Answer}
 use Rattle.dbtg_unit.specs.declared.unit.Entry.{Entry}
@@ -11,6 +12,7 @@ use Rattle.dbtg_unit.specs.Replay.{IsHistoryOf, answer_to, opening_state, replay
 use Rattle.dbtg_step.specs.declared.parts.Parts.{Parts}
 use Rattle.dbtg_step.specs.SequentialDatabase.{SequentialDatabase, unit_at}
 use Rattle.dbtg_step.specs.Machine.{HistoryEntry, State, UnitState}
+use Rattle.dbtg_step.specs.NeverStuck.{AllInTurn}
 use Rattle.dbtg_step.specs.Network.{network}
 use Rattle.dbtg_step.specs.Parts.{state_of}
 use Rattle.dbtg_step.specs.Events.{IsWell}
@@ -61,6 +63,14 @@ module _ (D : SequentialDatabase) where
     pub drawn : ((s.history ≡ past) × (state.remaining ≡ x ∷ [])) ⊎ HasDrawn u x past state s.history
     pub others : (w : ℕ) (other : UnitState D) → w ≢ u → unit_at s.units w ≡ Some other → Rests other
 
+-- unit u has one statement left at most, holds what it took in turn, and all others rest
+pub record IsAtWork (schema : Lists) (capacity u : ℕ) (s : State (network schema capacity)) : Type 0 where
+  pub state : UnitState (network schema capacity)
+  pub found : unit_at s.units u ≡ Some state
+  pub few : length state.remaining ≤ 1
+  pub others : (w : ℕ) (other : UnitState (network schema capacity)) → w ≢ u → unit_at s.units w ≡ Some other → Rests (network schema capacity) other
+  pub in_turn : AllInTurn (network schema capacity) name_lt s
+
 -- THE PARTS
 
 -- in a lawful state, with each unit at rest
@@ -79,6 +89,7 @@ pub record IsHanded (schema : Lists) (capacity u : ℕ) (x : Statement) (old new
   pub well : IsWell schema capacity new
   pub count : length new.runners.items ≡ length old.runners.items
   pub making : IsMaking (network schema capacity) u x (state_of schema capacity old).history (state_of schema capacity new)
+  pub work : IsAtWork schema capacity u (state_of schema capacity new)
 
 -- unit u has made statement x whole
 pub record HasMade (schema : Lists) (capacity u : ℕ) (x : Statement) (old new : Parts) : Type 0 where

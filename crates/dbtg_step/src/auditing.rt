@@ -11,7 +11,7 @@ ghost use Rattle.dbtg_step.specs.Machine.{HistoryEntry};
 ghost use Rattle.dbtg_step.specs.Network.{network};
 ghost use Rattle.dbtg_step.specs.Parts.{state_of, unit_state_of};
 ghost use Rattle.dbtg_step.specs.Events.{IsWell};
-ghost use Rattle.dbtg_step.specs.Audit.{GoesOn, HasJoined, HasMade, IsAudited, IsHanded, IsMaking, IsOpened, IsReady, Rests};
+ghost use Rattle.dbtg_step.specs.Audit.{GoesOn, HasJoined, HasMade, IsAtWork, IsAudited, IsHanded, IsMaking, IsOpened, IsReady, Rests};
 
 use crate::comparing::same_answer;
 use crate::image::Image;
@@ -73,12 +73,13 @@ fn hand(parts: &mut Parts, unit: u8, statement: Statement) -> Result<(), AllocEr
 
 // Whether the unit has nothing to do.
 fn rests(runner: &Runner) -> bool
-    ensures { (schema : Lists) (capacity : ℕ) → result ≡ true → Rests (network schema capacity) (unit_state_of schema capacity runner.now) }
+    ensures { (schema : Lists) (capacity : ℕ) → Decides result (Rests (network schema capacity) (unit_state_of schema capacity runner.now)) }
 {
     runner.stage.is_none() & (runner.script.len() <= runner.next)
 }
 
-// The unit makes its statement, step by step.
+// The unit makes its statement, step by step. No other unit holds anything, so that it never waits, and its steps come to an
+// end.
 fn run_out(
     alloc: Global,
     schema: &Schema,
@@ -89,21 +90,21 @@ fn run_out(
     requires well { IsWell schema.now capacity parts.old }
     requires numbered { 0 < unit }
     requires within { unit ≤ length parts.old.runners.items }
+    requires work { IsAtWork schema.now capacity unit (state_of schema.now capacity parts.old) }
     ensures well { OnOk result (IsWell schema.now capacity parts.new) }
     ensures count { OnOk result (length parts.new.runners.items ≡ length parts.old.runners.items) }
     ensures rests { OnOk result ((r : Runner) → slice_get parts.new.runners.items (unit - 1) ≡ Some r → Rests (network schema.now capacity) (unit_state_of schema.now capacity r)) }
     ensures making { OnOk result ((x : Statement) (past : List (HistoryEntry (network schema.now capacity))) → IsMaking (network schema.now capacity) unit x past (state_of schema.now capacity parts.old) → IsMaking (network schema.now capacity) unit x past (state_of schema.now capacity parts.new)) }
 {
-    for _turn in 0..4_000_000_000u64 {
-        if rests(&parts.runners[unit as usize - 1]) {
-            return Ok(());
-        }
+    while !rests(&parts.runners[unit as usize - 1]) {
         match step(alloc, schema, capacity, parts, unit) {
             Stepped::Moved => {}
-            _ => return Err(AllocError),
+            Stepped::NoMemory => return Err(AllocError),
+            Stepped::Blocked => unreachable!(),
+            Stepped::Idle => unreachable!(),
         }
     }
-    Err(AllocError)
+    Ok(())
 }
 
 // One statement of a unit, made whole.
@@ -163,7 +164,8 @@ fn takes(
 
 /// Whether a history is one of the sequential database with so many units, numbered from 1: tickets 0, 1, 2, .. in order,
 /// each unit one of them, statements that fit, and each answer the sequential database's. Then that database and its units.
-/// It takes the statements of the entries one after another, each whole, on a database of its own.
+/// It makes the statements anew, one after another, on a database of its own, and stops at the first entry that is none of
+/// its history.
 pub fn audit(
     alloc: Global,
     schema: &Schema,
