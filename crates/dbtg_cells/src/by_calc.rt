@@ -1,6 +1,6 @@
 //! The live numbers of a record type in the order of their CALC values, and numbers with the same values in ascending
 //! order: so a look-up by values halves what is left to search, and takes no memory.
-ghost use Rattle.std.specs.Prelude.{◌≡◌, ◌<◌, ◌≤◌, ◌^◌, true, not, ◌==◌, length, filter, nat_lt, slice_get, vec_capacity};
+ghost use Rattle.std.specs.Prelude.{◌≡◌, ◌<◌, ◌≤◌, ◌^◌, true, not, ◌==◌, length, filter, nat_lt, vec_capacity};
 ghost use Rattle.std.specs.List.{position_or_len};
 ghost use Rattle.std.specs.Cmp.Lexicographic.{slice_cmp};
 ghost use Rattle.dbtg_schema.specs.Lookups.{first as first_in, some_and};
@@ -8,7 +8,7 @@ ghost use Rattle.dbtg_cells.specs.Placed.{before};
 ghost use Rattle.dbtg_cells.specs.Numbers.{numbers_where, has_values, entry_of};
 ghost use Rattle.dbtg_cells.specs.ByCalc.{value_cmp, values_of, is_behind, stands_before, is_rising, IsByCalc};
 
-use crate::extent::{Number, drop_number, entry_at, insert_number};
+use crate::extent::{Number, drop_number, entry_at, insert_number, number_at};
 use crate::key::Value;
 use std::cmp::Ordering;
 
@@ -84,12 +84,6 @@ fn first_behind(listed: &[u32], numbers: &[Number], values: &[Value], number: u3
 {
     let at = place_of(listed, numbers, values, number);
     number_at(listed, at)
-}
-
-fn number_at(listed: &[u32], at: usize) -> Option<u32>
-    ensures { result ≡ slice_get listed.now at }
-{
-    listed.get(at).copied()
 }
 
 fn entry_has_values(numbers: &[Number], number: u32, values: &[Value]) -> bool
