@@ -2,6 +2,8 @@ pub mod ValueLemmas
 mod PlainLemmas
 mod Occurrences
 mod ExtentLemmas
+mod Rising
+mod ByCalcLemmas
 pub mod KeyLemmas
 mod ChainLemmas
 mod RingLemmas

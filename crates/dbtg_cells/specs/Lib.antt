@@ -7,6 +7,7 @@ pub mod Shown
 pub mod Members
 pub mod Numbers
 pub mod Numbering
+pub mod ByCalc
 pub mod Cells
 pub mod Names
 pub mod Chain

@@ -1,6 +1,7 @@
 //! Keys, values and the four kinds of cell: what a run-unit takes, changes and gives back.
 #![tactic(auto)]
 
+mod by_calc;
 mod cell;
 mod extent;
 mod key;

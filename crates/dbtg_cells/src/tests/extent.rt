@@ -87,3 +87,68 @@ fn calc_items_find_their_numbers(rt: HostRuntime) -> Result<(), Fail> {
     assert_eq!(rt; extent.generation(3), 1);
     Ok(())
 }
+
+fn text(rt: &HostRuntime, bytes: &str) -> Result<Row<Value>, AllocError> {
+    let bytes = Row::of(Vec::from_slice(rt.alloc(), bytes.as_bytes())?);
+    Ok(Row::of(vec![in rt.alloc(); Value::Text(bytes)]?))
+}
+
+fn pair(rt: &HostRuntime, first: u64, second: u64) -> Result<Row<Value>, AllocError> {
+    Ok(Row::of(vec![in rt.alloc(); Value::Num(first), Value::Num(second)]?))
+}
+
+fn assert_only_at(rt: &impl Abort, extent: &Extent, values: &Row<Value>, number: u32) {
+    let values = values.as_slice();
+    assert!(rt; extent.first_with(values) == Some(number));
+    assert!(rt; extent.next_with(values, number) == None);
+    assert!(rt; extent.has_values(values, None));
+    assert!(rt; !extent.has_values(values, Some(number)));
+}
+
+// Numbers, texts, rows that begin alike: each is found at its own number, whatever stands beside it.
+#[test]
+fn unlike_values_find_their_own_numbers(rt: HostRuntime) -> Result<(), Fail> {
+    let mut extent = Extent::new(rt.alloc(), 8)?;
+    enter(&rt, &mut extent, 4, text(&rt, "B ")?);
+    enter(&rt, &mut extent, 7, row(&rt, 1)?);
+    enter(&rt, &mut extent, 2, pair(&rt, 1, 2)?);
+    enter(&rt, &mut extent, 8, text(&rt, "AB")?);
+    enter(&rt, &mut extent, 1, pair(&rt, 1, 3)?);
+    enter(&rt, &mut extent, 5, text(&rt, "A ")?);
+    assert_only_at(&rt, &extent, &text(&rt, "B ")?, 4);
+    assert_only_at(&rt, &extent, &row(&rt, 1)?, 7);
+    assert_only_at(&rt, &extent, &pair(&rt, 1, 2)?, 2);
+    assert_only_at(&rt, &extent, &text(&rt, "AB")?, 8);
+    assert_only_at(&rt, &extent, &pair(&rt, 1, 3)?, 1);
+    assert_only_at(&rt, &extent, &text(&rt, "A ")?, 5);
+    let away = pair(&rt, 1, 1)?;
+    assert!(rt; extent.first_with(away.as_slice()) == None);
+    Ok(())
+}
+
+// A thousand records, the highest number first: number n holds the last digit of n.
+#[test]
+fn a_full_extent_is_searched(rt: HostRuntime) -> Result<(), Fail> {
+    let mut extent = Extent::new(rt.alloc(), 1000)?;
+    for turn in 0..1000u32 {
+        let number = 1000 - turn;
+        enter(&rt, &mut extent, number, row(&rt, (number % 10) as u64)?);
+    }
+    assert!(rt; extent.least_free() == None);
+    let three = row(&rt, 3)?;
+    assert!(rt; extent.first_with(three.as_slice()) == Some(3));
+    assert!(rt; extent.next_with(three.as_slice(), 3) == Some(13));
+    assert!(rt; extent.next_with(three.as_slice(), 500) == Some(503));
+    assert!(rt; extent.next_with(three.as_slice(), 993) == None);
+    leave(&rt, &mut extent, 3);
+    leave(&rt, &mut extent, 503);
+    assert!(rt; extent.first_with(three.as_slice()) == Some(13));
+    assert!(rt; extent.next_with(three.as_slice(), 500) == Some(513));
+    assert!(rt; extent.least_free() == Some(3));
+    assert!(rt; extent.next_live(2) == Some(4));
+    assert!(rt; extent.prior_live(504) == Some(502));
+    assert!(rt; extent.next_live(1000) == None);
+    assert!(rt; extent.prior_live(1) == None);
+    assert_eq!(rt; extent.count_live(), 998);
+    Ok(())
+}

@@ -1,0 +1,145 @@
+//! The live numbers of a record type in the order of their CALC values, and numbers with the same values in ascending
+//! order: so a look-up by values halves what is left to search, and takes no memory.
+ghost use Rattle.std.specs.Prelude.{◌≡◌, ◌<◌, ◌≤◌, ◌^◌, true, not, ◌==◌, length, filter, nat_lt, vec_capacity};
+ghost use Rattle.std.specs.List.{position_or_len};
+ghost use Rattle.std.specs.Cmp.Lexicographic.{slice_cmp};
+ghost use Rattle.dbtg_schema.specs.Lookups.{first as first_in, some_and};
+ghost use Rattle.dbtg_cells.specs.Placed.{before};
+ghost use Rattle.dbtg_cells.specs.Numbers.{numbers_where, has_values, entry_of};
+ghost use Rattle.dbtg_cells.specs.ByCalc.{value_cmp, values_of, is_behind, stands_before, is_rising, IsByCalc};
+
+use crate::extent::{Number, drop_number, entry_at, insert_number, number_at};
+use crate::key::Value;
+use std::cmp::Ordering;
+
+fn compare_value(a: &Value, b: &Value) -> Ordering
+    ensures { result ≡ value_cmp a.now b.now }
+{
+    match (a, b) {
+        (Value::Num(m), Value::Num(n)) => m.cmp(n),
+        (Value::Text(s), Value::Text(t)) => s.as_slice().cmp(t.as_slice()),
+        (Value::Num(_), Value::Text(_)) => Ordering::Less,
+        (Value::Text(_), Value::Num(_)) => Ordering::Greater,
+    }
+}
+
+// The first values that differ decide, and else the lengths.
+fn compare_values(a: &[Value], b: &[Value]) -> Ordering
+    ensures { result ≡ slice_cmp value_cmp a.now b.now }
+{
+    for (i, x) in a.iter().enumerate() {
+        match b.get(i) {
+            None => return Ordering::Greater,
+            Some(y) => match compare_value(x, y) {
+                Ordering::Less => return Ordering::Less,
+                Ordering::Greater => return Ordering::Greater,
+                Ordering::Equal => {}
+            },
+        }
+    }
+    if a.len() < b.len() {
+        Ordering::Less
+    } else {
+        Ordering::Equal
+    }
+}
+
+// The CALC values of a number, none where it is not live.
+fn values_at(numbers: &[Number], number: u32) -> &[Value]
+    ensures { result.now ≡ values_of numbers.now number }
+{
+    match entry_at(numbers, number) {
+        Some(entry) => match &entry.calc {
+            Some(values) => values.as_slice(),
+            None => &[],
+        },
+        None => &[],
+    }
+}
+
+// Whether another number stands behind the place of these values and this number.
+fn is_behind(numbers: &[Number], values: &[Value], number: u32, other: u32) -> bool
+    ensures { result ≡ is_behind numbers.now (values.now, number) other }
+{
+    match compare_values(values, values_at(numbers, other)) {
+        Ordering::Less => true,
+        Ordering::Equal => number < other,
+        Ordering::Greater => false,
+    }
+}
+
+// Where the first number behind a place stands, or the length.
+fn place_of(listed: &[u32], numbers: &[Number], values: &[Value], number: u32) -> usize
+    requires { is_rising (stands_before numbers.now) listed.now ≡ true }
+    ensures at { result ≡ position_or_len (is_behind numbers.now (values.now, number)) listed.now }
+    ensures within { result ≤ length listed.now }
+{
+    listed.partition_point(|other| !is_behind(numbers, values, number, *other))
+}
+
+// The first number behind a place.
+fn first_behind(listed: &[u32], numbers: &[Number], values: &[Value], number: u32) -> Option<u32>
+    requires { is_rising (stands_before numbers.now) listed.now ≡ true }
+    ensures { result ≡ first_in (filter (is_behind numbers.now (values.now, number)) listed.now) }
+{
+    let at = place_of(listed, numbers, values, number);
+    number_at(listed, at)
+}
+
+fn entry_has_values(numbers: &[Number], number: u32, values: &[Value]) -> bool
+    ensures { result ≡ some_and (has_values values.now) (entry_of number numbers.now) }
+{
+    match entry_at(numbers, number) {
+        Some(entry) => entry.has_values(values),
+        None => false,
+    }
+}
+
+// The least number above another whose entry has the values.
+pub(crate) fn next_by_calc(
+    listed: &[u32],
+    numbers: &[Number],
+    values: &[Value],
+    number: u32,
+) -> Option<u32>
+    requires { IsByCalc numbers.now listed.now (length numbers.now) }
+    ensures { result ≡ first_in (filter (nat_lt number) (numbers_where (has_values values.now) numbers.now)) }
+{
+    match first_behind(listed, numbers, values, number) {
+        Some(found) => {
+            if entry_has_values(numbers, found, values) {
+                Some(found)
+            } else {
+                None
+            }
+        }
+        None => None,
+    }
+}
+
+// Puts a number into the list, in the place of its values.
+pub(crate) fn list_by_calc(listed: &mut Vec<u32>, numbers: &[Number], number: u32)
+    requires rising { is_rising (stands_before numbers.now) listed.old.items ≡ true }
+    requires room { length listed.old.items < vec_capacity listed.old }
+    ensures items { listed.new.items ≡ before (stands_before numbers.now number) number listed.old.items }
+    ensures capacity { vec_capacity listed.new ≡ vec_capacity listed.old }
+{
+    let at = place_of(
+        listed.as_slice(),
+        numbers,
+        values_at(numbers, number),
+        number,
+    );
+    insert_number(listed, at, number);
+}
+
+// Puts a number that is listed into the place of its new values.
+pub(crate) fn list_again(listed: &mut Vec<u32>, numbers: &[Number], number: u32)
+    requires rising { is_rising (stands_before numbers.now) (filter (λ n. not (n == number)) listed.old.items) ≡ true }
+    requires room { length (filter (λ n. not (n == number)) listed.old.items) < vec_capacity listed.old }
+    ensures items { listed.new.items ≡ before (stands_before numbers.now number) number (filter (λ n. not (n == number)) listed.old.items) }
+    ensures capacity { vec_capacity listed.new ≡ vec_capacity listed.old }
+{
+    drop_number(listed, number);
+    list_by_calc(listed, numbers, number);
+}
