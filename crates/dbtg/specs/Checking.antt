@@ -1,8 +1,9 @@
 -- What `check` prints.
-use Rattle.std.specs.Prelude.{ℕ, ◌+◌, List, [], ◌∷◌, ◌++◌, length}
+use Rattle.std.specs.Prelude.{ℕ, ◌≡◌, ◌+◌, List, [], ◌∷◌, ◌++◌, length}
 use Rattle.dbtg_schema.specs.Lists.{Lists}
 use Rattle.dbtg_script.specs.Statements.{script}
 use Rattle.dbtg_script.specs.Texts.{schema_line, script_line}
+use Rattle.dbtg.specs.Refusals.{schema_in, AcceptsTexts}
 
 -- a line for each script, from number n on
 abbrev pub script_lines : Lists → ℕ → List (List ℕ) → List ℕ
@@ -12,3 +13,8 @@ script_lines schema n (text ∷ texts) = script_line n (length (script schema te
 -- how large a schema and scripts are
 abbrev pub check_text : Lists → List (List ℕ) → List ℕ
 check_text schema scripts = schema_line schema ++ script_lines schema 1 scripts
+
+-- nothing is refused, and the text says how large the schema and the scripts of these texts are
+pub record IsCheck (text : List ℕ) (scripts : List (List ℕ)) (out : List ℕ) : Type 0 where
+  pub texts : AcceptsTexts text scripts
+  pub is_text : out ≡ check_text (schema_in text) scripts

@@ -1,2 +1,5 @@
 pub mod Refusals
 pub mod Checking
+pub mod Replaying
+pub mod Capacity
+pub mod Files

@@ -1,14 +1,16 @@
 //! What stops the program, and the status with which it then ends.
-ghost use Rattle.std.specs.Prelude.{◌≡◌, Option};
+ghost use Rattle.std.specs.Prelude.{◌≡◌, ℕ, Option};
 ghost use Rattle.dbtg_schema.specs.Reading.{Refuses as RefusesText};
 ghost use Rattle.dbtg_schema.specs.declared.fault.Fault.{Fault as SchemaRefusal};
+ghost use Rattle.dbtg_script.specs.Moves.{Refuses as RefusesMovesText};
 ghost use Rattle.dbtg_script.specs.Reading.{RefusesScript as RefusesScriptText};
 ghost use Rattle.dbtg_script.specs.declared.fault.Fault.{Fault as ScriptRefusal};
+ghost use Rattle.dbtg_script.specs.declared.moves.MovesCause.{MovesCause as MovesRefusal};
 ghost use Rattle.dbtg.specs.declared.fault.Fault.TheVariants.{Memory};
-ghost use Rattle.dbtg.specs.Refusals.{RefusesSchema, RefusesScript, status_of};
+ghost use Rattle.dbtg.specs.Refusals.{RefusesMoves, RefusesSchema, RefusesScript, status_of};
 
 use dbtg_schema::{Cause as SchemaCause, SchemaFault};
-use dbtg_script::{Cause as ScriptCause, MovesCause, ScriptFault};
+use dbtg_script::{Cause as ScriptCause, MovesCause, MovesFault, ScriptFault};
 use std::alloc::{AllocError, AllocFailed};
 use thiserror::Error;
 
@@ -87,6 +89,16 @@ impl Fault {
                 }
             }
             ScriptFault::Memory => Fault::Memory,
+        }
+    }
+
+    /// The fault of moves.
+    pub fn of_moves(fault: MovesFault) -> Fault
+        ensures { (refusal : Option (ℕ × MovesRefusal)) → RefusesMovesText fault refusal → RefusesMoves result refusal }
+    {
+        match fault {
+            MovesFault::Refused { word, cause } => Fault::Moves { word, cause },
+            MovesFault::Memory => Fault::Memory,
         }
     }
 }

@@ -1,16 +1,20 @@
 //! The program: reads the command's words and the files that they name, and prints what comes of them.
 #![tactic(auto)]
 
+mod capacity;
 mod check;
 mod command;
 mod fault;
 mod files;
 mod reading;
+mod replay;
+#[cfg(test)]
+mod tests;
 
 use clap::error::ErrorKind;
 use command::{Call, call_of};
 use fault::{Fault, status_of};
-use files::check_files;
+use files::{check_files, replay_files};
 use std::env;
 use std::io::{self, Write};
 use std::process::ExitCode;
@@ -34,6 +38,12 @@ fn print_text(rt: &HostRuntime, text: &[u8]) -> ExitCode {
 fn carry_out(rt: &HostRuntime, call: &Call) -> ExitCode {
     let text = match call {
         Call::Check { schema, scripts } => check_files(rt, schema, scripts.as_slice()),
+        Call::Replay {
+            capacity,
+            moves,
+            schema,
+            scripts,
+        } => replay_files(rt, schema, scripts.as_slice(), *moves, *capacity),
     };
     match text {
         Ok(text) => print_text(rt, text.as_slice()),

@@ -1,13 +1,19 @@
 //! Reading what the program is given; the readers' faults become the program's.
-ghost use Rattle.std.specs.Prelude.{◌≡◌, None, IfErr, IfOk, OnOk};
+ghost use Rattle.std.specs.Prelude.{◌≡◌, ◌++◌, ◌∷◌, [], None, IfErr, IfOk, OnOk, true};
+ghost use Rattle.std.specs.List.{list_all};
 ghost use Rattle.dbtg_schema.specs.SchemaFaults.{refusal as schema_refusal};
+ghost use Rattle.dbtg_schema.specs.Sound.{IsSound};
+ghost use Rattle.dbtg_script.specs.Moves.{refusal as moves_refusal};
 ghost use Rattle.dbtg_script.specs.StatementFaults.{refusal as script_refusal};
 ghost use Rattle.dbtg_script.specs.Statements.{script};
-ghost use Rattle.dbtg.specs.Refusals.{RefusesSchema, RefusesScript, schema_in};
+ghost use Rattle.dbtg_unit.specs.Fits.{fits};
+ghost use Rattle.dbtg.specs.Refusals.{RefusesMoves, RefusesSchema, RefusesScript, schema_in};
+ghost use Rattle.dbtg.specs.Replaying.{moves_in};
 
 use crate::fault::Fault;
-use dbtg_schema::Schema;
-use dbtg_script::read_script;
+use dbtg_schema::{Row, Schema};
+use dbtg_script::{read_moves, read_script};
+use dbtg_step::Move;
 use dbtg_unit::Statement;
 use std::alloc::Global;
 
@@ -15,6 +21,7 @@ use std::alloc::Global;
 pub fn schema_of(alloc: Global, text: &[u8]) -> Result<Schema, Fault>
     ensures accepted { OnOk result (schema_refusal text.now ≡ None) }
     ensures lists { IfOk result (λ schema. schema ≡ schema_in text.now) }
+    ensures sound { IfOk result (λ schema. IsSound schema) }
     ensures refused { IfErr result (λ fault. RefusesSchema fault (schema_refusal text.now)) }
 {
     match Schema::read(alloc, text) {
@@ -32,10 +39,41 @@ pub fn statements_of(
 ) -> Result<Vec<Statement>, Fault>
     ensures accepted { OnOk result (script_refusal schema.now text.now ≡ None) }
     ensures statements { IfOk result (λ statements. statements.items ≡ script schema.now text.now) }
+    ensures fitting { IsSound schema.now → OnOk result (list_all (fits schema.now) (script schema.now text.now) ≡ true) }
     ensures refused { IfErr result (λ fault. RefusesScript fault number (script_refusal schema.now text.now)) }
 {
     match read_script(alloc, schema, text) {
         Ok(statements) => Ok(statements),
         Err(fault) => Err(Fault::of_script(number, fault)),
+    }
+}
+
+/// Puts the statements of the script of this number behind those of the scripts before it.
+pub fn take_script(
+    alloc: Global,
+    scripts: &mut Row<Row<Statement>>,
+    schema: &Schema,
+    number: usize,
+    text: &[u8],
+) -> Result<(), Fault>
+    ensures accepted { OnOk result (script_refusal schema.now text.now ≡ None) }
+    ensures taken { OnOk result (scripts.new ≡ scripts.old ++ script schema.now text.now ∷ []) }
+    ensures fitting { IsSound schema.now → OnOk result (list_all (fits schema.now) (script schema.now text.now) ≡ true) }
+    ensures refused { IfErr result (λ fault. RefusesScript fault number (script_refusal schema.now text.now)) }
+{
+    let statements = statements_of(alloc, schema, number, text)?;
+    scripts.push(Row::of(statements))?;
+    Ok(())
+}
+
+/// The moves of a text.
+pub fn moves_of(alloc: Global, text: &[u8]) -> Result<Vec<Move>, Fault>
+    ensures accepted { OnOk result (moves_refusal text.now ≡ None) }
+    ensures moves { IfOk result (λ moves. moves.items ≡ moves_in text.now) }
+    ensures refused { IfErr result (λ fault. RefusesMoves fault (moves_refusal text.now)) }
+{
+    match read_moves(alloc, text) {
+        Ok(moves) => Ok(moves),
+        Err(fault) => Err(Fault::of_moves(fault)),
     }
 }

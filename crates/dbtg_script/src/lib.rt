@@ -29,4 +29,5 @@ pub use laws::{a_line_without_faults_is_derived, a_printed_key_is_read_back};
 pub use moves::{MovesCause, MovesFault, read_moves};
 pub use reader::read_script;
 pub use sizes::{push_run, push_schema_line, push_script_line};
+pub use spelling::{is_number, number};
 pub use texts::{answers_text, units_text};

@@ -1,0 +1,119 @@
+//! Running scripts, and the text of what comes of it.
+ghost use Rattle.std.specs.Prelude.{◌≡◌, ◌≤◌, None, Some, IfErr, IfOk, OnOk, true, false, length, map, option_map};
+ghost use Rattle.dbtg_schema.specs.Sound.{IsSound};
+ghost use Rattle.dbtg_script.specs.Statements.{script};
+ghost use Rattle.dbtg_step.specs.Laws.{scripts_fit};
+ghost use Rattle.dbtg.specs.Refusals.{AllAccepted, RefusesReplay, RefusesScripts, is_count};
+ghost use Rattle.dbtg.specs.Replaying.{IsPrintedRun, IsReplay};
+ghost use Rattle.dbtg.specs.declared.fault.Fault.TheVariants.{ScriptCount};
+
+use crate::fault::Fault;
+use crate::reading::{moves_of, schema_of, take_script};
+use dbtg_schema::{Row, Schema};
+use dbtg_script::{moves_text, push_run};
+use dbtg_step::{Move, run, run_serial};
+use dbtg_unit::Statement;
+use std::alloc::{AllocError, Global};
+
+/// Is this a number of scripts that can be run, 1 to 8?
+pub fn check_count(count: usize) -> Result<(), Fault>
+    ensures right { OnOk result (is_count count ≡ true) }
+    ensures wrong { IfErr result (λ fault. (is_count count ≡ false) × (fault ≡ ScriptCount)) }
+{
+    if 1 <= count && count <= 8 {
+        Ok(())
+    } else {
+        Err(Fault::ScriptCount)
+    }
+}
+
+/// Runs one script after the other.
+pub fn serial_text(
+    alloc: Global,
+    schema: &Schema,
+    capacity: u16,
+    scripts: Row<Row<Statement>>,
+) -> Result<Vec<u8>, AllocError>
+    requires sound { IsSound schema.now }
+    requires units { length scripts ≤ 255 }
+    requires fit { scripts_fit schema.now scripts ≡ true }
+    ensures { IfOk result (λ out. IsPrintedRun schema.now capacity scripts None out.items) }
+{
+    let given = run_serial(alloc, schema, capacity, scripts)?;
+    let mut out = Vec::new(alloc);
+    push_run(
+        alloc,
+        &mut out,
+        schema,
+        given.history.as_slice(),
+        &given.image,
+        given.units.as_slice(),
+    )?;
+    Ok(out)
+}
+
+/// Makes these moves.
+pub fn moved_text(
+    alloc: Global,
+    schema: &Schema,
+    capacity: u16,
+    scripts: Row<Row<Statement>>,
+    moves: &[Move],
+) -> Result<Vec<u8>, AllocError>
+    requires sound { IsSound schema.now }
+    requires units { length scripts ≤ 255 }
+    requires fit { scripts_fit schema.now scripts ≡ true }
+    ensures { IfOk result (λ out. IsPrintedRun schema.now capacity scripts (Some moves.now) out.items) }
+{
+    let given = run(alloc, schema, capacity, scripts, moves)?;
+    let mut out = moves_text(alloc, given.results.as_slice())?;
+    push_run(
+        alloc,
+        &mut out,
+        schema,
+        given.history.as_slice(),
+        &given.image,
+        given.units.as_slice(),
+    )?;
+    Ok(out)
+}
+
+fn scripts_of(
+    alloc: Global,
+    schema: &Schema,
+    texts: &[Row<u8>],
+) -> Result<Row<Row<Statement>>, Fault>
+    ensures accepted { OnOk result (AllAccepted schema.now texts.now) }
+    ensures scripts { IfOk result (λ scripts. scripts ≡ map (script schema.now) texts.now) }
+    ensures fitting { IsSound schema.now → IfOk result (λ scripts. scripts_fit schema.now scripts ≡ true) }
+    ensures refused { IfErr result (λ fault. RefusesScripts fault schema.now 1 texts.now) }
+{
+    let mut scripts = Row::of(Vec::new(alloc));
+    for (i, text) in texts.iter().enumerate() {
+        take_script(alloc, &mut scripts, schema, i + 1, text.as_slice())?;
+    }
+    Ok(scripts)
+}
+
+/// What `replay` prints of a schema, scripts and moves, or their first fault. Without moves one script runs after the other.
+pub fn replay_bytes(
+    alloc: Global,
+    schema: &[u8],
+    scripts: &[Row<u8>],
+    moves: Option<&[u8]>,
+    capacity: u16,
+) -> Result<Vec<u8>, Fault>
+    ensures done { IfOk result (λ out. IsReplay schema.now scripts.now (option_map (λ m. m.now) moves.entry) capacity out.items) }
+    ensures refused { IfErr result (λ fault. RefusesReplay fault schema.now scripts.now (option_map (λ m. m.now) moves.entry)) }
+{
+    check_count(scripts.len())?;
+    let schema = schema_of(alloc, schema)?;
+    let scripts = scripts_of(alloc, &schema, scripts)?;
+    match moves {
+        None => Ok(serial_text(alloc, &schema, capacity, scripts)?),
+        Some(text) => {
+            let moves = moves_of(alloc, text)?;
+            Ok(moved_text(alloc, &schema, capacity, scripts, moves.as_slice())?)
+        }
+    }
+}
