@@ -1,17 +1,17 @@
 //! Running scripts, and the text of what comes of it.
-ghost use Rattle.std.specs.Prelude.{◌≡◌, ◌≤◌, None, Some, IfErr, IfOk, OnOk, true, false, length, map, option_map};
+ghost use Rattle.std.specs.Prelude.{◌≡◌, ◌++◌, ◌≤◌, None, Some, IfErr, IfOk, OnOk, true, false, length, map, option_map};
 ghost use Rattle.dbtg_schema.specs.Sound.{IsSound};
 ghost use Rattle.dbtg_script.specs.Statements.{script};
 ghost use Rattle.dbtg_step.specs.Laws.{scripts_fit};
 ghost use Rattle.dbtg.specs.Refusals.{AllAccepted, RefusesReplay, RefusesScripts, is_count};
-ghost use Rattle.dbtg.specs.Replaying.{IsPrintedRun, IsReplay};
+ghost use Rattle.dbtg.specs.Replaying.{IsPrintedRun, IsReplay, given_text};
 ghost use Rattle.dbtg.specs.declared.fault.Fault.TheVariants.{ScriptCount};
 
 use crate::fault::Fault;
 use crate::reading::{moves_of, schema_of, take_script};
 use dbtg_schema::{Row, Schema};
 use dbtg_script::{moves_text, push_run};
-use dbtg_step::{Move, run, run_serial};
+use dbtg_step::{Move, Run, run, run_serial};
 use dbtg_unit::Statement;
 use std::alloc::{AllocError, Global};
 
@@ -25,6 +25,26 @@ pub fn check_count(count: usize) -> Result<(), Fault>
     } else {
         Err(Fault::ScriptCount)
     }
+}
+
+// Answers, image and units, behind a text.
+fn push_given(
+    alloc: Global,
+    out: &mut Vec<u8>,
+    schema: &Schema,
+    given: &Run,
+) -> Result<(), AllocError>
+    ensures { OnOk result (out.new.items ≡ out.old.items ++ given_text schema.now given.now) }
+{
+    let history = given.history.as_slice();
+    push_run(
+        alloc,
+        out,
+        schema,
+        history,
+        &given.image,
+        given.units.as_slice(),
+    )
 }
 
 /// Runs one script after the other.
@@ -41,14 +61,7 @@ pub fn serial_text(
 {
     let given = run_serial(alloc, schema, capacity, scripts)?;
     let mut out = Vec::new(alloc);
-    push_run(
-        alloc,
-        &mut out,
-        schema,
-        given.history.as_slice(),
-        &given.image,
-        given.units.as_slice(),
-    )?;
+    push_given(alloc, &mut out, schema, &given)?;
     Ok(out)
 }
 
@@ -67,14 +80,7 @@ pub fn moved_text(
 {
     let given = run(alloc, schema, capacity, scripts, moves)?;
     let mut out = moves_text(alloc, given.results.as_slice())?;
-    push_run(
-        alloc,
-        &mut out,
-        schema,
-        given.history.as_slice(),
-        &given.image,
-        given.units.as_slice(),
-    )?;
+    push_given(alloc, &mut out, schema, &given)?;
     Ok(out)
 }
 
