@@ -16,3 +16,4 @@ pub mod SchemaLists
 pub mod Erasing
 pub mod Reading
 pub mod Sound
+pub mod Laws
