@@ -1,17 +1,13 @@
 -- Where the next word always tells how a form goes on, words are derived in one way at most.
 use Rattle.std.proofs.Common.{◌≡◌, Bool, true, false, not, ◌&&◌, List, [], ◌∷◌, ◌++◌, sym, ap, ◌∙◌, ◌⊎◌, inl, inr}
-use mathlib.Core.HLevel.{×_prop, Unit-prop, Σ_prop_path}
+use mathlib.Core.HLevel.{×_prop, Σ_prop_path}
 use Rattle.std.proofs.Math.Bool.{Bool-set}
-use Rattle.std.specs.List.{AllByRecursion}
+use Rattle.std.specs.List.{AllByRecursion, AllByRecursion-prop}
 use Rattle.std.proofs.lemmas.Bool.{and_parts}
 use Rattle.std.proofs.lemmas.List.{append_cancel_left}
 use Rattle.dbtg_schema.specs.Forms.{Form, nothing, one, both, either, many, may_end, Labelled, labelled, Derives}
 use Rattle.dbtg_schema.proofs.Wanted.{ended}
 use Rattle.dbtg_schema.proofs.OneWay.{is_told, all_apart, further, firsts, words_of, in_parts, meets, Apart, Alike, begins, joined, parts_alike, are_apart, alike, false_of}
-
-each_prop : {X : Type 0} (P : X → Type 0) → ((x : X) → IsProp (P x)) → (xs : List X) → IsProp (AllByRecursion P xs)
-each_prop P each [] = Unit-prop
-each_prop P each (x ∷ xs) = ×_prop (each x) (each_prop P each xs)
 
 module _ {K R W : Type 0} (fits : K → W → Bool) (are_set : IsSet (List (Labelled W R))) where
   -- what is derived by one word, behind the word
@@ -81,7 +77,7 @@ module _ {K R W : Type 0} (fits : K → W → Bool) (are_set : IsSet (List (Labe
 
   many_prop : (f : Form K R) (ws : List (Labelled W R)) → ((us : List (Labelled W R)) → IsProp (Derives fits f us)) → ((d c : Derives fits (many f) ws) → d.0 ≡ c.0) → IsProp (Derives fits (many f) ws)
   many_prop f ws pf parts d c =
-      let same : ◌≡◌ {A = (ps : List (List (Labelled W R))) × Parts f ws ps} (d.0, (d.1, d.2)) (c.0, (c.1, c.2)) = Σ_prop_path (λ ps. ×_prop (are_set ws (joined fits ps)) (each_prop (Derives fits f) pf ps)) (parts d c) in
+      let same : ◌≡◌ {A = (ps : List (List (Labelled W R))) × Parts f ws ps} (d.0, (d.1, d.2)) (c.0, (c.1, c.2)) = Σ_prop_path (λ ps. ×_prop (are_set ws (joined fits ps)) (AllByRecursion-prop (Derives fits f) pf ps)) (parts d c) in
       λ i. ((same i).0, (same i).1.0, (same i).1.1)
 
 module _ {K R W : Type 0} (fits : K → W → Bool) (are_set : IsSet (List (Labelled W R))) (apart : K → K → Bool) (told_apart : (j k : K) (w : W) → apart j k ≡ true → fits j w ≡ true → fits k w ≡ true → ⊥) where
