@@ -72,7 +72,7 @@ three P Q R (e ∷ es) p q r = ((p.0, q.0, r.0), three P Q R es p.1 q.1 r.1)
 
 -- NAMES
 
-map_names : {X : Type 0} (name : X → List ℕ) (f : List Labelled → X) (r : Role) (es : List (List Labelled)) → ((e : List Labelled) → name (f e) ≡ first_named r e) → map name (map f es) ≡ map (first_named r) es
+pub map_names : {X : Type 0} (name : X → List ℕ) (f : List Labelled → X) (r : Role) (es : List (List Labelled)) → ((e : List Labelled) → name (f e) ≡ first_named r e) → map name (map f es) ≡ map (first_named r) es
 map_names name f r [] same = refl
 map_names name f r (e ∷ es) same = λ i. same e i ∷ map_names name f r es same i
 

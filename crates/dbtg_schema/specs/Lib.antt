@@ -16,3 +16,5 @@ pub mod SchemaLists
 pub mod Erasing
 pub mod Reading
 pub mod Sound
+pub mod Named
+pub mod Laws

@@ -3,9 +3,16 @@
 ghost use Rattle.std.specs.Prelude.{◌≡◌, ◌∷◌, List, None};
 ghost use Rattle.dbtg_schema.specs.Forms.{starts, start_with, Derives};
 ghost use Rattle.dbtg_schema.specs.SchemaGrammar.{Form, Labelled, fits};
+ghost use Rattle.dbtg_schema.specs.Laws.{AcceptedIsDerivedOnce};
 
 /// Where no start of a form fits a word, nothing that the form derives begins with that word: what a reader refuses
 /// there, it refuses because the grammar has nothing.
 pub fn an_unwanted_word_begins_nothing()
     ensures { (f : Form) (l : Labelled) (ws : List Labelled) → start_with fits l.word (starts f) ≡ None → Derives fits f (l ∷ ws) → ⊥ }
+{}
+
+/// What is accepted is derived by the grammar as a relation, by one derivation alone: no other roles of its words, and
+/// with these roles no other way. So what a schema says is what any derivation of its text says.
+pub fn an_accepted_text_is_derived_once()
+    ensures { AcceptedIsDerivedOnce }
 {}

@@ -11,6 +11,7 @@ ghost use Rattle.dbtg_schema.specs.Reading.{Refuses, WithinLimits};
 ghost use Rattle.dbtg_schema.specs.Views.{views};
 ghost use Rattle.dbtg_schema.specs.WellFormed.{IsSchema};
 ghost use Rattle.dbtg_schema.specs.Sound.{IsSound};
+ghost use Rattle.dbtg_schema.specs.Named.{IsNamed};
 ghost use Rattle.std.specs.List.{find};
 ghost use Rattle.dbtg_schema.specs.Structure.{place_of, owner_type, is_system, owns, member_clause, is_automatic, is_mandatory, area_of, calc_of, home, order_of, item_list, picture_of};
 
@@ -103,6 +104,7 @@ impl Schema {
         ensures refused { IfErr result (λ e. Refuses e (refusal text.now)) }
         ensures derived { OnOk result (Derives fits schema (labels fits schema (text_words text.now))) }
         ensures sound { IfOk result (λ s. IsSound s) }
+        ensures named { IfOk result (λ s. IsNamed s) }
     {
         let words = read_words(alloc, text)?;
         Ok(from_words(alloc, &words)?)

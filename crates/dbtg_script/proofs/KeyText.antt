@@ -13,37 +13,42 @@ use Rattle.dbtg_script.specs.Statements.{key_of}
 use Rattle.dbtg_script.specs.Texts.{key_text, type_name, generation_text}
 use Rattle.dbtg_script.specs.Laws.{IsKeyOf}
 
-or_false : (a b : Bool) → (a || b) ≡ false → (a ≡ false) × (b ≡ false)
+pub or_false : (a b : Bool) → (a || b) ≡ false → (a ≡ false) × (b ≡ false)
 or_false true b h = absurd cc
 or_false false b h = (refl, h)
 
 -- bytes that stand nowhere
-clear_append : (c : ℕ) (xs ys : List ℕ) → has_byte c xs ≡ false → has_byte c ys ≡ false → has_byte c (xs ++ ys) ≡ false
+pub clear_append : (c : ℕ) (xs ys : List ℕ) → has_byte c xs ≡ false → has_byte c ys ≡ false → has_byte c (xs ++ ys) ≡ false
 clear_append c [] ys h g = g
 clear_append c (x ∷ xs) ys h g = let p = or_false (eqb x c) (has_byte c xs) h in rw p.0 (clear_append c xs ys p.1 g)
 
-there : (c : ℕ) (xs ys : List ℕ) → has_byte c xs ≡ false → has_byte c (xs ++ c ∷ ys) ≡ true
+pub there : (c : ℕ) (xs ys : List ℕ) → has_byte c xs ≡ false → has_byte c (xs ++ c ∷ ys) ≡ true
 there c [] ys h = let e : eqb c c ≡ true = grind (arith, nat_tests) in rw e refl
 there c (x ∷ xs) ys h = let p = or_false (eqb x c) (has_byte c xs) h in rw p.0 (there c xs ys p.1)
 
-front_of : (c : ℕ) (xs ys : List ℕ) → has_byte c xs ≡ false → in_front c (xs ++ c ∷ ys) ≡ xs
+pub front_of : (c : ℕ) (xs ys : List ℕ) → has_byte c xs ≡ false → in_front c (xs ++ c ∷ ys) ≡ xs
 front_of c [] ys h = let e : eqb c c ≡ true = grind (arith, nat_tests) in rw e refl
 front_of c (x ∷ xs) ys h = let p = or_false (eqb x c) (has_byte c xs) h in rw p.0 (ap (λ (t : List ℕ). x ∷ t) (front_of c xs ys p.1))
 
-front_all : (c : ℕ) (xs : List ℕ) → has_byte c xs ≡ false → in_front c xs ≡ xs
+pub front_all : (c : ℕ) (xs : List ℕ) → has_byte c xs ≡ false → in_front c xs ≡ xs
 front_all c [] h = refl
 front_all c (x ∷ xs) h = let p = or_false (eqb x c) (has_byte c xs) h in rw p.0 (ap (λ (t : List ℕ). x ∷ t) (front_all c xs p.1))
 
-behind_of : (c : ℕ) (xs ys : List ℕ) → has_byte c xs ≡ false → behind c (xs ++ c ∷ ys) ≡ ys
+pub behind_of : (c : ℕ) (xs ys : List ℕ) → has_byte c xs ≡ false → behind c (xs ++ c ∷ ys) ≡ ys
 behind_of c [] ys h = let e : eqb c c ≡ true = grind (arith, nat_tests) in rw e refl
 behind_of c (x ∷ xs) ys h = let p = or_false (eqb x c) (has_byte c xs) h in rw p.0 (behind_of c xs ys p.1)
 
 -- the digits of a number
-digit_is_no_period : (n : ℕ) → has_byte 46 ((48 + n) ∷ []) ≡ false
-digit_is_no_period n = let e : eqb (48 + n) 46 ≡ false = grind (arith, nat_tests) in rw e refl
+digit_is_other : (c n : ℕ) → c < 48 → has_byte c ((48 + n) ∷ []) ≡ false
+digit_is_other c n h = let e : eqb (48 + n) c ≡ false = grind (arith, nat_tests) in rw e refl
+
+pub no_digit : (c : ℕ) → c < 48 → (n : ℕ) → n < 2 ^ 64 → has_byte c (decimal n) ≡ false
+no_digit c small =
+    decimal_by_steps (λ n ds. has_byte c ds ≡ false) (λ n h. digit_is_other c n small)
+    (λ n ds h g. clear_append c ds ((48 + n % 10) ∷ []) g (digit_is_other c (n % 10) small))
 
 no_period : (n : ℕ) → n < 2 ^ 64 → has_byte 46 (decimal n) ≡ false
-no_period = decimal_by_steps (λ n ds. has_byte 46 ds ≡ false) (λ n h. digit_is_no_period n) (λ n ds h g. clear_append 46 ds ((48 + n % 10) ∷ []) g (digit_is_no_period (n % 10)))
+no_period = no_digit 46 (omega arith)
 
 number_append : (m : ℕ) (xs ys : List ℕ) → number_after m (xs ++ ys) ≡ number_after (number_after m xs) ys
 number_append m [] ys = refl
@@ -56,16 +61,16 @@ pub number_decimal : (n : ℕ) → n < 2 ^ 64 → number (decimal n) ≡ n
 number_decimal = decimal_by_steps (λ n ds. number ds ≡ n) (λ n h. omega arith) (λ n ds h g. number_append 0 ds ((48 + n % 10) ∷ []) ∙ one_more_digit (number ds) n g)
 
 -- the parts of a printed key
-number_part : (n g : ℕ) → n < 2 ^ 64 → in_front 46 (decimal n ++ generation_text g) ≡ decimal n
+pub number_part : (n g : ℕ) → n < 2 ^ 64 → in_front 46 (decimal n ++ generation_text g) ≡ decimal n
 number_part n g h = by_cases (eqb g 1) where
   by_cases : (b : Bool) → in_front 46 (decimal n ++ (if b then [] else 46 ∷ decimal g)) ≡ decimal n
   by_cases true = ap (λ (t : List ℕ). in_front 46 t) (append-nil (decimal n)) ∙ front_all 46 (decimal n) (no_period n h)
   by_cases false = front_of 46 (decimal n) (decimal g) (no_period n h)
 
-abbrev generation_of : ℕ → List ℕ → ℕ
+abbrev pub generation_of : ℕ → List ℕ → ℕ
 generation_of g t = if has_byte 46 t then number (behind 46 t) else 1
 
-generation_part : (n g : ℕ) → n < 2 ^ 64 → g < 2 ^ 64 → generation_of g (decimal n ++ generation_text g) ≡ g
+pub generation_part : (n g : ℕ) → n < 2 ^ 64 → g < 2 ^ 64 → generation_of g (decimal n ++ generation_text g) ≡ g
 generation_part n g h k = by_cases (eqb g 1) refl where
   by_cases : (b : Bool) → eqb g 1 ≡ b → generation_of g (decimal n ++ (if b then [] else 46 ∷ decimal g)) ≡ g
   by_cases true e = rw (append-nil (decimal n), no_period n h) (let one : g ≡ 1 = grind (arith, nat_tests) in sym one)

@@ -6,6 +6,7 @@ pub mod LineSteps
 pub mod ScriptSteps
 pub mod MoveSteps
 pub mod KeyText
+pub mod UnitText
 pub mod Accepted
 pub mod Derivations
 pub mod FittingValues

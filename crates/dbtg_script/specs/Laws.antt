@@ -1,16 +1,24 @@
 -- Laws of scripts and printed texts.
-use Rattle.std.specs.Prelude.{◌≡◌, ℕ, ◌≤◌, false, List, Some, None}
+use Rattle.std.specs.Prelude.{◌≡◌, ℕ, ◌≤◌, ◌<◌, ◌^◌, Bool, true, false, ◌&&◌, nat_lt, List, Some, None}
+use Rattle.std.specs.List.{list_all}
 use Rattle.dbtg_schema.specs.Forms.{labels, Derives}
 use Rattle.dbtg_schema.specs.Lists.{Lists}
 use Rattle.dbtg_schema.specs.Lookups.{first}
+use Rattle.dbtg_schema.specs.Sound.{IsSound}
+use Rattle.dbtg_schema.specs.Named.{IsNamed}
 use Rattle.dbtg_cells.specs.declared.key.DbKey.{DbKey}
+use Rattle.dbtg_cells.specs.declared.key.Owner.{Owner}
+use Rattle.dbtg_cells.specs.declared.key.Owner.TheVariants.{System, Rec}
+use Rattle.dbtg_unit.specs.declared.unit.Unit as unit
+use Rattle.dbtg_unit.specs.Belongs.{IsUnitOf}
+use Rattle.dbtg_unit.specs.Fits.{if_named}
 use Rattle.dbtg_script.specs.Spelling.{has_byte}
 use Rattle.dbtg_script.specs.Lookups.{type_named}
 use Rattle.dbtg_script.specs.Statements.{key_of}
 use Rattle.dbtg_script.specs.Tokens.{tokens}
 use Rattle.dbtg_script.specs.StatementGrammar.{fits, statement}
 use Rattle.dbtg_script.specs.StatementFaults.{statement_faults}
-use Rattle.dbtg_script.specs.Texts.{key_text, type_name}
+use Rattle.dbtg_script.specs.Texts.{key_text, type_name, unit_text}
 
 -- a key in range, whose record type is found by its name; no name has a colon
 pub record IsKeyOf (schema : Lists) (k : DbKey) : Type 0 where
@@ -28,3 +36,27 @@ PrintedKeyIsReadBack = (schema : Lists) (k : DbKey) → IsKeyOf schema k → key
 -- the words of a line without faults are derived by the grammar, with the roles that they are read with
 abbrev pub LineWithoutFaultsIsDerived : Type 0
 LineWithoutFaultsIsDerived = (schema : Lists) (line : List ℕ) → first (statement_faults schema line) ≡ None → Derives fits statement (labels fits statement (tokens false line))
+
+-- the numbers of a key are within their types
+abbrev pub key_in_range : DbKey → Bool
+key_in_range k = nat_lt k.number (2 ^ 32) && nat_lt k.generation (2 ^ 8)
+
+-- and those of an owner
+abbrev pub owner_in_range : Owner → Bool
+owner_in_range System = true
+owner_in_range (Rec k) = key_in_range k
+
+-- every number of a unit is within its type
+pub record IsInRange (u : unit.Unit) : Type 0 where
+  pub number : u.number < 2 ^ 8
+  pub run_unit : if_named key_in_range u.currency.run_unit ≡ true
+  pub types : list_all (if_named key_in_range) u.currency.types ≡ true
+  pub areas : list_all (if_named key_in_range) u.currency.areas ≡ true
+  pub sets : list_all (if_named (λ p. owner_in_range p.owner && if_named key_in_range p.at)) u.currency.sets ≡ true
+  pub kept : list_all (λ e. key_in_range e.0 && nat_lt e.1 (2 ^ 64)) u.kept ≡ true
+
+-- units of a schema that print the same are the same, their modes aside
+abbrev pub UnitsPrintDifferently : Type 0
+UnitsPrintDifferently =
+    (schema : Lists) → IsSound schema → IsNamed schema → (u v : unit.Unit) → IsUnitOf schema u → IsUnitOf schema v → IsInRange u → IsInRange v
+    → unit_text schema u ≡ unit_text schema v → (u.number ≡ v.number) × (u.currency ≡ v.currency) × (u.kept ≡ v.kept)

@@ -1,7 +1,17 @@
-use Rattle.std.proofs.Common.{subst}
+use Rattle.std.proofs.Common.{List, sym, ap, subst, ◌∙◌}
+use Rattle.dbtg_schema.specs.declared.queries.Labelled as code
 use Rattle.dbtg_schema.specs.Forms.{Derives}
 use Rattle.dbtg_schema.specs.SchemaGrammar.{fits, schema}
+use Rattle.dbtg_schema.specs.SchemaLists.{schema_of}
+use Rattle.dbtg_schema.specs.Views.{views}
+use Rattle.dbtg_schema.specs.Named.{IsNamed}
+use Rattle.dbtg_schema.proofs.NamesSpelled.{has_names}
 use Rattle.dbtg_schema.proofs.schema.Schema.read.Goals as goal
 
 pub returns-clause-derived : goal.returns-clause-derived
 returns-clause-derived c = subst (Derives fits schema) c.in_ok-words.ensures.words c.in_ok-words.ensures.derived
+
+pub returns-clause-named : goal.returns-clause-named
+returns-clause-named c =
+    let same = c.in_ok-from_words.ensures ∙ ap (λ (ws : List code.Labelled). schema_of (views ws)) c.deref.ensures.value in
+    subst IsNamed (sym same) (has_names (views c.in_ok-words.words.items) c.in_ok-words.ensures.derived)
