@@ -86,3 +86,4 @@ pub mod FinishedCells
 pub mod NameOrder
 pub mod Ascending
 pub mod OnePlan
+pub mod HeldNameLemmas

@@ -39,3 +39,4 @@ pub mod Lends
 pub mod InHand
 pub mod Making
 pub mod Reserving
+pub mod HeldNames

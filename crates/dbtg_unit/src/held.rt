@@ -2,17 +2,18 @@
 //! live in place, so that most statements take no memory for them.
 ghost use Rattle.std.specs.Prelude.{◌≡◌, ◌==◌, [], ◌∷◌, ◌++◌, length, map, option_copied, slice_get, slice_set, IfErr, IfNone, OnErr, OnOk};
 ghost use Rattle.std.specs.Borrow.{sem};
-ghost use Rattle.std.specs.List.{list_any, position_from};
+ghost use Rattle.std.specs.List.{list_any};
 ghost use Rattle.std.specs.Option.{option_copied_mut, option_to_list};
-ghost use Rattle.dbtg_cells.specs.Names.{name_eq};
 ghost use Rattle.dbtg_schema.specs.Lookups.{at};
 ghost use Rattle.dbtg_unit.specs.Hands.{cell_of};
 ghost use Rattle.dbtg_unit.specs.Lends.{LendsCell};
 
 use crate::entries::entry_at;
+use crate::names::{NameKey, enter, find_place, leave};
 use crate::owners::Owners;
-use dbtg_cells::{Cell, CellName, Owner, same_name};
+use dbtg_cells::{Cell, CellName, Owner};
 use dbtg_schema::{AreaNo, SetNo};
+use indexmap::IndexMap;
 use smallvec::SmallVec;
 use std::alloc::{AllocError, AllocFailed, Global};
 use std::marker::Model;
@@ -35,6 +36,7 @@ pub enum Need {
 pub struct Held {
     areas: SmallVec<u8, 8>,
     names: SmallVec<CellName, 8>,
+    index: IndexMap<NameKey, usize>,
     cells: SmallVec<Cell, 8>,
     guesses: Owners,
 }
@@ -42,13 +44,15 @@ pub struct Held {
 impl Model for Held {
     ghost use Rattle.std.specs.Prelude.{◌≡◌, length};
     ghost use Rattle.std.specs.List.{zip};
+    ghost use Rattle.indexmap.specs.IndexMap.{get};
     ghost use Rattle.dbtg_unit.specs.Hands.{Hands};
+    ghost use Rattle.dbtg_unit.specs.HeldNames.{key_eq, IsIndexOf};
 
     ghost Value = { Hands };
 
     ghost view = { λ h. record { areas = h.areas.items; cells = zip h.names.items h.cells.items; guesses = h.guesses } };
 
-    ghost invariant = { λ h. length h.cells.items ≡ length h.names.items };
+    ghost invariant = { λ h. (length h.cells.items ≡ length h.names.items) × IsIndexOf (get key_eq h.index) h.names.items };
 }
 
 fn is_among(areas: &[u8], area: u8) -> bool
@@ -60,17 +64,6 @@ fn is_among(areas: &[u8], area: u8) -> bool
         }
     }
     false
-}
-
-fn find_name(names: &[CellName], name: &CellName) -> Option<usize>
-    ensures { result ≡ position_from (name_eq name.now) 0 names.now }
-{
-    for (i, held) in names.iter().enumerate() {
-        if same_name(*name, *held) {
-            return Some(i);
-        }
-    }
-    None
 }
 
 fn cell_at(cells: &[Cell], at: usize) -> Option<&Cell>
@@ -87,6 +80,7 @@ impl Held {
         Self {
             areas: SmallVec::new(alloc),
             names: SmallVec::new(alloc),
+            index: IndexMap::new(alloc),
             cells: SmallVec::new(alloc),
             guesses,
         }
@@ -103,7 +97,7 @@ impl Held {
     pub fn cell(&self, name: &CellName) -> Option<&Cell>
         ensures { option_copied result ≡ cell_of name.now self.now.cells }
     {
-        match find_name(self.names.as_slice(), name) {
+        match find_place(self.names.as_slice(), &self.index, name) {
             Some(at) => cell_at(self.cells.as_slice(), at),
             None => None,
         }
@@ -121,7 +115,7 @@ impl Held {
         ensures* writes_back { sem 𝓛 (LendsCell name.now self.entry result) }
         ensures value { option_copied_mut result ≡ cell_of name.now self.old.cells }
     {
-        match find_name(self.names.as_slice(), name) {
+        match find_place(self.names.as_slice(), &self.index, name) {
             Some(at) => self.cells.get_mut(at),
             None => None,
         }
@@ -156,10 +150,13 @@ impl Held {
         ensures err { OnErr result (self.new ≡ self.old) }
         ensures value_returned { IfErr result (λ failed. failed.value ≡ cell) }
     {
-        if self.names.reserve(1).is_err() {
+        if self.names.reserve(1).is_err() || self.cells.reserve(1).is_err() {
             return Err(AllocFailed { value: cell });
         }
-        self.cells.push(cell)?;
+        if enter(&mut self.index, &name, self.names.len()).is_err() {
+            return Err(AllocFailed { value: cell });
+        }
+        self.cells.push_reserved(cell);
         self.names.push_reserved(name);
         Ok(())
     }
@@ -171,6 +168,7 @@ impl Held {
         ensures rest { self.new ≡ record self.old { cells = self.new.cells } }
     {
         let name = self.names.pop()?;
+        leave(&mut self.index, &name, self.names.len());
         let cell = self.cells.pop()?;
         Some((name, cell))
     }

@@ -17,6 +17,7 @@ mod in_hand;
 mod kept;
 mod laws;
 mod legality;
+mod names;
 mod order;
 mod owners;
 mod places;

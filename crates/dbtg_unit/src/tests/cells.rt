@@ -1,10 +1,11 @@
-//! What is in hand: guesses, and more areas than are held in place.
+//! What is in hand: guesses, and more areas and cells than are held in place.
 
 use super::key;
 use crate::held::Held;
 use crate::owners::Owners;
-use dbtg_cells::Owner;
-use dbtg_schema::{AreaNo, SetNo};
+use dbtg_cells::{Cell, CellName, Owner, Ring};
+use dbtg_schema::{AreaNo, RecordNo, SetNo};
+use std::alloc::Global;
 use std::test::*;
 
 #[test]
@@ -28,4 +29,63 @@ fn areas_beyond_those_in_place(rt: HostRuntime) -> Result<(), Fail> {
     assert_eq!(rt; held.pop_area(), Some(AreaNo::new(11)));
     assert!(rt; !held.has(AreaNo::new(11)));
     Ok(())
+}
+
+fn ring_name(number: u32) -> CellName {
+    CellName::Ring(SetNo::new(0), Some((RecordNo::new(0), number)))
+}
+
+// Takes the rings of this many records in hand; false where there is no memory.
+fn takes_rings(alloc: Global, held: &mut Held, count: u32) -> bool {
+    for number in 0..count {
+        let mut ring = Ring::absent(alloc);
+        ring.open(Owner::Rec(key(number, 1)));
+        if held.push_cell(ring_name(number), Cell::Ring(ring)).is_err() {
+            return false;
+        }
+    }
+    true
+}
+
+// Is the ring of this record found, and no other in its place?
+fn is_found(held: &Held, number: u32) -> bool {
+    match held.cell(&ring_name(number)) {
+        Some(Cell::Ring(ring)) => ring.owner() == Some(Owner::Rec(key(number, 1))),
+        _ => false,
+    }
+}
+
+fn found(held: &Held, count: u32) -> u32 {
+    let mut found = 0;
+    for number in 0..count {
+        if is_found(held, number) {
+            found += 1;
+        }
+    }
+    found
+}
+
+#[test]
+fn cells_beyond_those_in_place(rt: HostRuntime) {
+    let mut held = Held::new(rt.alloc(), Owners::none(1));
+    assert!(rt; takes_rings(rt.alloc(), &mut held, 20));
+    assert_eq!(rt; found(&held, 25), 20);
+    for n in 0..11 {
+        assert!(rt; held.pop_cell().is_some());
+    }
+    assert_eq!(rt; found(&held, 9), 9);
+    assert!(rt; held.cell(&ring_name(9)).is_none());
+    assert!(rt; held.pop_cell().is_some() && held.pop_cell().is_some());
+    assert_eq!(rt; found(&held, 25), 7);
+}
+
+#[test]
+fn name_that_is_taken_twice(rt: HostRuntime) {
+    let mut held = Held::new(rt.alloc(), Owners::none(1));
+    assert!(rt; takes_rings(rt.alloc(), &mut held, 12));
+    let again = Cell::Ring(Ring::absent(rt.alloc()));
+    assert!(rt; held.push_cell(ring_name(11), again).is_ok());
+    assert!(rt; is_found(&held, 11), "the first of them");
+    assert!(rt; held.pop_cell().is_some() && is_found(&held, 11));
+    assert!(rt; held.pop_cell().is_some() && !is_found(&held, 11));
 }

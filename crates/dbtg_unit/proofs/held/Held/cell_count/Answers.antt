@@ -9,5 +9,5 @@ zip_length (x ∷ xs) (y ∷ ys) e = ap suc (zip_length xs ys (omega arith))
 
 pub returns : goal.returns
 returns c =
-    c.len.ensures.value ∙ sym (zip_length c.self.inside.names.items c.self.inside.cells.items c.self.invariant)
+    c.len.ensures.value ∙ sym (zip_length c.self.inside.names.items c.self.inside.cells.items c.self.invariant.0)
     ∙ ap (λ h. length h.cells) c.self.view_is

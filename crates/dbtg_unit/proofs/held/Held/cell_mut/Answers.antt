@@ -18,7 +18,7 @@ returns-in-Some c =
     let names = c.self.inside.names.items in
     let cells = c.self.inside.cells.items in
     let view = c.self.view_is in
-    let found : position_from (name_eq name) 0 names ≡ Some c.in-Some.at = sym (ap (position_from (name_eq name) 0) c.as_slice.ensures) ∙ sym c.find_name.ensures ∙ c.in-Some.is in
+    let found : position_from (name_eq name) 0 names ≡ Some c.in-Some.at = sym (ap (position_from (name_eq name) 0) c.as_slice.ensures) ∙ sym c.find_place.ensures ∙ c.in-Some.is in
     let written : (w : Cell) → zip names (slice_set cells c.in-Some.at w) ≡ with_cell name w c.args.self.now.cells =
     λ w. written_cell name names cells c.in-Some.at found w ∙ ap (λ h. with_cell name w h.cells) view in
     let lent : option_copied_mut c.get_mut.result ≡ slice_get cells c.in-Some.at =
@@ -34,7 +34,7 @@ pub returns-in-None : goal.returns-in-None
 returns-in-None c =
     let name = c.args.name.now in
     let names = c.self.inside.names.items in
-    let absent : position_from (name_eq name) 0 names ≡ None = sym (ap (position_from (name_eq name) 0) c.as_slice.ensures) ∙ sym c.find_name.ensures ∙ c.in-None.is in (
+    let absent : position_from (name_eq name) 0 names ≡ None = sym (ap (position_from (name_eq name) 0) c.as_slice.ensures) ∙ sym c.find_place.ensures ∙ c.in-None.is in (
       ap inr c.self.view_is,
       record {
         writes_back = tt;

@@ -3,4 +3,4 @@ use Rattle.dbtg_unit.proofs.HeldLemmas.{cells_beside}
 use Rattle.dbtg_unit.proofs.held.Held.cells.Goals as goal
 
 pub returns : goal.returns
-returns c = c.as_slice.ensures ∙ sym (cells_beside c.self.inside.names.items c.self.inside.cells.items c.self.invariant) ∙ ap (λ h. map (λ e. e.1) h.cells) c.self.view_is
+returns c = c.as_slice.ensures ∙ sym (cells_beside c.self.inside.names.items c.self.inside.cells.items c.self.invariant.0) ∙ ap (λ h. map (λ e. e.1) h.cells) c.self.view_is

@@ -1,10 +1,36 @@
-use Rattle.std.proofs.Common.{◌∙◌, ◌++◌, ◌∷◌, [], ap}
+use Rattle.std.proofs.Common.{◌∙◌, sym, ap, subst, ◌++◌, ◌∷◌, [], length, arith}
+use Rattle.std.proofs.lemmas.List.{length-append}
+use Rattle.indexmap.specs.IndexMap.{get}
+use Rattle.dbtg_unit.specs.declared.names.NameKey.{NameKey}
+use Rattle.dbtg_unit.specs.HeldNames.{IsIndexOf, entered, key_eq, name_key}
 use Rattle.dbtg_unit.proofs.HeldLemmas.{pushed}
+use Rattle.dbtg_unit.proofs.HeldNameLemmas.{pushed_index, when_ok}
 use Rattle.dbtg_unit.proofs.held.Held.push_cell.Goals as goal
 
 pub returns-clause-ok : goal.returns-clause-ok
 returns-clause-ok c =
-    let names = c.push_reserved.ensures.items ∙ ap (λ ns. ns ++ c.args.name ∷ []) c.reserve.ensures.items in
-    let cells = pushed c.self.inside.names.items c.push_reserved.new.self.items c.self.inside.cells.items c.push.new.self.items c.args.name c.args.cell c.self.invariant names c.in_ok-push.ensures.ok
+    let names = c.push_reserved-2.ensures.items ∙ ap (λ ns. ns ++ c.args.name ∷ []) c.reserve.ensures.items in
+    let cells = c.push_reserved.ensures.items ∙ ap (λ cs. cs ++ c.args.cell ∷ []) c.reserve-else-is_err.ensures.items in
+    let held = pushed c.self.inside.names.items c.push_reserved-2.new.self.items c.self.inside.cells.items c.push_reserved.new.self.items c.args.name c.args.cell c.self.invariant.0 names cells
     ∙ ap (λ h. h.cells ++ (c.args.name, c.args.cell) ∷ []) c.self.view_is in
-    λ i. record { areas = (c.self.view_is i).areas; cells = cells i; guesses = (c.self.view_is i).guesses }
+    λ i. record { areas = (c.self.view_is i).areas; cells = held i; guesses = (c.self.view_is i).guesses }
+
+pub invariant_of-self-2 : goal.invariant_of-self-2
+invariant_of-self-2 c =
+    let index = get key_eq c.self.inside.index in
+    let old = c.self.inside.names.items in
+    let name = c.args.name in
+    let names = c.push_reserved-2.ensures.items ∙ ap (λ ns. ns ++ name ∷ []) c.reserve.ensures.items in
+    let cells = c.push_reserved.ensures.items ∙ ap (λ cs. cs ++ c.args.cell ∷ []) c.reserve-else-is_err.ensures.items in
+    let enters = when_ok c.enter.result (sym c.is_err-2.ensures.value ∙ c.if-is_err-3.false) c.enter.ensures.ok in
+    let enters_behind = λ (q : NameKey). enters q ∙ ap (λ k. entered index (name_key name) k q) (c.len.ensures.value ∙ ap length c.reserve.ensures.items) in (
+      omega (
+        arith,
+        c.self.invariant.0,
+        ap length names,
+        ap length cells,
+        length-append old (name ∷ []),
+        length-append c.self.inside.cells.items (c.args.cell ∷ []),
+      ),
+      subst (IsIndexOf (get key_eq c.enter.new.index)) (sym names) (pushed_index index (get key_eq c.enter.new.index) old name c.self.invariant.1 enters_behind),
+    )

@@ -1,0 +1,107 @@
+//! Where a name stands among those of the cells in hand. The first eight live in place and are searched one by one; an
+//! index leads from each later name to its place, so that a statement that holds thousands of cells finds each at once.
+ghost use Rattle.std.specs.Prelude.{◌≡◌, OnErr, OnOk};
+ghost use Rattle.std.specs.List.{position_from};
+ghost use Rattle.indexmap.specs.IndexMap.{get};
+ghost use Rattle.dbtg_cells.specs.Names.{name_eq};
+ghost use Rattle.dbtg_unit.specs.HeldNames.{IsIndexOf, entered, key_eq, left, name_key};
+
+use dbtg_cells::{CellName, same_name};
+use indexmap::IndexMap;
+use std::alloc::AllocError;
+
+/// A name as the index reads it: its kind, what it names, and of a ring the record type of the owner.
+#[derive(Clone, Copy, Debug, PartialEq, Eq, Hash)]
+pub(crate) struct NameKey {
+    kind: u8,
+    of: u8,
+    owner: u8,
+    number: u32,
+}
+
+fn key_of(name: &CellName) -> NameKey
+    ensures { result ≡ name_key name.now }
+{
+    let (kind, of, owner, number) = match name {
+        CellName::Usage(area) => (0, area.index(), 0, 0),
+        CellName::Extent(rtype) => (1, rtype.index(), 0, 0),
+        CellName::Ring(set, None) => (2, set.index(), 0, 0),
+        CellName::Ring(set, Some((rtype, number))) => (3, set.index(), rtype.index(), *number),
+        CellName::Slot(rtype, number) => (4, rtype.index(), 0, *number),
+    };
+    NameKey {
+        kind,
+        of,
+        owner,
+        number,
+    }
+}
+
+fn find_name(names: &[CellName], name: &CellName) -> Option<usize>
+    ensures { result ≡ position_from (name_eq name.now) 0 names.now }
+{
+    for (i, held) in names.iter().enumerate() {
+        if same_name(*name, *held) {
+            return Some(i);
+        }
+    }
+    None
+}
+
+fn find_key(index: &IndexMap<NameKey, usize>, key: &NameKey) -> Option<usize>
+    ensures { result ≡ get key_eq index.now key.now }
+{
+    index.get(key).copied()
+}
+
+/// Where a name first stands, found by the index past the names that live in place.
+pub(crate) fn find_place(
+    names: &[CellName],
+    index: &IndexMap<NameKey, usize>,
+    name: &CellName,
+) -> Option<usize>
+    requires { IsIndexOf (get key_eq index.now) names.now }
+    ensures { result ≡ position_from (name_eq name.now) 0 names.now }
+{
+    if names.len() <= 8 {
+        return find_name(names, name);
+    }
+    match find_name(&names[..8], name) {
+        Some(at) => Some(at),
+        None => find_key(index, &key_of(name)),
+    }
+}
+
+/// Leads from the name that comes to this place, past those that live in place, where the index leads nowhere yet.
+pub(crate) fn enter(
+    index: &mut IndexMap<NameKey, usize>,
+    name: &CellName,
+    place: usize,
+) -> Result<(), AllocError>
+    ensures ok { OnOk result ((q : NameKey) → get key_eq index.new q ≡ entered (get key_eq index.old) (name_key name.now) place q) }
+    ensures err { OnErr result ((q : NameKey) → get key_eq index.new q ≡ get key_eq index.old q) }
+{
+    if place < 8 {
+        return Ok(());
+    }
+    let key = key_of(name);
+    if find_key(index, &key).is_none() {
+        index.insert(key, place)?;
+    }
+    Ok(())
+}
+
+/// Leads nowhere from the name that goes from this place, past those that live in place, where the index led there.
+pub(crate) fn leave(index: &mut IndexMap<NameKey, usize>, name: &CellName, place: usize)
+    ensures { (q : NameKey) → get key_eq index.new q ≡ left (get key_eq index.old) (name_key name.now) place q }
+{
+    if place < 8 {
+        return;
+    }
+    let key = key_of(name);
+    if let Some(at) = find_key(index, &key) {
+        if at == place {
+            let _ = index.swap_remove(&key);
+        }
+    }
+}
