@@ -18,14 +18,14 @@ const GIVEN: &str =
 
 const NOTHING_DONE: &str = "MOVES IIIMM\n--\nNEXT 1\nAREA MAIN\nUNIT 1 RUN - RECORD - SET AREA -\n";
 
-// The scripts of a text, each before a tilde.
+// The scripts of a text, each behind a tilde.
 fn scripts_of(rt: &HostRuntime, texts: &str) -> Option<Vec<Row<u8>>> {
     let mut scripts = Vec::new(rt.alloc());
-    let mut left = texts;
-    while let Some((text, rest)) = left.split_once('~') {
-        let text = Vec::from_slice(rt.alloc(), text.as_bytes()).ok()?;
-        scripts.push(Row::of(text)).ok()?;
-        left = rest;
+    if let Some((_, texts)) = texts.split_once('~') {
+        for text in texts.split('~') {
+            let text = Vec::from_slice(rt.alloc(), text.as_bytes()).ok()?;
+            scripts.push(Row::of(text)).ok()?;
+        }
     }
     Some(scripts)
 }
@@ -62,24 +62,24 @@ fn checked(rt: &HostRuntime, schema: &str, scripts: &str) -> String {
 
 #[test]
 fn a_script_is_replayed(rt: HostRuntime) {
-    let scripts = format!(in rt.alloc(); "{UNIT_1}~").expect(&rt, "memory");
+    let scripts = format!(in rt.alloc(); "~{UNIT_1}").expect(&rt, "memory");
     assert_eq!(rt; replayed(&rt, CARD, scripts.as_str(), None).as_str(), GIVEN);
 }
 
 #[test]
 fn moves_stand_before_the_answers(rt: HostRuntime) {
-    let scripts = format!(in rt.alloc(); "{UNIT_1}~").expect(&rt, "memory");
+    let scripts = format!(in rt.alloc(); "~{UNIT_1}").expect(&rt, "memory");
     let given = replayed(&rt, CARD, scripts.as_str(), Some("9 Q9 Q1 1 Q1"));
     assert_eq!(rt; given.as_str(), NOTHING_DONE);
 }
 
 #[test]
 fn the_first_fault_is_told(rt: HostRuntime) {
-    let all = replayed(&rt, "", "FETCH~", Some("0"));
+    let all = replayed(&rt, "", "~FETCH", Some("0"));
     assert_eq!(rt; all.as_str(), "1 schema fault 3 line 1");
-    let scripts_and_moves = replayed(&rt, CARD, "GET~FETCH~FIND~", Some("0"));
+    let scripts_and_moves = replayed(&rt, CARD, "~GET~FETCH~FIND", Some("0"));
     assert_eq!(rt; scripts_and_moves.as_str(), "1 script 2 fault 2 line 1");
-    let moves = replayed(&rt, CARD, "GET~GET~", Some("1 2 0"));
+    let moves = replayed(&rt, CARD, "~GET~GET", Some("1 2 0"));
     assert_eq!(rt; moves.as_str(), "1 moves fault 1 word 3");
 }
 
@@ -100,12 +100,12 @@ fn schema_and_scripts_are_checked(rt: HostRuntime) {
         schema.as_str(),
         "schema CARD: 1 areas, 1 records, 0 sets\n"
     );
-    let both = checked(&rt, CARD, "GET\nGET\n~~");
+    let both = checked(&rt, CARD, "~GET\nGET\n~");
     assert_eq!(rt;
         both.as_str(),
         "schema CARD: 1 areas, 1 records, 0 sets\nscript 1: 2 statements\nscript 2: 0 statements\n"
     );
-    let fault = checked(&rt, CARD, "~FETCH~");
+    let fault = checked(&rt, CARD, "~~FETCH");
     assert_eq!(rt; fault.as_str(), "1 script 2 fault 2 line 1");
 }
 
