@@ -55,28 +55,27 @@ fn is_found(held: &Held, number: u32) -> bool {
     }
 }
 
-fn found(held: &Held, count: u32) -> u32 {
-    let mut found = 0;
+fn are_found(held: &Held, count: u32) -> bool {
     for number in 0..count {
-        if is_found(held, number) {
-            found += 1;
+        if !is_found(held, number) {
+            return false;
         }
     }
-    found
+    true
 }
 
 #[test]
 fn cells_beyond_those_in_place(rt: HostRuntime) {
     let mut held = Held::new(rt.alloc(), Owners::none(1));
     assert!(rt; takes_rings(rt.alloc(), &mut held, 20));
-    assert_eq!(rt; found(&held, 25), 20);
+    assert!(rt; are_found(&held, 20) && !is_found(&held, 20));
     for n in 0..11 {
         assert!(rt; held.pop_cell().is_some());
     }
-    assert_eq!(rt; found(&held, 9), 9);
+    assert!(rt; are_found(&held, 9));
     assert!(rt; held.cell(&ring_name(9)).is_none());
     assert!(rt; held.pop_cell().is_some() && held.pop_cell().is_some());
-    assert_eq!(rt; found(&held, 25), 7);
+    assert!(rt; are_found(&held, 7) && !is_found(&held, 7));
 }
 
 #[test]
