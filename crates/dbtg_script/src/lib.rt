@@ -25,7 +25,9 @@ mod values;
 
 pub use fault::{Cause, ScriptFault};
 pub use image::{image_text, moves_text};
-pub use laws::{a_line_without_faults_is_derived, a_printed_key_is_read_back};
+pub use laws::{
+    a_line_without_faults_is_derived, a_printed_key_is_read_back, different_units_print_differently,
+};
 pub use moves::{MovesCause, MovesFault, read_moves};
 pub use reader::read_script;
 pub use sizes::{push_run, push_schema_line, push_script_line};
