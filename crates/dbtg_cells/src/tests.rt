@@ -10,6 +10,7 @@ mod both_rings;
 mod extent;
 mod slot;
 mod usage;
+mod worked_lists;
 
 fn key(number: u32, generation: u8) -> DbKey {
     DbKey {

@@ -12,15 +12,22 @@ fn member(number: u32) -> DbKey {
 }
 
 /// Each fifth member has no sort key; the others have one of four.
-fn sort_of(number: u32) -> Option<Value> {
+fn sort_of(number: u32) -> Option<u64> {
     if number % 5 == 0 {
         None
     } else {
-        Some(Value::Num((number % 4) as u64))
+        Some((number % 4) as u64)
     }
 }
 
-fn reserve(
+fn sort_key(sort: &Option<u64>) -> Option<Value> {
+    match sort {
+        Some(n) => Some(Value::Num(*n)),
+        None => None,
+    }
+}
+
+pub(super) fn reserve(
     rt: &impl Abort,
     linked: &mut Ring,
     plain: &mut PlainRing,
@@ -31,34 +38,44 @@ fn reserve(
     plain.reserve_place(*key)
 }
 
-fn first_in_both(rt: &impl Abort, linked: &mut Ring, plain: &mut PlainRing, number: u32) {
-    let key = member(number);
-    assert!(rt; linked.is_present() && linked.has_room(key));
-    assert!(rt; plain.is_present() && plain.has_room(key));
-    linked.place_first(key, sort_of(number));
-    plain.place_first(key, sort_of(number));
+pub(super) fn first_in_both(
+    rt: &impl Abort,
+    linked: &mut Ring,
+    plain: &mut PlainRing,
+    key: &DbKey,
+    sort: &Option<u64>,
+) {
+    assert!(rt; linked.is_present() && linked.has_room(*key));
+    assert!(rt; plain.is_present() && plain.has_room(*key));
+    linked.place_first(*key, sort_key(sort));
+    plain.place_first(*key, sort_key(sort));
 }
 
-fn last_in_both(rt: &impl Abort, linked: &mut Ring, plain: &mut PlainRing, number: u32) {
-    let key = member(number);
-    assert!(rt; linked.is_present() && linked.has_room(key));
-    assert!(rt; plain.is_present() && plain.has_room(key));
-    linked.place_last(key, sort_of(number));
-    plain.place_last(key, sort_of(number));
+pub(super) fn last_in_both(
+    rt: &impl Abort,
+    linked: &mut Ring,
+    plain: &mut PlainRing,
+    key: &DbKey,
+    sort: &Option<u64>,
+) {
+    assert!(rt; linked.is_present() && linked.has_room(*key));
+    assert!(rt; plain.is_present() && plain.has_room(*key));
+    linked.place_last(*key, sort_key(sort));
+    plain.place_last(*key, sort_key(sort));
 }
 
-fn after_in_both(
+pub(super) fn after_in_both(
     rt: &impl Abort,
     linked: &mut Ring,
     plain: &mut PlainRing,
     other: &DbKey,
-    number: u32,
+    key: &DbKey,
+    sort: &Option<u64>,
 ) {
-    let key = member(number);
-    assert!(rt; linked.contains(*other) && linked.has_room(key));
-    assert!(rt; plain.contains(*other) && plain.has_room(key));
-    linked.place_after(*other, key, sort_of(number));
-    plain.place_after(*other, key, sort_of(number));
+    assert!(rt; linked.contains(*other) && linked.has_room(*key));
+    assert!(rt; plain.contains(*other) && plain.has_room(*key));
+    linked.place_after(*other, *key, sort_key(sort));
+    plain.place_after(*other, *key, sort_key(sort));
 }
 
 fn before_in_both(
@@ -66,31 +83,31 @@ fn before_in_both(
     linked: &mut Ring,
     plain: &mut PlainRing,
     other: &DbKey,
-    number: u32,
+    key: &DbKey,
+    sort: &Option<u64>,
 ) {
-    let key = member(number);
-    assert!(rt; linked.contains(*other) && linked.has_room(key));
-    assert!(rt; plain.contains(*other) && plain.has_room(key));
-    linked.place_before(*other, key, sort_of(number));
-    plain.place_before(*other, key, sort_of(number));
+    assert!(rt; linked.contains(*other) && linked.has_room(*key));
+    assert!(rt; plain.contains(*other) && plain.has_room(*key));
+    linked.place_before(*other, *key, sort_key(sort));
+    plain.place_before(*other, *key, sort_key(sort));
 }
 
-fn sorted_in_both(
+pub(super) fn sorted_in_both(
     rt: &impl Abort,
     linked: &mut Ring,
     plain: &mut PlainRing,
     ascending: bool,
     duplicates: Duplicates,
-    number: u32,
+    key: &DbKey,
+    sort: &Option<u64>,
 ) {
-    let key = member(number);
-    assert!(rt; linked.is_present() && linked.has_room(key));
-    assert!(rt; plain.is_present() && plain.has_room(key));
-    linked.place_sorted(ascending, duplicates, key, sort_of(number));
-    plain.place_sorted(ascending, duplicates, key, sort_of(number));
+    assert!(rt; linked.is_present() && linked.has_room(*key));
+    assert!(rt; plain.is_present() && plain.has_room(*key));
+    linked.place_sorted(ascending, duplicates, *key, sort_key(sort));
+    plain.place_sorted(ascending, duplicates, *key, sort_key(sort));
 }
 
-fn out_of_both(rt: &impl Abort, linked: &mut Ring, plain: &mut PlainRing, key: &DbKey) {
+pub(super) fn out_of_both(rt: &impl Abort, linked: &mut Ring, plain: &mut PlainRing, key: &DbKey) {
     assert!(rt; linked.contains(*key));
     assert!(rt; plain.contains(*key));
     linked.take_out(*key);
@@ -106,11 +123,13 @@ fn beside(
     other: &DbKey,
     number: u32,
 ) {
+    let key = member(number);
+    let sort = sort_of(number);
     match (op, plain.contains(*other)) {
-        (0, true) => after_in_both(rt, linked, plain, other, number),
-        (_, true) => before_in_both(rt, linked, plain, other, number),
-        (0, false) => first_in_both(rt, linked, plain, number),
-        (_, false) => last_in_both(rt, linked, plain, number),
+        (0, true) => after_in_both(rt, linked, plain, other, &key, &sort),
+        (_, true) => before_in_both(rt, linked, plain, other, &key, &sort),
+        (0, false) => first_in_both(rt, linked, plain, &key, &sort),
+        (_, false) => last_in_both(rt, linked, plain, &key, &sort),
     }
 }
 
@@ -122,14 +141,24 @@ fn place(
     other: &DbKey,
     number: u32,
 ) {
+    let key = member(number);
+    let sort = sort_of(number);
     match op {
         0 | 1 => beside(rt, linked, plain, op, other, number),
-        2 => first_in_both(rt, linked, plain, number),
-        3 => last_in_both(rt, linked, plain, number),
-        4 => sorted_in_both(rt, linked, plain, true, Duplicates::Last, number),
-        5 => sorted_in_both(rt, linked, plain, true, Duplicates::First, number),
-        6 => sorted_in_both(rt, linked, plain, false, Duplicates::Last, number),
-        _ => sorted_in_both(rt, linked, plain, false, Duplicates::NotAllowed, number),
+        2 => first_in_both(rt, linked, plain, &key, &sort),
+        3 => last_in_both(rt, linked, plain, &key, &sort),
+        4 => sorted_in_both(rt, linked, plain, true, Duplicates::Last, &key, &sort),
+        5 => sorted_in_both(rt, linked, plain, true, Duplicates::First, &key, &sort),
+        6 => sorted_in_both(rt, linked, plain, false, Duplicates::Last, &key, &sort),
+        _ => sorted_in_both(
+            rt,
+            linked,
+            plain,
+            false,
+            Duplicates::NotAllowed,
+            &key,
+            &sort,
+        ),
     }
 }
 
