@@ -11,7 +11,9 @@ use std::test::*;
 
 mod cells;
 mod copies;
+mod fits;
 mod prepared;
+mod shop;
 mod units;
 
 fn key(number: u32, generation: u8) -> DbKey {
