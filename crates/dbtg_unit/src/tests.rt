@@ -13,6 +13,7 @@ mod cells;
 mod copies;
 mod fits;
 mod prepared;
+mod seeing;
 mod shop;
 mod units;
 
