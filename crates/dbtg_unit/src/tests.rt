@@ -11,7 +11,11 @@ use std::test::*;
 
 mod cells;
 mod copies;
+mod fits;
+mod naming;
 mod prepared;
+mod seeing;
+mod shop;
 mod units;
 
 fn key(number: u32, generation: u8) -> DbKey {
