@@ -12,6 +12,7 @@ use std::test::*;
 mod cells;
 mod copies;
 mod fits;
+mod in_hand;
 mod naming;
 mod prepared;
 mod seeing;
