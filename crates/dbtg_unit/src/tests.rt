@@ -11,6 +11,7 @@ use std::test::*;
 
 mod cells;
 mod copies;
+mod edits;
 mod fits;
 mod in_hand;
 mod naming;
