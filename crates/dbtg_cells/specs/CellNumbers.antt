@@ -2,7 +2,7 @@
 use Rattle.std.specs.Prelude.{ℕ, Bool, ◌&&◌, nat_lt, nat_le, List, [], ◌∷◌, ◌++◌, Option, Some, None, map, option_map, unwrap_or, length, slice_get, position, cond}
 use Rattle.std.specs.List.{range_with_len, flat_map}
 use Rattle.dbtg_schema.specs.Lists.{Lists}
-use Rattle.dbtg_schema.specs.Structure.{area_of, home, is_system, owner_type, owns, set_numbers}
+use Rattle.dbtg_schema.specs.Structure.{is_system, owner_type, owns, set_numbers}
 use Rattle.dbtg_cells.specs.declared.name.CellName.{CellName}
 use Rattle.dbtg_cells.specs.declared.name.CellName.TheVariants.{Usage, Extent, Ring, Slot}
 use Rattle.dbtg_cells.specs.Names.{name_eq}
@@ -44,10 +44,3 @@ is_cell schema capacity (Extent t) = nat_lt t (length schema.types)
 is_cell schema capacity (Ring s None) = is_system schema s
 is_cell schema capacity (Ring s (Some p)) = owns schema s p.0 && (nat_lt 0 p.1 && nat_le p.1 capacity)
 is_cell schema capacity (Slot t n) = nat_lt t (length schema.types) && (nat_lt 0 n && nat_le n capacity)
-
--- the area of a cell: an area itself, a record type's, a set's home
-abbrev pub area_of_cell : Lists → CellName → ℕ
-area_of_cell schema (Usage a) = a
-area_of_cell schema (Extent t) = area_of schema t
-area_of_cell schema (Ring s o) = home schema s
-area_of_cell schema (Slot t n) = area_of schema t

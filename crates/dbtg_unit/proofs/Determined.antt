@@ -19,7 +19,7 @@ use Rattle.dbtg_unit.specs.Base.{Database, Record, is_live, key_at}
 use Rattle.dbtg_unit.specs.Cells.{cell, number_of, ring_of, slot_of, owner_at}
 use Rattle.dbtg_unit.specs.Legal.{Legal, has_occurrence}
 use Rattle.dbtg_unit.specs.CellNames.{place_of}
-use Rattle.dbtg_unit.specs.Belongs.{is_cell}
+use Rattle.dbtg_cells.specs.CellNumbers.{is_cell}
 use Rattle.dbtg_schema.specs.Structure.{owns}
 
 abbrev pub usage_in : CellValue → List (ℕ × Mode)

@@ -40,6 +40,7 @@ pub mod StoreCells
 pub mod ModifyCells
 pub mod ValueOrder
 pub mod PlacingOrder
+pub mod RangeFilters
 pub mod Answered
 pub mod LiveKeys
 pub mod ErasedLemmas

@@ -130,13 +130,13 @@ abbrev pub divides : {X : Type 0} → Spot X → List X → Bool
 divides (Among c) xs = pairwise (λ x y. c x || not (c y)) xs
 divides _ xs = true
 
-filter-all : {X : Type 0} (p : X → Bool) (xs : List X) → list_all p xs ≡ true → filter p xs ≡ xs
+pub filter-all : {X : Type 0} (p : X → Bool) (xs : List X) → list_all p xs ≡ true → filter p xs ≡ xs
 filter-all p [] h = refl
 filter-all p (x ∷ xs) h =
     let hs = and_parts _ _ h in
     ap (λ b. cond b (x ∷ filter p xs) (filter p xs)) hs.0 ∙ ap (λ ys. x ∷ ys) (filter-all p xs hs.1)
 
-filter-none : {X : Type 0} (p : X → Bool) (xs : List X) → list_all (λ x. not (p x)) xs ≡ true → filter p xs ≡ []
+pub filter-none : {X : Type 0} (p : X → Bool) (xs : List X) → list_all (λ x. not (p x)) xs ≡ true → filter p xs ≡ []
 filter-none p [] h = refl
 filter-none p (x ∷ xs) h =
     let hs = and_parts _ _ h in

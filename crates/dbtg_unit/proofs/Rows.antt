@@ -25,4 +25,6 @@ pub mod CellsOfADatabase
 pub mod Histories
 pub mod GuessesAfter
 pub mod NamesOfCells
+pub mod ItemsInTurn
+pub mod OpenedShop
 pub mod ManyMembers

@@ -73,12 +73,6 @@ is_name_of schema (Ring s None) = is_system schema s
 is_name_of schema (Ring s (Some p)) = owns schema s p.0
 is_name_of schema (Slot t n) = is_type schema t
 
--- the name of a cell that is there at this capacity
-abbrev pub is_cell : Lists → ℕ → CellName → Bool
-is_cell schema capacity (Ring s (Some p)) = owns schema s p.0 && is_number capacity p.1
-is_cell schema capacity (Slot t n) = is_type schema t && is_number capacity n
-is_cell schema capacity c = is_name_of schema c
-
 -- a cell is of its name's kind
 abbrev pub is_of_kind : CellName → Cell → Bool
 is_of_kind (Usage a) (UsageCell c) = true

@@ -3,7 +3,7 @@ use Rattle.std.specs.Prelude.{◌≡◌, ℕ, true}
 use Rattle.dbtg_schema.specs.Lists.{Lists}
 use Rattle.dbtg_cells.specs.declared.name.CellName.{CellName}
 use Rattle.dbtg_unit.specs.Base.{Database}
-use Rattle.dbtg_unit.specs.Belongs.{is_cell}
+use Rattle.dbtg_cells.specs.CellNumbers.{is_cell}
 use Rattle.dbtg_unit.specs.Cells.{cell}
 use Rattle.dbtg_unit.specs.Legal.{Legal}
 

@@ -5,7 +5,8 @@ use Rattle.dbtg_cells.specs.declared.name.CellName.{CellName}
 use Rattle.dbtg_cells.specs.declared.name.CellName.TheVariants.{Usage, Extent, Ring, Slot}
 use Rattle.dbtg_cells.specs.Names.{name_lt}
 use Rattle.dbtg_unit.specs.CellNames.{area_of_cell}
-use Rattle.dbtg_unit.specs.Belongs.{is_cell, is_name_of}
+use Rattle.dbtg_cells.specs.CellNumbers.{is_cell}
+use Rattle.dbtg_unit.specs.Belongs.{is_name_of}
 use Rattle.dbtg_unit.specs.Legal.{pairwise}
 use Rattle.dbtg_unit.proofs.Schemas.{shop, main, side, customers, orders, items, has, lines, watch}
 
