@@ -1,0 +1,107 @@
+//! Public calls, made once with memory to spare. The numbers of a status are those of docs/profile/statuses.md.
+
+use dbtg_cells::{Cell, CellName, DbKey, Owner, Usage};
+use dbtg_schema::{AreaNo, RecordNo};
+use dbtg_unit::{Cause, Form, Held, Kept, Owners, Statement, Status, Suppress};
+use std::test::*;
+
+mod areas;
+mod cells;
+mod copies;
+mod edits;
+mod finishing;
+mod fits;
+mod hands;
+mod in_hand;
+mod naming;
+mod prepared;
+mod refusals;
+mod ring_edits;
+mod seeing;
+mod shop;
+mod statements;
+mod units;
+
+fn key(number: u32, generation: u8) -> DbKey {
+    DbKey {
+        rtype: RecordNo::new(0),
+        number,
+        generation,
+    }
+}
+
+#[test]
+fn causes_have_their_numbers(rt: HostRuntime) {
+    for (cause, number) in [
+        (Cause::AreaNotOpen, 1),
+        (Cause::ChangedByAnother, 3),
+        (Cause::DuplicatesNotAllowed, 5),
+        (Cause::NoSuchCurrent, 6),
+        (Cause::End, 7),
+        (Cause::UpdateModeNeeded, 9),
+        (Cause::NoRoom, 11),
+        (Cause::NoCurrentOfRunUnit, 13),
+        (Cause::MandatoryAutomatic, 14),
+        (Cause::Mandatory, 15),
+        (Cause::AlreadyMember, 16),
+        (Cause::Deleted, 17),
+        (Cause::OtherRecordType, 20),
+        (Cause::NotMember, 22),
+        (Cause::PositionLost, 23),
+        (Cause::NoneSatisfies, 26),
+        (Cause::AreaAlreadyOpen, 28),
+        (Cause::UsageConflict, 29),
+        (Cause::OwnerHasMembers, 30),
+        (Cause::NotKept, 31),
+    ] {
+        assert_eq!(rt; cause.code(), number, "{cause:?}");
+    }
+}
+
+#[test]
+fn find_at_the_end_is_0307(rt: HostRuntime) {
+    let suppress = Suppress {
+        types: false,
+        areas: false,
+        sets: 0,
+    };
+    let find = Statement::Find(Form::CurrentOfUnit, suppress);
+    assert_eq!(rt; Status::Refused(Cause::End).code(&find), 307);
+    assert_eq!(rt; Status::Done.code(&find), 0);
+}
+
+#[test]
+fn kept_key_has_its_version(rt: HostRuntime) -> Result<(), Fail> {
+    let none = Kept::of(Vec::new(rt.alloc()));
+    let mut kept = none.noted(rt.alloc(), key(7, 2), 3)?;
+    assert_eq!(rt; kept.version(key(7, 2)), Some(3));
+    assert_eq!(rt; kept.version(key(7, 1)), None, "another generation");
+    kept.forget(key(7, 2));
+    assert_eq!(rt; kept.version(key(7, 2)), None);
+    Ok(())
+}
+
+#[test]
+fn held_gives_back_what_it_took(rt: HostRuntime) -> Result<(), Fail> {
+    let area = AreaNo::new(1);
+    let mut held = Held::new(rt.alloc(), Owners::none(0));
+    held.push_area(area)?;
+    assert!(rt; held.has(area));
+    assert_eq!(rt; held.pop_area(), Some(area));
+    let cell = Cell::Usage(Usage::new(rt.alloc()));
+    assert!(rt; held.push_cell(CellName::Usage(area), cell).is_ok());
+    assert!(rt; held.cell(&CellName::Usage(area)).is_some());
+    assert!(rt; held.pop_cell().is_some());
+    assert!(rt; held.pop_cell().is_none());
+    Ok(())
+}
+
+#[test]
+fn owner_is_set_in_its_set(rt: HostRuntime) {
+    let mut owners = Owners::none(2);
+    owners.set(1, Some(Owner::System));
+    let shown = owners.as_slice();
+    assert_eq!(rt; shown.len(), 2);
+    assert_eq!(rt; shown.get(0).copied(), Some(None));
+    assert_eq!(rt; shown.get(1).copied(), Some(Some(Owner::System)));
+}

@@ -1,0 +1,88 @@
+//! Hands that count what they hold, lend a cell to be written, and are given guesses anew.
+
+use super::key;
+use dbtg_cells::{Cell, CellName, DbKey, Mode, Owner, Usage};
+use dbtg_schema::{AreaNo, SetNo};
+use dbtg_unit::{Held, Owners};
+use std::alloc::{AllocError, Global};
+use std::process::Abort;
+use std::test::*;
+
+#[test]
+fn areas_are_counted(rt: HostRuntime) -> Result<(), Fail> {
+    let mut held = Held::new(rt.alloc(), Owners::none(0));
+    assert_eq!(rt; held.area_count(), 0);
+    held.push_area(AreaNo::new(1))?;
+    held.push_area(AreaNo::new(4))?;
+    assert_eq!(rt; held.area_count(), 2);
+    assert_eq!(rt; held.pop_area(), Some(AreaNo::new(4)));
+    assert_eq!(rt; held.area_count(), 1);
+    Ok(())
+}
+
+// The usage lists of two areas, each with room for one user; false where there is no memory.
+fn takes_usages(alloc: Global, held: &mut Held) -> Result<bool, AllocError> {
+    for area in 0..2 {
+        let mut usage = Usage::new(alloc);
+        usage.reserve_user()?;
+        let name = CellName::Usage(AreaNo::new(area));
+        if held.push_cell(name, Cell::Usage(usage)).is_err() {
+            return Ok(false);
+        }
+    }
+    Ok(true)
+}
+
+// A user enters the usage list of an area where that is in hand: is it?
+fn enters(rt: &impl Abort, held: &mut Held, area: u8) -> bool {
+    match held.cell_mut(&CellName::Usage(AreaNo::new(area))) {
+        Some(Cell::Usage(usage)) => {
+            assert!(rt; usage.has_room());
+            usage.enter(3, Mode::Update);
+            true
+        }
+        _ => false,
+    }
+}
+
+fn mode_in(held: &Held, area: u8) -> Option<Mode> {
+    match held.cell(&CellName::Usage(AreaNo::new(area))) {
+        Some(Cell::Usage(usage)) => usage.mode_of(3),
+        _ => None,
+    }
+}
+
+#[test]
+fn cell_is_written_in_hand(rt: HostRuntime) -> Result<(), Fail> {
+    let mut held = Held::new(rt.alloc(), Owners::none(0));
+    assert!(rt; takes_usages(rt.alloc(), &mut held)?);
+    assert!(rt; enters(&rt, &mut held, 1));
+    assert!(rt; !enters(&rt, &mut held, 2));
+    assert_eq!(rt; mode_in(&held, 1), Some(Mode::Update));
+    assert_eq!(rt; mode_in(&held, 0), None);
+    Ok(())
+}
+
+#[test]
+fn owners_of_a_list(rt: HostRuntime) {
+    let list = [Some(Owner::System), None, Some(Owner::Rec(key(7, 2)))];
+    let owners = Owners::of(&list);
+    assert_eq!(rt; owners.as_slice(), list.as_slice());
+}
+
+// A schema has sixteen sets at most, so what is past them is left out.
+#[test]
+fn owners_past_the_sixteenth(rt: HostRuntime) {
+    let list = [Some(Owner::System); 20];
+    let owners = Owners::of(&list);
+    assert_eq!(rt; owners.as_slice(), [Some(Owner::System); 16].as_slice());
+}
+
+#[test]
+fn guesses_anew(rt: HostRuntime) {
+    let mut held = Held::new(rt.alloc(), Owners::of(&[Some(Owner::System), None]));
+    let anew = [None, Some(Owner::Rec(key(7, 2)))];
+    held.set_guesses(Owners::of(&anew));
+    assert_eq!(rt; held.guesses(), anew.as_slice());
+    assert_eq!(rt; held.guess(SetNo::new(0)), None);
+}
