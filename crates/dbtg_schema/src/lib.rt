@@ -9,7 +9,6 @@ mod entries;
 mod erasing;
 mod fault;
 mod find;
-mod index;
 pub mod laws;
 mod names;
 mod numbers;

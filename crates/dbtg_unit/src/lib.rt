@@ -26,6 +26,8 @@ mod reach;
 mod reserving;
 mod see;
 mod statement;
+#[cfg(test)]
+mod tests;
 mod unit;
 
 pub use apply::edit_cell;

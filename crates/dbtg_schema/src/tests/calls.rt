@@ -43,54 +43,6 @@ fn items_are_named(shop: &Schema) -> bool {
         && is_text(shop.item_name(RecordNo::new(0), ItemNo::new(1)), b"CNAME")
 }
 
-fn first_and_last_areas_are_found(shop: &Schema) -> bool {
-    shop.area(b"MAIN") == Some(AreaNo::new(0))
-        && shop.area(b"SIDE") == Some(AreaNo::new(1))
-        && shop.area(b"MAI").is_none()
-        && shop.area(b"MAINS").is_none()
-        && shop.area(b"").is_none()
-}
-
-fn first_and_last_types_are_found(shop: &Schema) -> bool {
-    shop.rtype(b"CUSTOMER") == Some(RecordNo::new(0))
-        && shop.rtype(b"ITEM") == Some(RecordNo::new(2))
-        && shop.rtype(b"CUSTOMERS").is_none()
-        && shop.rtype(b"item").is_none()
-}
-
-fn first_and_last_sets_are_found(shop: &Schema) -> bool {
-    shop.set(b"HAS") == Some(SetNo::new(0))
-        && shop.set(b"WATCH") == Some(SetNo::new(2))
-        && shop.set(b"WATC").is_none()
-        && shop.set(b"ITEM").is_none()
-}
-
-fn first_and_last_items_are_found(shop: &Schema) -> bool {
-    let (customer, item) = (RecordNo::new(0), RecordNo::new(2));
-    shop.item(customer, b"CNO") == Some(ItemNo::new(0))
-        && shop.item(customer, b"CNAME") == Some(ItemNo::new(1))
-        && shop.item(customer, b"PART").is_none()
-        && shop.item(item, b"PART") == Some(ItemNo::new(0))
-        && shop.item(item, b"QTY") == Some(ItemNo::new(1))
-        && shop.item(item, b"CNO").is_none()
-        && shop.item(RecordNo::new(3), b"PART").is_none()
-}
-
-fn names_are_found(shop: &Schema) -> bool {
-    first_and_last_areas_are_found(shop)
-        && first_and_last_types_are_found(shop)
-        && first_and_last_sets_are_found(shop)
-        && first_and_last_items_are_found(shop)
-}
-
-#[test]
-fn first_last_and_unknown_names(rt: HostRuntime) {
-    let shop = shop(&rt).expect(&rt, "a schema");
-    let copy = shop.copy(rt.alloc()).expect(&rt, "a copy");
-    assert!(rt; names_are_found(&shop));
-    assert!(rt; names_are_found(&copy));
-}
-
 #[test]
 fn names_and_numbers(rt: HostRuntime) {
     let shop = shop(&rt).expect(&rt, "a schema");
