@@ -61,8 +61,9 @@ fn moves_option<'a>(alloc: Global) -> Arg<'a> {
         .help("The file of the moves; without it one script runs after the other")
 }
 
-fn replay_command<'a>(alloc: Global) -> Result<Command<'a>, AllocError> {
-    Command::new(alloc, "replay")
+// The command `replay`, by the name that its usage shows.
+fn replay_command<'a>(alloc: Global, name: &'a str) -> Result<Command<'a>, AllocError> {
+    Command::new(alloc, name)
         .about("Runs scripts, and prints the answers, the database and the units")
         .after_help(
             "Example: dbtg replay --capacity 10 --moves turns.moves shop.schema unit1.script unit2.script",
@@ -87,7 +88,7 @@ pub fn command<'a>(alloc: Global) -> Result<Command<'a>, AllocError> {
         .disable_help_subcommand(true)
         .after_help("Example: dbtg replay card.schema unit1.script")
         .subcommand(check_command(alloc)?)?
-        .subcommand(replay_command(alloc)?)
+        .subcommand(replay_command(alloc, "replay")?)
 }
 
 fn scripts_of<'a>(alloc: Global, matches: &ArgMatches<'a>) -> Result<Vec<&'a str>, AllocError> {
@@ -109,7 +110,7 @@ fn no_capacity(alloc: Global, word: &str) -> Result<Error, AllocError> {
     let told = format!(in alloc;
         "invalid value '{word}' for '--capacity <N>': a whole number from 1 to 1000 is wanted"
     )?;
-    replay_command(alloc)?.error(ErrorKind::ValueValidation, told.as_str())
+    replay_command(alloc, "dbtg replay")?.error(ErrorKind::ValueValidation, told.as_str())
 }
 
 /// What the words ask for. `Err` has the text that answers other words, and help.

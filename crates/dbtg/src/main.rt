@@ -28,11 +28,13 @@ fn print_text(rt: &HostRuntime, text: &[u8]) -> ExitCode {
     let mut out = io::writer(rt);
     match out.write_all(text) {
         Ok(()) => ExitCode::SUCCESS,
-        Err(_) => {
-            let _ = eprintln!(rt; "cannot write to standard output");
-            ExitCode::FAILURE
-        }
+        Err(_) => not_written(rt),
     }
+}
+
+fn not_written(rt: &HostRuntime) -> ExitCode {
+    let _ = eprintln!(rt; "cannot write to standard output");
+    ExitCode::FAILURE
 }
 
 fn carry_out(rt: &HostRuntime, call: &Call) -> ExitCode {
@@ -65,9 +67,13 @@ fn without_call(rt: &HostRuntime, error: &clap::Error) -> ExitCode {
     if error.kind() == ErrorKind::OutOfMemory {
         return told(rt, &Fault::Memory);
     }
-    match error.print(rt) {
-        Ok(()) => ExitCode::from(if error.exit_code() == 0 { 0 } else { 2 }),
-        Err(_) => ExitCode::FAILURE,
+    let printed = error.print(rt);
+    if error.exit_code() != 0 {
+        return ExitCode::from(2);
+    }
+    match printed {
+        Ok(()) => ExitCode::SUCCESS,
+        Err(_) => not_written(rt),
     }
 }
 

@@ -51,6 +51,11 @@ pub all_flat : {X Y : Type 0} (p : Y → Bool) (f : X → List Y) (xs : List X) 
 all_flat p f [] h = refl
 all_flat p f (x ∷ xs) h = all_join p (f x) (flat_map f xs) (h x (inl refl)) (all_flat p f xs (λ y i. h y (inr i)))
 
+-- the slot of what is found, where a key is found
+pub found_passes : (p : CellName → Bool) (r : Result DbKey Cause) → ((k : DbKey) → r ≡ Ok k → p (slot_name k) ≡ true) → list_all p (found_slot r) ≡ true
+found_passes p (Ok k) h = and_from _ _ (h k refl) refl
+found_passes p (Err cause) h = refl
+
 -- area a is among these
 abbrev pub is_among : List ℕ → ℕ → Bool
 is_among areas a = list_any (λ b. eqb b a) areas
@@ -93,10 +98,6 @@ module _ (schema : Lists) where
   pub rings_lie : (areas : List ℕ) (s : ℕ) (o : Option Owner) → is_among areas (home schema s) ≡ true → list_all (lies_in areas) (ring_names s o) ≡ true
   rings_lie areas s None h = refl
   rings_lie areas s (Some o) h = and_from _ _ h refl
-
-  found_lies : (areas : List ℕ) (r : Result DbKey Cause) → ((k : DbKey) → r ≡ Ok k → lies_in areas (slot_name k) ≡ true) → list_all (lies_in areas) (found_slot r) ≡ true
-  found_lies areas (Ok k) h = and_from _ _ (h k refl) refl
-  found_lies areas (Err cause) h = refl
 
   -- a slot of the type of the only area
   typed_lies : (r : ℕ) (k : DbKey) → k.rtype ≡ r → lies_in (area_of schema r ∷ []) (slot_name k) ≡ true
@@ -149,7 +150,7 @@ module _ (schema : Lists) (capacity : ℕ) (db : Database) (legal : Legal schema
   in_area_lies unit which r a f =
       all_join (lies_in schema (a ∷ [])) (map Extent types) _
       (all_each _ (map Extent types) (λ c i. let m = of_map Extent c types i in subst (λ d. lies_in schema (a ∷ []) d ≡ true) m.2 (or_left _ _ (type_area a r (and_parts _ _ f).1 m.0 m.1))))
-      (found_lies schema (a ∷ []) _ (λ k e.
+      (found_passes (lies_in schema (a ∷ [])) _ (λ k e.
       let i = chosen_by_key_in which (at unit.currency.areas a) (keys_in_area schema capacity db r a) k (found_is None _ End k e) in
       let m = of_flat_map (live_keys capacity db) k (types_in schema a) (of_filter (has_type r) k _ i).0 in
       let t = (live_of schema capacity db legal k m.0 m.2).1 in
@@ -171,7 +172,7 @@ module _ (schema : Lists) (capacity : ℕ) (db : Database) (legal : Legal schema
   find_cells_lie unit of (CurrentOfSet s) f = current_lies schema (option_and_then key_of_place (place_in schema unit s))
   find_cells_lie unit of (CurrentOfArea a) f = current_lies schema (at unit.currency.areas a)
   find_cells_lie unit of (InSet which r s) f =
-      all_join _ (ring_names s (current_owner schema unit s)) _ (rings_lie schema (find_areas schema unit (InSet which r s)) s _ (home_first s _)) (found_lies schema (find_areas schema unit (InSet which r s)) _ (in_set_lies unit which r s))
+      all_join _ (ring_names s (current_owner schema unit s)) _ (rings_lie schema (find_areas schema unit (InSet which r s)) s _ (home_first s _)) (found_passes (lies_in schema (find_areas schema unit (InSet which r s))) _ (in_set_lies unit which r s))
   find_cells_lie unit of (InArea which r a) f = in_area_lies unit which r a f
   find_cells_lie unit of (OwnerOf s) f = go (place_in schema unit s) (place_of_set schema unit of s)
     where
@@ -182,13 +183,13 @@ module _ (schema : Lists) (capacity : ℕ) (db : Database) (legal : Legal schema
       go : (o : Option Place) → ((place : Place) → o ≡ Some place → is_owner_in schema s place.owner ≡ true) → list_all (lies_in schema (home schema s ∷ [])) (slot_names (option_and_then (λ place. key_of_place (record place { at = None })) o)) ≡ true
       go None h = refl
       go (Some place) h = owner place.owner (h place refl)
-  find_cells_lie unit of (Calc r values) f = and_from _ _ (lies_first schema (Extent r) []) (found_lies schema (area_of schema r ∷ []) _ (λ k e. calc_lies r values k (first_is_in _ k (found_is None _ NoneSatisfies k e))))
+  find_cells_lie unit of (Calc r values) f = and_from _ _ (lies_first schema (Extent r) []) (found_passes (lies_in schema (area_of schema r ∷ [])) _ (λ k e. calc_lies r values k (first_is_in _ k (found_is None _ NoneSatisfies k e))))
   find_cells_lie unit of (NextDuplicate r) f =
-      and_from _ _ (lies_first schema (Extent r) []) (found_lies schema (area_of schema r ∷ []) _ (λ k e.
+      and_from _ _ (lies_first schema (Extent r) []) (found_passes (lies_in schema (area_of schema r ∷ [])) _ (λ k e.
       let c = current_is (at unit.currency.types r) _ k e in
       calc_lies r _ k (first_of_filter (key_lt c.0) _ k (found_is _ _ _ k c.2)).0))
   find_cells_lie unit of (Sorted v s) f =
-      all_join _ (ring_names s (current_owner schema unit s)) _ (rings_lie schema (find_areas schema unit (Sorted v s)) s _ (home_first s _)) (found_lies schema (find_areas schema unit (Sorted v s)) _ (sorted_lies unit v s))
+      all_join _ (ring_names s (current_owner schema unit s)) _ (rings_lie schema (find_areas schema unit (Sorted v s)) s _ (home_first s _)) (found_passes (lies_in schema (find_areas schema unit (Sorted v s))) _ (sorted_lies unit v s))
 
   -- the rings of a STORE
   pub store_rings_lie : (unit : Unit) (k : DbKey) → list_all (lies_in schema (area_of schema k.rtype ∷ map (home schema) (automatic_sets schema k.rtype))) (store_rings schema unit k) ≡ true

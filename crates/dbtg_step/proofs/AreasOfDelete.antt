@@ -17,7 +17,7 @@ use Rattle.dbtg_unit.specs.Base.{Database, is_member, members_of}
 use Rattle.dbtg_unit.specs.CellNames.{slot_name, place_of}
 use Rattle.dbtg_unit.specs.Doomed.{all_keys, takes}
 use Rattle.dbtg_unit.specs.Effect.{own_checks, is_plain, has_members}
-use Rattle.dbtg_unit.specs.Erasing.{cells_of_doomed, delete_cells, doomed_in_turn, names_once, outer_cells, own_rings, rings_to_member, spread, spread_from, taken_with, with_those}
+use Rattle.dbtg_unit.specs.Erasing.{brought, brought_from, cells_of_doomed, delete_cells, doomed_in_turn, names_once, outer_cells, own_rings, rings_to_member, taken_with, with_those}
 use Rattle.dbtg_unit.specs.Legal.{Legal}
 use Rattle.dbtg_unit.proofs.ErasedLemmas.{reachable_is_least, set_of_member}
 use Rattle.dbtg_unit.proofs.LiveKeys.{In, any_in, any_element, all_at, in_filter, in_left, in_map, in_member, in_range, in_right, listed, of_filter, of_flat_map, of_map}
@@ -29,7 +29,22 @@ in_flattened f x y [] i j = absurd i
 in_flattened {X} f x y (z ∷ xs) (inl e) j = in_left y (f z) (flatten (map f xs)) (subst (λ (w : X). In y (f w)) (sym e) j)
 in_flattened f x y (z ∷ xs) (inr k) j = in_right y (f z) (flatten (map f xs)) (in_flattened f x y xs k j)
 
-once_all : (p : CellName → Bool) (met cs : List CellName) → list_all p cs ≡ true → list_all p (names_once met cs) ≡ true
+-- what passes brings along what passes
+those_all : (p : DbKey → Bool) (order xs : List DbKey) → list_all p order ≡ true → list_all p xs ≡ true → list_all p (with_those order xs) ≡ true
+those_all p order [] h g = h
+those_all p order (x ∷ xs) h g =
+    let gs = and_parts _ _ g in
+    those_all p (if is_member x order then order else order ++ x ∷ []) xs (cond_both (is_member x order) order (order ++ x ∷ []) (λ ks. list_all p ks ≡ true) (λ e. h) (λ e. all_join p order (x ∷ []) h (and_from _ _ gs.0 refl))) gs.1
+
+pub brought_all : (p : DbKey → Bool) (taken : DbKey → List DbKey) → ((d : DbKey) → p d ≡ true → list_all p (taken d) ≡ true) → (n i : ℕ) (order : List DbKey) → list_all p order ≡ true → list_all p (brought taken n i order) ≡ true
+brought_all p taken t zero i order h = h
+brought_all p taken t (suc n) i order h = brought_all p taken t n (suc i) (brought_from taken order (slice_get order i)) (from (slice_get order i) refl)
+  where
+    from : (o : Option DbKey) → slice_get order i ≡ o → list_all p (brought_from taken order o) ≡ true
+    from None e = h
+    from (Some d) e = those_all p order _ h (t d (all_at p d order h (slice_in order i d e)))
+
+pub once_all : (p : CellName → Bool) (met cs : List CellName) → list_all p cs ≡ true → list_all p (names_once met cs) ≡ true
 once_all p met [] h = refl
 once_all p met (c ∷ cs) h = let hs = and_parts _ _ h in cond_both (list_any (name_eq c) met) _ _ (λ ds. list_all p ds ≡ true) (λ e. once_all p met cs hs.1) (λ e. and_from _ _ hs.0 (once_all p (c ∷ met) cs hs.1))
 
@@ -77,22 +92,8 @@ module _ (schema : Lists) (capacity : ℕ) (db : Database) (legal : Legal schema
 
   -- THE DOOMED ARE REACHED
 
-  those_reached : (order xs : List DbKey) → list_all reached_key order ≡ true → list_all reached_key xs ≡ true → list_all reached_key (with_those order xs) ≡ true
-  those_reached order [] h g = h
-  those_reached order (x ∷ xs) h g =
-      let gs = and_parts _ _ g in
-      those_reached (if is_member x order then order else order ++ x ∷ []) xs (cond_both (is_member x order) order (order ++ x ∷ []) (λ ks. list_all reached_key ks ≡ true) (λ e. h) (λ e. all_join reached_key order (x ∷ []) h (and_from _ _ gs.0 refl))) gs.1
-
   taken_reached : (option : Erase) (d : DbKey) → reached d.rtype ≡ true → list_all reached_key (taken_with schema capacity db option d) ≡ true
   taken_reached option d h = all_flat reached_key _ (set_numbers schema) (λ s i. all_each reached_key _ (λ m j. members_reached s d m h (of_filter (takes schema capacity db option s (Rec d)) m _ j).0))
-
-  spread_reached : (option : Erase) (n i : ℕ) (order : List DbKey) → list_all reached_key order ≡ true → list_all reached_key (spread schema capacity db option n i order) ≡ true
-  spread_reached option zero i order h = h
-  spread_reached option (suc n) i order h = spread_reached option n (suc i) (spread_from schema capacity db option order (slice_get order i)) (from (slice_get order i) refl)
-    where
-      from : (o : Option DbKey) → slice_get order i ≡ o → list_all reached_key (spread_from schema capacity db option order o) ≡ true
-      from None e = h
-      from (Some d) e = those_reached order _ h (taken_reached option d (all_at reached_key d order h (slice_in order i d e)))
 
   -- THE CELLS
 
@@ -148,7 +149,7 @@ module _ (schema : Lists) (capacity : ℕ) (db : Database) (legal : Legal schema
       gone = doomed_in_turn schema capacity db option k
 
       gone_reached : list_all reached_key gone ≡ true
-      gone_reached = spread_reached option (length (all_keys schema capacity db)) 0 (k ∷ []) (and_from _ _ here refl)
+      gone_reached = brought_all reached_key (taken_with schema capacity db option) (taken_reached option) (length (all_keys schema capacity db)) 0 (k ∷ []) (and_from _ _ here refl)
 
       all_lie : list_all (lies_in schema areas) (slot_name k ∷ own_rings schema k ++ flat_map (cells_of_doomed schema db) gone ++ outer_cells schema capacity db gone) ≡ true
       all_lie =

@@ -12,7 +12,7 @@ use Rattle.dbtg_unit.specs.declared.unit.Cause.{Cause}
 use Rattle.dbtg_unit.specs.Found.{chosen, chosen_by_key, earlier, found_unless, later, with_current}
 use Rattle.dbtg_unit.proofs.LiveKeys.{In, of_append, of_filter}
 
-first_in : {X : Type 0} (xs : List X) (x : X) → first xs ≡ Some x → In x xs
+pub first_in : {X : Type 0} (xs : List X) (x : X) → first xs ≡ Some x → In x xs
 first_in [] x e = absurd (cc (e))
 first_in (y ∷ ys) x e = inl (same_Some y x e)
 

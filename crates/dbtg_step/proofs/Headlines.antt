@@ -132,13 +132,13 @@ module _ (schema : Lists) (capacity : ℕ) (scripts : List (List Statement)) (le
   }
 
   module _ (facts : IsSequentialDatabase (network schema capacity)) (moves : List Move) where
-    abbrev first : SequentialState (network schema capacity)
+    abbrev pub first : SequentialState (network schema capacity)
     first = opening_of schema capacity (length scripts)
 
-    abbrev last : State (network schema capacity)
+    abbrev pub last : State (network schema capacity)
     last = machine_after schema capacity scripts moves
 
-    lawful : Lawful (network schema capacity) first last
+    pub lawful : Lawful (network schema capacity) first last
     unfolding machine_after
     lawful = run_keeps (network schema capacity) facts first (machine_of schema capacity scripts) moves (opening_is_lawful (network schema capacity) facts first (machine_of schema capacity scripts) machine_is_opening)
 

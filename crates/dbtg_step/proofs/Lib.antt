@@ -32,9 +32,12 @@ mod StableCells
 mod CellsAscend
 mod TakingOrder
 mod SoundSchemas
+mod CellsExist
 mod StatementsLocal
 mod NetworkFacts
 mod TurnsBack
+mod GuessesKept
+mod NeededCellsExist
 mod PlacesOfCells
 mod EventsShown
 mod NeedsShown

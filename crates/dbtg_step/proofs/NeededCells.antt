@@ -1,5 +1,5 @@
 -- A cell that a statement needs lies in an area that it holds.
-use Rattle.std.proofs.Common.{◌≡◌, refl, sym, ◌∙◌, subst, ℕ, zero, suc, ◌<◌, Bool, true, false, not, eqb, ◌&&◌, List, [], ◌∷◌, length, map, Option, Some, None, inl, inr, arith}
+use Rattle.std.proofs.Common.{◌≡◌, refl, sym, ◌∙◌, ap, subst, ℕ, zero, suc, ◌<◌, Bool, true, false, not, eqb, ◌&&◌, List, [], ◌∷◌, length, map, Option, Some, None, inl, inr, arith}
 use Rattle.std.specs.Prelude.{is_some, is_none, nat_lt, option_map, option_and_then, unwrap_or, ◌==◌}
 use Rattle.std.specs.List.{list_any, list_all, find}
 use Rattle.std.proofs.lemmas.Bool.{and_parts, and_from, or_cases, false≢true, eqb-true, ltb-true, lt-ltb}
@@ -19,14 +19,15 @@ use Rattle.dbtg_unit.specs.declared.unit.Cause.TheVariants.{AreaAlreadyOpen, Are
 use Rattle.dbtg_unit.specs.declared.unit.Unit.{Unit}
 use Rattle.dbtg_unit.specs.Base.{Database}
 use Rattle.dbtg_unit.specs.Belongs.{IsUnitOf, is_key_of}
-use Rattle.dbtg_unit.specs.Checks.{area_of_current, areas_of, changes_records, find_areas, frees_what_is_not_kept, is_beyond, is_inserting_mandatory_automatic, is_open_statement, is_opening_again, is_removing_mandatory, is_update, lacks_current, refused_at_once}
+use Rattle.dbtg_unit.specs.Checks.{accepts_type, area_of_current, areas_of, changes_records, current_type, find_areas, frees_what_is_not_kept, is_beyond, is_inserting_mandatory_automatic, is_open_statement, is_opening_again, is_removing_mandatory, is_update, lacks_current, needs_current, refused_at_once}
 use Rattle.dbtg_unit.specs.Erasing.{delete_cells_of}
 use Rattle.dbtg_unit.specs.Fits.{fits, form_fits, if_named}
 use Rattle.dbtg_unit.specs.Legal.{Legal}
-use Rattle.dbtg_unit.specs.LegalWith.{LegalWith}
+use Rattle.dbtg_unit.specs.LegalWith.{IsUnitIn, LegalWith}
+use Rattle.dbtg_unit.proofs.CheckLemmas.{passes}
 use Rattle.dbtg_unit.specs.Needs.{areas_in_order, cells_of}
 use Rattle.dbtg_unit.specs.Units.{key_of_place, place_in}
-use Rattle.dbtg_unit.proofs.LiveKeys.{In as Element, all_at, any_element, find_element, in_filter, in_range}
+use Rattle.dbtg_unit.proofs.LiveKeys.{In as Element, all_at, any_element, find_element, in_filter, in_range, none_is}
 use Rattle.dbtg_step.specs.SequentialDatabase.{HeldCell, NeedsCell, In, MayMake, unit_at}
 use Rattle.dbtg_unit.specs.CellNames.{area_of_cell}
 use Rattle.dbtg_step.specs.Network.{network}
@@ -86,11 +87,11 @@ module _ (schema : Lists) (suits : SuitsMachine schema) where
   areas_known unit Keep f = current_known unit.currency.run_unit
   areas_known unit (Free all) f = refl
 
--- the second of some checks was passed
-second_passed : (b c : Bool) (p q : Cause) (rest : List (Bool × Cause)) → is_some (first_cause ((b, p) ∷ (c, q) ∷ rest)) ≡ false → c ≡ false
-second_passed true c p q rest e = absurd (false≢true (sym e))
-second_passed false true p q rest e = absurd (false≢true (sym e))
-second_passed false false p q rest e = refl
+-- where no check refuses, each was passed
+passed : (checks : List (Bool × Cause)) → first_cause checks ≡ None → (check : Bool × Cause) → Element check checks → check.0 ≡ false
+passed [] e check i = absurd i
+passed (c ∷ checks) e check (inl q) = ap (λ (d : Bool × Cause). d.0) (sym q) ∙ (passes c checks e).0
+passed (c ∷ checks) e check (inr i) = passed checks (passes c checks e).1 check i
 
 find_skips : {X : Type 0} (p : X → Bool) (y : X) (ys : List X) (b : Bool) → p y ≡ b → find p (y ∷ ys) ≡ None → (p y ≡ false) × (find p ys ≡ None)
 find_skips p y ys true h e = absurd (cc (e, h))
@@ -110,10 +111,11 @@ pub not_false : (b : Bool) → not b ≡ false → b ≡ true
 not_false true h = refl
 not_false false h = absurd (false≢true (sym h))
 
--- the checks behind those two
-abbrev later_checks : Lists → ℕ → Unit → Statement → List (Bool × Cause)
-later_checks schema capacity unit x =
-    (is_inserting_mandatory_automatic schema unit x, MandatoryAutomatic) ∷ (is_removing_mandatory schema unit x, Mandatory) ∷ (is_opening_again unit x, AreaAlreadyOpen) ∷ (lacks_current schema unit x, NoSuchCurrent)
+-- the checks that need no cell
+abbrev checks_at_once : Lists → ℕ → Unit → Statement → List (Bool × Cause)
+checks_at_once schema capacity unit x =
+    (needs_current x && is_none unit.currency.run_unit, NoCurrentOfRunUnit) ∷ (some_and (λ t. not (accepts_type schema x t)) (current_type unit), OtherRecordType)
+    ∷ (is_inserting_mandatory_automatic schema unit x, MandatoryAutomatic) ∷ (is_removing_mandatory schema unit x, Mandatory) ∷ (is_opening_again unit x, AreaAlreadyOpen) ∷ (lacks_current schema unit x, NoSuchCurrent)
     ∷ (not (is_open_statement x) && list_any (λ a. is_none (at unit.modes a)) (areas_of schema unit x), AreaNotOpen)
     ∷ (changes_records x && list_any (λ a. not (some_and is_update (at unit.modes a))) (areas_of schema unit x), UpdateModeNeeded)
     ∷ (is_beyond capacity x, NoneSatisfies) ∷ (frees_what_is_not_kept unit x, NotKept) ∷ []
@@ -121,15 +123,22 @@ later_checks schema capacity unit x =
 -- a MODIFY that is not refused at once is of a current of its type
 current_of_type : (schema : Lists) (capacity : ℕ) (unit : Unit) (t : ℕ) (changes : _) → is_some (refused_at_once schema capacity unit (Modify t changes)) ≡ false → (k : DbKey) → unit.currency.run_unit ≡ Some k → k.rtype ≡ t
 current_of_type schema capacity unit t changes r k h =
-    let passed : some_and (λ u. not (u == t)) (option_map (λ (y : DbKey). y.rtype) unit.currency.run_unit) ≡ false = second_passed (is_none unit.currency.run_unit) (some_and (λ u. not (u == t)) (option_map (λ (y : DbKey). y.rtype) unit.currency.run_unit)) NoCurrentOfRunUnit OtherRecordType (later_checks schema capacity unit (Modify t changes)) r in
-    eqb-true k.rtype t (not_false (k.rtype == t) (subst (λ o. some_and (λ u. not (u == t)) (option_map (λ (y : DbKey). y.rtype) o) ≡ false) h passed))
+    let of_type : some_and (λ u. not (u == t)) (option_map (λ (y : DbKey). y.rtype) unit.currency.run_unit) ≡ false = passed (checks_at_once schema capacity unit (Modify t changes)) (none_is _ r) (some_and (λ u. not (u == t)) (option_map (λ (y : DbKey). y.rtype) unit.currency.run_unit), OtherRecordType) (inr (inl refl)) in
+    eqb-true k.rtype t (not_false (k.rtype == t) (subst (λ o. some_and (λ u. not (u == t)) (option_map (λ (y : DbKey). y.rtype) o) ≡ false) h of_type))
+
+-- a FIND KEY that is not refused at once is not beyond the capacity
+pub not_beyond : (schema : Lists) (capacity : ℕ) (unit : Unit) (x : Statement) → is_some (refused_at_once schema capacity unit x) ≡ false → is_beyond capacity x ≡ false
+not_beyond schema capacity unit x r = passed (checks_at_once schema capacity unit x) (none_is _ r) (is_beyond capacity x, NoneSatisfies) (inr (inr (inr (inr (inr (inr (inr (inr (inl refl)))))))))
 
 module _ (schema : Lists) (capacity : ℕ) where
   -- a unit of a legal database is of the schema
-  pub unit_of_schema : (db : Database) (units : List Unit) (u : ℕ) (unit : Unit) → LegalWith schema capacity db units → unit_at units u ≡ Some unit → IsUnitOf schema unit
+  pub unit_is_in : (db : Database) (units : List Unit) (u : ℕ) (unit : Unit) → LegalWith schema capacity db units → unit_at units u ≡ Some unit → IsUnitIn schema capacity db u unit
   unfolding unit_at
-  unit_of_schema db units zero unit legal e = absurd (cc (e))
-  unit_of_schema db units (suc i) unit legal e = (legal.each i unit e).of_schema
+  unit_is_in db units zero unit legal e = absurd (cc (e))
+  unit_is_in db units (suc i) unit legal e = legal.each i unit e
+
+  pub unit_of_schema : (db : Database) (units : List Unit) (u : ℕ) (unit : Unit) → LegalWith schema capacity db units → unit_at units u ≡ Some unit → IsUnitOf schema unit
+  unit_of_schema db units u unit legal e = (unit_is_in db units u unit legal e).of_schema
 
   all_cells_lie : (db : Database) (unit : Unit) (g : List (Option Owner)) (x : Statement) → Legal schema capacity db → IsUnitOf schema unit → fits schema x ≡ true → is_some (refused_at_once schema capacity unit x) ≡ false →
       list_all (lies_in schema (areas_of schema unit x)) (cells_of schema capacity db unit g x) ≡ true

@@ -6,7 +6,8 @@ use Rattle.std.proofs.lemmas.Bool.{false≢true, false_from_ne_true, eqb-true}
 use Rattle.dbtg_schema.specs.Lists.{Lists}
 use Rattle.dbtg_schema.specs.Lookups.{some_and}
 use Rattle.dbtg_schema.specs.Sound.{IsSound, IsSoundSet}
-use Rattle.dbtg_schema.specs.WellFormed.{IsRecordType}
+use Rattle.dbtg_schema.specs.Structure.{owns}
+use Rattle.dbtg_schema.specs.WellFormed.{IsRecordType, IsSetType}
 use Rattle.dbtg_schema.specs.declared.shape.Member.{Member}
 use Rattle.dbtg_schema.specs.declared.shape.RecordType.{RecordType}
 use Rattle.dbtg_schema.specs.declared.shape.SetType.{SetType}
@@ -36,6 +37,18 @@ module _ (schema : Lists) (sound : IsSound schema) where
       → is_some (option_and_then (λ set. find (λ m. eqb m.rtype t) set.members) o) ≡ false
   of_set s t None is owns_t = absurd (false≢true owns_t)
   of_set s t (Some set) is owns_t = of_owner set.members t set.owner (at_entry (IsSoundSet schema) schema.sets s set sound.sets is).owner_is_no_member owns_t
+
+  type_of_owner : (t : ℕ) (owner : Option ℕ) → IfSome owner (λ o. o < length schema.types) → some_and (λ o. eqb o t) owner ≡ true → t < length schema.types
+  type_of_owner t None known owns_t = absurd (false≢true owns_t)
+  type_of_owner t (Some o) known owns_t = subst (λ u. u < length schema.types) (eqb-true o t owns_t) known
+
+  type_of_set : (s t : ℕ) (o : Option SetType) → slice_get schema.sets s ≡ o → some_and (λ owner. eqb owner t) (option_and_then (λ set. set.owner) o) ≡ true → t < length schema.types
+  type_of_set s t None is owns_t = absurd (false≢true owns_t)
+  type_of_set s t (Some set) is owns_t = type_of_owner t set.owner (at_entry (IsSetType schema) schema.sets s set sound.limits.sets is).owner owns_t
+
+  -- the owner type of a set is a record type of the schema
+  pub owner_is_type : (s t : ℕ) → owns schema s t ≡ true → t < length schema.types
+  owner_is_type s t h = type_of_set s t (slice_get schema.sets s) refl h
 
   -- each record type lies in an area, and no record type is owner and member of one set
   pub suits_machine : SuitsMachine schema

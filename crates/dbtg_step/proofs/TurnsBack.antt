@@ -34,7 +34,7 @@ use Rattle.dbtg_step.proofs.NetworkNeeds.{is_area_left, is_not_held, reads_area,
 -- THE TRUE OWNERS
 
 -- the guess in a set, with owners noted
-noted_at : (gs os : List (Option Owner)) (s : ℕ) → at (with_owners gs os) s ≡ option_or (at os s) (at gs s)
+pub noted_at : (gs os : List (Option Owner)) (s : ℕ) → at (with_owners gs os) s ≡ option_or (at os s) (at gs s)
 noted_at [] os s = go (at os s)
   where
     go : (o : Option Owner) → o ≡ option_or o None
@@ -152,7 +152,7 @@ module _ (schema : Lists) (capacity : ℕ) (db : Database) (unit : Unit) (x : St
       omega (arith, less)
 
   -- what decided for a turn back
-  reads_stale : (others : List (Option Owner)) → (network schema capacity).need db unit x g areas cells ≡ StaleGuesses others → (is_stale schema capacity db unit g x ≡ true) × (with_owners g (stale_owners schema capacity db unit g x) ≡ others)
+  pub reads_stale : (others : List (Option Owner)) → (network schema capacity).need db unit x g areas cells ≡ StaleGuesses others → (is_stale schema capacity db unit g x ≡ true) × (with_owners g (stale_owners schema capacity db unit g x) ≡ others)
   unfolding need
   reads_stale others e = chose (is_some (refused_at_once schema capacity unit x)) (find (is_area_left areas) (areas_in_order schema unit x)) (find (is_not_held cells) (cells_of schema capacity db unit g x)) (is_stale schema capacity db unit g x) (stale_owners schema capacity db unit g x) e
     where

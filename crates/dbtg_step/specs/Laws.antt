@@ -1,8 +1,9 @@
 -- The laws of the machine over the network database of a schema.
-use Rattle.std.specs.Prelude.{ℕ, ◌≡◌, ◌++◌, Bool, true, List, Option, Some, map, length}
+use Rattle.std.specs.Prelude.{ℕ, ◌≡◌, ◌++◌, Bool, true, List, ◌∷◌, Option, Some, map, length}
 use Rattle.std.specs.List.{list_all}
 use Rattle.dbtg_schema.specs.Lists.{Lists}
 use Rattle.dbtg_cells.specs.declared.name.CellName.{CellName}
+use Rattle.dbtg_cells.specs.CellNumbers.{is_cell}
 use Rattle.dbtg_cells.specs.Names.{name_lt}
 use Rattle.dbtg_cells.specs.Shown.{CellValue}
 use Rattle.dbtg_unit.specs.declared.statement.Statement.{Statement}
@@ -15,7 +16,7 @@ use Rattle.dbtg_unit.specs.Image.{image_of}
 use Rattle.dbtg_step.specs.declared.moves.Move.{Move}
 use Rattle.dbtg_step.specs.SequentialDatabase.{HeldCell, NeedsCell, In, MayMake, NamesCells, unit_at}
 use Rattle.dbtg_step.specs.Machine.{UnitState, Progress, State, SequentialState, HistoryEntry, replay}
-use Rattle.dbtg_step.specs.Step.{transition, MovedTo, run}
+use Rattle.dbtg_step.specs.Step.{transition, MovedTo, next_need, run}
 use Rattle.dbtg_step.specs.Lawful.{Lawful, IsOpening, ImageHas}
 use Rattle.dbtg_step.specs.NeverStuck.{SomeUnitMoves, NeedsInOrder}
 use Rattle.dbtg_step.specs.EventCount.{EventsAreCounted}
@@ -96,3 +97,12 @@ pub record NeedsAreInOrder (schema : Lists) (capacity : ℕ) : Type 0 where
   pub in_area : (db : Database) (units : List Unit) (u : ℕ) (unit : Unit) (statement : Statement) (guesses : List (Option Owner)) (areas : List ℕ) (cells : List (HeldCell CellName CellValue)) (c : CellName) →
       MayMake (network schema capacity) db units u unit statement → (network schema capacity).need db unit statement guesses areas cells ≡ NeedsCell c → In (area_of_cell schema c) areas
   pub in_order : NeedsInOrder (network schema capacity) name_lt
+
+-- each cell that a statement needs in any run, for what its unit holds, is a cell of the schema at this capacity
+abbrev pub NeededCellsExist : Lists → ℕ → Type 0
+NeededCellsExist schema capacity =
+    (scripts : List (List Statement)) (moves : List Move) → scripts_fit schema scripts ≡ true →
+    (u : ℕ) (state : UnitState (network schema capacity)) (w : Progress (network schema capacity)) (x : Statement) (xs : List Statement) (c : CellName) →
+    unit_at (machine_after schema capacity scripts moves).units u ≡ Some state → state.progress ≡ Some w → state.remaining ≡ x ∷ xs →
+    next_need (network schema capacity) (opening_of schema capacity (length scripts)) (machine_after schema capacity scripts moves) state w x ≡ NeedsCell c →
+    is_cell schema capacity c ≡ true

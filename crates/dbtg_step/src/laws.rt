@@ -2,7 +2,7 @@
 ghost use Rattle.std.specs.Prelude.{ℕ};
 ghost use Rattle.dbtg_schema.specs.Lists.{Lists};
 ghost use Rattle.dbtg_schema.specs.Sound.{IsSound};
-ghost use Rattle.dbtg_step.specs.Laws.{EachEventKeepsLawful, EveryRunIsLawful, EveryImageIsOfItsHistory, MachineIsOpening, NoRunIsStuck, StatementsHaveTheirEvents, EveryRunExtendsHistory, EveryRunIsSequential, EverySerialRunIsARun, NeedsAreInOrder};
+ghost use Rattle.dbtg_step.specs.Laws.{EachEventKeepsLawful, EveryRunIsLawful, EveryImageIsOfItsHistory, MachineIsOpening, NoRunIsStuck, StatementsHaveTheirEvents, EveryRunExtendsHistory, EveryRunIsSequential, EverySerialRunIsARun, NeedsAreInOrder, NeededCellsExist};
 ghost use Rattle.dbtg_step.specs.TurningBack.{NeedsComeToAnEnd};
 
 /// Each event, of a step or a quit, leads from a lawful state to a lawful state: its history replays on the sequential
@@ -59,6 +59,11 @@ pub fn every_serial_run_is_a_run()
 /// then, of every statement but DELETE, cells in theirs, whatever other units do meanwhile to the cells that are not held.
 pub fn needs_are_in_order()
     ensures { (schema : Lists) (capacity : ℕ) → IsSound schema → NeedsAreInOrder schema capacity }
+{}
+
+/// After every list of moves each cell that a statement needs next is a cell of the schema at this capacity.
+pub fn needed_cells_exist()
+    ensures { (schema : Lists) (capacity : ℕ) → IsSound schema → NeededCellsExist schema capacity }
 {}
 
 /// On one database the needs of a statement come to an end: with the true owners noted no guess is stale, and a stated number

@@ -25,7 +25,8 @@ pub use image::{Image, Run};
 pub use laws::{
     each_event_keeps_lawful, every_image_is_of_its_history, every_run_extends_history,
     every_run_is_lawful, every_run_is_sequential, every_serial_run_is_a_run, machine_is_opening,
-    needs_are_in_order, needs_come_to_an_end, no_run_is_stuck, statements_have_their_events,
+    needed_cells_exist, needs_are_in_order, needs_come_to_an_end, no_run_is_stuck,
+    statements_have_their_events,
 };
 pub use machine::Core;
 pub use moves::{Move, Stepped};

@@ -26,8 +26,6 @@ mod reach;
 mod reserving;
 mod see;
 mod statement;
-#[cfg(test)]
-mod tests;
 mod unit;
 
 pub use apply::edit_cell;

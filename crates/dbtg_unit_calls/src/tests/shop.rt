@@ -1,9 +1,8 @@
 //! The shop of docs/profile/README.md: its schema, its keys, and the run-unit that opened it.
 
-use crate::kept::Kept;
-use crate::unit::{Currency, Place, Unit};
 use dbtg_cells::{DbKey, Mode, Owner};
 use dbtg_schema::{RecordNo, Row, Schema};
+use dbtg_unit::{Currency, Kept, Place, Unit};
 use std::alloc::{AllocError, Global};
 
 const SHOP: &str =

@@ -1,10 +1,9 @@
 //! What a record that was found makes current, by docs/profile/currency.md, and where a unit stands in a set.
 
 use super::shop::{beginning, customer, item, opened, order, place, shop};
-use crate::statement::Suppress;
-use crate::unit::{Place, Unit};
 use dbtg_cells::{DbKey, Owner};
 use dbtg_schema::{Schema, SetNo};
+use dbtg_unit::{Place, Suppress, Unit};
 use std::test::*;
 
 fn suppress(types: bool, areas: bool, sets: u16) -> Suppress {

@@ -1,13 +1,12 @@
 //! What a MODIFY names in the shop, where a STORE connects, and the first two digits of each statement's refusals.
 
 use super::shop::shop;
-use crate::areas::is_automatic_in;
-use crate::changes::{is_rekeyed_in, names_calc, names_item};
-use crate::counts::{set_count, type_count};
-use crate::entries::entry_at;
-use crate::statement::{Change, Erase, Form, Statement, Suppress};
 use dbtg_cells::{Mode, Value};
 use dbtg_schema::{AreaNo, ItemNo, RecordNo, Row, Schema, SetNo};
+use dbtg_unit::{
+    Change, Erase, Form, Statement, Suppress, entry_at, is_automatic_in, is_rekeyed_in, names_calc,
+    names_item, set_count, type_count,
+};
 use std::alloc::Global;
 use std::test::*;
 

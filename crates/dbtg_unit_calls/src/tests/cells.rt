@@ -1,10 +1,9 @@
 //! What is in hand: guesses, and more areas and cells than are held in place.
 
 use super::key;
-use crate::held::Held;
-use crate::owners::Owners;
 use dbtg_cells::{Cell, CellName, Owner, Ring};
 use dbtg_schema::{AreaNo, RecordNo, SetNo};
+use dbtg_unit::{Held, Owners};
 use std::alloc::Global;
 use std::test::*;
 

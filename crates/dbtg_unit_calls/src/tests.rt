@@ -1,25 +1,25 @@
 //! Public calls, made once with memory to spare. The numbers of a status are those of docs/profile/statuses.md.
 
-use crate::held::Held;
-use crate::kept::Kept;
-use crate::owners::Owners;
-use crate::statement::{Form, Statement, Suppress};
-use crate::unit::{Cause, Status};
 use dbtg_cells::{Cell, CellName, DbKey, Owner, Usage};
 use dbtg_schema::{AreaNo, RecordNo};
+use dbtg_unit::{Cause, Form, Held, Kept, Owners, Statement, Status, Suppress};
 use std::test::*;
 
+mod areas;
 mod cells;
 mod copies;
 mod edits;
+mod finishing;
 mod fits;
 mod hands;
 mod in_hand;
 mod naming;
 mod prepared;
+mod refusals;
 mod ring_edits;
 mod seeing;
 mod shop;
+mod statements;
 mod units;
 
 fn key(number: u32, generation: u8) -> DbKey {

@@ -1,11 +1,12 @@
 //! A copy of each kind, made with memory to spare, says what its original says.
 
 use super::key;
-use crate::kept::Kept;
-use crate::statement::{Change, Erase, Form, Statement, Suppress, Which};
-use crate::unit::{Answer, Cause, Currency, Entry, Place, Status, Unit};
 use dbtg_cells::{Mode, Owner, Value};
 use dbtg_schema::{AreaNo, ItemNo, RecordNo, Row, SetNo};
+use dbtg_unit::{
+    Answer, Cause, Change, Currency, Entry, Erase, Form, Kept, Place, Statement, Status, Suppress,
+    Unit, Which,
+};
 use std::alloc::{AllocError, Global};
 use std::test::*;
 

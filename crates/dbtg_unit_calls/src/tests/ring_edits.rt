@@ -9,10 +9,9 @@ ghost use Rattle.dbtg_cells.specs.Members.{keys_in, members_in, with_members};
 ghost use Rattle.dbtg_cells.specs.Placed.{placed, Back};
 ghost use Rattle.dbtg_unit.specs.CanEdit.{CanPlace, parts_by};
 
-use crate::apply::edit_cell;
-use crate::edit::Edit;
 use dbtg_cells::{Cell, DbKey, Owner, Ring, Slot, Value};
 use dbtg_schema::{Duplicates, Order, RecordNo};
+use dbtg_unit::{Edit, edit_cell};
 use std::alloc::{AllocError, Global};
 use std::process::Abort;
 use std::test::*;

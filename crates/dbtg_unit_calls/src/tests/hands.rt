@@ -1,10 +1,9 @@
 //! Hands that count what they hold, lend a cell to be written, and are given guesses anew.
 
 use super::key;
-use crate::held::Held;
-use crate::owners::Owners;
 use dbtg_cells::{Cell, CellName, DbKey, Mode, Owner, Usage};
 use dbtg_schema::{AreaNo, SetNo};
+use dbtg_unit::{Held, Owners};
 use std::alloc::{AllocError, Global};
 use std::process::Abort;
 use std::test::*;

@@ -1,9 +1,9 @@
 //! Which statements are of the shop: the numbers, names and values of docs/profile/scripts.md and data.md.
 
 use super::shop::{customer, item, shop};
-use crate::statement::{Change, Form, Statement, Suppress, Which};
 use dbtg_cells::{DbKey, Mode, Value};
 use dbtg_schema::{AreaNo, ItemNo, RecordNo, Row, Schema, SetNo};
+use dbtg_unit::{Change, Form, Statement, Suppress, Which};
 use std::alloc::{AllocError, Global};
 use std::test::*;
 

@@ -1,11 +1,9 @@
 //! What changes of a unit, by docs/profile/currency.md and docs/profile/keeping.md.
 
 use super::key;
-use crate::kept::Kept;
-use crate::statement::Suppress;
-use crate::unit::{Currency, Place, Unit};
 use dbtg_cells::{DbKey, Mode, Owner};
 use dbtg_schema::{AreaNo, Row, SetNo};
+use dbtg_unit::{Currency, Kept, Place, Suppress, Unit};
 use std::alloc::{AllocError, Global};
 use std::test::*;
 

@@ -2,12 +2,9 @@
 
 use super::key;
 use super::units::opening;
-use crate::held::Held;
-use crate::in_hand::{numbers, occurrence, own_refusal, stored, usage};
-use crate::owners::Owners;
-use crate::unit::{Cause, Unit};
 use dbtg_cells::{Cell, CellName, DbKey, Extent, Owner, Ring, Slot, Usage};
 use dbtg_schema::{AreaNo, RecordNo, Row, SetNo};
+use dbtg_unit::{Cause, Held, Owners, Unit, numbers, occurrence, own_refusal, stored, usage};
 use std::alloc::{AllocError, Global};
 use std::test::*;
 

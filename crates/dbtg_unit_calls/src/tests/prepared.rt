@@ -6,14 +6,12 @@ ghost use Rattle.dbtg_unit.specs.Making.{CanMake};
 
 use super::key;
 use super::units::opening;
-use crate::edit::{CellEdit, Edit, UnitEdit};
-use crate::held::Held;
-use crate::owners::Owners;
-use crate::prepared::{Prepared, finish, has_next_versions};
-use crate::reserving::{reserve_member, reserve_user};
-use crate::unit::{Answer, Place, Status, Unit};
 use dbtg_cells::{Cell, CellName, Owner, Ring, Slot, Usage};
 use dbtg_schema::{AreaNo, RecordNo, Row, Schema, SetNo};
+use dbtg_unit::{
+    Answer, CellEdit, Edit, Held, Owners, Place, Prepared, Status, Unit, UnitEdit, finish,
+    has_next_versions, reserve_member, reserve_user,
+};
 use std::alloc::{AllocError, Global};
 use std::test::*;
 

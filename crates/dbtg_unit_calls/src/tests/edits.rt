@@ -1,10 +1,9 @@
 //! Edits of usage lists, extents, slots and of rings as a whole, each made of a cell of its kind, by docs/profile/statements.md.
 
 use super::key;
-use crate::apply::edit_cell;
-use crate::edit::Edit;
 use dbtg_cells::{Cell, DbKey, Extent, Mode, Owner, Ring, Slot, Stored, Usage, Value};
 use dbtg_schema::{RecordNo, Row, SetNo};
+use dbtg_unit::{Edit, edit_cell};
 use std::alloc::{AllocError, Global};
 use std::process::Abort;
 use std::test::*;
