@@ -8,8 +8,6 @@ mod fault;
 mod files;
 mod reading;
 mod replay;
-#[cfg(test)]
-mod tests;
 
 use clap::error::ErrorKind;
 use command::{Call, call_of};

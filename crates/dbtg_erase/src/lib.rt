@@ -7,8 +7,6 @@ mod laws;
 mod left;
 mod next;
 mod preparing;
-#[cfg(test)]
-mod tests;
 mod work_list;
 
 pub use laws::delete_is_determined;

@@ -17,8 +17,6 @@ mod role;
 mod sizes;
 mod spelling;
 mod statement;
-#[cfg(test)]
-mod tests;
 mod texts;
 mod token;
 mod values;

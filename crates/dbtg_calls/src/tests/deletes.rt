@@ -1,7 +1,7 @@
 //! The cells of a DELETE, named one after another until it needs no more.
 
-use crate::next_need;
 use dbtg_cells::{Cell, CellName, DbKey, Extent, Mode, Owner, Ring, Slot, Usage};
+use dbtg_erase::next_need;
 use dbtg_schema::{AreaNo, RecordNo, Row, Schema, SetNo};
 use dbtg_unit::{Currency, Erase, Held, Kept, Need, Owners, Unit};
 use std::alloc::{AllocError, Global};

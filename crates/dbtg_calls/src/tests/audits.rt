@@ -2,9 +2,9 @@
 //! printed-texts.md.
 ghost use Rattle.dbtg_schema.specs.Sound.{IsSound};
 
-use crate::audit;
 use dbtg_cells::Mode;
 use dbtg_schema::{AreaNo, Schema};
+use dbtg_step::audit;
 use dbtg_unit::{Answer, Cause, Entry, Statement, Status};
 use std::alloc::Global;
 use std::test::*;
