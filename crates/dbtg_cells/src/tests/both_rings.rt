@@ -2,6 +2,29 @@
 
 use super::*;
 
+/// A linked ring, and a plain one to which the same is done.
+#[derive(Drop)]
+pub(super) struct Both {
+    pub(super) linked: Ring,
+    pub(super) plain: PlainRing,
+}
+
+pub(super) fn opened(alloc: Global, owner: &Owner) -> Both {
+    let mut both = Both {
+        linked: Ring::absent(alloc),
+        plain: PlainRing::absent(alloc),
+    };
+    both.linked.open(*owner);
+    both.plain.open(*owner);
+    both
+}
+
+pub(super) fn closed(both: &mut Both) -> bool {
+    both.linked.close();
+    both.plain.close();
+    !both.linked.is_present() && !both.plain.is_present()
+}
+
 /// Members of three types.
 fn member(number: u32) -> DbKey {
     DbKey {
@@ -27,258 +50,207 @@ fn sort_key(sort: &Option<u64>) -> Option<Value> {
     }
 }
 
-pub(super) fn reserve(
-    rt: &impl Abort,
-    linked: &mut Ring,
-    plain: &mut PlainRing,
-    key: &DbKey,
-) -> Result<(), AllocError> {
-    assert!(rt; !linked.contains(*key) && !plain.contains(*key));
-    linked.reserve_place(*key)?;
-    plain.reserve_place(*key)
+pub(super) fn reserve(rt: &impl Abort, both: &mut Both, key: &DbKey) -> Result<(), AllocError> {
+    assert!(rt; !both.linked.contains(*key) && !both.plain.contains(*key));
+    both.linked.reserve_place(*key)?;
+    both.plain.reserve_place(*key)
 }
 
-pub(super) fn first_in_both(
-    rt: &impl Abort,
-    linked: &mut Ring,
-    plain: &mut PlainRing,
-    key: &DbKey,
-    sort: &Option<u64>,
-) {
-    assert!(rt; linked.is_present() && linked.has_room(*key));
-    assert!(rt; plain.is_present() && plain.has_room(*key));
-    linked.place_first(*key, sort_key(sort));
-    plain.place_first(*key, sort_key(sort));
+pub(super) fn first_in_both(rt: &impl Abort, both: &mut Both, key: &DbKey, sort: &Option<u64>) {
+    assert!(rt; both.linked.is_present() && both.linked.has_room(*key));
+    assert!(rt; both.plain.is_present() && both.plain.has_room(*key));
+    both.linked.place_first(*key, sort_key(sort));
+    both.plain.place_first(*key, sort_key(sort));
 }
 
-pub(super) fn last_in_both(
-    rt: &impl Abort,
-    linked: &mut Ring,
-    plain: &mut PlainRing,
-    key: &DbKey,
-    sort: &Option<u64>,
-) {
-    assert!(rt; linked.is_present() && linked.has_room(*key));
-    assert!(rt; plain.is_present() && plain.has_room(*key));
-    linked.place_last(*key, sort_key(sort));
-    plain.place_last(*key, sort_key(sort));
+pub(super) fn last_in_both(rt: &impl Abort, both: &mut Both, key: &DbKey, sort: &Option<u64>) {
+    assert!(rt; both.linked.is_present() && both.linked.has_room(*key));
+    assert!(rt; both.plain.is_present() && both.plain.has_room(*key));
+    both.linked.place_last(*key, sort_key(sort));
+    both.plain.place_last(*key, sort_key(sort));
 }
 
 pub(super) fn after_in_both(
     rt: &impl Abort,
-    linked: &mut Ring,
-    plain: &mut PlainRing,
+    both: &mut Both,
     other: &DbKey,
     key: &DbKey,
     sort: &Option<u64>,
 ) {
-    assert!(rt; linked.contains(*other) && linked.has_room(*key));
-    assert!(rt; plain.contains(*other) && plain.has_room(*key));
-    linked.place_after(*other, *key, sort_key(sort));
-    plain.place_after(*other, *key, sort_key(sort));
+    assert!(rt; both.linked.contains(*other) && both.linked.has_room(*key));
+    assert!(rt; both.plain.contains(*other) && both.plain.has_room(*key));
+    both.linked.place_after(*other, *key, sort_key(sort));
+    both.plain.place_after(*other, *key, sort_key(sort));
 }
 
 fn before_in_both(
     rt: &impl Abort,
-    linked: &mut Ring,
-    plain: &mut PlainRing,
+    both: &mut Both,
     other: &DbKey,
     key: &DbKey,
     sort: &Option<u64>,
 ) {
-    assert!(rt; linked.contains(*other) && linked.has_room(*key));
-    assert!(rt; plain.contains(*other) && plain.has_room(*key));
-    linked.place_before(*other, *key, sort_key(sort));
-    plain.place_before(*other, *key, sort_key(sort));
+    assert!(rt; both.linked.contains(*other) && both.linked.has_room(*key));
+    assert!(rt; both.plain.contains(*other) && both.plain.has_room(*key));
+    both.linked.place_before(*other, *key, sort_key(sort));
+    both.plain.place_before(*other, *key, sort_key(sort));
 }
 
 pub(super) fn sorted_in_both(
     rt: &impl Abort,
-    linked: &mut Ring,
-    plain: &mut PlainRing,
+    both: &mut Both,
     ascending: bool,
     duplicates: Duplicates,
     key: &DbKey,
     sort: &Option<u64>,
 ) {
-    assert!(rt; linked.is_present() && linked.has_room(*key));
-    assert!(rt; plain.is_present() && plain.has_room(*key));
-    linked.place_sorted(ascending, duplicates, *key, sort_key(sort));
-    plain.place_sorted(ascending, duplicates, *key, sort_key(sort));
+    assert!(rt; both.linked.is_present() && both.linked.has_room(*key));
+    assert!(rt; both.plain.is_present() && both.plain.has_room(*key));
+    both.linked
+        .place_sorted(ascending, duplicates, *key, sort_key(sort));
+    both.plain
+        .place_sorted(ascending, duplicates, *key, sort_key(sort));
 }
 
-pub(super) fn out_of_both(rt: &impl Abort, linked: &mut Ring, plain: &mut PlainRing, key: &DbKey) {
-    assert!(rt; linked.contains(*key));
-    assert!(rt; plain.contains(*key));
-    linked.take_out(*key);
-    plain.take_out(*key);
+pub(super) fn out_of_both(rt: &impl Abort, both: &mut Both, key: &DbKey) {
+    assert!(rt; both.linked.contains(*key));
+    assert!(rt; both.plain.contains(*key));
+    both.linked.take_out(*key);
+    both.plain.take_out(*key);
 }
 
 /// Places a member beside another one, where that is there, and else at an end.
-fn beside(
-    rt: &impl Abort,
-    linked: &mut Ring,
-    plain: &mut PlainRing,
-    op: u32,
-    other: &DbKey,
-    number: u32,
-) {
+fn beside(rt: &impl Abort, both: &mut Both, op: u32, other: &DbKey, number: u32) {
     let key = member(number);
     let sort = sort_of(number);
-    match (op, plain.contains(*other)) {
-        (0, true) => after_in_both(rt, linked, plain, other, &key, &sort),
-        (_, true) => before_in_both(rt, linked, plain, other, &key, &sort),
-        (0, false) => first_in_both(rt, linked, plain, &key, &sort),
-        (_, false) => last_in_both(rt, linked, plain, &key, &sort),
+    match (op, both.plain.contains(*other)) {
+        (0, true) => after_in_both(rt, both, other, &key, &sort),
+        (_, true) => before_in_both(rt, both, other, &key, &sort),
+        (0, false) => first_in_both(rt, both, &key, &sort),
+        (_, false) => last_in_both(rt, both, &key, &sort),
     }
 }
 
-fn place(
-    rt: &impl Abort,
-    linked: &mut Ring,
-    plain: &mut PlainRing,
-    op: u32,
-    other: &DbKey,
-    number: u32,
-) {
+fn place(rt: &impl Abort, both: &mut Both, op: u32, other: &DbKey, number: u32) {
     let key = member(number);
     let sort = sort_of(number);
     match op {
-        0 | 1 => beside(rt, linked, plain, op, other, number),
-        2 => first_in_both(rt, linked, plain, &key, &sort),
-        3 => last_in_both(rt, linked, plain, &key, &sort),
-        4 => sorted_in_both(rt, linked, plain, true, Duplicates::Last, &key, &sort),
-        5 => sorted_in_both(rt, linked, plain, true, Duplicates::First, &key, &sort),
-        6 => sorted_in_both(rt, linked, plain, false, Duplicates::Last, &key, &sort),
-        _ => sorted_in_both(
-            rt,
-            linked,
-            plain,
-            false,
-            Duplicates::NotAllowed,
-            &key,
-            &sort,
-        ),
+        0 | 1 => beside(rt, both, op, other, number),
+        2 => first_in_both(rt, both, &key, &sort),
+        3 => last_in_both(rt, both, &key, &sort),
+        4 => sorted_in_both(rt, both, true, Duplicates::Last, &key, &sort),
+        5 => sorted_in_both(rt, both, true, Duplicates::First, &key, &sort),
+        6 => sorted_in_both(rt, both, false, Duplicates::Last, &key, &sort),
+        _ => sorted_in_both(rt, both, false, Duplicates::NotAllowed, &key, &sort),
     }
 }
 
 /// Takes a member out, or places one that is none.
 fn step(
     rt: &impl Abort,
-    linked: &mut Ring,
-    plain: &mut PlainRing,
+    both: &mut Both,
     op: u32,
     other: &DbKey,
     number: u32,
 ) -> Result<(), AllocError> {
-    if plain.contains(member(number)) {
-        out_of_both(rt, linked, plain, &member(number));
+    if both.plain.contains(member(number)) {
+        out_of_both(rt, both, &member(number));
         return Ok(());
     }
-    reserve(rt, linked, plain, &member(number))?;
-    place(rt, linked, plain, op, other, number);
+    reserve(rt, both, &member(number))?;
+    place(rt, both, op, other, number);
     Ok(())
 }
 
-fn same_keys(alloc: Global, linked: &Ring, plain: &PlainRing) -> Result<bool, AllocError> {
-    let forward = linked.keys(alloc)?;
-    let wanted = plain.keys(alloc)?;
+fn same_keys(alloc: Global, both: &Both) -> Result<bool, AllocError> {
+    let forward = both.linked.keys(alloc)?;
+    let wanted = both.plain.keys(alloc)?;
     Ok(forward.as_slice() == wanted.as_slice())
 }
 
-fn same_keys_back(alloc: Global, linked: &Ring, plain: &PlainRing) -> Result<bool, AllocError> {
-    let back = linked.keys_back(alloc)?;
-    let wanted = plain.keys_back(alloc)?;
+fn same_keys_back(alloc: Global, both: &Both) -> Result<bool, AllocError> {
+    let back = both.linked.keys_back(alloc)?;
+    let wanted = both.plain.keys_back(alloc)?;
     Ok(back.as_slice() == wanted.as_slice())
 }
 
-fn same_ends(linked: &Ring, plain: &PlainRing, rtype: &Option<RecordNo>) -> bool {
-    linked.first(*rtype) == plain.first(*rtype) && linked.last(*rtype) == plain.last(*rtype)
+fn same_ends(both: &Both, rtype: &Option<RecordNo>) -> bool {
+    both.linked.first(*rtype) == both.plain.first(*rtype)
+        && both.linked.last(*rtype) == both.plain.last(*rtype)
 }
 
-fn same_nth(linked: &Ring, plain: &PlainRing, rtype: &Option<RecordNo>, n: i32) -> bool {
-    n == 0 || linked.nth(*rtype, n) == plain.nth(*rtype, n)
+fn same_nth(both: &Both, rtype: &Option<RecordNo>, n: i32) -> bool {
+    n == 0 || both.linked.nth(*rtype, n) == both.plain.nth(*rtype, n)
 }
 
-fn same_next(linked: &Ring, plain: &PlainRing, rtype: &Option<RecordNo>, key: &DbKey) -> bool {
-    if linked.contains(*key) && plain.contains(*key) {
-        linked.next_of(*rtype, *key) == plain.next_of(*rtype, *key)
+fn same_next(both: &Both, rtype: &Option<RecordNo>, key: &DbKey) -> bool {
+    if both.linked.contains(*key) && both.plain.contains(*key) {
+        both.linked.next_of(*rtype, *key) == both.plain.next_of(*rtype, *key)
     } else {
-        !linked.contains(*key) && !plain.contains(*key)
+        !both.linked.contains(*key) && !both.plain.contains(*key)
     }
 }
 
-fn same_prior(linked: &Ring, plain: &PlainRing, rtype: &Option<RecordNo>, key: &DbKey) -> bool {
-    if linked.contains(*key) && plain.contains(*key) {
-        linked.prior_of(*rtype, *key) == plain.prior_of(*rtype, *key)
+fn same_prior(both: &Both, rtype: &Option<RecordNo>, key: &DbKey) -> bool {
+    if both.linked.contains(*key) && both.plain.contains(*key) {
+        both.linked.prior_of(*rtype, *key) == both.plain.prior_of(*rtype, *key)
     } else {
-        !linked.contains(*key) && !plain.contains(*key)
+        !both.linked.contains(*key) && !both.plain.contains(*key)
     }
 }
 
-fn same_sorts(linked: &Ring, plain: &PlainRing, sort: u64, left_out: &DbKey) -> bool {
+fn same_sorts(both: &Both, sort: u64, left_out: &DbKey) -> bool {
     let key = Some(Value::Num(sort));
-    linked.first_with_sort_key(&Value::Num(sort)) == plain.first_with_sort_key(&Value::Num(sort))
-        && linked.has_sort_key(&key, None) == plain.has_sort_key(&key, None)
-        && linked.has_sort_key(&key, Some(*left_out)) == plain.has_sort_key(&key, Some(*left_out))
+    both.linked.first_with_sort_key(&Value::Num(sort))
+        == both.plain.first_with_sort_key(&Value::Num(sort))
+        && both.linked.has_sort_key(&key, None) == both.plain.has_sort_key(&key, None)
+        && both.linked.has_sort_key(&key, Some(*left_out))
+            == both.plain.has_sort_key(&key, Some(*left_out))
 }
 
-fn same_reads(linked: &Ring, plain: &PlainRing, rtype: &Option<RecordNo>, other: &DbKey) -> bool {
+fn same_reads(both: &Both, rtype: &Option<RecordNo>, other: &DbKey) -> bool {
     let n = (other.number % 9) as i32 - 4;
-    same_ends(linked, plain, rtype)
-        && same_nth(linked, plain, rtype, n)
-        && same_next(linked, plain, rtype, other)
-        && same_prior(linked, plain, rtype, other)
+    same_ends(both, rtype)
+        && same_nth(both, rtype, n)
+        && same_next(both, rtype, other)
+        && same_prior(both, rtype, other)
 }
 
-fn are_alike(
-    alloc: Global,
-    linked: &Ring,
-    plain: &PlainRing,
-    other: &DbKey,
-) -> Result<bool, AllocError> {
+fn are_alike(alloc: Global, both: &Both, other: &DbKey) -> Result<bool, AllocError> {
     Ok(
-        linked.len() == plain.len()
-            && same_keys(alloc, linked, plain)?
-            && same_keys_back(alloc, linked, plain)?
-            && same_reads(linked, plain, &None, other)
-            && same_reads(
-                linked,
-                plain,
-                &Some(RecordNo::new((other.number % 4) as u8)),
-                other,
-            )
-            && same_sorts(linked, plain, (other.number % 5) as u64, other),
+        both.linked.len() == both.plain.len()
+            && same_keys(alloc, both)?
+            && same_keys_back(alloc, both)?
+            && same_reads(both, &None, other)
+            && same_reads(both, &Some(RecordNo::new((other.number % 4) as u8)), other)
+            && same_sorts(both, (other.number % 5) as u64, other),
     )
 }
 
-// Of forty records, in an order that looks random, each is placed where it is none and else taken out.
+// By a number that looks random a record of forty is placed, or else taken out: are both rings alike then?
+fn stay_alike(
+    rt: &impl Abort,
+    alloc: Global,
+    both: &mut Both,
+    state: u32,
+) -> Result<bool, AllocError> {
+    let other = member((state >> 16) % 40);
+    step(rt, both, (state >> 24) % 8, &other, (state >> 8) % 40)?;
+    are_alike(alloc, both, &other)
+}
+
 #[test]
 fn both_rings_stay_alike(rt: HostRuntime) -> Result<(), Fail> {
-    let mut linked = Ring::absent(rt.alloc());
-    let mut plain = PlainRing::absent(rt.alloc());
-    linked.open(Owner::System);
-    plain.open(Owner::System);
+    let mut both = opened(rt.alloc(), &Owner::System);
     let mut state = 7u32;
     for turn in 0..20000u32 {
         state = state.wrapping_mul(1664525).wrapping_add(1013904223);
-        let other = member((state >> 16) % 40);
-        step(
-            &rt,
-            &mut linked,
-            &mut plain,
-            (state >> 24) % 8,
-            &other,
-            (state >> 8) % 40,
-        )?;
         assert!(rt;
-            are_alike(rt.alloc(), &linked, &plain, &other)?,
+            stay_alike(&rt, rt.alloc(), &mut both, state)?,
             "turn {turn}"
         );
     }
-    assert!(rt; linked.owner() == plain.owner());
-    linked.close();
-    plain.close();
-    assert!(rt; !linked.is_present() && !plain.is_present());
+    assert!(rt; both.linked.owner() == both.plain.owner());
+    assert!(rt; closed(&mut both));
     Ok(())
 }

@@ -2,7 +2,8 @@
 //! its members read both ways.
 
 use super::both_rings::{
-    after_in_both, first_in_both, last_in_both, out_of_both, reserve, sorted_in_both,
+    Both, after_in_both, closed, first_in_both, last_in_both, opened, out_of_both, reserve,
+    sorted_in_both,
 };
 use super::*;
 
@@ -24,18 +25,6 @@ fn customer() -> DbKey {
         number: 1,
         generation: 1,
     }
-}
-
-fn linked_of(alloc: Global, owner: &Owner) -> Ring {
-    let mut ring = Ring::absent(alloc);
-    ring.open(*owner);
-    ring
-}
-
-fn plain_of(alloc: Global, owner: &Owner) -> PlainRing {
-    let mut ring = PlainRing::absent(alloc);
-    ring.open(*owner);
-    ring
 }
 
 fn are_items(keys: &[DbKey], numbers: &[u32]) -> bool {
@@ -67,47 +56,41 @@ fn plain_lists(alloc: Global, ring: &PlainRing, numbers: &[u32]) -> Result<bool,
 }
 
 /// Both rings have these members in this order, by next and backwards by prior.
-fn both_list(
-    alloc: Global,
-    linked: &Ring,
-    plain: &PlainRing,
-    numbers: &[u32],
-) -> Result<bool, AllocError> {
-    Ok(linked_lists(alloc, linked, numbers)? && plain_lists(alloc, plain, numbers)?)
+fn both_list(alloc: Global, both: &Both, numbers: &[u32]) -> Result<bool, AllocError> {
+    Ok(linked_lists(alloc, &both.linked, numbers)? && plain_lists(alloc, &both.plain, numbers)?)
 }
 
-fn first_is(linked: &Ring, plain: &PlainRing, wanted: &Option<DbKey>) -> bool {
-    linked.first(None) == *wanted && plain.first(None) == *wanted
+fn first_is(both: &Both, wanted: &Option<DbKey>) -> bool {
+    both.linked.first(None) == *wanted && both.plain.first(None) == *wanted
 }
 
-fn last_is(linked: &Ring, plain: &PlainRing, wanted: &Option<DbKey>) -> bool {
-    linked.last(None) == *wanted && plain.last(None) == *wanted
+fn last_is(both: &Both, wanted: &Option<DbKey>) -> bool {
+    both.linked.last(None) == *wanted && both.plain.last(None) == *wanted
 }
 
-fn nth_is(linked: &Ring, plain: &PlainRing, n: i32, wanted: &Option<DbKey>) -> bool {
-    n != 0 && linked.nth(None, n) == *wanted && plain.nth(None, n) == *wanted
+fn nth_is(both: &Both, n: i32, wanted: &Option<DbKey>) -> bool {
+    n != 0 && both.linked.nth(None, n) == *wanted && both.plain.nth(None, n) == *wanted
 }
 
-fn next_is(linked: &Ring, plain: &PlainRing, here: &DbKey, wanted: &Option<DbKey>) -> bool {
-    linked.contains(*here)
-        && plain.contains(*here)
-        && linked.next_of(None, *here) == *wanted
-        && plain.next_of(None, *here) == *wanted
+fn next_is(both: &Both, here: &DbKey, wanted: &Option<DbKey>) -> bool {
+    both.linked.contains(*here)
+        && both.plain.contains(*here)
+        && both.linked.next_of(None, *here) == *wanted
+        && both.plain.next_of(None, *here) == *wanted
 }
 
-fn prior_is(linked: &Ring, plain: &PlainRing, here: &DbKey, wanted: &Option<DbKey>) -> bool {
-    linked.contains(*here)
-        && plain.contains(*here)
-        && linked.prior_of(None, *here) == *wanted
-        && plain.prior_of(None, *here) == *wanted
+fn prior_is(both: &Both, here: &DbKey, wanted: &Option<DbKey>) -> bool {
+    both.linked.contains(*here)
+        && both.plain.contains(*here)
+        && both.linked.prior_of(None, *here) == *wanted
+        && both.plain.prior_of(None, *here) == *wanted
 }
 
 /// A line goes where its quantity wants it: ascending, and behind its equals.
-fn put_line(rt: &impl Abort, linked: &mut Ring, plain: &mut PlainRing, number: u32, quantity: u64) {
+fn put_line(rt: &impl Abort, both: &mut Both, number: u32, quantity: u64) {
     sorted_in_both(
         rt,
-        linked,
-        plain,
+        both,
         true,
         Duplicates::Last,
         &item(number),
@@ -117,98 +100,91 @@ fn put_line(rt: &impl Abort, linked: &mut Ring, plain: &mut PlainRing, number: u
 
 fn add_line(
     rt: &impl Abort,
-    linked: &mut Ring,
-    plain: &mut PlainRing,
+    both: &mut Both,
     number: u32,
     quantity: u64,
 ) -> Result<(), AllocError> {
-    reserve(rt, linked, plain, &item(number))?;
-    put_line(rt, linked, plain, number, quantity);
+    reserve(rt, both, &item(number))?;
+    put_line(rt, both, number, quantity);
     Ok(())
 }
 
 /// An item is watched where the unit stands at SYSTEM: it comes first.
-fn watch_first(
-    rt: &impl Abort,
-    linked: &mut Ring,
-    plain: &mut PlainRing,
-    number: u32,
-) -> Result<(), AllocError> {
-    reserve(rt, linked, plain, &item(number))?;
-    first_in_both(rt, linked, plain, &item(number), &None);
+fn watch_first(rt: &impl Abort, both: &mut Both, number: u32) -> Result<(), AllocError> {
+    reserve(rt, both, &item(number))?;
+    first_in_both(rt, both, &item(number), &None);
     Ok(())
 }
 
 /// An item is watched where the unit stands at another: it comes directly behind it.
 fn watch_behind(
     rt: &impl Abort,
-    linked: &mut Ring,
-    plain: &mut PlainRing,
+    both: &mut Both,
     other: u32,
     number: u32,
 ) -> Result<(), AllocError> {
-    reserve(rt, linked, plain, &item(number))?;
-    after_in_both(rt, linked, plain, &item(other), &item(number), &None);
+    reserve(rt, both, &item(number))?;
+    after_in_both(rt, both, &item(other), &item(number), &None);
     Ok(())
 }
 
-fn watch_two(rt: &impl Abort, linked: &mut Ring, plain: &mut PlainRing) -> Result<(), AllocError> {
-    watch_first(rt, linked, plain, 3)?;
-    watch_behind(rt, linked, plain, 3, 1)
+fn watch_two(rt: &impl Abort, both: &mut Both) -> Result<(), AllocError> {
+    watch_first(rt, both, 3)?;
+    watch_behind(rt, both, 3, 1)
+}
+
+fn add_equal_lines(rt: &impl Abort, both: &mut Both) -> Result<(), AllocError> {
+    add_line(rt, both, 1, 5)?;
+    add_line(rt, both, 2, 5)?;
+    add_line(rt, both, 3, 5)
 }
 
 // Three lines of one quantity stand in the order in which they came. NEXT behind the last and the fourth of three find
 // nothing.
 #[test]
 fn equal_quantities_stand_as_they_came(rt: HostRuntime) -> Result<(), Fail> {
-    let mut linked = linked_of(rt.alloc(), &Owner::Rec(order()));
-    let mut plain = plain_of(rt.alloc(), &Owner::Rec(order()));
-    add_line(&rt, &mut linked, &mut plain, 1, 5)?;
-    add_line(&rt, &mut linked, &mut plain, 2, 5)?;
-    add_line(&rt, &mut linked, &mut plain, 3, 5)?;
-    assert!(rt; both_list(rt.alloc(), &linked, &plain, &[1, 2, 3])?);
-    assert!(rt; first_is(&linked, &plain, &Some(item(1))));
-    assert!(rt; next_is(&linked, &plain, &item(1), &Some(item(2))));
-    assert!(rt; next_is(&linked, &plain, &item(2), &Some(item(3))));
-    assert!(rt; next_is(&linked, &plain, &item(3), &None));
-    assert!(rt; prior_is(&linked, &plain, &item(3), &Some(item(2))));
-    assert!(rt; last_is(&linked, &plain, &Some(item(3))));
-    assert!(rt; nth_is(&linked, &plain, -3, &Some(item(1))));
-    assert!(rt; nth_is(&linked, &plain, 4, &None));
+    let mut both = opened(rt.alloc(), &Owner::Rec(order()));
+    add_equal_lines(&rt, &mut both)?;
+    assert!(rt; both_list(rt.alloc(), &both, &[1, 2, 3])?);
+    assert!(rt; first_is(&both, &Some(item(1))));
+    assert!(rt; next_is(&both, &item(1), &Some(item(2))));
+    assert!(rt; next_is(&both, &item(2), &Some(item(3))));
+    assert!(rt; next_is(&both, &item(3), &None));
+    assert!(rt; prior_is(&both, &item(3), &Some(item(2))));
+    assert!(rt; last_is(&both, &Some(item(3))));
+    assert!(rt; nth_is(&both, -3, &Some(item(1))));
+    assert!(rt; nth_is(&both, 4, &None));
     Ok(())
 }
 
 // The first item that is watched stands alone.
 #[test]
 fn an_item_is_watched(rt: HostRuntime) -> Result<(), Fail> {
-    let mut linked = linked_of(rt.alloc(), &Owner::System);
-    let mut plain = plain_of(rt.alloc(), &Owner::System);
-    watch_first(&rt, &mut linked, &mut plain, 3)?;
-    assert!(rt; both_list(rt.alloc(), &linked, &plain, &[3])?);
+    let mut both = opened(rt.alloc(), &Owner::System);
+    watch_first(&rt, &mut both, 3)?;
+    assert!(rt; both_list(rt.alloc(), &both, &[3])?);
     Ok(())
 }
 
 // It is a member, so it is not taken again; the next one goes behind it.
 #[test]
 fn another_item_is_watched_behind_the_first(rt: HostRuntime) -> Result<(), Fail> {
-    let mut linked = linked_of(rt.alloc(), &Owner::System);
-    let mut plain = plain_of(rt.alloc(), &Owner::System);
-    watch_first(&rt, &mut linked, &mut plain, 3)?;
-    assert!(rt; linked.contains(item(3)) && plain.contains(item(3)));
-    assert!(rt; !linked.contains(item(1)) && !plain.contains(item(1)));
-    watch_behind(&rt, &mut linked, &mut plain, 3, 1)?;
-    assert!(rt; both_list(rt.alloc(), &linked, &plain, &[3, 1])?);
+    let mut both = opened(rt.alloc(), &Owner::System);
+    watch_first(&rt, &mut both, 3)?;
+    assert!(rt; both.linked.contains(item(3)) && both.plain.contains(item(3)));
+    assert!(rt; !both.linked.contains(item(1)) && !both.plain.contains(item(1)));
+    watch_behind(&rt, &mut both, 3, 1)?;
+    assert!(rt; both_list(rt.alloc(), &both, &[3, 1])?);
     Ok(())
 }
 
 // The first is watched no longer.
 #[test]
 fn the_first_item_is_watched_no_longer(rt: HostRuntime) -> Result<(), Fail> {
-    let mut linked = linked_of(rt.alloc(), &Owner::System);
-    let mut plain = plain_of(rt.alloc(), &Owner::System);
-    watch_two(&rt, &mut linked, &mut plain)?;
-    out_of_both(&rt, &mut linked, &mut plain, &item(3));
-    assert!(rt; both_list(rt.alloc(), &linked, &plain, &[1])?);
+    let mut both = opened(rt.alloc(), &Owner::System);
+    watch_two(&rt, &mut both)?;
+    out_of_both(&rt, &mut both, &item(3));
+    assert!(rt; both_list(rt.alloc(), &both, &[1])?);
     Ok(())
 }
 
@@ -216,71 +192,68 @@ fn the_first_item_is_watched_no_longer(rt: HostRuntime) -> Result<(), Fail> {
 // stands none.
 #[test]
 fn nothing_goes_behind_an_item_taken_out(rt: HostRuntime) -> Result<(), Fail> {
-    let mut linked = linked_of(rt.alloc(), &Owner::System);
-    let mut plain = plain_of(rt.alloc(), &Owner::System);
-    watch_two(&rt, &mut linked, &mut plain)?;
-    out_of_both(&rt, &mut linked, &mut plain, &item(3));
-    assert!(rt; !linked.contains(item(3)) && !plain.contains(item(3)));
-    assert!(rt; first_is(&linked, &plain, &Some(item(1))));
-    assert!(rt; prior_is(&linked, &plain, &item(1), &None));
-    assert!(rt; both_list(rt.alloc(), &linked, &plain, &[1])?);
+    let mut both = opened(rt.alloc(), &Owner::System);
+    watch_two(&rt, &mut both)?;
+    out_of_both(&rt, &mut both, &item(3));
+    assert!(rt; !both.linked.contains(item(3)) && !both.plain.contains(item(3)));
+    assert!(rt; first_is(&both, &Some(item(1))));
+    assert!(rt; prior_is(&both, &item(1), &None));
+    assert!(rt; both_list(rt.alloc(), &both, &[1])?);
     Ok(())
+}
+
+fn add_three_lines(rt: &impl Abort, both: &mut Both) -> Result<(), AllocError> {
+    add_line(rt, both, 1, 1)?;
+    add_line(rt, both, 2, 2)?;
+    add_line(rt, both, 3, 3)
 }
 
 // A line whose quantity becomes that of another is taken out, and stands behind it.
 #[test]
 fn a_line_is_placed_anew(rt: HostRuntime) -> Result<(), Fail> {
-    let mut linked = linked_of(rt.alloc(), &Owner::Rec(order()));
-    let mut plain = plain_of(rt.alloc(), &Owner::Rec(order()));
-    add_line(&rt, &mut linked, &mut plain, 1, 1)?;
-    add_line(&rt, &mut linked, &mut plain, 2, 2)?;
-    add_line(&rt, &mut linked, &mut plain, 3, 3)?;
-    out_of_both(&rt, &mut linked, &mut plain, &item(1));
-    put_line(&rt, &mut linked, &mut plain, 1, 2);
-    assert!(rt; both_list(rt.alloc(), &linked, &plain, &[2, 1, 3])?);
-    assert!(rt; next_is(&linked, &plain, &item(1), &Some(item(3))));
+    let mut both = opened(rt.alloc(), &Owner::Rec(order()));
+    add_three_lines(&rt, &mut both)?;
+    out_of_both(&rt, &mut both, &item(1));
+    put_line(&rt, &mut both, 1, 2);
+    assert!(rt; both_list(rt.alloc(), &both, &[2, 1, 3])?);
+    assert!(rt; next_is(&both, &item(1), &Some(item(3))));
     Ok(())
 }
 
 // The lines of an order that is deleted are a list no longer, in each form of DELETE.
 #[test]
 fn the_lines_of_a_deleted_order_are_no_list(rt: HostRuntime) -> Result<(), Fail> {
-    let mut linked = linked_of(rt.alloc(), &Owner::Rec(order()));
-    let mut plain = plain_of(rt.alloc(), &Owner::Rec(order()));
-    add_line(&rt, &mut linked, &mut plain, 1, 1)?;
-    add_line(&rt, &mut linked, &mut plain, 2, 2)?;
-    assert!(rt; both_list(rt.alloc(), &linked, &plain, &[1, 2])?);
-    linked.close();
-    plain.close();
-    assert!(rt; !linked.is_present() && !plain.is_present());
-    assert!(rt; both_list(rt.alloc(), &linked, &plain, &[])?);
+    let mut both = opened(rt.alloc(), &Owner::Rec(order()));
+    add_line(&rt, &mut both, 1, 1)?;
+    add_line(&rt, &mut both, 2, 2)?;
+    assert!(rt; both_list(rt.alloc(), &both, &[1, 2])?);
+    assert!(rt; closed(&mut both));
+    assert!(rt; both_list(rt.alloc(), &both, &[])?);
     Ok(())
 }
 
 // Its customer has a list still, and no order in it.
 #[test]
 fn the_customer_of_a_deleted_order_has_none(rt: HostRuntime) -> Result<(), Fail> {
-    let mut linked = linked_of(rt.alloc(), &Owner::Rec(customer()));
-    let mut plain = plain_of(rt.alloc(), &Owner::Rec(customer()));
-    reserve(&rt, &mut linked, &mut plain, &order())?;
-    last_in_both(&rt, &mut linked, &mut plain, &order(), &None);
-    assert!(rt; first_is(&linked, &plain, &Some(order())));
-    out_of_both(&rt, &mut linked, &mut plain, &order());
-    assert!(rt; linked.is_present() && plain.is_present());
-    assert!(rt; both_list(rt.alloc(), &linked, &plain, &[])?);
+    let mut both = opened(rt.alloc(), &Owner::Rec(customer()));
+    reserve(&rt, &mut both, &order())?;
+    last_in_both(&rt, &mut both, &order(), &None);
+    assert!(rt; first_is(&both, &Some(order())));
+    out_of_both(&rt, &mut both, &order());
+    assert!(rt; both.linked.is_present() && both.plain.is_present());
+    assert!(rt; both_list(rt.alloc(), &both, &[])?);
     Ok(())
 }
 
 // A watched line stays watched where DELETE is ONLY or SELECTIVE; where it is ALL, nothing is watched.
 #[test]
 fn a_watched_line_is_deleted_with_its_order(rt: HostRuntime) -> Result<(), Fail> {
-    let mut linked = linked_of(rt.alloc(), &Owner::System);
-    let mut plain = plain_of(rt.alloc(), &Owner::System);
-    watch_first(&rt, &mut linked, &mut plain, 1)?;
-    assert!(rt; both_list(rt.alloc(), &linked, &plain, &[1])?);
-    out_of_both(&rt, &mut linked, &mut plain, &item(1));
-    assert!(rt; linked.is_present() && plain.is_present());
-    assert!(rt; both_list(rt.alloc(), &linked, &plain, &[])?);
+    let mut both = opened(rt.alloc(), &Owner::System);
+    watch_first(&rt, &mut both, 1)?;
+    assert!(rt; both_list(rt.alloc(), &both, &[1])?);
+    out_of_both(&rt, &mut both, &item(1));
+    assert!(rt; both.linked.is_present() && both.plain.is_present());
+    assert!(rt; both_list(rt.alloc(), &both, &[])?);
     Ok(())
 }
 
@@ -304,17 +277,16 @@ fn thousand_lines(alloc: Global) -> Result<Vec<u32>, AllocError> {
 // A thousand lines, a hundred of each quantity.
 #[test]
 fn a_thousand_lines_stand_by_quantity(rt: HostRuntime) -> Result<(), Fail> {
-    let mut linked = linked_of(rt.alloc(), &Owner::Rec(order()));
-    let mut plain = plain_of(rt.alloc(), &Owner::Rec(order()));
+    let mut both = opened(rt.alloc(), &Owner::Rec(order()));
     for number in 1..1001u32 {
-        add_line(&rt, &mut linked, &mut plain, number, (number % 10) as u64)?;
+        add_line(&rt, &mut both, number, (number % 10) as u64)?;
     }
     let wanted = thousand_lines(rt.alloc())?;
-    assert!(rt; both_list(rt.alloc(), &linked, &plain, wanted.as_slice())?);
-    assert!(rt; first_is(&linked, &plain, &Some(item(10))));
-    assert!(rt; nth_is(&linked, &plain, 101, &Some(item(1))));
-    assert!(rt; nth_is(&linked, &plain, -100, &Some(item(9))));
-    assert!(rt; last_is(&linked, &plain, &Some(item(999))));
-    assert!(rt; nth_is(&linked, &plain, 1001, &None));
+    assert!(rt; both_list(rt.alloc(), &both, wanted.as_slice())?);
+    assert!(rt; first_is(&both, &Some(item(10))));
+    assert!(rt; nth_is(&both, 101, &Some(item(1))));
+    assert!(rt; nth_is(&both, -100, &Some(item(9))));
+    assert!(rt; last_is(&both, &Some(item(999))));
+    assert!(rt; nth_is(&both, 1001, &None));
     Ok(())
 }
