@@ -11,8 +11,6 @@ mod numbering;
 mod plain;
 mod ring;
 mod slot;
-#[cfg(test)]
-mod tests;
 mod usage;
 mod value;
 

@@ -20,8 +20,6 @@ mod row;
 mod scanner;
 mod schema;
 mod shape;
-#[cfg(test)]
-mod tests;
 
 pub use erasing::AreaSet;
 pub use fault::{Cause, SchemaFault};

@@ -1,6 +1,6 @@
 //! Each public call once, on the schema of a shop.
 
-use crate::{
+use dbtg_schema::{
     AreaNo, Class, Duplicates, ItemNo, Order, Picture, RecordNo, Row, Schema, SchemaFault, SetNo,
 };
 use std::test::*;

@@ -1,6 +1,6 @@
 //! Schemas as texts, and what is read or refused. The answer of a text is its fault's number and line, or (0, 0).
 
-use super::{Schema, SchemaFault};
+use dbtg_schema::{Schema, SchemaFault};
 use std::test::*;
 
 mod calls;
