@@ -5,21 +5,12 @@ use dbtg_schema::{AreaNo, RecordNo};
 use dbtg_unit::{Cause, Form, Held, Kept, Owners, Statement, Status, Suppress};
 use std::test::*;
 
-mod areas;
 mod cells;
-mod copies;
 mod edits;
-mod finishing;
-mod fits;
 mod hands;
 mod in_hand;
-mod naming;
 mod prepared;
-mod refusals;
 mod ring_edits;
-mod seeing;
-mod shop;
-mod statements;
 mod units;
 
 fn key(number: u32, generation: u8) -> DbKey {
