@@ -25,7 +25,6 @@ use dbtg_schema::{Row, Schema};
 use dbtg_unit::{Answer, Entry, Statement, Unit};
 use std::alloc::{AllocError, Global};
 
-
 fn empty_scripts(alloc: Global, count: u8) -> Result<Row<Row<Statement>>, AllocError>
     ensures { IfOk result (λ scripts. scripts ≡ replicate count []) }
 {

@@ -151,4 +151,3 @@ fn beginnings_and_odd_bytes_end_in_an_answer(rt: HostRuntime) {
         assert!(rt; !matches!(moves, Err(MovesFault::Memory)));
     }
 }
-
