@@ -1,8 +1,10 @@
 //! Public calls, made once with memory to spare. The numbers of a status are those of docs/profile/statuses.md.
 
+use cells::lets_a_cell_go;
 use dbtg_cells::{Cell, CellName, DbKey, Owner, Usage};
 use dbtg_schema::{AreaNo, RecordNo};
 use dbtg_unit::{Cause, Form, Held, Kept, Owners, Statement, Status, Suppress};
+use std::alloc::{AllocError, Global};
 use std::test::*;
 
 mod cells;
@@ -72,18 +74,25 @@ fn kept_key_has_its_version(rt: HostRuntime) -> Result<(), Fail> {
     Ok(())
 }
 
+fn gives_back_an_area(held: &mut Held, area: AreaNo) -> Result<bool, AllocError> {
+    held.push_area(area)?;
+    Ok(held.has(area) && held.pop_area() == Some(area))
+}
+
+fn gives_back_a_cell(alloc: Global, held: &mut Held, name: &CellName) -> bool {
+    let cell = Cell::Usage(Usage::new(alloc));
+    held.push_cell(*name, cell).is_ok()
+        && held.cell(name).is_some()
+        && lets_a_cell_go(held)
+        && !lets_a_cell_go(held)
+}
+
 #[test]
 fn held_gives_back_what_it_took(rt: HostRuntime) -> Result<(), Fail> {
     let area = AreaNo::new(1);
     let mut held = Held::new(rt.alloc(), Owners::none(0));
-    held.push_area(area)?;
-    assert!(rt; held.has(area));
-    assert_eq!(rt; held.pop_area(), Some(area));
-    let cell = Cell::Usage(Usage::new(rt.alloc()));
-    assert!(rt; held.push_cell(CellName::Usage(area), cell).is_ok());
-    assert!(rt; held.cell(&CellName::Usage(area)).is_some());
-    assert!(rt; held.pop_cell().is_some());
-    assert!(rt; held.pop_cell().is_none());
+    assert!(rt; gives_back_an_area(&mut held, area)?);
+    assert!(rt; gives_back_a_cell(rt.alloc(), &mut held, &CellName::Usage(area)));
     Ok(())
 }
 

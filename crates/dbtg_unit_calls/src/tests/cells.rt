@@ -4,7 +4,7 @@ use super::key;
 use dbtg_cells::{Cell, CellName, Owner, Ring};
 use dbtg_schema::{AreaNo, RecordNo, SetNo};
 use dbtg_unit::{Held, Owners};
-use std::alloc::Global;
+use std::alloc::{AllocError, Global};
 use std::test::*;
 
 #[test]
@@ -18,15 +18,19 @@ fn guesses(rt: HostRuntime) {
     assert_eq!(rt; held.guesses(), wanted.as_slice());
 }
 
-#[test]
-fn areas_beyond_those_in_place(rt: HostRuntime) -> Result<(), Fail> {
-    let mut held = Held::new(rt.alloc(), Owners::none(0));
+// The functions that are handed `held` own nothing, so that the prover has nothing to let go of where they end.
+fn takes_twelve_areas(held: &mut Held) -> Result<bool, AllocError> {
     for a in 0..12 {
         held.push_area(AreaNo::new(a))?;
     }
-    assert!(rt; held.has(AreaNo::new(11)) && !held.has(AreaNo::new(12)));
-    assert_eq!(rt; held.pop_area(), Some(AreaNo::new(11)));
-    assert!(rt; !held.has(AreaNo::new(11)));
+    let are_taken = held.has(AreaNo::new(11)) && !held.has(AreaNo::new(12));
+    Ok(are_taken && held.pop_area() == Some(AreaNo::new(11)) && !held.has(AreaNo::new(11)))
+}
+
+#[test]
+fn areas_beyond_those_in_place(rt: HostRuntime) -> Result<(), Fail> {
+    let mut held = Held::new(rt.alloc(), Owners::none(0));
+    assert!(rt; takes_twelve_areas(&mut held)?);
     Ok(())
 }
 
@@ -63,27 +67,48 @@ fn are_found(held: &Held, count: u32) -> bool {
     true
 }
 
+// The last cell goes from the hand.
+pub(super) fn lets_a_cell_go(held: &mut Held) -> bool {
+    held.pop_cell().is_some()
+}
+
+fn lets_cells_go(held: &mut Held, count: u32) -> bool {
+    for _ in 0..count {
+        if !lets_a_cell_go(held) {
+            return false;
+        }
+    }
+    true
+}
+
+fn finds_what_is_left(held: &mut Held) -> bool {
+    let are_all_found = are_found(held, 20) && !is_found(held, 20);
+    let are_nine_left = lets_cells_go(held, 11) && are_found(held, 9) && !is_found(held, 9);
+    let are_seven_left = lets_cells_go(held, 2) && are_found(held, 7) && !is_found(held, 7);
+    are_all_found && are_nine_left && are_seven_left
+}
+
 #[test]
 fn cells_beyond_those_in_place(rt: HostRuntime) {
     let mut held = Held::new(rt.alloc(), Owners::none(1));
-    assert!(rt; takes_rings(rt.alloc(), &mut held, 20));
-    assert!(rt; are_found(&held, 20) && !is_found(&held, 20));
-    for n in 0..11 {
-        assert!(rt; held.pop_cell().is_some());
-    }
-    assert!(rt; are_found(&held, 9));
-    assert!(rt; held.cell(&ring_name(9)).is_none());
-    assert!(rt; held.pop_cell().is_some() && held.pop_cell().is_some());
-    assert!(rt; are_found(&held, 7) && !is_found(&held, 7));
+    assert!(rt; takes_rings(rt.alloc(), &mut held, 20) && finds_what_is_left(&mut held));
+}
+
+// A ring that is absent, under the name of the last one.
+fn takes_another(alloc: Global, held: &mut Held) -> bool {
+    let again = Cell::Ring(Ring::absent(alloc));
+    held.push_cell(ring_name(11), again).is_ok()
+}
+
+fn finds_the_first_of_them(held: &mut Held) -> bool {
+    let is_first = is_found(held, 11);
+    let is_left = lets_a_cell_go(held) && is_found(held, 11);
+    is_first && is_left && lets_a_cell_go(held) && !is_found(held, 11)
 }
 
 #[test]
 fn name_that_is_taken_twice(rt: HostRuntime) {
     let mut held = Held::new(rt.alloc(), Owners::none(1));
-    assert!(rt; takes_rings(rt.alloc(), &mut held, 12));
-    let again = Cell::Ring(Ring::absent(rt.alloc()));
-    assert!(rt; held.push_cell(ring_name(11), again).is_ok());
-    assert!(rt; is_found(&held, 11), "the first of them");
-    assert!(rt; held.pop_cell().is_some() && is_found(&held, 11));
-    assert!(rt; held.pop_cell().is_some() && !is_found(&held, 11));
+    assert!(rt; takes_rings(rt.alloc(), &mut held, 12) && takes_another(rt.alloc(), &mut held));
+    assert!(rt; finds_the_first_of_them(&mut held));
 }

@@ -8,15 +8,19 @@ use std::alloc::{AllocError, Global};
 use std::process::Abort;
 use std::test::*;
 
+fn counts_areas(held: &mut Held) -> Result<bool, AllocError> {
+    let had = held.area_count();
+    held.push_area(AreaNo::new(1))?;
+    held.push_area(AreaNo::new(4))?;
+    let has = held.area_count();
+    let popped = held.pop_area();
+    Ok(had == 0 && has == 2 && popped == Some(AreaNo::new(4)) && held.area_count() == 1)
+}
+
 #[test]
 fn areas_are_counted(rt: HostRuntime) -> Result<(), Fail> {
     let mut held = Held::new(rt.alloc(), Owners::none(0));
-    assert_eq!(rt; held.area_count(), 0);
-    held.push_area(AreaNo::new(1))?;
-    held.push_area(AreaNo::new(4))?;
-    assert_eq!(rt; held.area_count(), 2);
-    assert_eq!(rt; held.pop_area(), Some(AreaNo::new(4)));
-    assert_eq!(rt; held.area_count(), 1);
+    assert!(rt; counts_areas(&mut held)?);
     Ok(())
 }
 
@@ -52,14 +56,16 @@ fn mode_in(held: &Held, area: u8) -> Option<Mode> {
     }
 }
 
+// The list of area 1 is written, and no other.
+fn writes_one(rt: &impl Abort, held: &mut Held) -> bool {
+    let is_written = enters(rt, held, 1) && !enters(rt, held, 2);
+    is_written && mode_in(held, 1) == Some(Mode::Update) && mode_in(held, 0).is_none()
+}
+
 #[test]
 fn cell_is_written_in_hand(rt: HostRuntime) -> Result<(), Fail> {
     let mut held = Held::new(rt.alloc(), Owners::none(0));
-    assert!(rt; takes_usages(rt.alloc(), &mut held)?);
-    assert!(rt; enters(&rt, &mut held, 1));
-    assert!(rt; !enters(&rt, &mut held, 2));
-    assert_eq!(rt; mode_in(&held, 1), Some(Mode::Update));
-    assert_eq!(rt; mode_in(&held, 0), None);
+    assert!(rt; takes_usages(rt.alloc(), &mut held)? && writes_one(&rt, &mut held));
     Ok(())
 }
 
@@ -78,11 +84,14 @@ fn owners_past_the_sixteenth(rt: HostRuntime) {
     assert_eq!(rt; owners.as_slice(), [Some(Owner::System); 16].as_slice());
 }
 
+fn guesses_as_told(held: &mut Held) -> bool {
+    let anew = [None, Some(Owner::Rec(key(7, 2)))];
+    held.set_guesses(Owners::of(&anew));
+    held.guesses() == anew.as_slice() && held.guess(SetNo::new(0)).is_none()
+}
+
 #[test]
 fn guesses_anew(rt: HostRuntime) {
     let mut held = Held::new(rt.alloc(), Owners::of(&[Some(Owner::System), None]));
-    let anew = [None, Some(Owner::Rec(key(7, 2)))];
-    held.set_guesses(Owners::of(&anew));
-    assert_eq!(rt; held.guesses(), anew.as_slice());
-    assert_eq!(rt; held.guess(SetNo::new(0)), None);
+    assert!(rt; guesses_as_told(&mut held));
 }

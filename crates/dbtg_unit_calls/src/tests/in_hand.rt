@@ -70,13 +70,18 @@ fn has_record(held: &Held) -> bool {
         && stored(held, &key(8, 2)).is_none()
 }
 
+fn has_all(held: &Held) -> bool {
+    has_usage(held)
+        && has_extent(held)
+        && has_its_ring(held)
+        && has_record(held)
+        && held.cell_count() == 4
+}
+
 #[test]
 fn cells_are_read(rt: HostRuntime) -> Result<(), Fail> {
     let mut held = Held::new(rt.alloc(), Owners::none(2));
-    assert!(rt; takes_cells(rt.alloc(), &mut held)?);
-    assert!(rt; has_usage(&held) && has_extent(&held));
-    assert!(rt; has_its_ring(&held) && has_record(&held));
-    assert_eq!(rt; held.cell_count(), 4);
+    assert!(rt; takes_cells(rt.alloc(), &mut held)? && has_all(&held));
     Ok(())
 }
 

@@ -79,22 +79,29 @@ fn suppressed_set(rt: HostRuntime) {
     assert!(rt; !suppress.has_set(0) && !suppress.has_set(2) && !suppress.has_set(17));
 }
 
+fn keeps(alloc: Global, unit: &mut Unit, key: DbKey, version: u64) -> Result<(), AllocError> {
+    let kept = unit.kept.noted(alloc, key, version)?;
+    unit.keep(kept);
+    Ok(())
+}
+
+// A unit's own change is noted with the new version; what is freed is kept no longer.
+fn notes_and_frees(unit: &mut Unit, first: DbKey, second: DbKey) -> bool {
+    let is_kept = unit.kept_version(first) == Some(1);
+    unit.renote(first, 2);
+    let is_noted = unit.kept_version(first) == Some(2);
+    unit.forget(first);
+    let is_one_left = unit.kept_version(first).is_none() && unit.kept_version(second) == Some(4);
+    unit.forget_all();
+    is_kept && is_noted && is_one_left && unit.kept_version(second).is_none()
+}
+
 #[test]
 fn record_is_kept_and_freed(rt: HostRuntime) -> Result<(), Fail> {
-    let mut unit = opening(rt.alloc())?;
-    let kept = unit.kept.noted(rt.alloc(), key(1, 1), 1)?;
-    unit.keep(kept);
-    let kept = unit.kept.noted(rt.alloc(), key(2, 1), 4)?;
-    unit.keep(kept);
-    assert_eq!(rt; unit.kept_version(key(1, 1)), Some(1));
-    // a unit's own change is noted with the new version
-    unit.renote(key(1, 1), 2);
-    assert_eq!(rt; unit.kept_version(key(1, 1)), Some(2));
-    unit.forget(key(1, 1));
-    assert_eq!(rt; unit.kept_version(key(1, 1)), None);
-    assert_eq!(rt; unit.kept_version(key(2, 1)), Some(4));
-    unit.forget_all();
-    assert_eq!(rt; unit.kept_version(key(2, 1)), None);
+    let (mut unit, first, second) = (opening(rt.alloc())?, key(1, 1), key(2, 1));
+    keeps(rt.alloc(), &mut unit, first, 1)?;
+    keeps(rt.alloc(), &mut unit, second, 4)?;
+    assert!(rt; notes_and_frees(&mut unit, first, second));
     Ok(())
 }
 
