@@ -1,6 +1,6 @@
 //! Answers, units, images and moves as printed texts, by docs/profile/printed-texts.md.
 
-use super::shop;
+use super::shop::shop;
 use dbtg_cells::{DbKey, Mode, Owner, Value};
 use dbtg_schema::{AreaNo, RecordNo, Row, Schema};
 use dbtg_script::{answers_text, image_text, moves_text, units_text};

@@ -1,6 +1,6 @@
 //! Scripts and moves as texts, and what is read or refused.
 
-use super::shop;
+use super::shop::shop;
 use dbtg_schema::Schema;
 use dbtg_script::{MovesFault, ScriptFault, read_moves, read_script};
 use dbtg_step::Move;
