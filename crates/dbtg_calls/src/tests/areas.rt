@@ -1,9 +1,10 @@
 //! Which areas the statements want in the shop, and in which order they take them, by docs/profile/statements.md.
 
 use super::shop::{at_alone, customer, item, opened, order, shop};
+use dbtg_cells::DbKey;
 use dbtg_schema::{AreaNo, Schema};
 use dbtg_script::read_script;
-use dbtg_unit::{Erase, Held, Owners, Statement, Unit, has_area, next_area};
+use dbtg_unit::{Held, Owners, Unit, has_area, next_area};
 use std::alloc::{AllocError, Global};
 use std::test::*;
 
@@ -27,14 +28,24 @@ fn areas(alloc: Global, shop: &Schema, unit: &Unit, script: &str) -> Option<Vec<
     Some(found)
 }
 
+fn areas_after_opening(alloc: Global, script: &str) -> Option<Vec<u8>> {
+    let shop = shop(alloc)?;
+    let unit = opened(alloc, None, None).ok()?;
+    areas(alloc, &shop, &unit, script)
+}
+
+fn areas_at_item(alloc: Global, script: &str) -> Option<Vec<u8>> {
+    let shop = shop(alloc)?;
+    let unit = at_alone(alloc, item(1), None).ok()?;
+    areas(alloc, &shop, &unit, script)
+}
+
 // The homes of HAS and LINES are MAIN, that of WATCH is SIDE; a FIND in a set also wants the areas of its member types.
 #[test]
 fn areas_of_finds(rt: HostRuntime) -> Result<(), Fail> {
-    let shop = shop(rt.alloc()).ok_or("a schema")?;
-    let unit = opened(rt.alloc(), None, None)?;
     let script =
         "FIND KEY ITEM:1\nFIND FIRST OF HAS SET\nFIND FIRST OF LINES SET\nFIND FIRST OF WATCH SET\nFIND LAST OF SIDE AREA\nFIND OWNER OF LINES SET\nFIND SORTED 2 OF LINES SET\nFIND CALC CUSTOMER RECORD USING CNO = 1\nFIND NEXT DUPLICATE OF ITEM RECORD";
-    let found = areas(rt.alloc(), &shop, &unit, script).ok_or("statements")?;
+    let found = areas_after_opening(rt.alloc(), script).ok_or("statements")?;
     assert_eq!(rt; found.as_slice(), [2, 1, 3, 2, 2, 1, 3, 1, 2].as_slice());
     Ok(())
 }
@@ -42,11 +53,9 @@ fn areas_of_finds(rt: HostRuntime) -> Result<(), Fail> {
 // At the first order, as after the opening of the shop. STORE takes the homes of the sets in which it connects the record.
 #[test]
 fn areas_at_an_order(rt: HostRuntime) -> Result<(), Fail> {
-    let shop = shop(rt.alloc()).ok_or("a schema")?;
-    let unit = opened(rt.alloc(), None, None)?;
     let script =
         "OPEN AREA SIDE USAGE-MODE IS RETRIEVAL\nCLOSE AREA MAIN\nFREE ALL\nFIND CURRENT OF RUN-UNIT\nFIND CURRENT OF ITEM RECORD\nFIND CURRENT OF LINES SET\nFIND CURRENT OF MAIN AREA\nGET\nKEEP\nSTORE CUSTOMER\nSTORE ORDR\nSTORE ITEM";
-    let found = areas(rt.alloc(), &shop, &unit, script).ok_or("statements")?;
+    let found = areas_after_opening(rt.alloc(), script).ok_or("statements")?;
     assert_eq!(rt;
         found.as_slice(),
         [2, 1, 0, 1, 2, 1, 1, 1, 1, 1, 1, 3].as_slice()
@@ -57,24 +66,25 @@ fn areas_at_an_order(rt: HostRuntime) -> Result<(), Fail> {
 // The part is the key of no set, the quantity is that of LINES.
 #[test]
 fn areas_at_an_item(rt: HostRuntime) -> Result<(), Fail> {
-    let shop = shop(rt.alloc()).ok_or("a schema")?;
-    let unit = at_alone(rt.alloc(), item(1), None)?;
     let script =
         "GET\nINSERT INTO LINES\nINSERT INTO WATCH\nREMOVE FROM LINES\nREMOVE FROM WATCH\nMODIFY ITEM PART = \"B\"\nMODIFY ITEM QTY = 5";
-    let found = areas(rt.alloc(), &shop, &unit, script).ok_or("statements")?;
+    let found = areas_at_item(rt.alloc(), script).ok_or("statements")?;
     assert_eq!(rt; found.as_slice(), [2, 3, 2, 3, 2, 2, 3].as_slice());
     Ok(())
+}
+
+fn areas_of_delete_at(alloc: Global, key: DbKey) -> Option<Vec<u8>> {
+    let shop = shop(alloc)?;
+    let unit = at_alone(alloc, key, None).ok()?;
+    areas(alloc, &shop, &unit, "DELETE\nDELETE ALL")
 }
 
 // Every DELETE in the shop takes both, also that of an item.
 #[test]
 fn areas_of_delete(rt: HostRuntime) -> Result<(), Fail> {
-    let shop = shop(rt.alloc()).ok_or("a schema")?;
-    let delete = Statement::Delete(Erase::Plain);
     for key in [customer(1), order(1), item(1)] {
-        let unit = at_alone(rt.alloc(), key, None)?;
-        assert!(rt; has_area(&shop, &unit, &delete, AreaNo::new(0)), "{key:?}");
-        assert!(rt; has_area(&shop, &unit, &delete, AreaNo::new(1)), "{key:?}");
+        let found = areas_of_delete_at(rt.alloc(), key).ok_or("statements")?;
+        assert_eq!(rt; found.as_slice(), [3, 3].as_slice(), "{key:?}");
     }
     Ok(())
 }
@@ -108,22 +118,22 @@ fn holding(alloc: Global, areas: &[u8]) -> Result<Held, AllocError> {
 }
 
 // At an item a REMOVE FROM LINES takes MAIN and then SIDE, a GET takes SIDE alone, and a FREE none.
-fn next_at_item(alloc: Global, shop: &Schema, areas: &[u8]) -> Option<Vec<Option<u8>>> {
+fn next_at_item(alloc: Global, areas: &[u8]) -> Option<Vec<Option<u8>>> {
+    let shop = shop(alloc)?;
     let unit = at_alone(alloc, item(1), None).ok()?;
     let held = holding(alloc, areas).ok()?;
-    next_areas(alloc, shop, &unit, &held, "REMOVE FROM LINES\nGET\nFREE")
+    next_areas(alloc, &shop, &unit, &held, "REMOVE FROM LINES\nGET\nFREE")
 }
 
 #[test]
 fn areas_in_turn(rt: HostRuntime) -> Result<(), Fail> {
-    let shop = shop(rt.alloc()).ok_or("a schema")?;
-    let found = next_at_item(rt.alloc(), &shop, &[]).ok_or("statements")?;
+    let found = next_at_item(rt.alloc(), &[]).ok_or("statements")?;
     assert_eq!(rt; found.as_slice(), [Some(0), Some(1), None].as_slice());
-    let found = next_at_item(rt.alloc(), &shop, &[0]).ok_or("statements")?;
+    let found = next_at_item(rt.alloc(), &[0]).ok_or("statements")?;
     assert_eq!(rt; found.as_slice(), [Some(1), Some(1), None].as_slice());
-    let found = next_at_item(rt.alloc(), &shop, &[1]).ok_or("statements")?;
+    let found = next_at_item(rt.alloc(), &[1]).ok_or("statements")?;
     assert_eq!(rt; found.as_slice(), [Some(0), None, None].as_slice());
-    let found = next_at_item(rt.alloc(), &shop, &[0, 1]).ok_or("statements")?;
+    let found = next_at_item(rt.alloc(), &[0, 1]).ok_or("statements")?;
     assert_eq!(rt; found.as_slice(), [None, None, None].as_slice());
     Ok(())
 }

@@ -92,6 +92,11 @@ fn taken(alloc: Global, schema: &Schema, option: Erase) -> Result<Vec<CellName>,
     Ok(names)
 }
 
+fn taken_in_house(alloc: Global, option: Erase) -> Option<Vec<CellName>> {
+    let house = Schema::read(alloc, HOUSE.as_bytes()).ok()?;
+    taken(alloc, &house, option).ok()
+}
+
 fn slot_of(key: &DbKey) -> CellName {
     CellName::Slot(key.rtype, key.number)
 }
@@ -102,8 +107,7 @@ fn lights() -> CellName {
 
 #[test]
 fn all_takes_the_lamp(rt: HostRuntime) -> Result<(), Fail> {
-    let house = Schema::read(rt.alloc(), HOUSE.as_bytes()).expect(&rt, "a schema");
-    let names = taken(rt.alloc(), &house, Erase::All)?;
+    let names = taken_in_house(rt.alloc(), Erase::All).ok_or("memory")?;
     let extents = [
         CellName::Extent(RecordNo::new(0)),
         CellName::Extent(RecordNo::new(1)),
@@ -121,8 +125,7 @@ fn all_takes_the_lamp(rt: HostRuntime) -> Result<(), Fail> {
 
 #[test]
 fn only_leaves_the_lamp(rt: HostRuntime) -> Result<(), Fail> {
-    let house = Schema::read(rt.alloc(), HOUSE.as_bytes()).expect(&rt, "a schema");
-    let names = taken(rt.alloc(), &house, Erase::Only)?;
+    let names = taken_in_house(rt.alloc(), Erase::Only).ok_or("memory")?;
     let wanted = [
         slot_of(&room()),
         lights(),
@@ -135,8 +138,7 @@ fn only_leaves_the_lamp(rt: HostRuntime) -> Result<(), Fail> {
 
 #[test]
 fn plain_form_stops_at_the_lamp(rt: HostRuntime) -> Result<(), Fail> {
-    let house = Schema::read(rt.alloc(), HOUSE.as_bytes()).expect(&rt, "a schema");
-    let names = taken(rt.alloc(), &house, Erase::Plain)?;
+    let names = taken_in_house(rt.alloc(), Erase::Plain).ok_or("memory")?;
     let wanted = [slot_of(&room()), lights()];
     assert_eq!(rt; names.as_slice(), wanted.as_slice());
     Ok(())

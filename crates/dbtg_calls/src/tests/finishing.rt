@@ -151,13 +151,18 @@ fn keep(alloc: Global) -> Result<UnitEdit, AllocError> {
 
 fn frees(alloc: Global, shop: &Schema) -> Result<bool, AllocError> {
     let (key, current) = (order(1), Some(order(1)));
-    let (free, free_all) = (UnitEdit::Forget { key }, UnitEdit::ForgetAll);
-    Ok(
-        leaves_kept(alloc, shop, UnitEdit::Same, Some(1), Some(4), current)?
-            && leaves_kept(alloc, shop, keep(alloc)?, None, Some(5), current)?
-            && leaves_kept(alloc, shop, free, Some(1), None, current)?
-            && leaves_kept(alloc, shop, free_all, None, None, current)?,
-    )
+    let is_same = leaves_kept(alloc, shop, UnitEdit::Same, Some(1), Some(4), current)?;
+    let is_kept = leaves_kept(alloc, shop, keep(alloc)?, None, Some(5), current)?;
+    let is_free = leaves_kept(
+        alloc,
+        shop,
+        UnitEdit::Forget { key },
+        Some(1),
+        None,
+        current,
+    )?;
+    let are_free = leaves_kept(alloc, shop, UnitEdit::ForgetAll, None, None, current)?;
+    Ok(is_same && is_kept && is_free && are_free)
 }
 
 // DELETE: no record is current, and that record is not kept any more.

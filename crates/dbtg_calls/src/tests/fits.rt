@@ -28,24 +28,37 @@ fn fitting(alloc: Global, shop: &Schema, schema: &Schema, script: &str) -> Optio
     Some(found)
 }
 
+fn fitting_of_shop(alloc: Global, script: &str) -> Option<Vec<bool>> {
+    let shop = shop(alloc)?;
+    fitting(alloc, &shop, &shop, script)
+}
+
+// The statements of the other schema: a function to each schema, so that none owns two.
+fn fitting_of_other(alloc: Global, script: &str) -> Option<Vec<bool>> {
+    let other = other(alloc)?;
+    fitting_by_shop(alloc, &other, script)
+}
+
+fn fitting_by_shop(alloc: Global, schema: &Schema, script: &str) -> Option<Vec<bool>> {
+    let shop = shop(alloc)?;
+    fitting(alloc, &shop, schema, script)
+}
+
 // A part has four bytes, and a quantity three digits.
 #[test]
 fn statements_of_the_shop(rt: HostRuntime) -> Result<(), Fail> {
-    let shop = shop(rt.alloc()).ok_or("a schema")?;
     let script =
         "FIND KEY CUSTOMER:1\nFIND NEXT DUPLICATE OF ITEM RECORD\nFIND LAST ITEM RECORD OF SIDE AREA\nFIND CALC ITEM RECORD USING PART = \"A\"\nSTORE ITEM PART = \"A\" QTY = 999\nSTORE ITEM PART = \" !#~\" QTY = 0";
-    let found = fitting(rt.alloc(), &shop, &shop, script).ok_or("statements")?;
+    let found = fitting_of_shop(rt.alloc(), script).ok_or("statements")?;
     assert_eq!(rt; found.as_slice(), [true; 6].as_slice());
     Ok(())
 }
 
 #[test]
 fn statements_of_both(rt: HostRuntime) -> Result<(), Fail> {
-    let shop = shop(rt.alloc()).ok_or("a schema")?;
-    let other = other(rt.alloc()).ok_or("a schema")?;
     let script =
         "OPEN AREA SIDE USAGE-MODE IS UPDATE\nINSERT INTO WATCH\nGET ITEM\nFIND CURRENT OF RUN-UNIT SUPPRESS HAS LINES WATCH\nFIND KEY ITEM:999999.255\nFIND FIRST ITEM RECORD OF WATCH SET\nFIND 999999 OF LINES SET\nFIND -999999 OF LINES SET\nFIND OWNER OF LINES SET\nFIND SORTED 999 OF LINES SET\nSTORE ORDR ONO = 9999\nMODIFY ITEM QTY = 999";
-    let found = fitting(rt.alloc(), &shop, &other, script).ok_or("statements")?;
+    let found = fitting_of_other(rt.alloc(), script).ok_or("statements")?;
     assert_eq!(rt; found.as_slice(), [true; 12].as_slice());
     Ok(())
 }
@@ -54,11 +67,9 @@ fn statements_of_both(rt: HostRuntime) -> Result<(), Fail> {
 // sorted.
 #[test]
 fn numbers_and_names_of_the_other_alone(rt: HostRuntime) -> Result<(), Fail> {
-    let shop = shop(rt.alloc()).ok_or("a schema")?;
-    let other = other(rt.alloc()).ok_or("a schema")?;
     let script =
         "OPEN AREA ATTIC USAGE-MODE IS UPDATE\nCLOSE AREA ATTIC\nINSERT INTO MORE\nGET BOX\nFIND KEY BOX:1\nFIND CURRENT OF RUN-UNIT SUPPRESS MORE\nFIND FIRST ORDR RECORD OF WATCH SET\nFIND LAST ITEM RECORD OF MAIN AREA\nFIND OWNER OF WATCH SET\nFIND NEXT DUPLICATE OF ORDR RECORD\nFIND SORTED 1 OF HAS SET";
-    let found = fitting(rt.alloc(), &shop, &other, script).ok_or("statements")?;
+    let found = fitting_of_other(rt.alloc(), script).ok_or("statements")?;
     assert_eq!(rt; found.as_slice(), [false; 11].as_slice());
     Ok(())
 }
@@ -66,11 +77,9 @@ fn numbers_and_names_of_the_other_alone(rt: HostRuntime) -> Result<(), Fail> {
 // Too large, too few, too large, too many, too many of CALC, too large, none of the items, too short, and a text for a number.
 #[test]
 fn values_of_the_other_alone(rt: HostRuntime) -> Result<(), Fail> {
-    let shop = shop(rt.alloc()).ok_or("a schema")?;
-    let other = other(rt.alloc()).ok_or("a schema")?;
     let script =
         "FIND SORTED 1000 OF LINES SET\nSTORE CUSTOMER\nSTORE ORDR ONO = 10000\nSTORE ITEM\nFIND CALC ITEM RECORD USING PART = \"A\" QTY = 1\nMODIFY ITEM QTY = 1000\nMODIFY ITEM COLOR = 5\nMODIFY ITEM PART = \"ABC\"\nMODIFY CUSTOMER CNO = \"A\"";
-    let found = fitting(rt.alloc(), &shop, &other, script).ok_or("statements")?;
+    let found = fitting_of_other(rt.alloc(), script).ok_or("statements")?;
     assert_eq!(rt; found.as_slice(), [false; 9].as_slice());
     Ok(())
 }

@@ -12,7 +12,12 @@ use std::alloc::Global;
 use std::test::*;
 
 // For each MODIFY of a script: does it name the second item, a CALC item, the key of LINES, the key of WATCH?
-fn named(alloc: Global, shop: &Schema, script: &str) -> Option<Vec<(bool, bool, bool, bool)>> {
+fn named(alloc: Global, script: &str) -> Option<Vec<(bool, bool, bool, bool)>> {
+    let shop = shop(alloc)?;
+    named_by(alloc, &shop, script)
+}
+
+fn named_by(alloc: Global, shop: &Schema, script: &str) -> Option<Vec<(bool, bool, bool, bool)>> {
     let statements = read_script(alloc, shop, script.as_bytes()).ok()?;
     let (lines, watch) = (SetNo::new(1), SetNo::new(2));
     let mut found = Vec::new(alloc);
@@ -33,10 +38,9 @@ fn named(alloc: Global, shop: &Schema, script: &str) -> Option<Vec<(bool, bool, 
 // LINES is sorted by the quantity of an item, WATCH is not sorted; the CALC item of an item is its part.
 #[test]
 fn changes(rt: HostRuntime) -> Result<(), Fail> {
-    let shop = shop(rt.alloc()).ok_or("a schema")?;
     let script =
         "MODIFY ITEM QTY = 5\nMODIFY ITEM PART = \"B\"\nMODIFY ITEM PART = \"B\" QTY = 5\nMODIFY ORDR ONO = 5\nMODIFY CUSTOMER CNO = 5";
-    let found = named(rt.alloc(), &shop, script).ok_or("statements")?;
+    let found = named(rt.alloc(), script).ok_or("statements")?;
     let wanted = [
         (true, false, true, false),
         (false, true, false, false),
@@ -68,7 +72,12 @@ fn entries(rt: HostRuntime) {
     assert_eq!(rt; entry_at(&entries, 2), None, "past the end");
 }
 
-fn codes(alloc: Global, shop: &Schema, script: &str) -> Option<Vec<u8>> {
+fn codes(alloc: Global, script: &str) -> Option<Vec<u8>> {
+    let shop = shop(alloc)?;
+    codes_by(alloc, &shop, script)
+}
+
+fn codes_by(alloc: Global, shop: &Schema, script: &str) -> Option<Vec<u8>> {
     let statements = read_script(alloc, shop, script.as_bytes()).ok()?;
     let mut found = Vec::new(alloc);
     for statement in &statements {
@@ -79,10 +88,9 @@ fn codes(alloc: Global, shop: &Schema, script: &str) -> Option<Vec<u8>> {
 
 #[test]
 fn codes_of_statements(rt: HostRuntime) -> Result<(), Fail> {
-    let shop = shop(rt.alloc()).ok_or("a schema")?;
     let script =
         "OPEN AREA MAIN USAGE-MODE IS UPDATE\nCLOSE AREA MAIN\nFIND CURRENT OF RUN-UNIT\nGET\nSTORE CUSTOMER\nINSERT INTO HAS\nREMOVE FROM HAS\nMODIFY CUSTOMER CNO = 5\nDELETE ALL\nKEEP\nFREE";
-    let found = codes(rt.alloc(), &shop, script).ok_or("statements")?;
+    let found = codes(rt.alloc(), script).ok_or("statements")?;
     assert_eq!(rt;
         found.as_slice(),
         [1, 2, 3, 4, 5, 6, 7, 8, 9, 10, 11].as_slice()

@@ -23,21 +23,55 @@ fn statuses(alloc: Global, shop: &Schema, unit: &Unit, script: &str) -> Option<V
     Some(found)
 }
 
+// The tests own no schema and no unit: who owns one is long to prove, and only these do.
+fn statuses_at_beginning(
+    alloc: Global,
+    main: Option<Mode>,
+    side: Option<Mode>,
+    script: &str,
+) -> Option<Vec<u16>> {
+    let shop = shop(alloc)?;
+    let unit = beginning(alloc, main, side).ok()?;
+    statuses(alloc, &shop, &unit, script)
+}
+
+fn statuses_after_opening(
+    alloc: Global,
+    main: Option<Mode>,
+    side: Option<Mode>,
+    script: &str,
+) -> Option<Vec<u16>> {
+    let shop = shop(alloc)?;
+    let unit = opened(alloc, main, side).ok()?;
+    statuses(alloc, &shop, &unit, script)
+}
+
 // The unit of the opening, at an item.
-fn at_item(alloc: Global, main: Option<Mode>, side: Option<Mode>) -> Result<Unit, AllocError> {
-    let mut unit = opened(alloc, main, side)?;
+fn statuses_at_item(
+    alloc: Global,
+    main: Option<Mode>,
+    side: Option<Mode>,
+    script: &str,
+) -> Option<Vec<u16>> {
+    let shop = shop(alloc)?;
+    let mut unit = opened(alloc, main, side).ok()?;
     unit.currency.run_unit = Some(item(1));
-    Ok(unit)
+    statuses(alloc, &shop, &unit, script)
+}
+
+// Both areas are open for updates.
+fn statuses_alone(alloc: Global, key: DbKey, script: &str) -> Option<Vec<u16>> {
+    let shop = shop(alloc)?;
+    let unit = at_alone(alloc, key, Some(Mode::Update)).ok()?;
+    statuses(alloc, &shop, &unit, script)
 }
 
 // Before 06 and 01: the current of LINES is null, and no area is open.
 #[test]
 fn no_current_of_run_unit(rt: HostRuntime) -> Result<(), Fail> {
-    let shop = shop(rt.alloc()).ok_or("a schema")?;
-    let unit = beginning(rt.alloc(), None, None)?;
     let script =
         "FIND CURRENT OF RUN-UNIT\nGET\nINSERT INTO LINES\nREMOVE FROM LINES\nMODIFY ITEM QTY = 5\nDELETE\nKEEP\nFREE\nFREE ALL";
-    let found = statuses(rt.alloc(), &shop, &unit, script).ok_or("statements")?;
+    let found = statuses_at_beginning(rt.alloc(), None, None, script).ok_or("statements")?;
     assert_eq!(rt;
         found.as_slice(),
         [313, 413, 613, 713, 813, 913, 1013, 1113, 0].as_slice()
@@ -48,11 +82,9 @@ fn no_current_of_run_unit(rt: HostRuntime) -> Result<(), Fail> {
 // An order is a member of HAS alone. Before 01: no area is open.
 #[test]
 fn other_record_type(rt: HostRuntime) -> Result<(), Fail> {
-    let shop = shop(rt.alloc()).ok_or("a schema")?;
-    let unit = opened(rt.alloc(), None, None)?;
     let script =
         "GET CUSTOMER\nGET ORDR\nINSERT INTO WATCH\nREMOVE FROM LINES\nMODIFY ITEM QTY = 5\nMODIFY ORDR ONO = 5";
-    let found = statuses(rt.alloc(), &shop, &unit, script).ok_or("statements")?;
+    let found = statuses_after_opening(rt.alloc(), None, None, script).ok_or("statements")?;
     assert_eq!(rt; found.as_slice(), [420, 401, 620, 720, 820, 801].as_slice());
     Ok(())
 }
@@ -60,10 +92,8 @@ fn other_record_type(rt: HostRuntime) -> Result<(), Fail> {
 // An order is MANDATORY AUTOMATIC in HAS and no member of LINES. Before 06, as LINES and HAS are null.
 #[test]
 fn at_an_order_alone(rt: HostRuntime) -> Result<(), Fail> {
-    let shop = shop(rt.alloc()).ok_or("a schema")?;
-    let unit = at_alone(rt.alloc(), order(1), Some(Mode::Update))?;
     let script = "INSERT INTO LINES\nINSERT INTO HAS\nREMOVE FROM HAS";
-    let found = statuses(rt.alloc(), &shop, &unit, script).ok_or("statements")?;
+    let found = statuses_alone(rt.alloc(), order(1), script).ok_or("statements")?;
     assert_eq!(rt; found.as_slice(), [620, 614, 715].as_slice());
     Ok(())
 }
@@ -71,10 +101,8 @@ fn at_an_order_alone(rt: HostRuntime) -> Result<(), Fail> {
 // An item is no member of HAS, as in docs/profile/statuses.md. LINES has no owner at which the unit stands, WATCH has SYSTEM.
 #[test]
 fn at_an_item_alone(rt: HostRuntime) -> Result<(), Fail> {
-    let shop = shop(rt.alloc()).ok_or("a schema")?;
-    let unit = at_alone(rt.alloc(), item(1), Some(Mode::Update))?;
     let script = "INSERT INTO HAS\nINSERT INTO LINES\nINSERT INTO WATCH";
-    let found = statuses(rt.alloc(), &shop, &unit, script).ok_or("statements")?;
+    let found = statuses_alone(rt.alloc(), item(1), script).ok_or("statements")?;
     assert_eq!(rt; found.as_slice(), [620, 606, 0].as_slice());
     Ok(())
 }
@@ -82,10 +110,8 @@ fn at_an_item_alone(rt: HostRuntime) -> Result<(), Fail> {
 // 14 and 15 come before 01: no area is open.
 #[test]
 fn mandatory_members(rt: HostRuntime) -> Result<(), Fail> {
-    let shop = shop(rt.alloc()).ok_or("a schema")?;
-    let unit = opened(rt.alloc(), None, None)?;
     let script = "INSERT INTO HAS\nREMOVE FROM HAS";
-    let found = statuses(rt.alloc(), &shop, &unit, script).ok_or("statements")?;
+    let found = statuses_after_opening(rt.alloc(), None, None, script).ok_or("statements")?;
     assert_eq!(rt; found.as_slice(), [614, 715].as_slice());
     Ok(())
 }
@@ -93,20 +119,20 @@ fn mandatory_members(rt: HostRuntime) -> Result<(), Fail> {
 // An item is OPTIONAL AUTOMATIC in LINES and OPTIONAL MANUAL in WATCH.
 #[test]
 fn optional_members(rt: HostRuntime) -> Result<(), Fail> {
-    let shop = shop(rt.alloc()).ok_or("a schema")?;
-    let unit = at_item(rt.alloc(), Some(Mode::Update), Some(Mode::Update))?;
     let script = "INSERT INTO LINES\nREMOVE FROM LINES\nINSERT INTO WATCH\nREMOVE FROM WATCH";
-    let found = statuses(rt.alloc(), &shop, &unit, script).ok_or("statements")?;
+    let found = statuses_at_item(rt.alloc(), Some(Mode::Update), Some(Mode::Update), script).ok_or(
+        "statements",
+    )?;
     assert_eq!(rt; found.as_slice(), [0, 0, 0, 0].as_slice());
     Ok(())
 }
 
 #[test]
 fn area_is_open_already(rt: HostRuntime) -> Result<(), Fail> {
-    let shop = shop(rt.alloc()).ok_or("a schema")?;
-    let unit = beginning(rt.alloc(), Some(Mode::ExclusiveUpdate), None)?;
     let script = "OPEN AREA MAIN USAGE-MODE IS RETRIEVAL\nOPEN AREA SIDE USAGE-MODE IS RETRIEVAL";
-    let found = statuses(rt.alloc(), &shop, &unit, script).ok_or("statements")?;
+    let found = statuses_at_beginning(rt.alloc(), Some(Mode::ExclusiveUpdate), None, script).ok_or(
+        "statements",
+    )?;
     assert_eq!(rt; found.as_slice(), [128, 0].as_slice());
     Ok(())
 }
@@ -115,11 +141,9 @@ fn area_is_open_already(rt: HostRuntime) -> Result<(), Fail> {
 // always one.
 #[test]
 fn no_current_at_the_opening(rt: HostRuntime) -> Result<(), Fail> {
-    let shop = shop(rt.alloc()).ok_or("a schema")?;
-    let unit = opened(rt.alloc(), None, None)?;
     let script =
         "FIND CURRENT OF ITEM RECORD\nFIND CURRENT OF WATCH SET\nFIND CURRENT OF SIDE AREA\nFIND NEXT DUPLICATE OF ITEM RECORD\nFIND NEXT OF SIDE AREA\nFIND PRIOR OF SIDE AREA\nFIND FIRST OF SIDE AREA\nFIND NEXT OF WATCH SET\nFIND CURRENT OF LINES SET";
-    let found = statuses(rt.alloc(), &shop, &unit, script).ok_or("statements")?;
+    let found = statuses_after_opening(rt.alloc(), None, None, script).ok_or("statements")?;
     assert_eq!(rt;
         found.as_slice(),
         [306, 306, 306, 306, 306, 306, 301, 301, 301].as_slice()
@@ -129,11 +153,9 @@ fn no_current_at_the_opening(rt: HostRuntime) -> Result<(), Fail> {
 
 #[test]
 fn no_current_at_all(rt: HostRuntime) -> Result<(), Fail> {
-    let shop = shop(rt.alloc()).ok_or("a schema")?;
-    let unit = beginning(rt.alloc(), None, None)?;
     let script =
         "FIND FIRST OF HAS SET\nFIND OWNER OF LINES SET\nFIND SORTED 2 OF LINES SET\nSTORE ORDR\nSTORE CUSTOMER";
-    let found = statuses(rt.alloc(), &shop, &unit, script).ok_or("statements")?;
+    let found = statuses_at_beginning(rt.alloc(), None, None, script).ok_or("statements")?;
     assert_eq!(rt; found.as_slice(), [306, 306, 306, 506, 501].as_slice());
     Ok(())
 }
@@ -141,11 +163,15 @@ fn no_current_at_all(rt: HostRuntime) -> Result<(), Fail> {
 // No FIND and no GET needs an UPDATE mode.
 #[test]
 fn cells_decide(rt: HostRuntime) -> Result<(), Fail> {
-    let shop = shop(rt.alloc()).ok_or("a schema")?;
-    let unit = opened(rt.alloc(), Some(Mode::Retrieval), Some(Mode::Retrieval))?;
     let script =
         "FIND CURRENT OF RUN-UNIT\nFIND CURRENT OF CUSTOMER RECORD\nFIND CURRENT OF HAS SET\nFIND CURRENT OF LINES SET\nFIND CURRENT OF MAIN AREA\nFIND NEXT OF LINES SET\nFIND SORTED 2 OF LINES SET\nFIND CALC ITEM RECORD USING PART = \"A\"\nGET ORDR\nKEEP\nCLOSE AREA SIDE";
-    let found = statuses(rt.alloc(), &shop, &unit, script).ok_or("statements")?;
+    let found = statuses_after_opening(
+        rt.alloc(),
+        Some(Mode::Retrieval),
+        Some(Mode::Retrieval),
+        script,
+    )
+    .ok_or("statements")?;
     assert_eq!(rt; found.as_slice(), [0; 11].as_slice());
     Ok(())
 }
@@ -153,11 +179,11 @@ fn cells_decide(rt: HostRuntime) -> Result<(), Fail> {
 // SIDE alone is open, to retrieve; so 01 comes before 09.
 #[test]
 fn main_is_not_open(rt: HostRuntime) -> Result<(), Fail> {
-    let shop = shop(rt.alloc()).ok_or("a schema")?;
-    let unit = opened(rt.alloc(), None, Some(Mode::Retrieval))?;
     let script =
         "CLOSE AREA MAIN\nCLOSE AREA SIDE\nFIND KEY CUSTOMER:1\nFIND KEY ITEM:1\nFIND CALC CUSTOMER RECORD USING CNO = 1\nGET ORDR\nSTORE ITEM\nKEEP";
-    let found = statuses(rt.alloc(), &shop, &unit, script).ok_or("statements")?;
+    let found = statuses_after_opening(rt.alloc(), None, Some(Mode::Retrieval), script).ok_or(
+        "statements",
+    )?;
     assert_eq!(rt;
         found.as_slice(),
         [201, 0, 301, 0, 301, 401, 501, 1001].as_slice()
@@ -168,11 +194,11 @@ fn main_is_not_open(rt: HostRuntime) -> Result<(), Fail> {
 // LINES is at home in MAIN, WATCH in SIDE; a DELETE of an item takes both areas. FREE needs no open area.
 #[test]
 fn home_of_lines_is_not_open(rt: HostRuntime) -> Result<(), Fail> {
-    let shop = shop(rt.alloc()).ok_or("a schema")?;
-    let unit = at_item(rt.alloc(), None, Some(Mode::Retrieval))?;
     let script =
         "GET\nFIND SORTED 2 OF LINES SET\nINSERT INTO LINES\nREMOVE FROM LINES\nINSERT INTO WATCH\nDELETE\nFREE";
-    let found = statuses(rt.alloc(), &shop, &unit, script).ok_or("statements")?;
+    let found = statuses_at_item(rt.alloc(), None, Some(Mode::Retrieval), script).ok_or(
+        "statements",
+    )?;
     assert_eq!(rt;
         found.as_slice(),
         [0, 301, 601, 701, 609, 901, 1131].as_slice()
@@ -184,11 +210,15 @@ fn home_of_lines_is_not_open(rt: HostRuntime) -> Result<(), Fail> {
 // key of none.
 #[test]
 fn update_mode_is_needed(rt: HostRuntime) -> Result<(), Fail> {
-    let shop = shop(rt.alloc()).ok_or("a schema")?;
-    let unit = at_item(rt.alloc(), Some(Mode::Retrieval), Some(Mode::Update))?;
     let script =
         "STORE CUSTOMER\nSTORE ITEM\nINSERT INTO LINES\nREMOVE FROM LINES\nDELETE\nINSERT INTO WATCH\nMODIFY ITEM QTY = 5\nMODIFY ITEM PART = \"B\"";
-    let found = statuses(rt.alloc(), &shop, &unit, script).ok_or("statements")?;
+    let found = statuses_at_item(
+        rt.alloc(),
+        Some(Mode::Retrieval),
+        Some(Mode::Update),
+        script,
+    )
+    .ok_or("statements")?;
     assert_eq!(rt;
         found.as_slice(),
         [509, 509, 609, 709, 909, 0, 809, 0].as_slice()
@@ -231,28 +261,28 @@ fn modes_for_updates(rt: HostRuntime) -> Result<(), Fail> {
 // 01 comes before 26.
 #[test]
 fn number_above_the_capacity(rt: HostRuntime) -> Result<(), Fail> {
-    let shop = shop(rt.alloc()).ok_or("a schema")?;
-    let unit = beginning(rt.alloc(), Some(Mode::Retrieval), None)?;
     let script = "FIND KEY CUSTOMER:101\nFIND KEY CUSTOMER:100\nFIND KEY ITEM:101";
-    let found = statuses(rt.alloc(), &shop, &unit, script).ok_or("statements")?;
+    let found = statuses_at_beginning(rt.alloc(), Some(Mode::Retrieval), None, script).ok_or(
+        "statements",
+    )?;
     assert_eq!(rt; found.as_slice(), [326, 0, 301].as_slice());
     Ok(())
 }
 
 // At the first order, with no area open, which FREE does not need; another record is kept, or the order itself.
-fn statuses_keeping(alloc: Global, shop: &Schema, key: DbKey) -> Option<Vec<u16>> {
+fn statuses_keeping(alloc: Global, key: DbKey) -> Option<Vec<u16>> {
+    let shop = shop(alloc)?;
     let mut unit = opened(alloc, None, None).ok()?;
     let kept = unit.kept.noted(alloc, key, 1).ok()?;
     unit.keep(kept);
-    statuses(alloc, shop, &unit, "FREE\nFREE ALL")
+    statuses(alloc, &shop, &unit, "FREE\nFREE ALL")
 }
 
 #[test]
 fn record_is_not_kept(rt: HostRuntime) -> Result<(), Fail> {
-    let shop = shop(rt.alloc()).ok_or("a schema")?;
-    let found = statuses_keeping(rt.alloc(), &shop, customer(1)).ok_or("statements")?;
+    let found = statuses_keeping(rt.alloc(), customer(1)).ok_or("statements")?;
     assert_eq!(rt; found.as_slice(), [1131, 0].as_slice());
-    let found = statuses_keeping(rt.alloc(), &shop, order(1)).ok_or("statements")?;
+    let found = statuses_keeping(rt.alloc(), order(1)).ok_or("statements")?;
     assert_eq!(rt; found.as_slice(), [0, 0].as_slice());
     Ok(())
 }

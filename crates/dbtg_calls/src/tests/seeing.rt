@@ -4,6 +4,7 @@ use super::shop::{beginning, customer, item, opened, order, place, shop};
 use dbtg_cells::{DbKey, Owner};
 use dbtg_schema::{Schema, SetNo};
 use dbtg_unit::{Place, Suppress, Unit};
+use std::alloc::Global;
 use std::test::*;
 
 fn suppress(types: bool, areas: bool, sets: u16) -> Suppress {
@@ -48,11 +49,17 @@ fn stands_at_third_item(unit: &Unit) -> bool {
     stands(unit, item(3), &types, &areas, &[has, lines, None])
 }
 
+// The unit that opened the shop, when it has seen the third item.
+fn at_third_item(alloc: Global, suppress: &Suppress) -> Option<Unit> {
+    let shop = shop(alloc)?;
+    let mut unit = opened(alloc, None, None).ok()?;
+    sees_item(&shop, &mut unit, 3, suppress);
+    Some(unit)
+}
+
 #[test]
 fn record_is_current(rt: HostRuntime) -> Result<(), Fail> {
-    let shop = shop(rt.alloc()).ok_or("a schema")?;
-    let mut unit = opened(rt.alloc(), None, None)?;
-    sees_item(&shop, &mut unit, 3, &suppress(false, false, 0));
+    let unit = at_third_item(rt.alloc(), &suppress(false, false, 0)).ok_or("a unit")?;
     assert!(rt; stands_at_third_item(&unit));
     Ok(())
 }
@@ -67,9 +74,7 @@ fn stands_as_at_opening(unit: &Unit) -> bool {
 
 #[test]
 fn all_is_suppressed_but_the_run_unit(rt: HostRuntime) -> Result<(), Fail> {
-    let shop = shop(rt.alloc()).ok_or("a schema")?;
-    let mut unit = opened(rt.alloc(), None, None)?;
-    sees_item(&shop, &mut unit, 3, &suppress(true, true, 7));
+    let unit = at_third_item(rt.alloc(), &suppress(true, true, 7)).ok_or("a unit")?;
     assert!(rt; stands_as_at_opening(&unit));
     Ok(())
 }
@@ -82,12 +87,17 @@ fn stands_at_second_order(unit: &Unit) -> bool {
     stands(unit, item(1), &types, &areas, &[has, lines, None])
 }
 
-#[test]
-fn set_is_suppressed(rt: HostRuntime) -> Result<(), Fail> {
-    let shop = shop(rt.alloc()).ok_or("a schema")?;
-    let mut unit = beginning(rt.alloc(), None, None)?;
+fn at_order_and_item(alloc: Global) -> Option<Unit> {
+    let shop = shop(alloc)?;
+    let mut unit = beginning(alloc, None, None).ok()?;
     sees_order(&shop, &mut unit, 2);
     sees_item(&shop, &mut unit, 1, &suppress(false, false, 2));
+    Some(unit)
+}
+
+#[test]
+fn set_is_suppressed(rt: HostRuntime) -> Result<(), Fail> {
+    let unit = at_order_and_item(rt.alloc()).ok_or("a unit")?;
     assert!(rt; stands_at_second_order(&unit));
     Ok(())
 }
@@ -106,12 +116,20 @@ fn stands_in_sets(shop: &Schema, unit: &Unit) -> bool {
         && unit.key_in(shop, watch).is_none()
 }
 
+fn stands_after_opening(alloc: Global) -> Option<bool> {
+    let shop = shop(alloc)?;
+    let unit = opened(alloc, None, None).ok()?;
+    Some(stands_in_sets(&shop, &unit))
+}
+
+fn place_at_beginning(alloc: Global) -> Option<Place> {
+    let shop = shop(alloc)?;
+    let unit = beginning(alloc, None, None).ok()?;
+    unit.place_in(&shop, SetNo::new(0))
+}
+
 #[test]
-fn places_in_sets(rt: HostRuntime) -> Result<(), Fail> {
-    let shop = shop(rt.alloc()).ok_or("a schema")?;
-    let none = beginning(rt.alloc(), None, None)?;
-    let unit = opened(rt.alloc(), None, None)?;
-    assert!(rt; stands_in_sets(&shop, &unit));
-    assert!(rt; none.place_in(&shop, SetNo::new(0)).is_none());
-    Ok(())
+fn places_in_sets(rt: HostRuntime) {
+    assert_eq!(rt; stands_after_opening(rt.alloc()), Some(true));
+    assert_eq!(rt; place_at_beginning(rt.alloc()), None);
 }
