@@ -2,10 +2,11 @@
 
 use super::shop::shop;
 use dbtg_cells::{DbKey, Mode, Owner, Value};
-use dbtg_schema::{AreaNo, RecordNo, Row, Schema};
+use dbtg_schema::{AreaNo, RecordNo, Row};
 use dbtg_script::{answers_text, image_text, moves_text, units_text};
 use dbtg_step::{Image, Stepped};
 use dbtg_unit::{Answer, Cause, Currency, Entry, Kept, Place, Statement, Status, Unit};
+use std::alloc::Global;
 use std::test::*;
 
 fn key(rtype: u8, number: u32, generation: u8) -> DbKey {
@@ -34,176 +35,181 @@ fn watched() -> Option<Place> {
     })
 }
 
-fn row<T: Copy + Drop>(rt: &HostRuntime, items: &[T]) -> Row<T> {
-    match Vec::from_slice(rt.alloc(), items) {
-        Ok(items) => Row::of(items),
-        Err(_) => Row::of(Vec::new(rt.alloc())),
+fn row<T: Copy + Drop>(alloc: Global, items: &[T]) -> Option<Row<T>> {
+    Some(Row::of(Vec::from_slice(alloc, items).ok()?))
+}
+
+// A customer's items: a number and a name.
+fn items(alloc: Global, number: u64, name: &[u8]) -> Option<Row<Value>> {
+    let mut items = Vec::new(alloc);
+    items.push(Value::Num(number)).ok()?;
+    items.push(Value::Text(row(alloc, name)?)).ok()?;
+    Some(Row::of(items))
+}
+
+fn entry(
+    ticket: u64,
+    unit: u8,
+    statement: Statement,
+    status: Status,
+    key: Option<DbKey>,
+    items: Option<Row<Value>>,
+) -> Entry {
+    Entry {
+        ticket,
+        unit,
+        statement,
+        answer: Answer { status, key, items },
     }
 }
 
-fn text(rt: &HostRuntime, bytes: &[u8]) -> Value {
-    Value::Text(row(rt, bytes))
+fn history(alloc: Global) -> Option<Vec<Entry>> {
+    let (area, deleted) = (AreaNo::new(0), Status::Refused(Cause::Deleted));
+    let got = Some(items(alloc, 7, b"ADA     ")?);
+    let mut history = Vec::new(alloc);
+    history
+        .push(entry(0, 1, Statement::CloseArea(area), Status::Done, None, None))
+        .ok()?;
+    history
+        .push(entry(12, 3, Statement::Keep, deleted, None, None))
+        .ok()?;
+    history
+        .push(entry(13, 1, Statement::Get(None), Status::Done, found(0), got))
+        .ok()?;
+    let second = Some(key(2, 1, 2));
+    history
+        .push(entry(14, 1, Statement::Get(None), Status::Done, second, None))
+        .ok()?;
+    Some(history)
+}
+
+fn history_text(alloc: Global) -> Option<Vec<u8>> {
+    let shop = shop(alloc)?;
+    let history = history(alloc)?;
+    answers_text(alloc, &shop, &history).ok()
 }
 
 #[test]
-fn printed_answers(rt: HostRuntime) {
-    let shop = shop(rt.alloc()).expect(&rt, "a schema");
-    let mut items = Vec::new(rt.alloc());
-    items.push(Value::Num(7)).expect(&rt, "memory");
-    items.push(text(&rt, b"ADA     ")).expect(&rt, "memory");
-    let mut history = Vec::new(rt.alloc());
-    let opened = Answer {
-        status: Status::Done,
-        key: None,
-        items: None,
-    };
-    let area = Statement::CloseArea(AreaNo::new(0));
-    history
-        .push(Entry {
-            ticket: 0,
-            unit: 1,
-            statement: area,
-            answer: opened,
-        })
-        .expect(&rt, "memory");
-    let refused = Answer {
-        status: Status::Refused(Cause::Deleted),
-        key: None,
-        items: None,
-    };
-    history
-        .push(Entry {
-            ticket: 12,
-            unit: 3,
-            statement: Statement::Keep,
-            answer: refused,
-        })
-        .expect(&rt, "memory");
-    let got = Answer {
-        status: Status::Done,
-        key: Some(key(0, 1, 1)),
-        items: Some(Row::of(items)),
-    };
-    history
-        .push(Entry {
-            ticket: 13,
-            unit: 1,
-            statement: Statement::Get(None),
-            answer: got,
-        })
-        .expect(&rt, "memory");
-    let found = Answer {
-        status: Status::Done,
-        key: Some(key(2, 1, 2)),
-        items: None,
-    };
-    history
-        .push(Entry {
-            ticket: 14,
-            unit: 1,
-            statement: Statement::Get(None),
-            answer: found,
-        })
-        .expect(&rt, "memory");
-    let printed = answers_text(rt.alloc(), &shop, &history).expect(&rt, "memory");
+fn printed_answers(rt: HostRuntime) -> Result<(), Fail> {
+    let printed = history_text(rt.alloc()).ok_or("memory")?;
     assert!(rt;
         printed.as_slice()
             == b"0 1 0000\n12 3 1017\n13 1 0000 CUSTOMER:1 CNO=7 CNAME=\"ADA     \"\n14 1 0000 ITEM:1.2\n".as_slice()
     );
+    Ok(())
+}
+
+fn unit(alloc: Global, number: u8, currency: Currency, kept: &[(DbKey, u64)]) -> Option<Unit> {
+    Some(Unit {
+        number,
+        currency,
+        modes: row(alloc, &[None, None])?,
+        kept: Kept::of(Vec::from_slice(alloc, kept).ok()?),
+    })
+}
+
+fn at_an_order(alloc: Global) -> Option<Unit> {
+    let currency = Currency {
+        run_unit: found(1),
+        types: row(alloc, &[found(0), found(1), None])?,
+        areas: row(alloc, &[found(1), None])?,
+        sets: row(alloc, &[at(0, found(1)), at(1, None), None])?,
+    };
+    unit(alloc, 1, currency, &[])
+}
+
+fn in_the_watched(alloc: Global) -> Option<Unit> {
+    let currency = Currency {
+        run_unit: None,
+        types: row(alloc, &[None, None, None])?,
+        areas: row(alloc, &[None, None])?,
+        sets: row(alloc, &[None, None, watched()])?,
+    };
+    unit(alloc, 2, currency, &[(key(0, 1, 1), 1), (key(2, 3, 2), 40)])
+}
+
+fn text_of_units(alloc: Global) -> Option<Vec<u8>> {
+    let shop = shop(alloc)?;
+    let mut units = Vec::new(alloc);
+    units.push(at_an_order(alloc)?).ok()?;
+    units.push(in_the_watched(alloc)?).ok()?;
+    units_text(alloc, &shop, &units).ok()
 }
 
 #[test]
-fn printed_units(rt: HostRuntime) {
-    let shop = shop(rt.alloc()).expect(&rt, "a schema");
-    let currency = Currency {
-        run_unit: found(1),
-        types: row(&rt, &[found(0), found(1), None]),
-        areas: row(&rt, &[found(1), None]),
-        sets: row(&rt, &[at(0, found(1)), at(1, None), None]),
-    };
-    let mut units = Vec::new(rt.alloc());
-    units
-        .push(Unit {
-            number: 1,
-            currency,
-            modes: row(&rt, &[None, None]),
-            kept: Kept::of(Vec::new(rt.alloc())),
-        })
-        .expect(&rt, "memory");
-    let mut kept = Vec::new(rt.alloc());
-    kept.push((key(0, 1, 1), 1)).expect(&rt, "memory");
-    kept.push((key(2, 3, 2), 40)).expect(&rt, "memory");
-    let currency = Currency {
-        run_unit: None,
-        types: row(&rt, &[None, None, None]),
-        areas: row(&rt, &[None, None]),
-        sets: row(&rt, &[None, None, watched()]),
-    };
-    units
-        .push(Unit {
-            number: 2,
-            currency,
-            modes: row(&rt, &[None, None]),
-            kept: Kept::of(kept),
-        })
-        .expect(&rt, "memory");
-    let printed = units_text(rt.alloc(), &shop, &units).expect(&rt, "memory");
+fn printed_units(rt: HostRuntime) -> Result<(), Fail> {
+    let printed = text_of_units(rt.alloc()).ok_or("memory")?;
     assert!(rt;
         printed.as_slice()
             == b"UNIT 1 RUN ORDR:1 RECORD CUSTOMER:1 ORDR:1 - SET CUSTOMER:1/ORDR:1 ORDR:1/OWNER - AREA ORDR:1 -\nUNIT 2 RUN - RECORD - - - SET - - SYSTEM/ITEM:1 AREA - - KEPT CUSTOMER:1/1 ITEM:3.2/40\n".as_slice()
     );
+    Ok(())
+}
+
+fn records(alloc: Global) -> Option<Row<(DbKey, Row<Value>)>> {
+    let mut number = Vec::new(alloc);
+    number.push(Value::Num(11)).ok()?;
+    let mut records = Vec::new(alloc);
+    records
+        .push((key(0, 1, 1), items(alloc, 1, b"        ")?))
+        .ok()?;
+    records.push((key(1, 1, 1), Row::of(number))).ok()?;
+    Some(Row::of(records))
+}
+
+// The lists of a set that has one.
+fn lists_of(alloc: Global, owner: Owner, members: &[DbKey]) -> Option<Row<(Owner, Row<DbKey>)>> {
+    let mut lists = Vec::new(alloc);
+    lists.push((owner, row(alloc, members)?)).ok()?;
+    Some(Row::of(lists))
+}
+
+fn lists(alloc: Global) -> Option<Row<Row<(Owner, Row<DbKey>)>>> {
+    let mut lists = Vec::new(alloc);
+    lists
+        .push(lists_of(alloc, Owner::Rec(key(0, 1, 1)), &[key(1, 1, 1)])?)
+        .ok()?;
+    lists
+        .push(lists_of(alloc, Owner::Rec(key(1, 1, 1)), &[])?)
+        .ok()?;
+    lists.push(lists_of(alloc, Owner::System, &[])?).ok()?;
+    Some(Row::of(lists))
+}
+
+fn usage(alloc: Global) -> Option<Row<Row<(u8, Mode)>>> {
+    let mut usage = Vec::new(alloc);
+    usage
+        .push(row(alloc, &[(1u8, Mode::Update), (2, Mode::ExclusiveRetrieval)])?)
+        .ok()?;
+    usage.push(row(alloc, &[])?).ok()?;
+    Some(Row::of(usage))
+}
+
+fn image(alloc: Global) -> Option<Image> {
+    Some(Image {
+        records: records(alloc)?,
+        versions: Row::of(Vec::new(alloc)),
+        lists: lists(alloc)?,
+        next: row(alloc, &[2u32, 2, 1])?,
+        last: Row::of(Vec::new(alloc)),
+        usage: usage(alloc)?,
+    })
+}
+
+fn text_of_image(alloc: Global) -> Option<Vec<u8>> {
+    let shop = shop(alloc)?;
+    let image = image(alloc)?;
+    image_text(alloc, &shop, &image).ok()
 }
 
 #[test]
-fn printed_image(rt: HostRuntime) {
-    let shop = shop(rt.alloc()).expect(&rt, "a schema");
-    let mut items = Vec::new(rt.alloc());
-    items.push(Value::Num(1)).expect(&rt, "memory");
-    items.push(text(&rt, b"        ")).expect(&rt, "memory");
-    let mut numbers = Vec::new(rt.alloc());
-    numbers.push(Value::Num(11)).expect(&rt, "memory");
-    let mut records = Vec::new(rt.alloc());
-    records
-        .push((key(0, 1, 1), Row::of(items)))
-        .expect(&rt, "memory");
-    records
-        .push((key(1, 1, 1), Row::of(numbers)))
-        .expect(&rt, "memory");
-    let mut has = Vec::new(rt.alloc());
-    has.push((Owner::Rec(key(0, 1, 1)), row(&rt, &[key(1, 1, 1)])))
-        .expect(&rt, "memory");
-    let empty: [DbKey; 0] = [];
-    let mut lines = Vec::new(rt.alloc());
-    lines
-        .push((Owner::Rec(key(1, 1, 1)), row(&rt, &empty)))
-        .expect(&rt, "memory");
-    let mut watch = Vec::new(rt.alloc());
-    watch
-        .push((Owner::System, row(&rt, &empty)))
-        .expect(&rt, "memory");
-    let mut lists = Vec::new(rt.alloc());
-    lists.push(Row::of(has)).expect(&rt, "memory");
-    lists.push(Row::of(lines)).expect(&rt, "memory");
-    lists.push(Row::of(watch)).expect(&rt, "memory");
-    let nobody: [(u8, Mode); 0] = [];
-    let mut usage = Vec::new(rt.alloc());
-    usage
-        .push(row(&rt, &[(1u8, Mode::Update), (2, Mode::ExclusiveRetrieval)]))
-        .expect(&rt, "memory");
-    usage.push(row(&rt, &nobody)).expect(&rt, "memory");
-    let image = Image {
-        records: Row::of(records),
-        versions: Row::of(Vec::new(rt.alloc())),
-        lists: Row::of(lists),
-        next: row(&rt, &[2u32, 2, 1]),
-        last: Row::of(Vec::new(rt.alloc())),
-        usage: Row::of(usage),
-    };
-    let printed = image_text(rt.alloc(), &shop, &image).expect(&rt, "memory");
+fn printed_image(rt: HostRuntime) -> Result<(), Fail> {
+    let printed = text_of_image(rt.alloc()).ok_or("memory")?;
     assert!(rt;
         printed.as_slice()
             == b"CUSTOMER:1 CNO=1 CNAME=\"        \"\nORDR:1 ONO=11\nHAS CUSTOMER:1: ORDR:1\nLINES ORDR:1:\nWATCH SYSTEM:\nNEXT 2 2 1\nAREA MAIN 1:UPDATE 2:EXCLUSIVE-RETRIEVAL\nAREA SIDE\n".as_slice()
     );
+    Ok(())
 }
 
 #[test]
