@@ -92,19 +92,25 @@ fn keeps(alloc: Global, unit: &mut Unit, version: u64) -> Result<(), AllocError>
     Ok(())
 }
 
+// In another generation the record is deleted; kept at another version, it was changed.
+fn is_refused_in_turn(alloc: Global, held: &Held, unit: &mut Unit) -> Result<bool, AllocError> {
+    let is_first = own_refusal(held, unit, &key(7, 2)).is_none();
+    let is_deleted = own_refusal(held, unit, &key(7, 1)) == Some(Cause::Deleted);
+    keeps(alloc, unit, 1)?;
+    let is_kept = own_refusal(held, unit, &key(7, 2)).is_none();
+    keeps(alloc, unit, 2)?;
+    let is_changed = own_refusal(held, unit, &key(7, 2)) == Some(Cause::ChangedByAnother);
+    Ok(is_first && is_deleted && is_kept && is_changed)
+}
+
+fn is_refused(alloc: Global, held: &Held) -> Result<bool, AllocError> {
+    let mut unit = opening(alloc)?;
+    is_refused_in_turn(alloc, held, &mut unit)
+}
+
 #[test]
 fn refused_for_the_record_itself(rt: HostRuntime) -> Result<(), Fail> {
     let mut held = Held::new(rt.alloc(), Owners::none(2));
-    let mut unit = opening(rt.alloc())?;
-    assert!(rt; takes_cells(rt.alloc(), &mut held)?);
-    assert_eq!(rt; own_refusal(&held, &unit, &key(7, 2)), None);
-    assert_eq!(rt; own_refusal(&held, &unit, &key(7, 1)), Some(Cause::Deleted));
-    keeps(rt.alloc(), &mut unit, 1)?;
-    assert_eq!(rt; own_refusal(&held, &unit, &key(7, 2)), None);
-    keeps(rt.alloc(), &mut unit, 2)?;
-    assert_eq!(rt;
-        own_refusal(&held, &unit, &key(7, 2)),
-        Some(Cause::ChangedByAnother)
-    );
+    assert!(rt; takes_cells(rt.alloc(), &mut held)? && is_refused(rt.alloc(), &held)?);
     Ok(())
 }

@@ -79,29 +79,34 @@ fn suppressed_set(rt: HostRuntime) {
     assert!(rt; !suppress.has_set(0) && !suppress.has_set(2) && !suppress.has_set(17));
 }
 
-fn keeps(alloc: Global, unit: &mut Unit, key: DbKey, version: u64) -> Result<(), AllocError> {
-    let kept = unit.kept.noted(alloc, key, version)?;
+fn keeps(alloc: Global, unit: &mut Unit, key: &DbKey, version: u64) -> Result<(), AllocError> {
+    let kept = unit.kept.noted(alloc, *key, version)?;
     unit.keep(kept);
     Ok(())
 }
 
-// A unit's own change is noted with the new version; what is freed is kept no longer.
-fn notes_and_frees(unit: &mut Unit, first: DbKey, second: DbKey) -> bool {
-    let is_kept = unit.kept_version(first) == Some(1);
-    unit.renote(first, 2);
-    let is_noted = unit.kept_version(first) == Some(2);
-    unit.forget(first);
-    let is_one_left = unit.kept_version(first).is_none() && unit.kept_version(second) == Some(4);
+// A unit's own change is noted with the new version.
+fn notes_a_change(unit: &mut Unit, key: &DbKey) -> bool {
+    let was_kept = unit.kept_version(*key) == Some(1);
+    unit.renote(*key, 2);
+    was_kept && unit.kept_version(*key) == Some(2)
+}
+
+// What is freed is kept no longer, and the other still; then nothing is.
+fn frees_one_and_all(unit: &mut Unit, one: &DbKey, other: &DbKey) -> bool {
+    unit.forget(*one);
+    let is_one_free = unit.kept_version(*one).is_none() && unit.kept_version(*other) == Some(4);
     unit.forget_all();
-    is_kept && is_noted && is_one_left && unit.kept_version(second).is_none()
+    is_one_free && unit.kept_version(*other).is_none()
 }
 
 #[test]
 fn record_is_kept_and_freed(rt: HostRuntime) -> Result<(), Fail> {
-    let (mut unit, first, second) = (opening(rt.alloc())?, key(1, 1), key(2, 1));
-    keeps(rt.alloc(), &mut unit, first, 1)?;
-    keeps(rt.alloc(), &mut unit, second, 4)?;
-    assert!(rt; notes_and_frees(&mut unit, first, second));
+    let mut unit = opening(rt.alloc())?;
+    keeps(rt.alloc(), &mut unit, &key(1, 1), 1)?;
+    keeps(rt.alloc(), &mut unit, &key(2, 1), 4)?;
+    assert!(rt; notes_a_change(&mut unit, &key(1, 1)));
+    assert!(rt; frees_one_and_all(&mut unit, &key(1, 1), &key(2, 1)));
     Ok(())
 }
 
