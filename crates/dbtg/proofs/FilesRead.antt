@@ -8,17 +8,16 @@ use Rattle.dbtg_schema.specs.Lists.{Lists}
 use Rattle.dbtg_unit.specs.Fits.{fits}
 use Rattle.dbtg_step.specs.Laws.{scripts_fit}
 use Rattle.dbtg_unit.specs.declared.statement.Statement.{Statement}
-use Rattle.dbtg_step.specs.declared.moves.Move.{Move}
 use Rattle.dbtg_script.specs.StatementFaults.{refusal as script_refusal}
 use Rattle.dbtg_script.specs.Statements.{script}
 use Rattle.dbtg_script.specs.Moves.{refusal as moves_refusal}
 use Rattle.dbtg.specs.declared.fault.Fault.{Fault}
 use Rattle.dbtg.specs.declared.fault.Fault.TheVariants.{ScriptCount}
 use Rattle.dbtg_script.specs.Texts.{script_line}
-use Rattle.dbtg.specs.Checking.{check_text, script_lines, IsCheck}
+use Rattle.dbtg.specs.Checking.{check_text, script_lines}
 use Rattle.dbtg.specs.Files.{ChecksSome, IsReadSchema, IsUnread, ReadScripts, RefusesCheckOfSome, RefusesReplayOfSome, RefusesSomeSchema, RefusesSomeScripts, ReplaysSome, Texts}
-use Rattle.dbtg.specs.Refusals.{AllAccepted, RefusesMoves, RefusesReplay, RefusesScript, RefusesScripts, RefusesTexts, AcceptsMoves, is_count, schema_in}
-use Rattle.dbtg.specs.Replaying.{IsPrintedRun, IsReplay, moves_in}
+use Rattle.dbtg.specs.Refusals.{AllAccepted, RefusesMoves, RefusesReplay, RefusesScript, RefusesScripts, RefusesTexts, AcceptsMoves, is_count}
+use Rattle.dbtg.specs.Replaying.{IsPrintedRun, moves_in}
 use Rattle.dbtg.proofs.InTurn.{accepted_behind, lines_behind, refused_behind}
 
 pub one_more : (lists : Lists) (n : ℕ) (text : List ℕ) → ReadScripts lists n → script_refusal lists text ≡ None → ReadScripts lists (n + 1)

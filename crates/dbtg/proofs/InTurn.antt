@@ -3,6 +3,7 @@ use Rattle.std.proofs.Common.{◌≡◌, ℕ, suc, ◌+◌, List, [], ◌∷◌,
 use Rattle.std.proofs.lemmas.List.{append_assoc}
 use Rattle.dbtg_schema.specs.Lists.{Lists}
 use Rattle.dbtg.specs.declared.fault.Fault.{Fault}
+use Rattle.dbtg.specs.declared.fault.Fault.TheVariants.{Memory}
 use Rattle.dbtg.specs.Checking.{script_lines}
 use Rattle.dbtg.specs.Refusals.{AllAccepted, RefusesScripts}
 use Rattle.dbtg_script.specs.Statements.{script}
@@ -31,3 +32,8 @@ lines_behind lists n (text ∷ front) rest =
     ap (λ (ys : List ℕ). line ++ ys) (lines_behind lists (n + 1) front rest)
     ∙ sym (append_assoc line front_lines (script_lines lists (n + 1 + length front) rest))
     ∙ ap (λ (k : ℕ). line ++ front_lines ++ script_lines lists k rest) same
+
+-- want of memory is a fault of any scripts
+pub memory_refuses : (lists : Lists) (n : ℕ) (texts : List (List ℕ)) → RefusesScripts Memory lists n texts
+memory_refuses lists n [] = refl
+memory_refuses lists n (text ∷ texts) = inl tt

@@ -3,7 +3,7 @@ ghost use Rattle.std.specs.Prelude.{◌≡◌, ◌++◌, None, IfErr, IfOk, OnOk
 ghost use Rattle.dbtg_script.specs.StatementFaults.{refusal as script_refusal};
 ghost use Rattle.dbtg_script.specs.Statements.{script};
 ghost use Rattle.dbtg_script.specs.Texts.{script_line};
-ghost use Rattle.dbtg.specs.Checking.{IsCheck, script_lines};
+ghost use Rattle.dbtg.specs.Checking.{IsCheck, check_text, script_lines};
 ghost use Rattle.dbtg.specs.Refusals.{AllAccepted, RefusesScript, RefusesScripts, RefusesTexts};
 
 use crate::fault::Fault;
@@ -46,14 +46,23 @@ fn check_scripts(
     Ok(())
 }
 
+/// How large a schema and scripts are.
+fn sizes(alloc: Global, schema: &Schema, scripts: &[Row<u8>]) -> Result<Vec<u8>, Fault>
+    ensures accepted { OnOk result (AllAccepted schema.now scripts.now) }
+    ensures sizes { IfOk result (λ out. out.items ≡ check_text schema.now scripts.now) }
+    ensures refused { IfErr result (λ fault. RefusesScripts fault schema.now 1 scripts.now) }
+{
+    let mut out = Vec::new(alloc);
+    push_schema_line(&mut out, schema)?;
+    check_scripts(alloc, &mut out, schema, scripts)?;
+    Ok(out)
+}
+
 /// What `check` prints of a schema and scripts, or their first fault.
 pub fn check_bytes(alloc: Global, schema: &[u8], scripts: &[Row<u8>]) -> Result<Vec<u8>, Fault>
     ensures done { IfOk result (λ out. IsCheck schema.now scripts.now out.items) }
     ensures refused { IfErr result (λ fault. RefusesTexts fault schema.now scripts.now) }
 {
     let schema = schema_of(alloc, schema)?;
-    let mut out = Vec::new(alloc);
-    push_schema_line(&mut out, &schema)?;
-    check_scripts(alloc, &mut out, &schema, scripts)?;
-    Ok(out)
+    sizes(alloc, &schema, scripts)
 }

@@ -97,16 +97,49 @@ fn read_moves(rt: &HostRuntime, path: &str) -> Result<Vec<Move>, Fault>
     moves_of(rt.alloc(), text.as_slice())
 }
 
+/// How large a schema that was read and the scripts in these files are.
+fn file_sizes(rt: &HostRuntime, known: &Schema, scripts: &[&str]) -> Result<Vec<u8>, Fault>
+    requires read { IsReadSchema known.now }
+    ensures done { IfOk result (λ out. ChecksSome (length scripts.now) out.items) }
+    ensures refused { IfErr result (λ fault. RefusesCheckOfSome fault (length scripts.now)) }
+{
+    let mut out = Vec::new(rt.alloc());
+    push_schema_line(&mut out, known)?;
+    read_lines(rt, &mut out, known, scripts)?;
+    Ok(out)
+}
+
 /// How large the schema and the scripts in these files are.
 pub fn check_files(rt: &HostRuntime, schema: &str, scripts: &[&str]) -> Result<Vec<u8>, Fault>
     ensures done { IfOk result (λ out. ChecksSome (length scripts.now) out.items) }
     ensures refused { IfErr result (λ fault. RefusesCheckOfSome fault (length scripts.now)) }
 {
     let known = read_schema(rt, schema)?;
-    let mut out = Vec::new(rt.alloc());
-    push_schema_line(&mut out, &known)?;
-    read_lines(rt, &mut out, &known, scripts)?;
-    Ok(out)
+    file_sizes(rt, &known, scripts)
+}
+
+/// What is printed of the run of the scripts and the moves in these files, over a schema that was read.
+fn replay_known(
+    rt: &HostRuntime,
+    known: &Schema,
+    scripts: &[&str],
+    moves: Option<&str>,
+    capacity: u16,
+) -> Result<Vec<u8>, Fault>
+    requires counted { is_count (length scripts.now) ≡ true }
+    requires read { IsReadSchema known.now }
+    requires sound { IsSound known.now }
+    ensures done { IfOk result (λ out. ReplaysSome (length scripts.now) (is_some moves.entry) capacity out.items) }
+    ensures refused { IfErr result (λ fault. RefusesReplayOfSome fault (length scripts.now) (is_some moves.entry)) }
+{
+    let statements = read_scripts(rt, known, scripts)?;
+    match moves {
+        None => Ok(serial_text(rt.alloc(), known, capacity, statements)?),
+        Some(path) => {
+            let made = read_moves(rt, path)?;
+            Ok(moved_text(rt.alloc(), known, capacity, statements, made.as_slice())?)
+        }
+    }
 }
 
 /// What `replay` prints of the schema, the scripts and the moves in these files. Without moves one script runs after the other.
@@ -123,12 +156,5 @@ pub fn replay_files(
 {
     check_count(scripts.len())?;
     let known = read_schema(rt, schema)?;
-    let statements = read_scripts(rt, &known, scripts)?;
-    match moves {
-        None => Ok(serial_text(rt.alloc(), &known, capacity, statements)?),
-        Some(path) => {
-            let made = read_moves(rt, path)?;
-            Ok(moved_text(rt.alloc(), &known, capacity, statements, made.as_slice())?)
-        }
-    }
+    replay_known(rt, &known, scripts, moves, capacity)
 }

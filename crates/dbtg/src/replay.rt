@@ -1,10 +1,10 @@
 //! Running scripts, and the text of what comes of it.
-ghost use Rattle.std.specs.Prelude.{◌≡◌, ◌++◌, ◌≤◌, None, Some, IfErr, IfOk, OnOk, true, false, length, map, option_map};
+ghost use Rattle.std.specs.Prelude.{◌≡◌, ◌++◌, ◌≤◌, ◌⊎◌, None, Some, IfErr, IfOk, OnOk, true, false, length, map, option_map};
 ghost use Rattle.dbtg_schema.specs.Sound.{IsSound};
 ghost use Rattle.dbtg_script.specs.Statements.{script};
 ghost use Rattle.dbtg_step.specs.Laws.{scripts_fit};
-ghost use Rattle.dbtg.specs.Refusals.{AllAccepted, RefusesReplay, RefusesScripts, is_count};
-ghost use Rattle.dbtg.specs.Replaying.{IsPrintedRun, IsReplay, given_text};
+ghost use Rattle.dbtg.specs.Refusals.{AcceptsMoves, AllAccepted, RefusesReplay, RefusesScripts, RefusesSomeMoves, is_count};
+ghost use Rattle.dbtg.specs.Replaying.{IsPrintedRun, IsReplay, given_text, moves_in};
 ghost use Rattle.dbtg.specs.declared.fault.Fault.TheVariants.{ScriptCount};
 
 use crate::fault::Fault;
@@ -101,6 +101,31 @@ fn scripts_of(
     Ok(scripts)
 }
 
+/// What is printed of the run of these scripts and moves, or their first fault.
+fn replay_scripts(
+    alloc: Global,
+    schema: &Schema,
+    scripts: &[Row<u8>],
+    moves: Option<&[u8]>,
+    capacity: u16,
+) -> Result<Vec<u8>, Fault>
+    requires units { length scripts.now ≤ 255 }
+    requires sound { IsSound schema.now }
+    ensures scripts { OnOk result (AllAccepted schema.now scripts.now) }
+    ensures moves { OnOk result (AcceptsMoves (option_map (λ m. m.now) moves.entry)) }
+    ensures run { IfOk result (λ out. IsPrintedRun schema.now capacity (map (script schema.now) scripts.now) (option_map moves_in (option_map (λ m. m.now) moves.entry)) out.items) }
+    ensures refused { IfErr result (λ fault. RefusesScripts fault schema.now 1 scripts.now ⊎ (AllAccepted schema.now scripts.now × RefusesSomeMoves fault (option_map (λ m. m.now) moves.entry))) }
+{
+    let scripts = scripts_of(alloc, schema, scripts)?;
+    match moves {
+        None => Ok(serial_text(alloc, schema, capacity, scripts)?),
+        Some(text) => {
+            let moves = moves_of(alloc, text)?;
+            Ok(moved_text(alloc, schema, capacity, scripts, moves.as_slice())?)
+        }
+    }
+}
+
 /// What `replay` prints of a schema, scripts and moves, or their first fault. Without moves one script runs after the other.
 pub fn replay_bytes(
     alloc: Global,
@@ -114,12 +139,5 @@ pub fn replay_bytes(
 {
     check_count(scripts.len())?;
     let schema = schema_of(alloc, schema)?;
-    let scripts = scripts_of(alloc, &schema, scripts)?;
-    match moves {
-        None => Ok(serial_text(alloc, &schema, capacity, scripts)?),
-        Some(text) => {
-            let moves = moves_of(alloc, text)?;
-            Ok(moved_text(alloc, &schema, capacity, scripts, moves.as_slice())?)
-        }
-    }
+    replay_scripts(alloc, &schema, scripts, moves, capacity)
 }

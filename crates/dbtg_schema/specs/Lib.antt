@@ -2,6 +2,7 @@ pub mod Lists
 pub mod Lookups
 pub mod Closure
 pub mod Structure
+pub mod NameIndexes
 pub mod WellFormed
 pub mod Words
 pub mod Forms

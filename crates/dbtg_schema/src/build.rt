@@ -8,7 +8,7 @@ ghost use Rattle.dbtg_schema.specs.SchemaLists.{number_of, areas_from, item_from
 ghost use Rattle.dbtg_schema.specs.Views.{views};
 
 use crate::entries::front_entry;
-use crate::find::{find_area, find_item, find_type};
+use crate::find::find_name;
 use crate::numbers::{AreaNo, ItemNo, RecordNo};
 use crate::pictures::spelled_picture;
 use crate::queries::{Labelled, any, first_named, has_role};
@@ -71,7 +71,7 @@ fn calc_items(alloc: Global, items: &[Item], entry: &[Labelled]) -> Result<Vec<I
     let mut out = Vec::new(alloc);
     for word in entry {
         if has_role(word, Role::CalcItem) {
-            out.push(find_item(items, word.word.text).unwrap_or(ItemNo::new(0)))?;
+            out.push(ItemNo::new(find_name(items, word.word.text).unwrap_or(0)))?;
         }
     }
     Ok(out)
@@ -99,7 +99,7 @@ fn record_type(alloc: Global, areas: &[Area], entry: &[Labelled]) -> Result<Reco
     ensures { IfOk result (λ r. r ≡ record_type_from areas.now (views entry.now)) }
 {
     let name = text_of(alloc, entry, Role::RecordName)?;
-    let area = find_area(areas, first_named(entry, Role::WithinArea)).unwrap_or(AreaNo::new(0));
+    let area = AreaNo::new(find_name(areas, first_named(entry, Role::WithinArea)).unwrap_or(0));
     let items = items(alloc, entry)?;
     let calc = calc(alloc, items.as_slice(), entry)?;
     Ok(RecordType {
@@ -193,7 +193,7 @@ fn key(types: &[RecordType], rtype: RecordNo, entry: &[Labelled]) -> Option<Item
 {
     if any(entry, Role::KeyItem) {
         let name = first_named(entry, Role::KeyItem);
-        Some(find_item(items_at(types, rtype), name).unwrap_or(ItemNo::new(0)))
+        Some(ItemNo::new(find_name(items_at(types, rtype), name).unwrap_or(0)))
     } else {
         None
     }
@@ -205,7 +205,7 @@ fn member(types: &[RecordType], entry: &[Labelled]) -> Member
     requires items_fit { All (λ r. length r.items ≤ 16) types.now }
     ensures { result ≡ member_from types.now (views entry.now) }
 {
-    let rtype = find_type(types, first_named(entry, Role::MemberName)).unwrap_or(RecordNo::new(0));
+    let rtype = RecordNo::new(find_name(types, first_named(entry, Role::MemberName)).unwrap_or(0));
     Member {
         rtype,
         class: class(entry),
@@ -236,7 +236,7 @@ fn owner(types: &[RecordType], entry: &[Labelled]) -> Option<RecordNo>
     ensures { result ≡ owner_from types.now (views entry.now) }
 {
     if any(entry, Role::OwnerName) {
-        Some(find_type(types, first_named(entry, Role::OwnerName)).unwrap_or(RecordNo::new(0)))
+        Some(RecordNo::new(find_name(types, first_named(entry, Role::OwnerName)).unwrap_or(0)))
     } else {
         None
     }

@@ -1,58 +1,61 @@
-//! From names to numbers.
+//! From names to numbers, by a walk: while a schema is built from its text, its lists have no index yet.
 
 ghost use Rattle.std.specs.Prelude.{◌≡◌, ◌≤◌, length, map};
 ghost use Rattle.dbtg_schema.specs.Structure.{place_of};
 
-use crate::numbers::{AreaNo, ItemNo, RecordNo, SetNo};
 use crate::shape::{Area, Item, RecordType, SetType};
 
-/// The number of the area of this name.
-pub fn find_area(areas: &[Area], name: &[u8]) -> Option<AreaNo>
-    requires { length areas.now ≤ 256 }
-    ensures { result ≡ place_of name.now (map (λ x. x.name) areas.now) }
-{
-    for (i, area) in areas.iter().enumerate() {
-        if name == area.name.as_slice() {
-            return Some(AreaNo::new(i as u8));
-        }
-    }
-    None
+/// What has a name.
+pub trait HasName {
+    ghost use Rattle.std.specs.Prelude.{ℕ, List};
+
+    ghost name_of: { Self → List ℕ };
+
+    /// Its name.
+    fn name(&self) -> &[u8]
+        ensures { result.now ≡ name_of self.now };
 }
 
-/// The number of the record type of this name.
-pub fn find_type(types: &[RecordType], name: &[u8]) -> Option<RecordNo>
-    requires { length types.now ≤ 256 }
-    ensures { result ≡ place_of name.now (map (λ x. x.name) types.now) }
-{
-    for (i, rtype) in types.iter().enumerate() {
-        if name == rtype.name.as_slice() {
-            return Some(RecordNo::new(i as u8));
-        }
+impl HasName for Area {
+    ghost name_of = { λ a. a.name };
+
+    fn name(&self) -> &[u8] {
+        self.name.as_slice()
     }
-    None
 }
 
-/// The number of the set of this name.
-pub fn find_set(sets: &[SetType], name: &[u8]) -> Option<SetNo>
-    requires { length sets.now ≤ 256 }
-    ensures { result ≡ place_of name.now (map (λ x. x.name) sets.now) }
-{
-    for (i, set) in sets.iter().enumerate() {
-        if name == set.name.as_slice() {
-            return Some(SetNo::new(i as u8));
-        }
+impl HasName for RecordType {
+    ghost name_of = { λ r. r.name };
+
+    fn name(&self) -> &[u8] {
+        self.name.as_slice()
     }
-    None
 }
 
-/// The number of the item of this name.
-pub fn find_item(items: &[Item], name: &[u8]) -> Option<ItemNo>
-    requires { length items.now ≤ 256 }
-    ensures { result ≡ place_of name.now (map (λ x. x.name) items.now) }
+impl HasName for SetType {
+    ghost name_of = { λ s. s.name };
+
+    fn name(&self) -> &[u8] {
+        self.name.as_slice()
+    }
+}
+
+impl HasName for Item {
+    ghost name_of = { λ i. i.name };
+
+    fn name(&self) -> &[u8] {
+        self.name.as_slice()
+    }
+}
+
+/// The number of the first of these that has this name.
+pub fn find_name<T: HasName>(things: &[T], name: &[u8]) -> Option<u8>
+    requires { length things.now ≤ 256 }
+    ensures { result ≡ place_of name.now (map T.name_of things.now) }
 {
-    for (i, item) in items.iter().enumerate() {
-        if name == item.name.as_slice() {
-            return Some(ItemNo::new(i as u8));
+    for (i, thing) in things.iter().enumerate() {
+        if name == thing.name() {
+            return Some(i as u8);
         }
     }
     None

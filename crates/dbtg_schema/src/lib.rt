@@ -9,6 +9,7 @@ mod entries;
 mod erasing;
 mod fault;
 mod find;
+mod index;
 pub mod laws;
 mod names;
 mod numbers;

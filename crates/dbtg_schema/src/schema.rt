@@ -19,7 +19,7 @@ use crate::build::{areas, sets, text_of, types};
 use crate::copies::copy_all;
 use crate::entries::front;
 use crate::fault::SchemaFault;
-use crate::find::{find_area, find_item, find_set, find_type};
+use crate::index::SchemaIndex;
 use crate::numbers::{AreaNo, ItemNo, RecordNo, SetNo};
 use crate::queries::Labelled;
 use crate::reader::read as read_words;
@@ -36,6 +36,7 @@ pub struct Schema {
     areas: Row<Area>,
     types: Row<RecordType>,
     sets: Row<SetType>,
+    index: SchemaIndex,
 }
 
 impl Model for Schema {
@@ -43,11 +44,33 @@ impl Model for Schema {
 
     ghost Value = { Lists };
 
+    ghost use Rattle.dbtg_schema.specs.NameIndexes.{IsSchemaIndex};
     ghost use Rattle.dbtg_schema.specs.WellFormed.{IsSchema};
 
     ghost view = { λ a. record { name = a.name; areas = a.areas; types = a.types; sets = a.sets } };
 
-    ghost invariant = { λ a. IsSchema (record { name = a.name; areas = a.areas; types = a.types; sets = a.sets }) };
+    ghost invariant = { λ a. IsSchema (record { name = a.name; areas = a.areas; types = a.types; sets = a.sets }) × IsSchemaIndex a.index a.areas a.types a.sets };
+}
+
+/// The schema of these lists, with the indexes of its names.
+fn indexed(
+    alloc: Global,
+    name: Row<u8>,
+    areas: Row<Area>,
+    types: Row<RecordType>,
+    sets: Row<SetType>,
+) -> Result<Schema, AllocError>
+    requires { IsSchema (record { name = name; areas = areas; types = types; sets = sets }) }
+    ensures { IfOk result (λ s. s ≡ record { name = name; areas = areas; types = types; sets = sets }) }
+{
+    let index = SchemaIndex::of(alloc, areas.as_slice(), types.as_slice(), sets.as_slice())?;
+    Ok(Schema {
+        name,
+        areas,
+        types,
+        sets,
+        index,
+    })
 }
 
 /// The schema whose words these are.
@@ -60,12 +83,7 @@ fn from_words(alloc: Global, words: &[Labelled]) -> Result<Schema, AllocError>
     let areas = areas(alloc, words)?;
     let types = types(alloc, &areas, front(words, Role::SetEntry))?;
     let sets = sets(alloc, &types, words)?;
-    Ok(Schema {
-        name,
-        areas: Row::of(areas),
-        types: Row::of(types),
-        sets: Row::of(sets),
-    })
+    indexed(alloc, name, Row::of(areas), Row::of(types), Row::of(sets))
 }
 
 impl Class {
@@ -148,28 +166,28 @@ impl Schema {
     pub fn area(&self, name: &[u8]) -> Option<AreaNo>
         ensures { result ≡ place_of name.now (map (λ a. a.name) self.now.areas) }
     {
-        find_area(self.areas.as_slice(), name)
+        self.index.area(name)
     }
 
     /// The number of the record type of this name.
     pub fn rtype(&self, name: &[u8]) -> Option<RecordNo>
         ensures { result ≡ place_of name.now (map (λ r. r.name) self.now.types) }
     {
-        find_type(self.types.as_slice(), name)
+        self.index.rtype(name)
     }
 
     /// The number of the set of this name.
     pub fn set(&self, name: &[u8]) -> Option<SetNo>
         ensures { result ≡ place_of name.now (map (λ s. s.name) self.now.sets) }
     {
-        find_set(self.sets.as_slice(), name)
+        self.index.set(name)
     }
 
     /// The number of the item of this name in a record type.
     pub fn item(&self, rtype: RecordNo, name: &[u8]) -> Option<ItemNo>
         ensures { result ≡ place_of name.now (map (λ i. i.name) (item_list self.now rtype)) }
     {
-        find_item(self.items(rtype), name)
+        self.index.item(rtype, name)
     }
 
     /// The name of an area.
@@ -230,12 +248,7 @@ impl Schema {
         let areas = Row::of(copy_all(alloc, self.areas.as_slice())?);
         let types = Row::of(copy_all(alloc, self.types.as_slice())?);
         let sets = Row::of(copy_all(alloc, self.sets.as_slice())?);
-        Ok(Schema {
-            name,
-            areas,
-            types,
-            sets,
-        })
+        indexed(alloc, name, areas, types, sets)
     }
 
     /// The record type of this number, if there is one.

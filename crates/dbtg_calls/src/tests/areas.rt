@@ -9,8 +9,8 @@ use std::alloc::{AllocError, Global};
 use std::test::*;
 
 // For each statement of a script a number: 1 for MAIN alone, 2 for SIDE alone, 3 for both, 0 for none, 9 for another area.
-fn areas(alloc: Global, shop: &Schema, unit: &Unit, script: &str) -> Option<Vec<u8>> {
-    let statements = read_script(alloc, shop, script.as_bytes()).ok()?;
+fn areas(alloc: Global, shop: &Schema, unit: &Unit, script: &[u8]) -> Option<Vec<u8>> {
+    let statements = read_script(alloc, shop, script).ok()?;
     let mut found = Vec::new(alloc);
     for statement in &statements {
         let main = has_area(shop, unit, statement, AreaNo::new(0));
@@ -28,13 +28,13 @@ fn areas(alloc: Global, shop: &Schema, unit: &Unit, script: &str) -> Option<Vec<
     Some(found)
 }
 
-fn areas_after_opening(alloc: Global, script: &str) -> Option<Vec<u8>> {
+fn areas_after_opening(alloc: Global, script: &[u8]) -> Option<Vec<u8>> {
     let shop = shop(alloc)?;
     let unit = opened(alloc, None, None).ok()?;
     areas(alloc, &shop, &unit, script)
 }
 
-fn areas_at_item(alloc: Global, script: &str) -> Option<Vec<u8>> {
+fn areas_at_item(alloc: Global, script: &[u8]) -> Option<Vec<u8>> {
     let shop = shop(alloc)?;
     let unit = at_alone(alloc, item(1), None).ok()?;
     areas(alloc, &shop, &unit, script)
@@ -44,7 +44,7 @@ fn areas_at_item(alloc: Global, script: &str) -> Option<Vec<u8>> {
 #[test]
 fn areas_of_finds(rt: HostRuntime) -> Result<(), Fail> {
     let script =
-        "FIND KEY ITEM:1\nFIND FIRST OF HAS SET\nFIND FIRST OF LINES SET\nFIND FIRST OF WATCH SET\nFIND LAST OF SIDE AREA\nFIND OWNER OF LINES SET\nFIND SORTED 2 OF LINES SET\nFIND CALC CUSTOMER RECORD USING CNO = 1\nFIND NEXT DUPLICATE OF ITEM RECORD";
+        b"FIND KEY ITEM:1\nFIND FIRST OF HAS SET\nFIND FIRST OF LINES SET\nFIND FIRST OF WATCH SET\nFIND LAST OF SIDE AREA\nFIND OWNER OF LINES SET\nFIND SORTED 2 OF LINES SET\nFIND CALC CUSTOMER RECORD USING CNO = 1\nFIND NEXT DUPLICATE OF ITEM RECORD";
     let found = areas_after_opening(rt.alloc(), script).ok_or("statements")?;
     assert_eq!(rt; found.as_slice(), [2, 1, 3, 2, 2, 1, 3, 1, 2].as_slice());
     Ok(())
@@ -54,7 +54,7 @@ fn areas_of_finds(rt: HostRuntime) -> Result<(), Fail> {
 #[test]
 fn areas_at_an_order(rt: HostRuntime) -> Result<(), Fail> {
     let script =
-        "OPEN AREA SIDE USAGE-MODE IS RETRIEVAL\nCLOSE AREA MAIN\nFREE ALL\nFIND CURRENT OF RUN-UNIT\nFIND CURRENT OF ITEM RECORD\nFIND CURRENT OF LINES SET\nFIND CURRENT OF MAIN AREA\nGET\nKEEP\nSTORE CUSTOMER\nSTORE ORDR\nSTORE ITEM";
+        b"OPEN AREA SIDE USAGE-MODE IS RETRIEVAL\nCLOSE AREA MAIN\nFREE ALL\nFIND CURRENT OF RUN-UNIT\nFIND CURRENT OF ITEM RECORD\nFIND CURRENT OF LINES SET\nFIND CURRENT OF MAIN AREA\nGET\nKEEP\nSTORE CUSTOMER\nSTORE ORDR\nSTORE ITEM";
     let found = areas_after_opening(rt.alloc(), script).ok_or("statements")?;
     assert_eq!(rt;
         found.as_slice(),
@@ -67,7 +67,7 @@ fn areas_at_an_order(rt: HostRuntime) -> Result<(), Fail> {
 #[test]
 fn areas_at_an_item(rt: HostRuntime) -> Result<(), Fail> {
     let script =
-        "GET\nINSERT INTO LINES\nINSERT INTO WATCH\nREMOVE FROM LINES\nREMOVE FROM WATCH\nMODIFY ITEM PART = \"B\"\nMODIFY ITEM QTY = 5";
+        b"GET\nINSERT INTO LINES\nINSERT INTO WATCH\nREMOVE FROM LINES\nREMOVE FROM WATCH\nMODIFY ITEM PART = \"B\"\nMODIFY ITEM QTY = 5";
     let found = areas_at_item(rt.alloc(), script).ok_or("statements")?;
     assert_eq!(rt; found.as_slice(), [2, 3, 2, 3, 2, 2, 3].as_slice());
     Ok(())
@@ -76,7 +76,7 @@ fn areas_at_an_item(rt: HostRuntime) -> Result<(), Fail> {
 fn areas_of_delete_at(alloc: Global, key: DbKey) -> Option<Vec<u8>> {
     let shop = shop(alloc)?;
     let unit = at_alone(alloc, key, None).ok()?;
-    areas(alloc, &shop, &unit, "DELETE\nDELETE ALL")
+    areas(alloc, &shop, &unit, b"DELETE\nDELETE ALL")
 }
 
 // Every DELETE in the shop takes both, also that of an item.
@@ -95,9 +95,9 @@ fn next_areas(
     shop: &Schema,
     unit: &Unit,
     held: &Held,
-    script: &str,
+    script: &[u8],
 ) -> Option<Vec<Option<u8>>> {
-    let statements = read_script(alloc, shop, script.as_bytes()).ok()?;
+    let statements = read_script(alloc, shop, script).ok()?;
     let mut found = Vec::new(alloc);
     for statement in &statements {
         let next = match next_area(shop, unit, statement, held) {
@@ -122,7 +122,7 @@ fn next_at_item(alloc: Global, areas: &[u8]) -> Option<Vec<Option<u8>>> {
     let shop = shop(alloc)?;
     let unit = at_alone(alloc, item(1), None).ok()?;
     let held = holding(alloc, areas).ok()?;
-    next_areas(alloc, &shop, &unit, &held, "REMOVE FROM LINES\nGET\nFREE")
+    next_areas(alloc, &shop, &unit, &held, b"REMOVE FROM LINES\nGET\nFREE")
 }
 
 #[test]

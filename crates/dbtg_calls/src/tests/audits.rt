@@ -9,8 +9,8 @@ use dbtg_unit::{Answer, Cause, Entry, Statement, Status};
 use std::alloc::Global;
 use std::test::*;
 
-const CARD: &str =
-    "SCHEMA NAME IS CARD.\nAREA NAME IS MAIN.\nRECORD NAME IS CUSTOMER; WITHIN MAIN.\n  02 CNO PICTURE IS 9(4).\n";
+const CARD: &[u8] =
+    b"SCHEMA NAME IS CARD.\nAREA NAME IS MAIN.\nRECORD NAME IS CUSTOMER; WITHIN MAIN.\n  02 CNO PICTURE IS 9(4).\n";
 
 // How many have the area open, the least free number, how many records and how many units there are.
 type Seen = (usize, Option<u32>, usize, usize);
@@ -38,7 +38,7 @@ fn seen_with(alloc: Global, schema: &Schema, units: u8, history: &[Entry]) -> Op
 
 // What an audit on CARD sees; none where memory is refused.
 fn seen(alloc: Global, units: u8, history: &[Entry]) -> Option<Option<Seen>> {
-    match Schema::read(alloc, CARD.as_bytes()) {
+    match Schema::read(alloc, CARD) {
         Ok(schema) => seen_with(alloc, &schema, units, history),
         Err(_) => None,
     }

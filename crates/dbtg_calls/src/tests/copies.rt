@@ -38,8 +38,8 @@ fn change(rt: HostRuntime) -> Result<(), Fail> {
 }
 
 // Has each statement of a script the code of its copy, and are both refused alike, in SIDE or not?
-fn copies_are_alike(alloc: Global, shop: &Schema, unit: &Unit, script: &str) -> Option<bool> {
-    let statements = read_script(alloc, shop, script.as_bytes()).ok()?;
+fn copies_are_alike(alloc: Global, shop: &Schema, unit: &Unit, script: &[u8]) -> Option<bool> {
+    let statements = read_script(alloc, shop, script).ok()?;
     let mut are_alike = true;
     for statement in &statements {
         let copy = statement.copy(alloc).ok()?;
@@ -53,7 +53,7 @@ fn copies_are_alike(alloc: Global, shop: &Schema, unit: &Unit, script: &str) -> 
     Some(are_alike)
 }
 
-fn copies_after_opening(alloc: Global, script: &str) -> Option<bool> {
+fn copies_after_opening(alloc: Global, script: &[u8]) -> Option<bool> {
     let shop = shop(alloc)?;
     let unit = opened(alloc, None, None).ok()?;
     copies_are_alike(alloc, &shop, &unit, script)
@@ -62,7 +62,7 @@ fn copies_after_opening(alloc: Global, script: &str) -> Option<bool> {
 #[test]
 fn statements(rt: HostRuntime) {
     let script =
-        "OPEN AREA MAIN USAGE-MODE IS PROTECTED UPDATE\nCLOSE AREA SIDE\nFIND KEY ITEM:7.2 SUPPRESS RECORD HAS\nFIND CURRENT OF RUN-UNIT\nFIND CURRENT OF CUSTOMER RECORD\nFIND CURRENT OF WATCH SET\nFIND CURRENT OF SIDE AREA\nFIND -2 ITEM RECORD OF LINES SET\nFIND PRIOR OF MAIN AREA\nFIND OWNER OF LINES SET\nFIND CALC ITEM RECORD USING PART = \"A\"\nFIND NEXT DUPLICATE OF ITEM RECORD\nFIND SORTED 9 OF LINES SET\nGET CUSTOMER\nSTORE ITEM PART = \"A\" QTY = 8 SUPPRESS ALL\nINSERT INTO HAS\nREMOVE FROM LINES\nMODIFY ORDR ONO = 8\nDELETE SELECTIVE\nKEEP\nFREE ALL";
+        b"OPEN AREA MAIN USAGE-MODE IS PROTECTED UPDATE\nCLOSE AREA SIDE\nFIND KEY ITEM:7.2 SUPPRESS RECORD HAS\nFIND CURRENT OF RUN-UNIT\nFIND CURRENT OF CUSTOMER RECORD\nFIND CURRENT OF WATCH SET\nFIND CURRENT OF SIDE AREA\nFIND -2 ITEM RECORD OF LINES SET\nFIND PRIOR OF MAIN AREA\nFIND OWNER OF LINES SET\nFIND CALC ITEM RECORD USING PART = \"A\"\nFIND NEXT DUPLICATE OF ITEM RECORD\nFIND SORTED 9 OF LINES SET\nGET CUSTOMER\nSTORE ITEM PART = \"A\" QTY = 8 SUPPRESS ALL\nINSERT INTO HAS\nREMOVE FROM LINES\nMODIFY ORDR ONO = 8\nDELETE SELECTIVE\nKEEP\nFREE ALL";
     assert_eq!(rt; copies_after_opening(rt.alloc(), script), Some(true));
 }
 

@@ -8,8 +8,8 @@ use std::alloc::{AllocError, Global};
 use std::test::*;
 
 // A room may have lamps; a lamp need not be in a room.
-const HOUSE: &str =
-    "SCHEMA NAME IS HOUSE.\nAREA NAME IS MAIN.\nRECORD NAME IS ROOM; WITHIN MAIN.\n  02 RNO PICTURE IS 9(4).\nRECORD NAME IS LAMP; WITHIN MAIN.\n  02 LNO PICTURE IS 9(4).\nSET NAME IS LIGHTS; ORDER IS LAST; OWNER IS ROOM.\n  MEMBER IS LAMP OPTIONAL AUTOMATIC.\n";
+const HOUSE: &[u8] =
+    b"SCHEMA NAME IS HOUSE.\nAREA NAME IS MAIN.\nRECORD NAME IS ROOM; WITHIN MAIN.\n  02 RNO PICTURE IS 9(4).\nRECORD NAME IS LAMP; WITHIN MAIN.\n  02 LNO PICTURE IS 9(4).\nSET NAME IS LIGHTS; ORDER IS LAST; OWNER IS ROOM.\n  MEMBER IS LAMP OPTIONAL AUTOMATIC.\n";
 
 fn room() -> DbKey {
     DbKey {
@@ -93,7 +93,7 @@ fn taken(alloc: Global, schema: &Schema, option: Erase) -> Result<Vec<CellName>,
 }
 
 fn taken_in_house(alloc: Global, option: Erase) -> Option<Vec<CellName>> {
-    let house = Schema::read(alloc, HOUSE.as_bytes()).ok()?;
+    let house = Schema::read(alloc, HOUSE).ok()?;
     taken(alloc, &house, option).ok()
 }
 

@@ -10,17 +10,17 @@ use std::alloc::{AllocError, Global};
 use std::test::*;
 
 // The shop with more areas, record types and sets, and with other items, members and owners; IS and ARE are left out.
-const OTHER: &str =
-    "SCHEMA NAME OTHER.\nAREA NAME MAIN.\nAREA NAME SIDE.\nAREA NAME ATTIC.\nRECORD NAME CUSTOMER WITHIN MAIN.\n02 CNO PIC X(4).\nRECORD NAME ORDR LOCATION MODE CALC USING ONO DUPLICATES ALLOWED WITHIN MAIN.\n02 ONO PIC 9(5).\nRECORD NAME ITEM LOCATION MODE CALC USING PART QTY DUPLICATES ALLOWED WITHIN MAIN.\n02 PART PIC X(3).\n02 QTY PIC 9(4).\n02 COLOR PIC 9.\nRECORD NAME BOX WITHIN ATTIC.\n02 BNO PIC 9.\nSET NAME HAS ORDER SORTED ASCENDING DUPLICATES LAST OWNER CUSTOMER.\nMEMBER ORDR MANDATORY AUTOMATIC KEY ONO.\nSET NAME LINES ORDER SORTED ASCENDING DUPLICATES LAST OWNER ORDR.\nMEMBER ITEM OPTIONAL AUTOMATIC KEY QTY.\nSET NAME WATCH ORDER NEXT OWNER CUSTOMER.\nMEMBER ORDR OPTIONAL MANUAL.\nMEMBER ITEM OPTIONAL MANUAL.\nSET NAME MORE ORDER NEXT OWNER SYSTEM.\nMEMBER BOX OPTIONAL MANUAL.\n";
+const OTHER: &[u8] =
+    b"SCHEMA NAME OTHER.\nAREA NAME MAIN.\nAREA NAME SIDE.\nAREA NAME ATTIC.\nRECORD NAME CUSTOMER WITHIN MAIN.\n02 CNO PIC X(4).\nRECORD NAME ORDR LOCATION MODE CALC USING ONO DUPLICATES ALLOWED WITHIN MAIN.\n02 ONO PIC 9(5).\nRECORD NAME ITEM LOCATION MODE CALC USING PART QTY DUPLICATES ALLOWED WITHIN MAIN.\n02 PART PIC X(3).\n02 QTY PIC 9(4).\n02 COLOR PIC 9.\nRECORD NAME BOX WITHIN ATTIC.\n02 BNO PIC 9.\nSET NAME HAS ORDER SORTED ASCENDING DUPLICATES LAST OWNER CUSTOMER.\nMEMBER ORDR MANDATORY AUTOMATIC KEY ONO.\nSET NAME LINES ORDER SORTED ASCENDING DUPLICATES LAST OWNER ORDR.\nMEMBER ITEM OPTIONAL AUTOMATIC KEY QTY.\nSET NAME WATCH ORDER NEXT OWNER CUSTOMER.\nMEMBER ORDR OPTIONAL MANUAL.\nMEMBER ITEM OPTIONAL MANUAL.\nSET NAME MORE ORDER NEXT OWNER SYSTEM.\nMEMBER BOX OPTIONAL MANUAL.\n";
 
 // It is read here alone, so that its text stands in one function.
 fn other(alloc: Global) -> Option<Schema> {
-    Schema::read(alloc, OTHER.as_bytes()).ok()
+    Schema::read(alloc, OTHER).ok()
 }
 
 // Is each statement of a script, which is read by a schema, one of the shop?
-fn fitting(alloc: Global, shop: &Schema, schema: &Schema, script: &str) -> Option<Vec<bool>> {
-    let statements = read_script(alloc, schema, script.as_bytes()).ok()?;
+fn fitting(alloc: Global, shop: &Schema, schema: &Schema, script: &[u8]) -> Option<Vec<bool>> {
+    let statements = read_script(alloc, schema, script).ok()?;
     let mut found = Vec::new(alloc);
     for statement in &statements {
         found.push(statement.fits(shop)).ok()?;
@@ -28,18 +28,18 @@ fn fitting(alloc: Global, shop: &Schema, schema: &Schema, script: &str) -> Optio
     Some(found)
 }
 
-fn fitting_of_shop(alloc: Global, script: &str) -> Option<Vec<bool>> {
+fn fitting_of_shop(alloc: Global, script: &[u8]) -> Option<Vec<bool>> {
     let shop = shop(alloc)?;
     fitting(alloc, &shop, &shop, script)
 }
 
 // The statements of the other schema: a function to each schema, so that none owns two.
-fn fitting_of_other(alloc: Global, script: &str) -> Option<Vec<bool>> {
+fn fitting_of_other(alloc: Global, script: &[u8]) -> Option<Vec<bool>> {
     let other = other(alloc)?;
     fitting_by_shop(alloc, &other, script)
 }
 
-fn fitting_by_shop(alloc: Global, schema: &Schema, script: &str) -> Option<Vec<bool>> {
+fn fitting_by_shop(alloc: Global, schema: &Schema, script: &[u8]) -> Option<Vec<bool>> {
     let shop = shop(alloc)?;
     fitting(alloc, &shop, schema, script)
 }
@@ -48,7 +48,7 @@ fn fitting_by_shop(alloc: Global, schema: &Schema, script: &str) -> Option<Vec<b
 #[test]
 fn statements_of_the_shop(rt: HostRuntime) -> Result<(), Fail> {
     let script =
-        "FIND KEY CUSTOMER:1\nFIND NEXT DUPLICATE OF ITEM RECORD\nFIND LAST ITEM RECORD OF SIDE AREA\nFIND CALC ITEM RECORD USING PART = \"A\"\nSTORE ITEM PART = \"A\" QTY = 999\nSTORE ITEM PART = \" !#~\" QTY = 0";
+        b"FIND KEY CUSTOMER:1\nFIND NEXT DUPLICATE OF ITEM RECORD\nFIND LAST ITEM RECORD OF SIDE AREA\nFIND CALC ITEM RECORD USING PART = \"A\"\nSTORE ITEM PART = \"A\" QTY = 999\nSTORE ITEM PART = \" !#~\" QTY = 0";
     let found = fitting_of_shop(rt.alloc(), script).ok_or("statements")?;
     assert_eq!(rt; found.as_slice(), [true; 6].as_slice());
     Ok(())
@@ -57,7 +57,7 @@ fn statements_of_the_shop(rt: HostRuntime) -> Result<(), Fail> {
 #[test]
 fn statements_of_both(rt: HostRuntime) -> Result<(), Fail> {
     let script =
-        "OPEN AREA SIDE USAGE-MODE IS UPDATE\nINSERT INTO WATCH\nGET ITEM\nFIND CURRENT OF RUN-UNIT SUPPRESS HAS LINES WATCH\nFIND KEY ITEM:999999.255\nFIND FIRST ITEM RECORD OF WATCH SET\nFIND 999999 OF LINES SET\nFIND -999999 OF LINES SET\nFIND OWNER OF LINES SET\nFIND SORTED 999 OF LINES SET\nSTORE ORDR ONO = 9999\nMODIFY ITEM QTY = 999";
+        b"OPEN AREA SIDE USAGE-MODE IS UPDATE\nINSERT INTO WATCH\nGET ITEM\nFIND CURRENT OF RUN-UNIT SUPPRESS HAS LINES WATCH\nFIND KEY ITEM:999999.255\nFIND FIRST ITEM RECORD OF WATCH SET\nFIND 999999 OF LINES SET\nFIND -999999 OF LINES SET\nFIND OWNER OF LINES SET\nFIND SORTED 999 OF LINES SET\nSTORE ORDR ONO = 9999\nMODIFY ITEM QTY = 999";
     let found = fitting_of_other(rt.alloc(), script).ok_or("statements")?;
     assert_eq!(rt; found.as_slice(), [true; 12].as_slice());
     Ok(())
@@ -68,7 +68,7 @@ fn statements_of_both(rt: HostRuntime) -> Result<(), Fail> {
 #[test]
 fn numbers_and_names_of_the_other_alone(rt: HostRuntime) -> Result<(), Fail> {
     let script =
-        "OPEN AREA ATTIC USAGE-MODE IS UPDATE\nCLOSE AREA ATTIC\nINSERT INTO MORE\nGET BOX\nFIND KEY BOX:1\nFIND CURRENT OF RUN-UNIT SUPPRESS MORE\nFIND FIRST ORDR RECORD OF WATCH SET\nFIND LAST ITEM RECORD OF MAIN AREA\nFIND OWNER OF WATCH SET\nFIND NEXT DUPLICATE OF ORDR RECORD\nFIND SORTED 1 OF HAS SET";
+        b"OPEN AREA ATTIC USAGE-MODE IS UPDATE\nCLOSE AREA ATTIC\nINSERT INTO MORE\nGET BOX\nFIND KEY BOX:1\nFIND CURRENT OF RUN-UNIT SUPPRESS MORE\nFIND FIRST ORDR RECORD OF WATCH SET\nFIND LAST ITEM RECORD OF MAIN AREA\nFIND OWNER OF WATCH SET\nFIND NEXT DUPLICATE OF ORDR RECORD\nFIND SORTED 1 OF HAS SET";
     let found = fitting_of_other(rt.alloc(), script).ok_or("statements")?;
     assert_eq!(rt; found.as_slice(), [false; 11].as_slice());
     Ok(())
@@ -78,7 +78,7 @@ fn numbers_and_names_of_the_other_alone(rt: HostRuntime) -> Result<(), Fail> {
 #[test]
 fn values_of_the_other_alone(rt: HostRuntime) -> Result<(), Fail> {
     let script =
-        "FIND SORTED 1000 OF LINES SET\nSTORE CUSTOMER\nSTORE ORDR ONO = 10000\nSTORE ITEM\nFIND CALC ITEM RECORD USING PART = \"A\" QTY = 1\nMODIFY ITEM QTY = 1000\nMODIFY ITEM COLOR = 5\nMODIFY ITEM PART = \"ABC\"\nMODIFY CUSTOMER CNO = \"A\"";
+        b"FIND SORTED 1000 OF LINES SET\nSTORE CUSTOMER\nSTORE ORDR ONO = 10000\nSTORE ITEM\nFIND CALC ITEM RECORD USING PART = \"A\" QTY = 1\nMODIFY ITEM QTY = 1000\nMODIFY ITEM COLOR = 5\nMODIFY ITEM PART = \"ABC\"\nMODIFY CUSTOMER CNO = \"A\"";
     let found = fitting_of_other(rt.alloc(), script).ok_or("statements")?;
     assert_eq!(rt; found.as_slice(), [false; 9].as_slice());
     Ok(())

@@ -12,13 +12,13 @@ use std::alloc::Global;
 use std::test::*;
 
 // For each MODIFY of a script: does it name the second item, a CALC item, the key of LINES, the key of WATCH?
-fn named(alloc: Global, script: &str) -> Option<Vec<(bool, bool, bool, bool)>> {
+fn named(alloc: Global, script: &[u8]) -> Option<Vec<(bool, bool, bool, bool)>> {
     let shop = shop(alloc)?;
     named_by(alloc, &shop, script)
 }
 
-fn named_by(alloc: Global, shop: &Schema, script: &str) -> Option<Vec<(bool, bool, bool, bool)>> {
-    let statements = read_script(alloc, shop, script.as_bytes()).ok()?;
+fn named_by(alloc: Global, shop: &Schema, script: &[u8]) -> Option<Vec<(bool, bool, bool, bool)>> {
+    let statements = read_script(alloc, shop, script).ok()?;
     let (lines, watch) = (SetNo::new(1), SetNo::new(2));
     let mut found = Vec::new(alloc);
     for statement in &statements {
@@ -39,7 +39,7 @@ fn named_by(alloc: Global, shop: &Schema, script: &str) -> Option<Vec<(bool, boo
 #[test]
 fn changes(rt: HostRuntime) -> Result<(), Fail> {
     let script =
-        "MODIFY ITEM QTY = 5\nMODIFY ITEM PART = \"B\"\nMODIFY ITEM PART = \"B\" QTY = 5\nMODIFY ORDR ONO = 5\nMODIFY CUSTOMER CNO = 5";
+        b"MODIFY ITEM QTY = 5\nMODIFY ITEM PART = \"B\"\nMODIFY ITEM PART = \"B\" QTY = 5\nMODIFY ORDR ONO = 5\nMODIFY CUSTOMER CNO = 5";
     let found = named(rt.alloc(), script).ok_or("statements")?;
     let wanted = [
         (true, false, true, false),
@@ -72,13 +72,13 @@ fn entries(rt: HostRuntime) {
     assert_eq!(rt; entry_at(&entries, 2), None, "past the end");
 }
 
-fn codes(alloc: Global, script: &str) -> Option<Vec<u8>> {
+fn codes(alloc: Global, script: &[u8]) -> Option<Vec<u8>> {
     let shop = shop(alloc)?;
     codes_by(alloc, &shop, script)
 }
 
-fn codes_by(alloc: Global, shop: &Schema, script: &str) -> Option<Vec<u8>> {
-    let statements = read_script(alloc, shop, script.as_bytes()).ok()?;
+fn codes_by(alloc: Global, shop: &Schema, script: &[u8]) -> Option<Vec<u8>> {
+    let statements = read_script(alloc, shop, script).ok()?;
     let mut found = Vec::new(alloc);
     for statement in &statements {
         found.push(statement.code()).ok()?;
@@ -89,7 +89,7 @@ fn codes_by(alloc: Global, shop: &Schema, script: &str) -> Option<Vec<u8>> {
 #[test]
 fn codes_of_statements(rt: HostRuntime) -> Result<(), Fail> {
     let script =
-        "OPEN AREA MAIN USAGE-MODE IS UPDATE\nCLOSE AREA MAIN\nFIND CURRENT OF RUN-UNIT\nGET\nSTORE CUSTOMER\nINSERT INTO HAS\nREMOVE FROM HAS\nMODIFY CUSTOMER CNO = 5\nDELETE ALL\nKEEP\nFREE";
+        b"OPEN AREA MAIN USAGE-MODE IS UPDATE\nCLOSE AREA MAIN\nFIND CURRENT OF RUN-UNIT\nGET\nSTORE CUSTOMER\nINSERT INTO HAS\nREMOVE FROM HAS\nMODIFY CUSTOMER CNO = 5\nDELETE ALL\nKEEP\nFREE";
     let found = codes(rt.alloc(), script).ok_or("statements")?;
     assert_eq!(rt;
         found.as_slice(),

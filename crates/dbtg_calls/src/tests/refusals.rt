@@ -10,8 +10,8 @@ use std::alloc::{AllocError, Global};
 use std::test::*;
 
 // A status for each statement of a script.
-fn statuses(alloc: Global, shop: &Schema, unit: &Unit, script: &str) -> Option<Vec<u16>> {
-    let statements = read_script(alloc, shop, script.as_bytes()).ok()?;
+fn statuses(alloc: Global, shop: &Schema, unit: &Unit, script: &[u8]) -> Option<Vec<u16>> {
+    let statements = read_script(alloc, shop, script).ok()?;
     let mut found = Vec::new(alloc);
     for statement in &statements {
         let status = match refused_at_once(shop, 100, unit, statement) {
@@ -28,7 +28,7 @@ fn statuses_at_beginning(
     alloc: Global,
     main: Option<Mode>,
     side: Option<Mode>,
-    script: &str,
+    script: &[u8],
 ) -> Option<Vec<u16>> {
     let shop = shop(alloc)?;
     let unit = beginning(alloc, main, side).ok()?;
@@ -39,7 +39,7 @@ fn statuses_after_opening(
     alloc: Global,
     main: Option<Mode>,
     side: Option<Mode>,
-    script: &str,
+    script: &[u8],
 ) -> Option<Vec<u16>> {
     let shop = shop(alloc)?;
     let unit = opened(alloc, main, side).ok()?;
@@ -51,7 +51,7 @@ fn statuses_at_item(
     alloc: Global,
     main: Option<Mode>,
     side: Option<Mode>,
-    script: &str,
+    script: &[u8],
 ) -> Option<Vec<u16>> {
     let shop = shop(alloc)?;
     let mut unit = opened(alloc, main, side).ok()?;
@@ -60,7 +60,7 @@ fn statuses_at_item(
 }
 
 // Both areas are open for updates.
-fn statuses_alone(alloc: Global, key: DbKey, script: &str) -> Option<Vec<u16>> {
+fn statuses_alone(alloc: Global, key: DbKey, script: &[u8]) -> Option<Vec<u16>> {
     let shop = shop(alloc)?;
     let unit = at_alone(alloc, key, Some(Mode::Update)).ok()?;
     statuses(alloc, &shop, &unit, script)
@@ -70,7 +70,7 @@ fn statuses_alone(alloc: Global, key: DbKey, script: &str) -> Option<Vec<u16>> {
 #[test]
 fn no_current_of_run_unit(rt: HostRuntime) -> Result<(), Fail> {
     let script =
-        "FIND CURRENT OF RUN-UNIT\nGET\nINSERT INTO LINES\nREMOVE FROM LINES\nMODIFY ITEM QTY = 5\nDELETE\nKEEP\nFREE\nFREE ALL";
+        b"FIND CURRENT OF RUN-UNIT\nGET\nINSERT INTO LINES\nREMOVE FROM LINES\nMODIFY ITEM QTY = 5\nDELETE\nKEEP\nFREE\nFREE ALL";
     let found = statuses_at_beginning(rt.alloc(), None, None, script).ok_or("statements")?;
     assert_eq!(rt;
         found.as_slice(),
@@ -83,7 +83,7 @@ fn no_current_of_run_unit(rt: HostRuntime) -> Result<(), Fail> {
 #[test]
 fn other_record_type(rt: HostRuntime) -> Result<(), Fail> {
     let script =
-        "GET CUSTOMER\nGET ORDR\nINSERT INTO WATCH\nREMOVE FROM LINES\nMODIFY ITEM QTY = 5\nMODIFY ORDR ONO = 5";
+        b"GET CUSTOMER\nGET ORDR\nINSERT INTO WATCH\nREMOVE FROM LINES\nMODIFY ITEM QTY = 5\nMODIFY ORDR ONO = 5";
     let found = statuses_after_opening(rt.alloc(), None, None, script).ok_or("statements")?;
     assert_eq!(rt; found.as_slice(), [420, 401, 620, 720, 820, 801].as_slice());
     Ok(())
@@ -92,7 +92,7 @@ fn other_record_type(rt: HostRuntime) -> Result<(), Fail> {
 // An order is MANDATORY AUTOMATIC in HAS and no member of LINES. Before 06, as LINES and HAS are null.
 #[test]
 fn at_an_order_alone(rt: HostRuntime) -> Result<(), Fail> {
-    let script = "INSERT INTO LINES\nINSERT INTO HAS\nREMOVE FROM HAS";
+    let script = b"INSERT INTO LINES\nINSERT INTO HAS\nREMOVE FROM HAS";
     let found = statuses_alone(rt.alloc(), order(1), script).ok_or("statements")?;
     assert_eq!(rt; found.as_slice(), [620, 614, 715].as_slice());
     Ok(())
@@ -101,7 +101,7 @@ fn at_an_order_alone(rt: HostRuntime) -> Result<(), Fail> {
 // An item is no member of HAS, as in docs/profile/statuses.md. LINES has no owner at which the unit stands, WATCH has SYSTEM.
 #[test]
 fn at_an_item_alone(rt: HostRuntime) -> Result<(), Fail> {
-    let script = "INSERT INTO HAS\nINSERT INTO LINES\nINSERT INTO WATCH";
+    let script = b"INSERT INTO HAS\nINSERT INTO LINES\nINSERT INTO WATCH";
     let found = statuses_alone(rt.alloc(), item(1), script).ok_or("statements")?;
     assert_eq!(rt; found.as_slice(), [620, 606, 0].as_slice());
     Ok(())
@@ -110,7 +110,7 @@ fn at_an_item_alone(rt: HostRuntime) -> Result<(), Fail> {
 // 14 and 15 come before 01: no area is open.
 #[test]
 fn mandatory_members(rt: HostRuntime) -> Result<(), Fail> {
-    let script = "INSERT INTO HAS\nREMOVE FROM HAS";
+    let script = b"INSERT INTO HAS\nREMOVE FROM HAS";
     let found = statuses_after_opening(rt.alloc(), None, None, script).ok_or("statements")?;
     assert_eq!(rt; found.as_slice(), [614, 715].as_slice());
     Ok(())
@@ -119,7 +119,7 @@ fn mandatory_members(rt: HostRuntime) -> Result<(), Fail> {
 // An item is OPTIONAL AUTOMATIC in LINES and OPTIONAL MANUAL in WATCH.
 #[test]
 fn optional_members(rt: HostRuntime) -> Result<(), Fail> {
-    let script = "INSERT INTO LINES\nREMOVE FROM LINES\nINSERT INTO WATCH\nREMOVE FROM WATCH";
+    let script = b"INSERT INTO LINES\nREMOVE FROM LINES\nINSERT INTO WATCH\nREMOVE FROM WATCH";
     let found = statuses_at_item(rt.alloc(), Some(Mode::Update), Some(Mode::Update), script).ok_or(
         "statements",
     )?;
@@ -129,7 +129,7 @@ fn optional_members(rt: HostRuntime) -> Result<(), Fail> {
 
 #[test]
 fn area_is_open_already(rt: HostRuntime) -> Result<(), Fail> {
-    let script = "OPEN AREA MAIN USAGE-MODE IS RETRIEVAL\nOPEN AREA SIDE USAGE-MODE IS RETRIEVAL";
+    let script = b"OPEN AREA MAIN USAGE-MODE IS RETRIEVAL\nOPEN AREA SIDE USAGE-MODE IS RETRIEVAL";
     let found = statuses_at_beginning(rt.alloc(), Some(Mode::ExclusiveUpdate), None, script).ok_or(
         "statements",
     )?;
@@ -142,7 +142,7 @@ fn area_is_open_already(rt: HostRuntime) -> Result<(), Fail> {
 #[test]
 fn no_current_at_the_opening(rt: HostRuntime) -> Result<(), Fail> {
     let script =
-        "FIND CURRENT OF ITEM RECORD\nFIND CURRENT OF WATCH SET\nFIND CURRENT OF SIDE AREA\nFIND NEXT DUPLICATE OF ITEM RECORD\nFIND NEXT OF SIDE AREA\nFIND PRIOR OF SIDE AREA\nFIND FIRST OF SIDE AREA\nFIND NEXT OF WATCH SET\nFIND CURRENT OF LINES SET";
+        b"FIND CURRENT OF ITEM RECORD\nFIND CURRENT OF WATCH SET\nFIND CURRENT OF SIDE AREA\nFIND NEXT DUPLICATE OF ITEM RECORD\nFIND NEXT OF SIDE AREA\nFIND PRIOR OF SIDE AREA\nFIND FIRST OF SIDE AREA\nFIND NEXT OF WATCH SET\nFIND CURRENT OF LINES SET";
     let found = statuses_after_opening(rt.alloc(), None, None, script).ok_or("statements")?;
     assert_eq!(rt;
         found.as_slice(),
@@ -154,7 +154,7 @@ fn no_current_at_the_opening(rt: HostRuntime) -> Result<(), Fail> {
 #[test]
 fn no_current_at_all(rt: HostRuntime) -> Result<(), Fail> {
     let script =
-        "FIND FIRST OF HAS SET\nFIND OWNER OF LINES SET\nFIND SORTED 2 OF LINES SET\nSTORE ORDR\nSTORE CUSTOMER";
+        b"FIND FIRST OF HAS SET\nFIND OWNER OF LINES SET\nFIND SORTED 2 OF LINES SET\nSTORE ORDR\nSTORE CUSTOMER";
     let found = statuses_at_beginning(rt.alloc(), None, None, script).ok_or("statements")?;
     assert_eq!(rt; found.as_slice(), [306, 306, 306, 506, 501].as_slice());
     Ok(())
@@ -164,7 +164,7 @@ fn no_current_at_all(rt: HostRuntime) -> Result<(), Fail> {
 #[test]
 fn cells_decide(rt: HostRuntime) -> Result<(), Fail> {
     let script =
-        "FIND CURRENT OF RUN-UNIT\nFIND CURRENT OF CUSTOMER RECORD\nFIND CURRENT OF HAS SET\nFIND CURRENT OF LINES SET\nFIND CURRENT OF MAIN AREA\nFIND NEXT OF LINES SET\nFIND SORTED 2 OF LINES SET\nFIND CALC ITEM RECORD USING PART = \"A\"\nGET ORDR\nKEEP\nCLOSE AREA SIDE";
+        b"FIND CURRENT OF RUN-UNIT\nFIND CURRENT OF CUSTOMER RECORD\nFIND CURRENT OF HAS SET\nFIND CURRENT OF LINES SET\nFIND CURRENT OF MAIN AREA\nFIND NEXT OF LINES SET\nFIND SORTED 2 OF LINES SET\nFIND CALC ITEM RECORD USING PART = \"A\"\nGET ORDR\nKEEP\nCLOSE AREA SIDE";
     let found = statuses_after_opening(
         rt.alloc(),
         Some(Mode::Retrieval),
@@ -180,7 +180,7 @@ fn cells_decide(rt: HostRuntime) -> Result<(), Fail> {
 #[test]
 fn main_is_not_open(rt: HostRuntime) -> Result<(), Fail> {
     let script =
-        "CLOSE AREA MAIN\nCLOSE AREA SIDE\nFIND KEY CUSTOMER:1\nFIND KEY ITEM:1\nFIND CALC CUSTOMER RECORD USING CNO = 1\nGET ORDR\nSTORE ITEM\nKEEP";
+        b"CLOSE AREA MAIN\nCLOSE AREA SIDE\nFIND KEY CUSTOMER:1\nFIND KEY ITEM:1\nFIND CALC CUSTOMER RECORD USING CNO = 1\nGET ORDR\nSTORE ITEM\nKEEP";
     let found = statuses_after_opening(rt.alloc(), None, Some(Mode::Retrieval), script).ok_or(
         "statements",
     )?;
@@ -195,7 +195,7 @@ fn main_is_not_open(rt: HostRuntime) -> Result<(), Fail> {
 #[test]
 fn home_of_lines_is_not_open(rt: HostRuntime) -> Result<(), Fail> {
     let script =
-        "GET\nFIND SORTED 2 OF LINES SET\nINSERT INTO LINES\nREMOVE FROM LINES\nINSERT INTO WATCH\nDELETE\nFREE";
+        b"GET\nFIND SORTED 2 OF LINES SET\nINSERT INTO LINES\nREMOVE FROM LINES\nINSERT INTO WATCH\nDELETE\nFREE";
     let found = statuses_at_item(rt.alloc(), None, Some(Mode::Retrieval), script).ok_or(
         "statements",
     )?;
@@ -211,7 +211,7 @@ fn home_of_lines_is_not_open(rt: HostRuntime) -> Result<(), Fail> {
 #[test]
 fn update_mode_is_needed(rt: HostRuntime) -> Result<(), Fail> {
     let script =
-        "STORE CUSTOMER\nSTORE ITEM\nINSERT INTO LINES\nREMOVE FROM LINES\nDELETE\nINSERT INTO WATCH\nMODIFY ITEM QTY = 5\nMODIFY ITEM PART = \"B\"";
+        b"STORE CUSTOMER\nSTORE ITEM\nINSERT INTO LINES\nREMOVE FROM LINES\nDELETE\nINSERT INTO WATCH\nMODIFY ITEM QTY = 5\nMODIFY ITEM PART = \"B\"";
     let found = statuses_at_item(
         rt.alloc(),
         Some(Mode::Retrieval),
@@ -261,7 +261,7 @@ fn modes_for_updates(rt: HostRuntime) -> Result<(), Fail> {
 // 01 comes before 26.
 #[test]
 fn number_above_the_capacity(rt: HostRuntime) -> Result<(), Fail> {
-    let script = "FIND KEY CUSTOMER:101\nFIND KEY CUSTOMER:100\nFIND KEY ITEM:101";
+    let script = b"FIND KEY CUSTOMER:101\nFIND KEY CUSTOMER:100\nFIND KEY ITEM:101";
     let found = statuses_at_beginning(rt.alloc(), Some(Mode::Retrieval), None, script).ok_or(
         "statements",
     )?;
@@ -275,7 +275,7 @@ fn statuses_keeping(alloc: Global, key: DbKey) -> Option<Vec<u16>> {
     let mut unit = opened(alloc, None, None).ok()?;
     let kept = unit.kept.noted(alloc, key, 1).ok()?;
     unit.keep(kept);
-    statuses(alloc, &shop, &unit, "FREE\nFREE ALL")
+    statuses(alloc, &shop, &unit, b"FREE\nFREE ALL")
 }
 
 #[test]

@@ -7,8 +7,8 @@ use dbtg_step::Move;
 use std::test::*;
 
 // The number of the fault and its line; (0, 0) where the script is read and each of its statements fits the schema.
-fn verdict(rt: &HostRuntime, schema: &Schema, script: &str) -> (u8, u64) {
-    match read_script(rt.alloc(), schema, script.as_bytes()) {
+fn verdict(rt: &HostRuntime, schema: &Schema, script: &[u8]) -> (u8, u64) {
+    match read_script(rt.alloc(), schema, script) {
         Ok(statements) => {
             for statement in &statements {
                 if !statement.fits(schema) {
@@ -27,7 +27,7 @@ fn is_right(rt: &HostRuntime, case: &str) -> Option<bool> {
     let shop = shop(rt.alloc())?;
     let (cause, script) = case.split_once('|')?;
     let wanted = cause.parse::<u8>().ok()?;
-    let (found, line) = verdict(rt, &shop, script);
+    let (found, line) = verdict(rt, &shop, script.as_bytes());
     Some(found == wanted && (found == 0 || line == 1))
 }
 
@@ -80,11 +80,11 @@ fn faults_in_their_order(rt: HostRuntime) {
 fn lines_are_counted(rt: HostRuntime) {
     let shop = shop(rt.alloc()).expect(&rt, "a schema");
     assert_eq!(rt;
-        verdict(&rt, &shop, "GET\n\n* note\nFETCH\nGET NOTHING\n"),
+        verdict(&rt, &shop, b"GET\n\n* note\nFETCH\nGET NOTHING\n"),
         (2, 4)
     );
-    assert_eq!(rt; verdict(&rt, &shop, "GET\n*\t\nFETCH\n"), (1, 2));
-    assert_eq!(rt; verdict(&rt, &shop, "GET\r\nGET.\r\nGET"), (0, 0));
+    assert_eq!(rt; verdict(&rt, &shop, b"GET\n*\t\nFETCH\n"), (1, 2));
+    assert_eq!(rt; verdict(&rt, &shop, b"GET\r\nGET.\r\nGET"), (0, 0));
 }
 
 #[test]
@@ -94,16 +94,16 @@ fn a_script_has_65535_statements(rt: HostRuntime) {
     for _ in 0..65535 {
         text.push_str("GET\n").expect(&rt, "memory");
     }
-    assert_eq!(rt; verdict(&rt, &shop, text.as_str()), (0, 0));
+    assert_eq!(rt; verdict(&rt, &shop, text.as_bytes()), (0, 0));
     text.push_str("* note\n").expect(&rt, "memory");
-    assert_eq!(rt; verdict(&rt, &shop, text.as_str()), (0, 0));
+    assert_eq!(rt; verdict(&rt, &shop, text.as_bytes()), (0, 0));
     text.push_str("FETCH\t").expect(&rt, "memory");
-    assert_eq!(rt; verdict(&rt, &shop, text.as_str()), (14, 65537));
+    assert_eq!(rt; verdict(&rt, &shop, text.as_bytes()), (14, 65537));
 }
 
 // The number of the fault and its word; (0, n) where n moves are read.
-fn moves_verdict(rt: &HostRuntime, text: &str) -> (u8, u64) {
-    match read_moves(rt.alloc(), text.as_bytes()) {
+fn moves_verdict(rt: &HostRuntime, text: &[u8]) -> (u8, u64) {
+    match read_moves(rt.alloc(), text) {
         Ok(moves) => (0, moves.len() as u64),
         Err(MovesFault::Refused { word, cause }) => (cause.number(), word),
         Err(MovesFault::Memory) => (98, 0),
@@ -112,19 +112,19 @@ fn moves_verdict(rt: &HostRuntime, text: &str) -> (u8, u64) {
 
 #[test]
 fn moves_and_their_faults(rt: HostRuntime) {
-    assert_eq!(rt; moves_verdict(&rt, "9 Q9 1*0"), (1, 3));
-    assert_eq!(rt; moves_verdict(&rt, "Q1*2"), (1, 1));
-    assert_eq!(rt; moves_verdict(&rt, "07"), (1, 1));
-    assert_eq!(rt; moves_verdict(&rt, "1*1000000 1"), (2, 2));
-    assert_eq!(rt; moves_verdict(&rt, "1*1000000"), (0, 1_000_000));
-    assert_eq!(rt; moves_verdict(&rt, "1*1000001"), (1, 1));
-    assert_eq!(rt; moves_verdict(&rt, "1*01"), (1, 1));
-    assert_eq!(rt; moves_verdict(&rt, "1 100"), (1, 2));
-    assert_eq!(rt; moves_verdict(&rt, "1 0"), (1, 2));
-    assert_eq!(rt; moves_verdict(&rt, "Q"), (1, 1));
-    assert_eq!(rt; moves_verdict(&rt, "1*"), (1, 1));
-    assert_eq!(rt; moves_verdict(&rt, " 9 Q9\tQ1\r\n1 Q1\n"), (0, 5));
-    assert_eq!(rt; moves_verdict(&rt, ""), (0, 0));
+    assert_eq!(rt; moves_verdict(&rt, b"9 Q9 1*0"), (1, 3));
+    assert_eq!(rt; moves_verdict(&rt, b"Q1*2"), (1, 1));
+    assert_eq!(rt; moves_verdict(&rt, b"07"), (1, 1));
+    assert_eq!(rt; moves_verdict(&rt, b"1*1000000 1"), (2, 2));
+    assert_eq!(rt; moves_verdict(&rt, b"1*1000000"), (0, 1_000_000));
+    assert_eq!(rt; moves_verdict(&rt, b"1*1000001"), (1, 1));
+    assert_eq!(rt; moves_verdict(&rt, b"1*01"), (1, 1));
+    assert_eq!(rt; moves_verdict(&rt, b"1 100"), (1, 2));
+    assert_eq!(rt; moves_verdict(&rt, b"1 0"), (1, 2));
+    assert_eq!(rt; moves_verdict(&rt, b"Q"), (1, 1));
+    assert_eq!(rt; moves_verdict(&rt, b"1*"), (1, 1));
+    assert_eq!(rt; moves_verdict(&rt, b" 9 Q9\tQ1\r\n1 Q1\n"), (0, 5));
+    assert_eq!(rt; moves_verdict(&rt, b""), (0, 0));
 }
 
 #[test]

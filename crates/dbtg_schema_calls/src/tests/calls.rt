@@ -5,13 +5,13 @@ use dbtg_schema::{
 };
 use std::test::*;
 
-const SHOP: &str =
-    "SCHEMA NAME IS SHOP.\nAREA NAME IS MAIN.\nAREA NAME IS SIDE.\nRECORD NAME IS CUSTOMER; LOCATION MODE IS CALC USING CNO DUPLICATES ARE NOT ALLOWED; WITHIN MAIN.\n  02 CNO PICTURE IS 9(4).\n  02 CNAME PICTURE IS X(8).\nRECORD NAME IS ORDR; WITHIN MAIN.\n  02 ONO PICTURE IS 9(4).\nRECORD NAME IS ITEM; LOCATION MODE IS CALC USING PART DUPLICATES ARE ALLOWED; WITHIN SIDE.\n  02 PART PICTURE IS X(4).\n  02 QTY PICTURE IS 9(3).\nSET NAME IS HAS; ORDER IS LAST; OWNER IS CUSTOMER.\n  MEMBER IS ORDR MANDATORY AUTOMATIC.\nSET NAME IS LINES; ORDER IS SORTED ASCENDING DUPLICATES ARE LAST; OWNER IS ORDR.\n  MEMBER IS ITEM OPTIONAL AUTOMATIC; KEY IS QTY.\nSET NAME IS WATCH; ORDER IS NEXT; OWNER IS SYSTEM.\n  MEMBER IS ITEM OPTIONAL MANUAL.\n";
+const SHOP: &[u8] =
+    b"SCHEMA NAME IS SHOP.\nAREA NAME IS MAIN.\nAREA NAME IS SIDE.\nRECORD NAME IS CUSTOMER; LOCATION MODE IS CALC USING CNO DUPLICATES ARE NOT ALLOWED; WITHIN MAIN.\n  02 CNO PICTURE IS 9(4).\n  02 CNAME PICTURE IS X(8).\nRECORD NAME IS ORDR; WITHIN MAIN.\n  02 ONO PICTURE IS 9(4).\nRECORD NAME IS ITEM; LOCATION MODE IS CALC USING PART DUPLICATES ARE ALLOWED; WITHIN SIDE.\n  02 PART PICTURE IS X(4).\n  02 QTY PICTURE IS 9(3).\nSET NAME IS HAS; ORDER IS LAST; OWNER IS CUSTOMER.\n  MEMBER IS ORDR MANDATORY AUTOMATIC.\nSET NAME IS LINES; ORDER IS SORTED ASCENDING DUPLICATES ARE LAST; OWNER IS ORDR.\n  MEMBER IS ITEM OPTIONAL AUTOMATIC; KEY IS QTY.\nSET NAME IS WATCH; ORDER IS NEXT; OWNER IS SYSTEM.\n  MEMBER IS ITEM OPTIONAL MANUAL.\n";
 
 /// The schema of the shop. It is read here alone, so that its text stands in one function; what is asked of it stands in
 /// functions of its own, which own nothing.
 fn shop(rt: &HostRuntime) -> Option<Schema> {
-    Schema::read(rt.alloc(), SHOP.as_bytes()).ok()
+    Schema::read(rt.alloc(), SHOP).ok()
 }
 
 fn is_text(name: Option<&[u8]>, text: &[u8]) -> bool {
@@ -41,6 +41,52 @@ fn items_are_named(shop: &Schema) -> bool {
     shop.item(RecordNo::new(2), b"QTY") == Some(ItemNo::new(1))
         && shop.item(RecordNo::new(1), b"QTY").is_none()
         && is_text(shop.item_name(RecordNo::new(0), ItemNo::new(1)), b"CNAME")
+}
+
+fn first_and_last_areas_are_found(shop: &Schema) -> bool {
+    shop.area(b"MAIN") == Some(AreaNo::new(0))
+        && shop.area(b"SIDE") == Some(AreaNo::new(1))
+        && shop.area(b"MAI").is_none()
+        && shop.area(b"MAINS").is_none()
+        && shop.area(b"").is_none()
+}
+
+fn first_and_last_types_are_found(shop: &Schema) -> bool {
+    shop.rtype(b"CUSTOMER") == Some(RecordNo::new(0))
+        && shop.rtype(b"ITEM") == Some(RecordNo::new(2))
+        && shop.rtype(b"CUSTOMERS").is_none()
+        && shop.rtype(b"item").is_none()
+}
+
+fn first_and_last_sets_are_found(shop: &Schema) -> bool {
+    shop.set(b"HAS") == Some(SetNo::new(0))
+        && shop.set(b"WATCH") == Some(SetNo::new(2))
+        && shop.set(b"WATC").is_none()
+        && shop.set(b"ITEM").is_none()
+}
+
+fn first_and_last_items_are_found(shop: &Schema) -> bool {
+    let (customer, item) = (RecordNo::new(0), RecordNo::new(2));
+    shop.item(customer, b"CNO") == Some(ItemNo::new(0))
+        && shop.item(customer, b"CNAME") == Some(ItemNo::new(1))
+        && shop.item(customer, b"PART").is_none()
+        && shop.item(item, b"PART") == Some(ItemNo::new(0))
+        && shop.item(item, b"QTY") == Some(ItemNo::new(1))
+        && shop.item(item, b"CNO").is_none()
+        && shop.item(RecordNo::new(3), b"PART").is_none()
+}
+
+fn names_are_found(shop: &Schema) -> bool {
+    first_and_last_areas_are_found(shop)
+        && first_and_last_types_are_found(shop)
+        && first_and_last_sets_are_found(shop)
+        && first_and_last_items_are_found(shop)
+}
+
+#[test]
+fn first_last_and_unknown_names(rt: HostRuntime) {
+    let shop = shop(&rt).expect(&rt, "a schema");
+    assert!(rt; names_are_found(&shop));
 }
 
 #[test]
@@ -140,9 +186,7 @@ fn what_a_schema_says_of_members(rt: HostRuntime) {
 }
 
 fn is_like(copy: &Schema, shop: &Schema) -> bool {
-    copy.name() == shop.name()
-        && copy.sets().len() == 3
-        && copy.item(RecordNo::new(2), b"QTY") == Some(ItemNo::new(1))
+    copy.name() == shop.name() && copy.sets().len() == 3 && names_are_found(copy)
 }
 
 #[test]

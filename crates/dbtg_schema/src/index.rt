@@ -1,0 +1,133 @@
+//! From names to numbers, at once: the indexes of a schema that is read. Of equal names the first counts.
+
+ghost use Rattle.std.specs.Prelude.{◌≡◌, ◌≤◌, List, ℕ, Some, None, cond, length, map, option_and_then, slice_get, IfOk, OnOk};
+ghost use Rattle.std.specs.List.{All};
+ghost use Rattle.std.specs.Option.{option_or};
+ghost use Rattle.std.specs.Str.{bytes_eq};
+ghost use Rattle.dbtg_schema.specs.NameIndexes.{leads_to, IsIndexOf, AreItemIndexes, IsSchemaIndex};
+
+use crate::find::HasName;
+use crate::numbers::{AreaNo, ItemNo, RecordNo, SetNo};
+use crate::row::Row;
+use crate::shape::{Area, RecordType, SetType};
+use indexmap::IndexMap;
+use std::alloc::{AllocError, Global};
+
+/// Leads from each name of a list to where it first stands.
+#[derive(Drop)]
+pub struct NameIndex {
+    numbers: IndexMap<Vec<u8>, u8>,
+}
+
+impl NameIndex {
+    /// The index of the names of these.
+    pub fn of<T: HasName>(alloc: Global, things: &[T]) -> Result<Self, AllocError>
+        requires { length things.now ≤ 256 }
+        ensures { IfOk result (λ index. IsIndexOf index (map T.name_of things.now)) }
+    {
+        let mut index = Self {
+            numbers: IndexMap::new(alloc),
+        };
+        for (i, thing) in things.iter().enumerate() {
+            index.enter(alloc, thing.name(), i as u8)?;
+        }
+        Ok(index)
+    }
+
+    /// Leads from this name to this number, if it led nowhere.
+    fn enter(&mut self, alloc: Global, name: &[u8], number: u8) -> Result<(), AllocError>
+        ensures { OnOk result ((q : List ℕ) → leads_to self.new q ≡ option_or (leads_to self.old q) (cond (bytes_eq q name.now) (Some number) None)) }
+    {
+        if self.number(name).is_none() {
+            let key = Vec::from_slice(alloc, name)?;
+            self.numbers.insert(key, number)?;
+        }
+        Ok(())
+    }
+
+    /// The number of this name.
+    pub fn number(&self, name: &[u8]) -> Option<u8>
+        ensures { result ≡ leads_to self.now name.now }
+    {
+        self.numbers.get(name).copied()
+    }
+}
+
+/// An index for the items of each record type.
+fn item_indexes(alloc: Global, types: &[RecordType]) -> Result<Vec<NameIndex>, AllocError>
+    requires { All (λ r. length r.items ≤ 16) types.now }
+    ensures { IfOk result (λ v. AreItemIndexes v.items types.now) }
+{
+    let mut out = Vec::new(alloc);
+    for rtype in types {
+        out.push(NameIndex::of(alloc, rtype.items.as_slice())?)?;
+    }
+    Ok(out)
+}
+
+/// The indexes of a schema: for its areas, its record types and its sets, and for the items of each record type.
+#[derive(Drop)]
+pub struct SchemaIndex {
+    areas: NameIndex,
+    types: NameIndex,
+    sets: NameIndex,
+    items: Row<NameIndex>,
+}
+
+impl SchemaIndex {
+    /// The indexes of these lists.
+    pub fn of(
+        alloc: Global,
+        areas: &[Area],
+        types: &[RecordType],
+        sets: &[SetType],
+    ) -> Result<Self, AllocError>
+        requires areas_fit { length areas.now ≤ 8 }
+        requires types_fit { length types.now ≤ 16 }
+        requires sets_fit { length sets.now ≤ 16 }
+        requires items_fit { All (λ r. length r.items ≤ 16) types.now }
+        ensures { IfOk result (λ index. IsSchemaIndex index areas.now types.now sets.now) }
+    {
+        let items = Row::of(item_indexes(alloc, types)?);
+        let areas = NameIndex::of(alloc, areas)?;
+        let types = NameIndex::of(alloc, types)?;
+        let sets = NameIndex::of(alloc, sets)?;
+        Ok(Self {
+            areas,
+            types,
+            sets,
+            items,
+        })
+    }
+
+    /// The number of the area of this name.
+    pub fn area(&self, name: &[u8]) -> Option<AreaNo>
+        ensures { result ≡ leads_to self.now.areas name.now }
+    {
+        self.areas.number(name).map(AreaNo::new)
+    }
+
+    /// The number of the record type of this name.
+    pub fn rtype(&self, name: &[u8]) -> Option<RecordNo>
+        ensures { result ≡ leads_to self.now.types name.now }
+    {
+        self.types.number(name).map(RecordNo::new)
+    }
+
+    /// The number of the set of this name.
+    pub fn set(&self, name: &[u8]) -> Option<SetNo>
+        ensures { result ≡ leads_to self.now.sets name.now }
+    {
+        self.sets.number(name).map(SetNo::new)
+    }
+
+    /// The number of the item of this name in a record type.
+    pub fn item(&self, rtype: RecordNo, name: &[u8]) -> Option<ItemNo>
+        ensures { result ≡ option_and_then (λ index. leads_to index name.now) (slice_get self.now.items rtype) }
+    {
+        match self.items.get(rtype.index() as usize) {
+            Some(index) => index.number(name).map(ItemNo::new),
+            None => None,
+        }
+    }
+}
