@@ -1,6 +1,5 @@
 //! Audits, made with memory to spare. What is expected stands in docs/profile: OPEN in usage-modes.md, the image in
 //! printed-texts.md.
-ghost use Rattle.dbtg_schema.specs.Sound.{IsSound};
 
 use dbtg_cells::Mode;
 use dbtg_schema::{AreaNo, Schema};
@@ -15,9 +14,7 @@ const CARD: &[u8] =
 // How many have the area open, the least free number, how many records and how many units there are.
 type Seen = (usize, Option<u32>, usize, usize);
 
-fn seen_with(alloc: Global, schema: &Schema, units: u8, history: &[Entry]) -> Option<Option<Seen>>
-    requires { IsSound schema.now }
-{
+fn seen_with(alloc: Global, schema: &Schema, units: u8, history: &[Entry]) -> Option<Option<Seen>> {
     match audit(alloc, schema, 3, units, history) {
         Ok(Some((image, units))) => {
             let users = match image.usage.get(0) {

@@ -1,5 +1,4 @@
 //! What a finished statement changes of its unit and of the guesses, by docs/profile/currency.md and keeping.md.
-ghost use Rattle.std.specs.Prelude.{◌≡◌, []};
 
 use super::shop::{customer, item, opened, order, place, shop};
 use dbtg_cells::{DbKey, Mode, Owner};
@@ -9,9 +8,7 @@ use std::alloc::{AllocError, Global};
 use std::test::*;
 
 // A statement that is done, and changes no cell.
-fn prepared(alloc: Global, unit: UnitEdit) -> Prepared
-    ensures { result.cells ≡ [] }
-{
+fn prepared(alloc: Global, unit: UnitEdit) -> Prepared {
     let answer = Answer {
         status: Status::Done,
         key: None,

@@ -23,7 +23,6 @@ fn statuses(alloc: Global, shop: &Schema, unit: &Unit, script: &[u8]) -> Option<
     Some(found)
 }
 
-// The tests own no schema and no unit: who owns one is long to prove, and only these do.
 fn statuses_at_beginning(
     alloc: Global,
     main: Option<Mode>,

@@ -18,7 +18,6 @@ fn guesses(rt: HostRuntime) {
     assert_eq!(rt; held.guesses(), wanted.as_slice());
 }
 
-// The functions that are handed `held` own nothing, so that the prover has nothing to let go of where they end.
 fn takes_twelve_areas(held: &mut Held) -> Result<bool, AllocError> {
     for a in 0..12 {
         held.push_area(AreaNo::new(a))?;

@@ -1,8 +1,4 @@
 //! What is prepared is done, and room is made before.
-ghost use Rattle.std.specs.Prelude.{◌≡◌, [], ◌∷◌, List, IfOk};
-ghost use Rattle.dbtg_cells.specs.declared.cell.Cell.{Cell as LogicCell};
-ghost use Rattle.dbtg_cells.specs.declared.name.CellName.{CellName as LogicName};
-ghost use Rattle.dbtg_unit.specs.Making.{CanMake};
 
 use super::key;
 use super::units::opening;
@@ -86,9 +82,7 @@ fn both(
     name: &CellName,
     first: Edit,
     second: Edit,
-) -> Result<Row<CellEdit>, AllocError>
-    ensures { IfOk result (λ edits. edits ≡ record { name = name.now; edit = first } ∷ record { name = name.now; edit = second } ∷ []) }
-{
+) -> Result<Row<CellEdit>, AllocError> {
     let mut edits = Vec::new(alloc);
     edits.push(CellEdit {
         name: *name,
@@ -102,9 +96,7 @@ fn both(
 }
 
 // A record is filled in, and then has an owner; both can be made of whatever is held.
-fn filling(alloc: Global) -> Result<Row<CellEdit>, AllocError>
-    ensures { IfOk result (λ edits. (cells : List (LogicName × LogicCell)) → CanMake edits cells) }
-{
+fn filling(alloc: Global) -> Result<Row<CellEdit>, AllocError> {
     let owners = Row::of(Vec::from_slice(alloc, &[None])?);
     let fill = Edit::Fill {
         generation: 2,
@@ -119,9 +111,7 @@ fn filling(alloc: Global) -> Result<Row<CellEdit>, AllocError>
 }
 
 // Its answer has the key, its own version is noted, and SYSTEM is the guess.
-fn plan(alloc: Global) -> Result<Prepared, AllocError>
-    ensures { IfOk result (λ plan. (cells : List (LogicName × LogicCell)) → CanMake plan.cells cells) }
-{
+fn plan(alloc: Global) -> Result<Prepared, AllocError> {
     let answer = Answer {
         status: Status::Done,
         key: Some(key(7, 2)),

@@ -1,13 +1,4 @@
 //! Edits of the members of a ring, by docs/profile/placing.md.
-ghost use Rattle.std.specs.Prelude.{◌≡◌, [], ◌∷◌, Some, None, Option, IfOk, IsTrue, is_some, option_map, true, false};
-ghost use Rattle.dbtg_cells.specs.declared.key.DbKey.{DbKey as LogicKey};
-ghost use Rattle.dbtg_cells.specs.declared.key.Owner.TheVariants.{System as SystemOwner};
-ghost use Rattle.dbtg_cells.specs.declared.key.Value.TheVariants.{Num};
-ghost use Rattle.dbtg_cells.specs.declared.ring.Occurrence.{Occurrence as LogicOccurrence};
-ghost use Rattle.dbtg_cells.specs.Keys.{is_member};
-ghost use Rattle.dbtg_cells.specs.Members.{keys_in, members_in, with_members};
-ghost use Rattle.dbtg_cells.specs.Placed.{placed, Back};
-ghost use Rattle.dbtg_unit.specs.CanEdit.{CanPlace, parts_by};
 
 use dbtg_cells::{Cell, DbKey, Owner, Ring, Slot, Value};
 use dbtg_schema::{Duplicates, Order, RecordNo};
@@ -16,9 +7,7 @@ use std::alloc::{AllocError, Global};
 use std::process::Abort;
 use std::test::*;
 
-fn item(number: u32) -> DbKey
-    ensures { result ≡ record { rtype = 2; number = number; generation = 1 } }
-{
+fn item(number: u32) -> DbKey {
     DbKey {
         rtype: RecordNo::new(2),
         number,
@@ -26,18 +15,14 @@ fn item(number: u32) -> DbKey
     }
 }
 
-fn sort_key(quantity: Option<u64>) -> Option<Value>
-    ensures { result ≡ option_map Num quantity }
-{
+fn sort_key(quantity: Option<u64>) -> Option<Value> {
     match quantity {
         Some(quantity) => Some(Value::Num(quantity)),
         None => None,
     }
 }
 
-fn empty(alloc: Global) -> Ring
-    ensures { result.occurrence ≡ Some (record { owner = SystemOwner; members = [] }) }
-{
+fn empty(alloc: Global) -> Ring {
     let mut ring = Ring::absent(alloc);
     ring.open(Owner::System);
     ring
@@ -49,18 +34,14 @@ fn stands_last(
     ring: &mut Ring,
     key: &DbKey,
     quantity: Option<u64>,
-) -> Result<(), AllocError>
-    ensures { IfOk result (λ _. ring.new.occurrence ≡ with_members (placed Back (key.now, option_map Num quantity)) ring.old.occurrence) }
-{
+) -> Result<(), AllocError> {
     assert!(rt; ring.is_present() && !ring.contains(*key));
     ring.reserve_place(*key)?;
     ring.place_last(*key, sort_key(quantity));
     Ok(())
 }
 
-fn makes_room(rt: &impl Abort, ring: &mut Ring, key: &DbKey) -> Result<(), AllocError>
-    ensures same { ring.new.occurrence ≡ ring.old.occurrence }
-{
+fn makes_room(rt: &impl Abort, ring: &mut Ring, key: &DbKey) -> Result<(), AllocError> {
     assert!(rt; !ring.contains(*key));
     ring.reserve_place(*key)
 }
@@ -101,9 +82,7 @@ fn goes_from_owner(
     alloc: Global,
     order: &Order,
     numbers: &[u32],
-) -> Result<bool, AllocError>
-    requires { (o : Option LogicOccurrence) → IsTrue (is_some o) → CanPlace order.now None None o }
-{
+) -> Result<bool, AllocError> {
     let (ring, key) = (listed(rt, alloc)?, item(4));
     assert!(rt; ring.is_present() && ring.has_room(key));
     let mut cell = Cell::Ring(ring);
@@ -124,9 +103,7 @@ fn goes_from_member(
     order: &Order,
     position: u32,
     numbers: &[u32],
-) -> Result<bool, AllocError>
-    requires { (o : Option LogicOccurrence) (p : LogicKey) → IsTrue (is_some o) → IsTrue (is_member p (keys_in o)) → CanPlace order.now (Some p) None o }
-{
+) -> Result<bool, AllocError> {
     let (ring, position, key) = (listed(rt, alloc)?, item(position), item(4));
     assert!(rt; ring.is_present() && ring.contains(position) && ring.has_room(key));
     let mut cell = Cell::Ring(ring);
@@ -170,9 +147,7 @@ fn ascending(
     b: &DbKey,
     c: &DbKey,
     e: &DbKey,
-) -> Result<Ring, AllocError>
-    ensures { IfOk result (λ ring. ring.occurrence ≡ Some (record { owner = SystemOwner; members = (a.now, Some (Num 2)) ∷ (b.now, Some (Num 5)) ∷ (c.now, Some (Num 5)) ∷ (e.now, Some (Num 9)) ∷ [] })) }
-{
+) -> Result<Ring, AllocError> {
     let mut ring = empty(alloc);
     stands_last(rt, &mut ring, a, Some(2))?;
     stands_last(rt, &mut ring, b, Some(5))?;
@@ -189,9 +164,7 @@ fn descending(
     b: &DbKey,
     c: &DbKey,
     e: &DbKey,
-) -> Result<Ring, AllocError>
-    ensures { IfOk result (λ ring. ring.occurrence ≡ Some (record { owner = SystemOwner; members = (e.now, Some (Num 9)) ∷ (b.now, Some (Num 5)) ∷ (c.now, Some (Num 5)) ∷ (a.now, Some (Num 2)) ∷ [] })) }
-{
+) -> Result<Ring, AllocError> {
     let mut ring = empty(alloc);
     stands_last(rt, &mut ring, e, Some(9))?;
     stands_last(rt, &mut ring, b, Some(5))?;
@@ -208,9 +181,7 @@ fn goes_into(
     order: &Order,
     quantity: u64,
     numbers: &[u32],
-) -> Result<bool, AllocError>
-    requires { CanPlace order.now None (Some (Num quantity)) list.occurrence }
-{
+) -> Result<bool, AllocError> {
     let (mut ring, key) = (list, item(4));
     makes_room(rt, &mut ring, &key)?;
     assert!(rt; ring.has_room(key));
@@ -232,9 +203,7 @@ fn goes_up(
     duplicates: Duplicates,
     quantity: u64,
     numbers: &[u32],
-) -> Result<bool, AllocError>
-    requires { (a b c e : LogicKey) → parts_by true duplicates (Some (Num quantity)) ((a, Some (Num 2)) ∷ (b, Some (Num 5)) ∷ (c, Some (Num 5)) ∷ (e, Some (Num 9)) ∷ []) ≡ true }
-{
+) -> Result<bool, AllocError> {
     let list = ascending(rt, alloc, &item(1), &item(2), &item(3), &item(5))?;
     let order = Order::Sorted {
         ascending: true,
@@ -250,9 +219,7 @@ fn goes_down(
     duplicates: Duplicates,
     quantity: u64,
     numbers: &[u32],
-) -> Result<bool, AllocError>
-    requires { (a b c e : LogicKey) → parts_by false duplicates (Some (Num quantity)) ((e, Some (Num 9)) ∷ (b, Some (Num 5)) ∷ (c, Some (Num 5)) ∷ (a, Some (Num 2)) ∷ []) ≡ true }
-{
+) -> Result<bool, AllocError> {
     let list = descending(rt, alloc, &item(1), &item(2), &item(3), &item(5))?;
     let order = Order::Sorted {
         ascending: false,
