@@ -1,25 +1,35 @@
-// Loaded in front of the C library: the growth with the number that REFUSE_AT says, from 1, finds no memory, and then the
-// file that REFUSE_NOTE names is made.
+// Loaded in front of the C library. It counts the growths of memory; the one with the number that REFUSE_AT says, from 1, finds no
+// memory, and with REFUSE_ON so do all behind it. At the program's end the file that REFUSE_NOTE names says how many growths there
+// were, how many were refused, and how many blocks were not given back.
 #define _GNU_SOURCE
 #include <dlfcn.h>
 #include <errno.h>
 #include <fcntl.h>
+#include <stdio.h>
 #include <stdlib.h>
+#include <sys/syscall.h>
 #include <unistd.h>
 
-static long left = -1;
+static long growths, refused, live, at;
+static int is_read, goes_on;
+
+static void read_words(void)
+{
+    const char *number = getenv("REFUSE_AT");
+    is_read = 1;
+    at = number ? atol(number) : 0;
+    goes_on = getenv("REFUSE_ON") != NULL;
+}
 
 static int is_refused(void)
 {
-    if (left < 0) {
-        const char *at = getenv("REFUSE_AT");
-        left = at ? atol(at) : 0;
-    }
-    if (left == 0 || --left > 0)
+    if (!is_read)
+        read_words();
+    growths++;
+    if (at == 0 || growths < at || (growths > at && !goes_on))
         return 0;
-    const char *note = getenv("REFUSE_NOTE");
-    if (note)
-        close(open(note, O_WRONLY | O_CREAT, 0600));
+    refused++;
+    errno = ENOMEM;
     return 1;
 }
 
@@ -28,11 +38,11 @@ void *malloc(size_t size)
     static void *(*next)(size_t);
     if (!next)
         next = (void *(*)(size_t))dlsym(RTLD_NEXT, "malloc");
-    if (is_refused()) {
-        errno = ENOMEM;
+    if (is_refused())
         return NULL;
-    }
-    return next(size);
+    void *block = next(size);
+    live += block != NULL;
+    return block;
 }
 
 void *realloc(void *old, size_t size)
@@ -40,9 +50,39 @@ void *realloc(void *old, size_t size)
     static void *(*next)(void *, size_t);
     if (!next)
         next = (void *(*)(void *, size_t))dlsym(RTLD_NEXT, "realloc");
-    if (is_refused()) {
-        errno = ENOMEM;
+    if (is_refused())
         return NULL;
-    }
-    return next(old, size);
+    void *block = next(old, size);
+    live += old == NULL && block != NULL;
+    return block;
+}
+
+void free(void *old)
+{
+    static void (*next)(void *);
+    if (!next)
+        next = (void (*)(void *))dlsym(RTLD_NEXT, "free");
+    live -= old != NULL;
+    next(old);
+}
+
+__attribute__((destructor)) static void note(void)
+{
+    const char *path = getenv("REFUSE_NOTE");
+    char text[80];
+    int file = path ? open(path, O_WRONLY | O_CREAT | O_TRUNC, 0600) : -1;
+    if (file < 0)
+        return;
+    int size = snprintf(text, sizeof text, "%ld %ld %ld\n", growths, refused, live);
+    if (write(file, text, size) != size)
+        abort();
+    close(file);
+}
+
+// A program that may start threads ends here, and is not torn down.
+void _exit(int status)
+{
+    note();
+    syscall(SYS_exit_group, status);
+    abort();
 }

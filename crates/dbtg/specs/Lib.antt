@@ -3,3 +3,5 @@ pub mod Checking
 pub mod Replaying
 pub mod Capacity
 pub mod Files
+pub mod Explaining
+pub mod FaultyWord

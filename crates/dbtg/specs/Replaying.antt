@@ -3,8 +3,8 @@
 use Rattle.std.specs.Prelude.{ℕ, ◌≡◌, ◌++◌, true, List, map, length, Option, Some, None, option_map}
 use Rattle.dbtg_schema.specs.Lists.{Lists}
 use Rattle.dbtg_unit.specs.declared.statement.Statement.{Statement}
-use Rattle.dbtg_step.specs.declared.image.Run.{Run}
-use Rattle.dbtg_step.specs.declared.moves.Move.{Move}
+use Rattle.dbtg_step.specs.declared.results.Run.{Run}
+use Rattle.dbtg_unit.specs.declared.moves.Move.{Move}
 use Rattle.dbtg_step.specs.Headline.{RunIs}
 use Rattle.dbtg_step.specs.Serial.{SerialRunIs}
 use Rattle.dbtg_script.specs.Moves.{moves_of, words}

@@ -1,23 +1,28 @@
 //! The words of the command, read by `clap`.
 
 use crate::capacity::capacity_of;
+use crate::explain::{Topic, topic_of};
+use crate::files::STANDARD_INPUT;
 use clap::error::ErrorKind;
 use clap::{Arg, ArgAction, ArgMatches, Command, Error};
 use std::alloc::{AllocError, Global};
 
-/// What is to be done. Paths are as they were given.
-#[derive(Debug, Drop)]
+/// What is to be done. Paths are as they were given; `-` stands for standard input. `explains` asks for a second line on a fault.
+#[derive(Drop)]
 pub enum Call<'a> {
     Check {
+        explains: bool,
         schema: &'a str,
         scripts: Vec<&'a str>,
     },
     Replay {
+        explains: bool,
         capacity: u16,
         moves: Option<&'a str>,
         schema: &'a str,
         scripts: Vec<&'a str>,
     },
+    Explain(Topic),
 }
 
 fn schema_word<'a>(alloc: Global) -> Arg<'a> {
@@ -25,7 +30,7 @@ fn schema_word<'a>(alloc: Global) -> Arg<'a> {
         .value_name("SCHEMA")
         .required(true)
         .action(ArgAction::Set)
-        .help("The file of the schema")
+        .help("The file of the schema; - for standard input")
 }
 
 fn script_words<'a>(alloc: Global, help: &'a str) -> Arg<'a> {
@@ -36,12 +41,43 @@ fn script_words<'a>(alloc: Global, help: &'a str) -> Arg<'a> {
         .help(help)
 }
 
-fn check_command<'a>(alloc: Global) -> Result<Command<'a>, AllocError> {
-    Command::new(alloc, "check")
+fn explain_option<'a>(alloc: Global) -> Arg<'a> {
+    Arg::new(alloc, "explain")
+        .long("explain")
+        .action(ArgAction::SetTrue)
+        .help(
+            "Tells of a fault also the file, the line, the word and what is wrong [default: the fault's number alone]",
+        )
+}
+
+// The command `check`, by the name that its usage shows.
+fn check_command<'a>(alloc: Global, name: &'a str) -> Result<Command<'a>, AllocError> {
+    Command::new(alloc, name)
         .about("Reads a schema and scripts, and tells how large they are")
         .after_help("Example: dbtg check shop.schema unit1.script unit2.script")
+        .arg(explain_option(alloc))?
         .arg(schema_word(alloc))?
-        .arg(script_words(alloc, "Files of scripts of this schema, any number of them"))
+        .arg(script_words(
+            alloc,
+            "Files of scripts of this schema, any number of them; - for standard input, once",
+        ))
+}
+
+// The command `explain`, by the name that its usage shows.
+fn explain_command<'a>(alloc: Global, name: &'a str) -> Result<Command<'a>, AllocError> {
+    Command::new(alloc, name)
+        .about("Tells what a status or a fault means, when it comes and what to do next")
+        .override_usage("dbtg explain [CODE | schema N | script N | moves N]")
+        .after_help("Examples: dbtg explain 0505, dbtg explain schema 7")
+        .arg(
+            Arg::new(alloc, "topic")
+                .value_name("TOPIC")
+                .num_args(0..)
+                .action(ArgAction::Append)
+                .help(
+                    "A status of four digits, or the number of a fault: schema 1 to 18, script 1 to 14, moves 1 to 2 [default: a list of all]",
+                ),
+        )
 }
 
 fn capacity_option<'a>(alloc: Global) -> Arg<'a> {
@@ -58,7 +94,9 @@ fn moves_option<'a>(alloc: Global) -> Arg<'a> {
         .long("moves")
         .value_name("FILE")
         .action(ArgAction::Set)
-        .help("The file of the moves; without it one script runs after the other")
+        .help(
+            "The file of the moves, - for standard input [default: one script runs after the other]",
+        )
 }
 
 // The command `replay`, by the name that its usage shows.
@@ -70,10 +108,11 @@ fn replay_command<'a>(alloc: Global, name: &'a str) -> Result<Command<'a>, Alloc
         )
         .arg(capacity_option(alloc))?
         .arg(moves_option(alloc))?
+        .arg(explain_option(alloc))?
         .arg(schema_word(alloc))?
         .arg(script_words(
             alloc,
-            "Files of the scripts of units 1, 2, ..: 1 to 8 of them",
+            "Files of the scripts of units 1, 2, ..: 1 to 8 of them; - for standard input, once",
         ))
 }
 
@@ -84,16 +123,22 @@ pub fn command<'a>(alloc: Global) -> Result<Command<'a>, AllocError> {
         .about(
             "A CODASYL network database: reads its schema, and runs the scripts of its run-units",
         )
+        .propagate_version(true)
         .subcommand_required(true)
-        .disable_help_subcommand(true)
+        .arg_required_else_help(true)
         .after_help("Example: dbtg replay card.schema unit1.script")
-        .subcommand(check_command(alloc)?)?
-        .subcommand(replay_command(alloc, "replay")?)
+        .subcommand(check_command(alloc, "check")?)?
+        .subcommand(replay_command(alloc, "replay")?)?
+        .subcommand(explain_command(alloc, "explain")?)
 }
 
-fn scripts_of<'a>(alloc: Global, matches: &ArgMatches<'a>) -> Result<Vec<&'a str>, AllocError> {
-    match matches.get_strs("scripts") {
-        Some(paths) => Vec::from_slice(alloc, paths),
+fn words_of<'a>(
+    alloc: Global,
+    matches: &ArgMatches<'a>,
+    id: &str,
+) -> Result<Vec<&'a str>, AllocError> {
+    match matches.get_strs(id) {
+        Some(words) => Vec::from_slice(alloc, words),
         None => Ok(Vec::new(alloc)),
     }
 }
@@ -113,22 +158,83 @@ fn no_capacity(alloc: Global, word: &str) -> Result<Error, AllocError> {
     replay_command(alloc, "dbtg replay")?.error(ErrorKind::ValueValidation, told.as_str())
 }
 
-/// What the words ask for. `Err` has the text that answers other words, and help.
-pub fn call_of<'a>(alloc: Global, words: &'a [String]) -> Result<Call<'a>, Error> {
-    let matches = command(alloc)?.try_get_matches_from(words)?;
-    let (name, given) = match matches.subcommand() {
-        Some(subcommand) => subcommand,
-        None => return Err(Error::from(AllocError)),
-    };
-    let schema = given.get_str("schema").unwrap_or("");
-    let scripts = scripts_of(alloc, given)?;
-    if name == "check" {
-        return Ok(Call::Check { schema, scripts });
+/// How often standard input is asked for.
+fn count_inputs(paths: &[&str]) -> usize {
+    paths.iter().filter(|path| **path == STANDARD_INPUT).count()
+}
+
+fn check_inputs<'a>(
+    mut command: Command<'a>,
+    schema: &str,
+    scripts: &[&'a str],
+    moves: &str,
+) -> Result<(), Error> {
+    let is_schema = schema == STANDARD_INPUT;
+    let is_moves = moves == STANDARD_INPUT;
+    let inputs = count_inputs(scripts);
+    if inputs == 0 && !(is_schema && is_moves) || inputs == 1 && !is_schema && !is_moves {
+        return Ok(());
     }
-    Ok(Call::Replay {
-        capacity: capacity_wanted(alloc, given)?,
-        moves: given.get_str("moves"),
+    Err(command.error(
+        ErrorKind::ArgumentConflict,
+        "the argument '-' cannot be used twice: standard input is one file",
+    )?)
+}
+
+fn check_call<'a>(alloc: Global, given: &ArgMatches<'a>) -> Result<Call<'a>, Error> {
+    let schema = given.get_str("schema").unwrap_or("");
+    let scripts = words_of(alloc, given, "scripts")?;
+    check_inputs(
+        check_command(alloc, "dbtg check")?,
+        schema,
+        scripts.as_slice(),
+        "",
+    )?;
+    Ok(Call::Check {
+        explains: given.get_flag("explain"),
         schema,
         scripts,
     })
+}
+
+fn replay_call<'a>(alloc: Global, given: &ArgMatches<'a>) -> Result<Call<'a>, Error> {
+    let schema = given.get_str("schema").unwrap_or("");
+    let scripts = words_of(alloc, given, "scripts")?;
+    let moves = given.get_str("moves");
+    let capacity = capacity_wanted(alloc, given)?;
+    check_inputs(
+        replay_command(alloc, "dbtg replay")?,
+        schema,
+        scripts.as_slice(),
+        moves.unwrap_or(""),
+    )?;
+    Ok(Call::Replay {
+        explains: given.get_flag("explain"),
+        capacity,
+        moves,
+        schema,
+        scripts,
+    })
+}
+
+fn explain_call<'a>(alloc: Global, given: &ArgMatches<'a>) -> Result<Call<'a>, Error> {
+    let words = words_of(alloc, given, "topic")?;
+    match topic_of(words.as_slice()) {
+        Some(topic) => Ok(Call::Explain(topic)),
+        None => Err(explain_command(alloc, "dbtg explain")?.error(
+            ErrorKind::InvalidValue,
+            "no status and no fault is called so: a status of four digits is wanted, or schema, script or moves and the number of a fault; 'dbtg explain' lists all",
+        )?),
+    }
+}
+
+/// What the words ask for. `Err` has the text that answers other words, and help.
+pub fn call_of<'a>(alloc: Global, words: &'a [String]) -> Result<Call<'a>, Error> {
+    let matches = command(alloc)?.try_get_matches_from(words)?;
+    match matches.subcommand() {
+        Some(("check", given)) => check_call(alloc, given),
+        Some(("replay", given)) => replay_call(alloc, given),
+        Some(("explain", given)) => explain_call(alloc, given),
+        _ => Err(Error::from(AllocError)),
+    }
 }

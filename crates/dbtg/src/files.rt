@@ -17,10 +17,20 @@ use crate::reading::{moves_of, schema_of, take_script};
 use crate::replay::{check_count, moved_text, serial_text};
 use dbtg_schema::{Row, Schema};
 use dbtg_script::push_schema_line;
-use dbtg_step::Move;
-use dbtg_unit::Statement;
+use dbtg_unit::{Move, Statement};
 use std::alloc::Global;
-use std::{fs, io};
+use std::fs::File;
+use std::io::{self, Input, Read};
+
+// A text that has a byte more than its kind may have is refused, whatever follows: so much of a file is read and no more.
+const SCHEMA_BYTES: u64 = 65_537;
+
+pub const SCRIPT_BYTES: u64 = 1_048_577;
+// Moves may be of any length.
+const MOVES_BYTES: u64 = u64::MAX;
+
+/// The path that stands for standard input.
+pub const STANDARD_INPUT: &str = "-";
 
 fn unreadable(alloc: Global, path: &str) -> Fault
     ensures { IsUnread result }
@@ -31,10 +41,31 @@ fn unreadable(alloc: Global, path: &str) -> Fault
     }
 }
 
-fn read_file(rt: &HostRuntime, path: &str) -> Result<Vec<u8>, Fault>
+fn read_input(rt: &HostRuntime, most: u64) -> io::Result<Vec<u8>> {
+    let mut bytes = Vec::new(rt.alloc());
+    rt.reader().take(most).read_to_end(&mut bytes)?;
+    Ok(bytes)
+}
+
+fn read_path(rt: &HostRuntime, path: &str, most: u64) -> io::Result<Vec<u8>> {
+    let mut bytes = Vec::new(rt.alloc());
+    File::open(rt, path)?.take(most).read_to_end(&mut bytes)?;
+    Ok(bytes)
+}
+
+/// The first bytes of a file, so many where it has them, or the system's reason why it cannot be read.
+pub fn read_bytes(rt: &HostRuntime, path: &str, most: u64) -> io::Result<Vec<u8>> {
+    if path == STANDARD_INPUT {
+        read_input(rt, most)
+    } else {
+        read_path(rt, path, most)
+    }
+}
+
+fn read_file(rt: &HostRuntime, path: &str, most: u64) -> Result<Vec<u8>, Fault>
     ensures { IfErr result (λ fault. IsUnread fault) }
 {
-    match fs::read(rt, path) {
+    match read_bytes(rt, path, most) {
         Ok(bytes) => Ok(bytes),
         Err(error) => {
             if error.kind() == io::ErrorKind::OutOfMemory {
@@ -46,12 +77,12 @@ fn read_file(rt: &HostRuntime, path: &str) -> Result<Vec<u8>, Fault>
     }
 }
 
-fn read_schema(rt: &HostRuntime, path: &str) -> Result<Schema, Fault>
+pub fn read_schema(rt: &HostRuntime, path: &str) -> Result<Schema, Fault>
     ensures read { IfOk result (λ schema. IsReadSchema schema) }
     ensures sound { IfOk result (λ schema. IsSound schema) }
     ensures refused { IfErr result (λ fault. IsUnread fault ⊎ RefusesSomeSchema fault) }
 {
-    let text = read_file(rt, path)?;
+    let text = read_file(rt, path, SCHEMA_BYTES)?;
     schema_of(rt.alloc(), text.as_slice())
 }
 
@@ -67,7 +98,7 @@ fn read_scripts(
 {
     let mut scripts = Row::of(Vec::new(rt.alloc()));
     for (i, path) in paths.iter().enumerate() {
-        let text = read_file(rt, path)?;
+        let text = read_file(rt, path, SCRIPT_BYTES)?;
         take_script(rt.alloc(), &mut scripts, schema, i + 1, text.as_slice())?;
     }
     Ok(scripts)
@@ -83,7 +114,7 @@ fn read_lines(
     ensures refused { IfErr result (λ fault. IsUnread fault ⊎ RefusesSomeScripts fault schema.now (length paths.now)) }
 {
     for (i, path) in paths.iter().enumerate() {
-        let text = read_file(rt, path)?;
+        let text = read_file(rt, path, SCRIPT_BYTES)?;
         check_script(rt.alloc(), out, schema, i + 1, text.as_slice())?;
     }
     Ok(())
@@ -93,7 +124,7 @@ fn read_moves(rt: &HostRuntime, path: &str) -> Result<Vec<Move>, Fault>
     ensures read { IfOk result (λ moves. (text : List ℕ) × (moves_refusal text ≡ None) × (moves.items ≡ moves_in text)) }
     ensures refused { IfErr result (λ fault. IsUnread fault ⊎ ((text : List ℕ) × RefusesMoves fault (moves_refusal text))) }
 {
-    let text = read_file(rt, path)?;
+    let text = read_file(rt, path, MOVES_BYTES)?;
     moves_of(rt.alloc(), text.as_slice())
 }
 

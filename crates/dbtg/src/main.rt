@@ -4,15 +4,19 @@
 mod capacity;
 mod check;
 mod command;
+mod explain;
 mod fault;
 mod files;
 mod reading;
+mod reason;
 mod replay;
 
 use clap::error::ErrorKind;
 use command::{Call, call_of};
+use explain::{Topic, explained};
 use fault::{Fault, status_of};
 use files::{check_files, replay_files};
+use reason::{Files, reason};
 use std::env;
 use std::io::{self, Write};
 use std::process::ExitCode;
@@ -35,19 +39,73 @@ fn not_written(rt: &HostRuntime) -> ExitCode {
     ExitCode::FAILURE
 }
 
+// The fault, and where it is asked for a second line with where and why.
+fn told_of(rt: &HostRuntime, fault: &Fault, files: &Files, explains: bool) -> ExitCode {
+    let status = told(rt, fault);
+    if explains {
+        if let Ok(Some(line)) = reason(rt, files, fault) {
+            let _ = eprintln!(rt; "{line}");
+        }
+    }
+    status
+}
+
+fn print_check(rt: &HostRuntime, files: &Files, explains: bool) -> ExitCode {
+    match check_files(rt, files.schema, files.scripts) {
+        Ok(text) => print_text(rt, text.as_slice()),
+        Err(fault) => told_of(rt, &fault, files, explains),
+    }
+}
+
+fn print_replay(
+    rt: &HostRuntime,
+    files: &Files,
+    moves: Option<&str>,
+    capacity: u16,
+    explains: bool,
+) -> ExitCode {
+    match replay_files(rt, files.schema, files.scripts, moves, capacity) {
+        Ok(text) => print_text(rt, text.as_slice()),
+        Err(fault) => told_of(rt, &fault, files, explains),
+    }
+}
+
 fn carry_out(rt: &HostRuntime, call: &Call) -> ExitCode {
-    let text = match call {
-        Call::Check { schema, scripts } => check_files(rt, schema, scripts.as_slice()),
+    match call {
+        Call::Check {
+            explains,
+            schema,
+            scripts,
+        } => {
+            let files = Files {
+                schema: *schema,
+                scripts: scripts.as_slice(),
+                moves: "",
+            };
+            print_check(rt, &files, *explains)
+        }
         Call::Replay {
+            explains,
             capacity,
             moves,
             schema,
             scripts,
-        } => replay_files(rt, schema, scripts.as_slice(), *moves, *capacity),
-    };
-    match text {
+        } => {
+            let files = Files {
+                schema: *schema,
+                scripts: scripts.as_slice(),
+                moves: moves.unwrap_or(""),
+            };
+            print_replay(rt, &files, *moves, *capacity, *explains)
+        }
+        Call::Explain(topic) => print_topic(rt, topic),
+    }
+}
+
+fn print_topic(rt: &HostRuntime, topic: &Topic) -> ExitCode {
+    match explained(rt.alloc(), topic) {
         Ok(text) => print_text(rt, text.as_slice()),
-        Err(fault) => told(rt, &fault),
+        Err(_) => told(rt, &Fault::Memory),
     }
 }
 

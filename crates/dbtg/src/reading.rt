@@ -13,8 +13,7 @@ ghost use Rattle.dbtg.specs.Replaying.{moves_in};
 use crate::fault::Fault;
 use dbtg_schema::{Row, Schema};
 use dbtg_script::{read_moves, read_script};
-use dbtg_step::Move;
-use dbtg_unit::Statement;
+use dbtg_unit::{Move, Statement};
 use std::alloc::Global;
 
 /// The schema of a text.

@@ -11,8 +11,8 @@ use crate::fault::Fault;
 use crate::reading::{moves_of, schema_of, take_script};
 use dbtg_schema::{Row, Schema};
 use dbtg_script::{moves_text, push_run};
-use dbtg_step::{Move, Run, run, run_serial};
-use dbtg_unit::Statement;
+use dbtg_step::{Run, run, run_serial};
+use dbtg_unit::{Move, Statement};
 use std::alloc::{AllocError, Global};
 
 /// Is this a number of scripts that can be run, 1 to 8?

@@ -1,14 +1,14 @@
 pub mod ValueLemmas
-mod PlainLemmas
-mod Occurrences
-mod ExtentLemmas
-mod Rising
-mod ByCalcLemmas
+pub mod PlainLemmas
+pub mod Occurrences
+pub mod ExtentLemmas
+pub mod Rising
+pub mod ByCalcLemmas
 pub mod KeyLemmas
-mod ChainLemmas
-mod RingLemmas
-mod Places
-mod RingReads
-mod NumberLemmas
+pub mod ChainLemmas
+pub mod RingLemmas
+pub mod Places
+pub mod RingReads
+pub mod NumberLemmas
 pub mod PlacedLaws
 pub mod PlaceNumbers

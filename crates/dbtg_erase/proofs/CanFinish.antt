@@ -57,7 +57,7 @@ use Rattle.dbtg_erase.proofs.PlanIsEffect.{Passed, is_prepared, passed}
 use Rattle.dbtg_erase.proofs.Possible.{Possible, possible-append, possible_can_make}
 
 module _ (schema : Lists) (capacity : ℕ) (db : Database) (hands : Hands) (unit : Unit) (agrees : Agrees schema capacity db hands unit) (option : Erase) (k : DbKey)
-    (has : (c : CellName) → In c (delete_cells schema capacity db unit option k) → holds hands.cells c ≡ true) (next : HaveNextVersions hands.cells) (p : Passed schema db unit option k) where
+    (has : (c : CellName) → In c (delete_cells schema capacity db unit option k) → holds hands.cells c ≡ true) (next : HaveNextVersions hands.cells) (p : Passed schema capacity db unit option k) where
   abbrev turn : List DbKey
   turn = doomed_in_turn schema capacity db option k
 
@@ -172,13 +172,13 @@ module _ (schema : Lists) (capacity : ℕ) (db : Database) (hands : Hands) (unit
 module _ (schema : Lists) (capacity : ℕ) (unit : Unit) (hands : Hands) (option : Erase) (may : MayPrepare schema capacity unit hands (Delete option)) where
   module _ (db : Database) (agrees : Agrees schema capacity db hands unit) where
     of_current : (k : DbKey) → ((c : CellName) → In c (delete_cells_of schema capacity db unit option (Some k)) → holds hands.cells c ≡ true) → CanMake (delete_plan schema capacity hands unit option (Some k)).cells hands.cells
-    of_current k has = by (first_cause (delete_checks schema db unit option k)) refl where
-      by : (o : Option Cause) → first_cause (delete_checks schema db unit option k) ≡ o → CanMake (delete_plan schema capacity hands unit option (Some k)).cells hands.cells
+    of_current k has = by (first_cause (delete_checks schema capacity db unit option k)) refl where
+      by : (o : Option Cause) → first_cause (delete_checks schema capacity db unit option k) ≡ o → CanMake (delete_plan schema capacity hands unit option (Some k)).cells hands.cells
       by (Some cause) h =
           subst (λ (o : Option Cause). CanMake (unless_refusal o (erasing_plan schema hands (gone_in schema capacity hands option k) k)).cells hands.cells)
           (sym (checks_are schema capacity db hands unit agrees option k has ∙ h)) tt
       by None h =
-          let p = passed schema db unit option k h in
+          let p = passed schema capacity db unit option k h in
           subst (λ (o : Option Cause). CanMake (unless_refusal o (erasing_plan schema hands (gone_in schema capacity hands option k) k)).cells hands.cells)
           (sym (checks_are schema capacity db hands unit agrees option k has ∙ h))
           (subst (λ es. CanMake es hands.cells) (cells_are schema capacity db hands unit agrees option k has p.own p.none p.live)

@@ -15,6 +15,8 @@ use Rattle.dbtg_cells.specs.declared.name.CellName.{CellName}
 use Rattle.dbtg_cells.specs.declared.name.CellName.TheVariants.{Extent, Ring}
 use Rattle.dbtg_cells.specs.Keys.{is_member, key_eq}
 use Rattle.dbtg_cells.specs.Names.{name_eq}
+use Rattle.dbtg_unit.proofs.SameView.{own_checks_agree}
+use Rattle.dbtg_unit.specs.View.{whole}
 use Rattle.dbtg_unit.specs.declared.edit.CellEdit.{CellEdit}
 use Rattle.dbtg_unit.specs.declared.edit.Edit.TheVariants.{ChangeOwner, CloseRing, RaiseVersion, TakeOut, Vacate}
 use Rattle.dbtg_unit.specs.declared.edit.UnitEdit.TheVariants.{LoseCurrent}
@@ -29,11 +31,11 @@ use Rattle.dbtg_unit.specs.EditsOf.{closing_edits, delete_edits, erasing_edits, 
 use Rattle.dbtg_unit.specs.Effect.{delete_checks, has_members, is_gone, is_plain, own_checks, version_of}
 use Rattle.dbtg_unit.specs.Erasing.{cells_of_doomed, delete_cells, doomed_in_turn, members_of_all, names_once, outer_cells, own_rings, rings_to_member, with_those}
 use Rattle.dbtg_unit.specs.Hands.{Hands}
-use Rattle.dbtg_unit.specs.InHand.{own_checks_in, owner_in, version_in}
+use Rattle.dbtg_unit.specs.InHand.{owner_in, version_in, in_hand}
 use Rattle.dbtg_unit.specs.Kept.{entry_again, noted_again}
 use Rattle.dbtg_unit.specs.Local.{Agrees, holds}
 use Rattle.dbtg_unit.specs.Prepared.{Plan, renoted_at}
-use Rattle.dbtg_unit.proofs.InHandLemmas.{members_in_hand as members_are, own_in_hand, owner_in_hand, version_in_hand}
+use Rattle.dbtg_unit.proofs.InHandLemmas.{members_in_hand as members_are, owner_in_hand, version_in_hand, same_record}
 use Rattle.dbtg_unit.proofs.CellNameLemmas.{same_name}
 use Rattle.dbtg_unit.proofs.KeyLemmas.{key_eq-refl, same_key}
 use Rattle.dbtg_unit.proofs.LiveKeys.{In, all_at, any_element, any_in, in_filter, in_flat_map, in_left, in_map, in_range, in_right, listed, member_in, member_of_owner, of_append, of_filter, of_flat_map, of_map, owner_in as among_owners}
@@ -173,28 +175,28 @@ module _ (schema : Lists) (capacity : ℕ) (db : Database) (hands : Hands) (unit
 
   -- the slot is named first, whatever else
   slot_held : holds hands.cells (slot_name k) ≡ true
-  slot_held = has (slot_name k) (named (is_some (first_cause (own_checks db unit k))) has_any) where
+  slot_held = has (slot_name k) (named (is_some (first_cause (own_checks (whole schema capacity db) unit k))) has_any) where
     named : (a b : Bool) → In (slot_name k) (cond a (slot_name k ∷ []) (cond b (slot_name k ∷ rings_to_member schema db k owned) (names_once [] (slot_name k ∷ own_rings schema k ++ flat_map (cells_of_doomed schema db) (doomed_in_turn schema capacity db option k) ++ outer_cells schema capacity db (doomed_in_turn schema capacity db option k)))))
     named true b = inl refl
     named false true = inl refl
     named false false = inl refl
 
-  own_are : own_checks_in hands unit k ≡ own_checks db unit k
-  own_are = own_in_hand schema capacity db hands unit agrees k slot_held
+  own_are : own_checks (in_hand hands) unit k ≡ own_checks (whole schema capacity db) unit k
+  own_are = own_checks_agree (in_hand hands) (whole schema capacity db) unit k (same_record schema capacity db hands unit agrees k slot_held)
 
   members_are_some : has_members schema db k ≡ list_any (λ s. nat_lt 0 (length (members_of db s (Rec k)))) owned
   members_are_some =
       sym (any-filter (λ s. nat_lt 0 (length (members_of db s (Rec k)))) (λ s. owns schema s k.rtype) (set_numbers schema)
       (λ s e. ap (λ xs. nat_lt 0 (length xs)) (unowned schema capacity db hands unit agrees k s e)))
 
-  module _ (own : first_cause (own_checks db unit k) ≡ None) where
+  module _ (own : first_cause (own_checks (whole schema capacity db) unit k) ≡ None) where
     abbrev names : List CellName
     names = slot_name k ∷ own_rings schema k ++ flat_map (cells_of_doomed schema db) (doomed_in_turn schema capacity db option k) ++ outer_cells schema capacity db (doomed_in_turn schema capacity db option k)
 
     -- refused for its members: its rings as far as the first member are in hand
     as_far : has_any ≡ true → (c : CellName) → In c (rings_to_member schema db k owned) → holds hands.cells c ≡ true
     as_far h c i =
-        has c (subst (In c) (sym (cond-false (is_some (first_cause (own_checks db unit k))) (slot_name k ∷ []) _ (ap is_some own) ∙ cond-true has_any (slot_name k ∷ rings_to_member schema db k owned) (names_once [] names) h)) (inr i))
+        has c (subst (In c) (sym (cond-false (is_some (first_cause (own_checks (whole schema capacity db) unit k))) (slot_name k ∷ []) _ (ap is_some own) ∙ cond-true has_any (slot_name k ∷ rings_to_member schema db k owned) (names_once [] names) h)) (inr i))
 
     -- else all that it names
     all_held : has_any ≡ false → (c : CellName) → In c names → holds hands.cells c ≡ true
@@ -202,7 +204,7 @@ module _ (schema : Lists) (capacity : ℕ) (db : Database) (hands : Hands) (unit
         let once : list_any (name_eq c) (names_once [] names) ≡ true = true_from (list_any (name_eq c) (names_once [] names)) (λ e. once_has names c c e i refl) in
         let d = any_element (name_eq c) (names_once [] names) once in
         ap (holds hands.cells) (same_name c d.0 d.2)
-        ∙ has d.0 (subst (In d.0) (sym (cond-false (is_some (first_cause (own_checks db unit k))) (slot_name k ∷ []) _ (ap is_some own) ∙ cond-false has_any (slot_name k ∷ rings_to_member schema db k owned) (names_once [] names) h)) d.1) where
+        ∙ has d.0 (subst (In d.0) (sym (cond-false (is_some (first_cause (own_checks (whole schema capacity db) unit k))) (slot_name k ∷ []) _ (ap is_some own) ∙ cond-false has_any (slot_name k ∷ rings_to_member schema db k owned) (names_once [] names) h)) d.1) where
           true_from : (b : Bool) → (b ≡ false → ⊥) → b ≡ true
           true_from true h = refl
           true_from false h = absurd (h refl)
@@ -243,17 +245,17 @@ module _ (schema : Lists) (capacity : ℕ) (db : Database) (hands : Hands) (unit
               ∙ sym members_are_some)
         ]
 
-  pub checks_are : first_cause (checks_in schema hands unit option k) ≡ first_cause (delete_checks schema db unit option k)
-  checks_are = by (first_cause (own_checks db unit k)) refl where
-    by : (o : Option Cause) → first_cause (own_checks db unit k) ≡ o → first_cause (checks_in schema hands unit option k) ≡ first_cause (delete_checks schema db unit option k)
+  pub checks_are : first_cause (checks_in schema hands unit option k) ≡ first_cause (delete_checks schema capacity db unit option k)
+  checks_are = by (first_cause (own_checks (whole schema capacity db) unit k)) refl where
+    by : (o : Option Cause) → first_cause (own_checks (whole schema capacity db) unit k) ≡ o → first_cause (checks_in schema hands unit option k) ≡ first_cause (delete_checks schema capacity db unit option k)
     by (Some cause) e =
-        refused-first (own_checks_in hands unit k) ((is_plain option && has_members_in schema hands k, OwnerHasMembers) ∷ []) cause (ap first_cause own_are ∙ e)
-        ∙ sym (refused-first (own_checks db unit k) ((has_any, OwnerHasMembers) ∷ []) cause e)
+        refused-first (own_checks (in_hand hands) unit k) ((is_plain option && has_members_in schema hands k, OwnerHasMembers) ∷ []) cause (ap first_cause own_are ∙ e)
+        ∙ sym (refused-first (own_checks (whole schema capacity db) unit k) ((has_any, OwnerHasMembers) ∷ []) cause e)
     by None e = λ i. first_cause (own_are i ++ (members_found e i, OwnerHasMembers) ∷ [])
 
   -- WHAT IS DONE
 
-  module _ (own : first_cause (own_checks db unit k) ≡ None) (none : has_any ≡ false) (live : is_live db k ≡ true) where
+  module _ (own : first_cause (own_checks (whole schema capacity db) unit k) ≡ None) (none : has_any ≡ false) (live : is_live db k ≡ true) where
     abbrev turn : List DbKey
     turn = doomed_in_turn schema capacity db option k
 

@@ -12,6 +12,8 @@ use Rattle.dbtg_cells.specs.declared.key.DbKey.{DbKey}
 use Rattle.dbtg_cells.specs.declared.key.Owner.TheVariants.{Rec}
 use Rattle.dbtg_cells.specs.declared.name.CellName.{CellName}
 use Rattle.dbtg_cells.specs.Names.{name_eq}
+use Rattle.dbtg_unit.proofs.SameView.{own_checks_agree}
+use Rattle.dbtg_unit.specs.View.{whole}
 use Rattle.dbtg_unit.specs.declared.statement.Erase.{Erase}
 use Rattle.dbtg_unit.specs.declared.unit.Cause.{Cause}
 use Rattle.dbtg_unit.specs.declared.unit.Cause.TheVariants.{Deleted}
@@ -22,11 +24,11 @@ use Rattle.dbtg_unit.specs.Doomed.{all_keys}
 use Rattle.dbtg_unit.specs.Effect.{has_members, is_plain, own_checks}
 use Rattle.dbtg_unit.specs.Erasing.{cells_of_doomed, delete_cells, doomed_in_turn, members_of_all, names_once, outer_cells, own_rings, rings_to_member, taken_with}
 use Rattle.dbtg_unit.specs.Hands.{Hands}
-use Rattle.dbtg_unit.specs.InHand.{own_checks_in, owner_in}
+use Rattle.dbtg_unit.specs.InHand.{owner_in, in_hand}
 use Rattle.dbtg_unit.specs.Local.{Agrees, holds}
 use Rattle.dbtg_unit.proofs.CellNameLemmas.{same_name}
 use Rattle.dbtg_unit.proofs.CheckLemmas.{passes_check}
-use Rattle.dbtg_unit.proofs.InHandLemmas.{members_in_hand as members_are, own_in_hand, owner_in_hand}
+use Rattle.dbtg_unit.proofs.InHandLemmas.{members_in_hand as members_are, owner_in_hand, same_record}
 use Rattle.dbtg_unit.proofs.InTurn.{met_are_live}
 use Rattle.dbtg_unit.proofs.LiveKeys.{In, all_at, in_flat_map, in_map}
 use Rattle.dbtg_erase.specs.ErasePlan.{has_members_in}
@@ -290,14 +292,14 @@ module _ (schema : Lists) (capacity : ℕ) (db : Database) (hands : Hands) (unit
   next_cell_is =
       elim (cases_Bool (holds hands.cells (slot_name k))) [
         | inr h ↦
-            ap (λ t. option_or (cond (not t) (Some (slot_name k)) None) (cond (is_some (first_cause (own_checks_in hands unit k))) None (next_of_passed schema capacity hands option k))) h
-            ∙ sym (first_named (is_some (first_cause (own_checks db unit k))) (is_plain option && has_members schema db k) (rings_to_member schema db k owned) named h)
+            ap (λ t. option_or (cond (not t) (Some (slot_name k)) None) (cond (is_some (first_cause (own_checks (in_hand hands) unit k))) None (next_of_passed schema capacity hands option k))) h
+            ∙ sym (first_named (is_some (first_cause (own_checks (whole schema capacity db) unit k))) (is_plain option && has_members schema db k) (rings_to_member schema db k owned) named h)
         | inl h ↦
-            ap (λ t. option_or (cond (not t) (Some (slot_name k)) None) (cond (is_some (first_cause (own_checks_in hands unit k))) None (next_of_passed schema capacity hands option k))) h
-            ∙ ap (λ checks. cond (is_some (first_cause checks)) None (next_of_passed schema capacity hands option k)) (own_in_hand schema capacity db hands unit agrees k h)
-            ∙ by h (first_cause (own_checks db unit k)) refl
+            ap (λ t. option_or (cond (not t) (Some (slot_name k)) None) (cond (is_some (first_cause (own_checks (in_hand hands) unit k))) None (next_of_passed schema capacity hands option k))) h
+            ∙ ap (λ checks. cond (is_some (first_cause checks)) None (next_of_passed schema capacity hands option k)) (own_checks_agree (in_hand hands) (whole schema capacity db) unit k (same_record schema capacity db hands unit agrees k h))
+            ∙ by h (first_cause (own_checks (whole schema capacity db) unit k)) refl
       ] where
-        by : holds hands.cells (slot_name k) ≡ true → (o : Option Cause) → first_cause (own_checks db unit k) ≡ o
+        by : holds hands.cells (slot_name k) ≡ true → (o : Option Cause) → first_cause (own_checks (whole schema capacity db) unit k) ≡ o
             → cond (is_some o) None (next_of_passed schema capacity hands option k) ≡ find wanting (cond (is_some o) (slot_name k ∷ []) (cond (is_plain option && has_members schema db k) (slot_name k ∷ rings_to_member schema db k owned) (names_once [] (slot_name k ∷ named))))
         by h (Some cause) e = sym (ap (λ t. cond (not t) (Some (slot_name k)) None) h)
         by h None e = sym (passed_is h (not-false _ (passes_check (not (is_live db k)) Deleted _ e).0))

@@ -8,6 +8,7 @@ use Rattle.dbtg_schema.specs.Lookups.{first_cause}
 use Rattle.dbtg_cells.specs.declared.key.DbKey.{DbKey}
 use Rattle.dbtg_cells.specs.declared.key.Owner.{Owner}
 use Rattle.dbtg_cells.specs.declared.name.CellName.{CellName}
+use Rattle.dbtg_unit.specs.View.{whole}
 use Rattle.dbtg_unit.specs.declared.edit.CellEdit.{CellEdit}
 use Rattle.dbtg_unit.specs.declared.statement.Erase.{Erase}
 use Rattle.dbtg_unit.specs.declared.statement.Statement.{Statement}
@@ -52,14 +53,14 @@ unfolding effect
 effect_is schema capacity db unit statement = refl
 
 -- the record that goes is there, and its form may take it
-pub record Passed (schema : Lists) (db : Database) (unit : Unit) (option : Erase) (k : DbKey) : Type 0 where
-  pub own : first_cause (own_checks db unit k) ≡ None
+pub record Passed (schema : Lists) (capacity : ℕ) (db : Database) (unit : Unit) (option : Erase) (k : DbKey) : Type 0 where
+  pub own : first_cause (own_checks (whole schema capacity db) unit k) ≡ None
   pub none : (is_plain option && has_members schema db k) ≡ false
   pub live : is_live db k ≡ true
 
-pub passed : (schema : Lists) (db : Database) (unit : Unit) (option : Erase) (k : DbKey) → first_cause (delete_checks schema db unit option k) ≡ None → Passed schema db unit option k
-passed schema db unit option k h =
-    let parts = passes-append (own_checks db unit k) ((is_plain option && has_members schema db k, OwnerHasMembers) ∷ []) h in
+pub passed : (schema : Lists) (capacity : ℕ) (db : Database) (unit : Unit) (option : Erase) (k : DbKey) → first_cause (delete_checks schema capacity db unit option k) ≡ None → Passed schema capacity db unit option k
+passed schema capacity db unit option k h =
+    let parts = passes-append (own_checks (whole schema capacity db) unit k) ((is_plain option && has_members schema db k, OwnerHasMembers) ∷ []) h in
     record {
       own = parts.0;
       none = (passes (is_plain option && has_members schema db k, OwnerHasMembers) [] parts.1).0;
@@ -72,7 +73,7 @@ module _ (schema : Lists) (capacity : ℕ) (unit : Unit) (hands : Hands) (option
     result = effect schema capacity db unit (Delete option)
 
     done_is_effect : (k : DbKey) → unit.currency.run_unit ≡ Some k → result ≡ deleted schema capacity db unit option k
-        → ((c : CellName) → In c (delete_cells_of schema capacity db unit option (Some k)) → holds hands.cells c ≡ true) → Passed schema db unit option k
+        → ((c : CellName) → In c (delete_cells_of schema capacity db unit option (Some k)) → holds hands.cells c ≡ true) → Passed schema capacity db unit option k
         → IsEffect schema capacity db unit hands.guesses (Delete option) (erasing_plan schema hands (gone_in schema capacity hands option k) k)
     done_is_effect k current e has p = record {
       answer = sym (ap (λ (o : Outcome). o.answer) e);
@@ -88,11 +89,11 @@ module _ (schema : Lists) (capacity : ℕ) (unit : Unit) (hands : Hands) (option
           ∙ ap (λ es. edited_at c es (cell schema capacity db c)) (cells_are schema capacity db hands unit agrees option k has p.own p.none p.live);
     }
 
-    current_is_effect : (k : DbKey) → unit.currency.run_unit ≡ Some k → result ≡ unless_refused db unit (first_cause (delete_checks schema db unit option k)) (deleted schema capacity db unit option k)
+    current_is_effect : (k : DbKey) → unit.currency.run_unit ≡ Some k → result ≡ unless_refused db unit (first_cause (delete_checks schema capacity db unit option k)) (deleted schema capacity db unit option k)
         → ((c : CellName) → In c (delete_cells_of schema capacity db unit option (Some k)) → holds hands.cells c ≡ true)
         → IsEffect schema capacity db unit hands.guesses (Delete option) (delete_plan schema capacity hands unit option (Some k))
-    current_is_effect k current e has = by (first_cause (delete_checks schema db unit option k)) refl where
-      by : (o : Option Cause) → first_cause (delete_checks schema db unit option k) ≡ o → IsEffect schema capacity db unit hands.guesses (Delete option) (delete_plan schema capacity hands unit option (Some k))
+    current_is_effect k current e has = by (first_cause (delete_checks schema capacity db unit option k)) refl where
+      by : (o : Option Cause) → first_cause (delete_checks schema capacity db unit option k) ≡ o → IsEffect schema capacity db unit hands.guesses (Delete option) (delete_plan schema capacity hands unit option (Some k))
       by (Some cause) h =
           subst (λ (o : Option Cause). IsEffect schema capacity db unit hands.guesses (Delete option) (unless_refusal o (erasing_plan schema hands (gone_in schema capacity hands option k) k)))
           (sym (checks_are schema capacity db hands unit agrees option k has ∙ h))
@@ -100,11 +101,11 @@ module _ (schema : Lists) (capacity : ℕ) (unit : Unit) (hands : Hands) (option
       by None h =
           subst (λ (o : Option Cause). IsEffect schema capacity db unit hands.guesses (Delete option) (unless_refusal o (erasing_plan schema hands (gone_in schema capacity hands option k) k)))
           (sym (checks_are schema capacity db hands unit agrees option k has ∙ h))
-          (done_is_effect k current (e ∙ ap (λ o. unless_refused db unit o (deleted schema capacity db unit option k)) h) has (passed schema db unit option k h))
+          (done_is_effect k current (e ∙ ap (λ o. unless_refused db unit o (deleted schema capacity db unit option k)) h) has (passed schema capacity db unit option k h))
 
     pub plan_is_effect : IsEffect schema capacity db unit hands.guesses (Delete option) (whole_plan schema capacity hands unit option)
     plan_is_effect = at_once (refused_at_once schema capacity unit (Delete option)) refl where
-      on_cells : (r : Option DbKey) → unit.currency.run_unit ≡ r → result ≡ on_current db unit r (delete_checks schema db unit option) (deleted schema capacity db unit option)
+      on_cells : (r : Option DbKey) → unit.currency.run_unit ≡ r → result ≡ on_current db unit r (delete_checks schema capacity db unit option) (deleted schema capacity db unit option)
           → ((c : CellName) → In c (delete_cells_of schema capacity db unit option r) → holds hands.cells c ≡ true)
           → IsEffect schema capacity db unit hands.guesses (Delete option) (delete_plan schema capacity hands unit option r)
       on_cells None current e has = refusal_is_effect schema capacity db unit hands.guesses (Delete option) _ e
@@ -143,4 +144,4 @@ module _ (schema : Lists) (capacity : ℕ) (unit : Unit) (hands : Hands) (option
     of None (Some k) = checked (first_cause (checks_in schema hands unit option k)) k
 
   pub is_prepared : IsPrepared schema capacity unit hands (Delete option) (whole_plan schema capacity hands unit option)
-  is_prepared = record { held = all_held; effects = plan_is_effect }
+  is_prepared = record { held = λ db agrees. all_held; effects = plan_is_effect }

@@ -7,6 +7,7 @@ use Rattle.dbtg_schema.specs.Lookups.{first_cause}
 use Rattle.dbtg_schema.specs.Structure.{owns, set_numbers}
 use Rattle.dbtg_cells.specs.declared.key.DbKey.{DbKey}
 use Rattle.dbtg_cells.specs.declared.name.CellName.TheVariants.{Ring}
+use Rattle.dbtg_unit.specs.CellChecks.{own_checks}
 use Rattle.dbtg_unit.specs.declared.edit.CellEdit.{CellEdit}
 use Rattle.dbtg_unit.specs.declared.edit.Edit.TheVariants.{ChangeOwner, CloseRing}
 use Rattle.dbtg_unit.specs.declared.edit.UnitEdit.TheVariants.{LoseCurrent, Same}
@@ -20,7 +21,7 @@ use Rattle.dbtg_unit.specs.Checks.{refused_at_once}
 use Rattle.dbtg_unit.specs.EditsOf.{erasing_edits, left_behind, slot_edit}
 use Rattle.dbtg_unit.specs.Effect.{is_plain}
 use Rattle.dbtg_unit.specs.Hands.{Hands}
-use Rattle.dbtg_unit.specs.InHand.{own_checks_in, owner_in, version_in}
+use Rattle.dbtg_unit.specs.InHand.{owner_in, version_in, in_hand}
 use Rattle.dbtg_unit.specs.Local.{holds}
 use Rattle.dbtg_unit.specs.Prepared.{Plan}
 use Rattle.dbtg_erase.specs.WorkList.{gone_in, list_in, members_in_hand}
@@ -31,7 +32,7 @@ has_members_in schema hands k = list_any (λ s. owns schema s k.rtype && nat_lt 
 
 -- deleted, changed by another; the plain form wants no members
 abbrev pub checks_in : Lists → Hands → Unit → Erase → DbKey → List (Bool × Cause)
-checks_in schema hands unit option k = own_checks_in hands unit k ++ (is_plain option && has_members_in schema hands k, OwnerHasMembers) ∷ []
+checks_in schema hands unit option k = own_checks (in_hand hands) unit k ++ (is_plain option && has_members_in schema hands k, OwnerHasMembers) ∷ []
 
 -- refused for a cause: nothing is changed
 abbrev pub refusal : Cause → Plan

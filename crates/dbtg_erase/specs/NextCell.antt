@@ -10,6 +10,7 @@ use Rattle.dbtg_cells.specs.declared.key.DbKey.{DbKey}
 use Rattle.dbtg_cells.specs.declared.name.CellName.{CellName}
 use Rattle.dbtg_cells.specs.declared.name.CellName.TheVariants.{Extent, Ring}
 use Rattle.dbtg_cells.specs.Names.{name_lt}
+use Rattle.dbtg_unit.specs.CellChecks.{own_checks}
 use Rattle.dbtg_unit.specs.declared.held.Need.{Need}
 use Rattle.dbtg_unit.specs.declared.held.Need.TheVariants.{Take, Ready}
 use Rattle.dbtg_unit.specs.declared.statement.Erase.{Erase}
@@ -17,7 +18,7 @@ use Rattle.dbtg_unit.specs.declared.unit.Unit.{Unit}
 use Rattle.dbtg_unit.specs.CellNames.{slot_name}
 use Rattle.dbtg_unit.specs.Effect.{is_plain}
 use Rattle.dbtg_unit.specs.Hands.{Hands}
-use Rattle.dbtg_unit.specs.InHand.{own_checks_in, owner_in}
+use Rattle.dbtg_unit.specs.InHand.{owner_in, in_hand}
 use Rattle.dbtg_unit.specs.Local.{holds}
 use Rattle.dbtg_unit.specs.Needs.{ring_names}
 use Rattle.dbtg_erase.specs.WorkList.{cells_of_gone, gone_in, list_in}
@@ -71,7 +72,7 @@ next_of_passed schema capacity hands option k =
 abbrev pub next_cell_in : Lists → ℕ → Hands → Unit → Erase → DbKey → Option CellName
 next_cell_in schema capacity hands unit option k =
     option_or (first_missing hands (slot_name k ∷ []))
-    (if is_some (first_cause (own_checks_in hands unit k)) then None else next_of_passed schema capacity hands option k)
+    (if is_some (first_cause (own_checks (in_hand hands) unit k)) then None else next_of_passed schema capacity hands option k)
 
 -- of the current of run-unit, or none
 abbrev pub next_cell_of : Lists → ℕ → Hands → Unit → Erase → Option DbKey → Option CellName

@@ -26,9 +26,11 @@ use Rattle.dbtg_unit.specs.Local.{Agrees}
 use Rattle.dbtg_unit.specs.Locality.{DoTheSame}
 use Rattle.dbtg_unit.specs.Making.{IsReady}
 use Rattle.dbtg_unit.specs.Needs.{areas_in_order, cells_of, need}
-use Rattle.dbtg_unit.proofs.AlikeInsert.{insert_is_determined}
+use Rattle.dbtg_plan.specs.Inserting.{insert_plan}
+use Rattle.dbtg_plan.specs.Removing.{remove_plan}
+use Rattle.dbtg_plan.proofs.InsertingLemmas.{insert-is_prepared}
+use Rattle.dbtg_plan.proofs.RemovingLemmas.{remove-is_prepared}
 use Rattle.dbtg_unit.proofs.AlikeReading.{reading_is_determined}
-use Rattle.dbtg_unit.proofs.AlikeRemove.{remove_is_determined}
 use Rattle.dbtg_unit.proofs.OnePlan.{HasPlan, MayPlan, one_plan_does_the_same}
 use Rattle.dbtg_plan.specs.Locality.{EachIsDetermined}
 use Rattle.dbtg_plan.specs.Missing.{first_missing}
@@ -81,6 +83,13 @@ module _ (schema : Lists) (capacity : ℕ) (unit : Unit) (hands : Hands) where
       → need schema capacity db unit hands (Modify t changes) ≡ Ready → IsReady schema capacity unit hands (Modify t changes)
   modify_ready t changes fit db agrees ready eb agrees_too = sym (same_need schema capacity db eb hands unit (Modify t changes) fit agrees agrees_too refl) ∙ ready
 
+  -- and a REMOVE or INSERT
+  remove_ready : (s : ℕ) → fits schema (Remove s) ≡ true → (db : Database) → Agrees schema capacity db hands unit → need schema capacity db unit hands (Remove s) ≡ Ready → IsReady schema capacity unit hands (Remove s)
+  remove_ready s fit db agrees ready eb agrees_too = sym (same_need schema capacity db eb hands unit (Remove s) fit agrees agrees_too refl) ∙ ready
+
+  insert_ready : (s : ℕ) → fits schema (Insert s) ≡ true → (db : Database) → Agrees schema capacity db hands unit → need schema capacity db unit hands (Insert s) ≡ Ready → IsReady schema capacity unit hands (Insert s)
+  insert_ready s fit db agrees ready eb agrees_too = sym (same_need schema capacity db eb hands unit (Insert s) fit agrees agrees_too refl) ∙ ready
+
   -- a refusal is a plan
   refused_plan : (statement : Statement) (cause : Cause) → refused_at_once schema capacity unit statement ≡ Some cause → HasPlan schema capacity unit hands statement
   refused_plan statement cause e = (refusal cause, (refused_finishes schema capacity unit hands statement cause e).prepared.effects)
@@ -96,6 +105,18 @@ module _ (schema : Lists) (capacity : ℕ) (unit : Unit) (hands : Hands) where
     by_check : (o : Option Cause) → refused_at_once schema capacity unit (Modify t changes) ≡ o → HasPlan schema capacity unit hands (Modify t changes)
     by_check (Some cause) e = refused_plan (Modify t changes) cause e
     by_check None e = (modify_plan schema hands unit changes, modify_is_effect schema capacity unit hands t changes may e)
+
+  remove_has_plan : (s : ℕ) → MayPlan schema capacity unit hands (Remove s) → HasPlan schema capacity unit hands (Remove s)
+  remove_has_plan s may = by_check (refused_at_once schema capacity unit (Remove s)) refl where
+    by_check : (o : Option Cause) → refused_at_once schema capacity unit (Remove s) ≡ o → HasPlan schema capacity unit hands (Remove s)
+    by_check (Some cause) e = refused_plan (Remove s) cause e
+    by_check None e = (remove_plan unit hands s, (remove-is_prepared schema capacity unit hands s may e).effects)
+
+  insert_has_plan : (s : ℕ) → MayPlan schema capacity unit hands (Insert s) → HasPlan schema capacity unit hands (Insert s)
+  insert_has_plan s may = by_check (refused_at_once schema capacity unit (Insert s)) refl where
+    by_check : (o : Option Cause) → refused_at_once schema capacity unit (Insert s) ≡ o → HasPlan schema capacity unit hands (Insert s)
+    by_check (Some cause) e = refused_plan (Insert s) cause e
+    by_check None e = (insert_plan schema unit hands s, (insert-is_prepared schema capacity unit hands s may e).effects)
 
 -- the parts of a plan's conditions beside the statement's own
 module _ (schema : Lists) (capacity : ℕ) (db eb : Database) (hands : Hands) (unit : Unit) (sound : IsSound schema) (of_schema : IsUnitOf schema unit) (within : IsWithin capacity unit)
@@ -121,8 +142,8 @@ module _ (schema : Lists) (capacity : ℕ) (db eb : Database) (hands : Hands) (u
   of_each (Store t items suppress) fit other =
       by_plan (Store t items suppress) fit (store_has_plan schema capacity unit hands t items suppress) (store_ready schema capacity unit hands t items suppress fit db agrees)
   of_each (Modify t changes) fit other = by_plan (Modify t changes) fit (modify_has_plan schema capacity unit hands t changes) (modify_ready schema capacity unit hands t changes fit db agrees)
-  of_each (Remove s) fit other = remove_is_determined schema capacity db eb hands unit s fit agrees agrees_too
-  of_each (Insert s) fit other = insert_is_determined schema capacity db eb hands unit s fit agrees agrees_too
+  of_each (Remove s) fit other = by_plan (Remove s) fit (remove_has_plan schema capacity unit hands s) (remove_ready schema capacity unit hands s fit db agrees)
+  of_each (Insert s) fit other = by_plan (Insert s) fit (insert_has_plan schema capacity unit hands s) (insert_ready schema capacity unit hands s fit db agrees)
   of_each (Delete option) fit other = absurd (false≢true (sym other))
   of_each (OpenArea a mode) fit other = by_reading (OpenArea a mode) refl
   of_each (CloseArea a) fit other = by_reading (CloseArea a) refl

@@ -182,7 +182,7 @@ module _ (schema : Lists) (capacity : ℕ) (unit : Unit) (hands : Hands) (form :
       let none = sym (nothing_edited (found_in schema unit hands form)) in
       record {
         prepared = record {
-          held = subst (λ (es : List CellEdit). list_all (λ (e : CellEdit). holds hands.cells e.name) es ≡ true) none refl;
+          held = λ db agrees. subst (λ (es : List CellEdit). list_all (λ (e : CellEdit). holds hands.cells e.name) es ≡ true) none refl;
           effects = plan_is_effect;
         };
         can_make = λ db agrees. subst (λ (es : List CellEdit). CanMake es hands.cells) none tt;

@@ -16,12 +16,13 @@ use Rattle.dbtg_cells.specs.declared.name.CellName.TheVariants.{Ring}
 use Rattle.dbtg_cells.specs.declared.ring.Occurrence.{Occurrence}
 use Rattle.dbtg_cells.specs.Keys.{key_eq, is_member, owner_eq}
 use Rattle.dbtg_cells.specs.Members.{keys_in}
+use Rattle.dbtg_unit.specs.CellChecks.{own_checks, insert_checks, place_checks}
 use Rattle.dbtg_unit.specs.declared.edit.CellEdit.{CellEdit}
 use Rattle.dbtg_unit.specs.declared.edit.Edit.TheVariants.{ChangeOwner, RaiseVersion}
 use Rattle.dbtg_unit.specs.declared.statement.Statement.{Statement}
 use Rattle.dbtg_unit.specs.declared.statement.Statement.TheVariants.{Insert}
 use Rattle.dbtg_unit.specs.declared.unit.Cause.{Cause}
-use Rattle.dbtg_unit.specs.declared.unit.Cause.TheVariants.{AlreadyMember, ChangedByAnother, Deleted, NoCurrentOfRunUnit}
+use Rattle.dbtg_unit.specs.declared.unit.Cause.TheVariants.{AlreadyMember, ChangedByAnother, Deleted}
 use Rattle.dbtg_unit.specs.declared.unit.Place.{Place}
 use Rattle.dbtg_unit.specs.declared.unit.Unit.{Unit}
 use Rattle.dbtg_unit.specs.Base.{Database, Record, key_item, members_of, owner_of}
@@ -29,11 +30,11 @@ use Rattle.dbtg_unit.specs.CanEdit.{CanPlace}
 use Rattle.dbtg_unit.specs.CellNames.{place_of, slot_name}
 use Rattle.dbtg_unit.specs.Checks.{accepts_type, refused_at_once}
 use Rattle.dbtg_unit.specs.EditsOf.{edits_of, edits_of_current, insert_edits, placed_at, ring_edits, slot_edit}
-use Rattle.dbtg_unit.specs.Effect.{Outcome, connected_in, effect, insert_checks, inserted, next_version, on_current, place_checks, raised, unless_refused, version_of}
+use Rattle.dbtg_unit.specs.Effect.{Outcome, connected_in, effect, insert_checks, inserted, next_version, place_checks, raised, version_of}
 use Rattle.dbtg_unit.specs.Fits.{values_fit}
 use Rattle.dbtg_unit.specs.Guesses.{guesses_after, noted_guesses}
 use Rattle.dbtg_unit.specs.Hands.{Hands}
-use Rattle.dbtg_unit.specs.InHand.{items_in, occurrence_in, own_checks_in, owner_in, stored_in, version_in}
+use Rattle.dbtg_unit.specs.InHand.{items_in, occurrence_in, owner_in, stored_in, version_in}
 use Rattle.dbtg_unit.specs.Legal.{Legal}
 use Rattle.dbtg_unit.specs.Local.{Agrees, holds}
 use Rattle.dbtg_unit.specs.Making.{CanEditHeld, CanFinish, CanMake, MayPrepare, ShowsTheSame}
@@ -42,26 +43,30 @@ use Rattle.dbtg_unit.specs.Prepared.{IsEffect, IsPrepared, Plan, unit_after}
 use Rattle.dbtg_unit.specs.Reserving.{CanTakeMember, OfHeld}
 use Rattle.dbtg_unit.specs.Units.{place_in}
 use Rattle.dbtg_unit.proofs.CheckLemmas.{passes_check}
-use Rattle.dbtg_unit.proofs.InHandLemmas.{items_in_hand, live_in_hand, members_in_hand, own_in_hand, owner_in_hand, version_in_hand}
+use Rattle.dbtg_unit.proofs.InHandLemmas.{items_in_hand, live_in_hand, members_in_hand, owner_in_hand, same_occurrence, same_record, version_in_hand}
+use Rattle.dbtg_unit.proofs.SameView.{insert_checks_agree}
+use Rattle.dbtg_unit.specs.InHand.{in_hand}
+use Rattle.dbtg_unit.specs.View.{View, whole}
+use Rattle.dbtg_plan.proofs.CurrentPlans.{current-all_held, current-is_effect}
 use Rattle.dbtg_unit.proofs.KeyLemmas.{key_eq-refl, owner_eq-refl}
 use Rattle.dbtg_unit.proofs.LegalEffect.{passed, some_from}
 use Rattle.dbtg_unit.proofs.LiveKeys.{In, in_left, in_range, in_right, member_nowhere, none_is}
 use Rattle.dbtg_unit.proofs.LocalReady.{legal_after}
 use Rattle.dbtg_unit.proofs.MakingLemmas.{can_make-raised, leaves-owner}
-use Rattle.dbtg_unit.proofs.OnePlan.{may_plan}
+use Rattle.dbtg_unit.proofs.OnePlan.{may_plan, MayPlan}
 use Rattle.dbtg_unit.proofs.OwnersFound.{owner_is}
 use Rattle.dbtg_unit.proofs.ReadyParts.{prepared_has_all}
 use Rattle.dbtg_unit.proofs.SameHands.{agrees-same, holds-same, occurrence_in-same, same-sym, versions-same}
 use Rattle.dbtg_unit.proofs.StoreLegal.{member-connected}
-use Rattle.dbtg_plan.specs.Inserting.{insert_checks_in, insert_plan, inserting}
-use Rattle.dbtg_plan.specs.Joining.{joined_occurrence, joined_place, joining_edit, place_checks_in}
+use Rattle.dbtg_plan.specs.Inserting.{insert_plan, inserting}
+use Rattle.dbtg_plan.specs.Joining.{joined_occurrence, joined_place, joining_edit}
 use Rattle.dbtg_plan.specs.Plans.{on_current_plan, refusal, unless_refusal}
 use Rattle.dbtg_plan.proofs.JoiningLemmas.{can-join-in_hand, place_checks-in_hand}
-use Rattle.dbtg_plan.proofs.PlanLemmas.{done-is_effect, effect-on_cells, noted-renoted, refusal-is_effect}
-use Rattle.dbtg_plan.proofs.RingEdits.{can-edit-ring, free-owner, ring-held, slot-held}
+use Rattle.dbtg_plan.proofs.PlanLemmas.{done-is_effect, noted-renoted}
+use Rattle.dbtg_plan.proofs.RingEdits.{can-edit-ring, free-owner}
 
 -- what the record's own checks, a test and further checks have passed
-pub own-passed : (hands : Hands) (unit : Unit) (k : DbKey) (b : Bool) (cause : Cause) (rest : List (Bool × Cause)) → first_cause (own_checks_in hands unit k ++ (b, cause) ∷ rest) ≡ None
+pub own-passed : (hands : Hands) (unit : Unit) (k : DbKey) (b : Bool) (cause : Cause) (rest : List (Bool × Cause)) → first_cause (own_checks (in_hand hands) unit k ++ (b, cause) ∷ rest) ≡ None
     → (is_some (stored_in hands k) ≡ true) × (b ≡ false) × (first_cause rest ≡ None)
 own-passed hands unit k b cause rest h =
     let there = passes_check _ Deleted _ h in
@@ -82,7 +87,7 @@ pub some-from-none : {X : Type 0} (o : Option X) → is_none o ≡ false → is_
 some-from-none None h = absurd (true≢false h)
 some-from-none (Some x) h = refl
 
-module _ (schema : Lists) (capacity : ℕ) (unit : Unit) (hands : Hands) (s : ℕ) (may : MayPrepare schema capacity unit hands (Insert s)) (passes : refused_at_once schema capacity unit (Insert s) ≡ None) where
+module _ (schema : Lists) (capacity : ℕ) (unit : Unit) (hands : Hands) (s : ℕ) (may : MayPlan schema capacity unit hands (Insert s)) (passes : refused_at_once schema capacity unit (Insert s) ≡ None) where
   abbrev here : Place
   here = joined_place schema unit s
 
@@ -115,26 +120,14 @@ module _ (schema : Lists) (capacity : ℕ) (unit : Unit) (hands : Hands) (s : �
 
     module _ (k : DbKey) (current : unit.currency.run_unit ≡ Some k) where
       -- the checks are those of the database
-      checks-are : insert_checks_in schema unit hands s k ≡ insert_checks schema capacity db unit s k
+      checks-are : insert_checks schema (in_hand hands) unit s k ≡ insert_checks schema (whole schema capacity db) unit s k
       checks-are =
-          let own = own_in_hand schema capacity db hands unit agrees k (slot_held k current) in
-          let owner = owner_in_hand schema capacity db hands unit agrees k (slot_held k current) s in_sets in
-          let items = items_in_hand schema capacity db hands unit agrees k (slot_held k current) in
-          let place = place_checks-in_hand schema capacity db hands unit agrees s ring_held (key_item schema s k.rtype (items_in hands k)) ∙ ap (λ its. place_checks schema db unit s (key_item schema s k.rtype its)) (sym items) in
-          λ i. own i ++ (is_some (sym owner i), AlreadyMember) ∷ place i
+          insert_checks_agree (in_hand hands) (whole schema capacity db) unit schema s k (same_record schema capacity db hands unit agrees k (slot_held k current))
+          (sym (owner_in_hand schema capacity db hands unit agrees k (slot_held k current) s in_sets)) (same_occurrence schema capacity db hands unit agrees s here.owner ring_held)
 
-      effect-is : effect schema capacity db unit (Insert s) ≡ unless_refused db unit (first_cause (insert_checks_in schema unit hands s k)) (inserted schema db unit s k)
-      effect-is =
-          effect-on_cells schema capacity db unit (Insert s) passes
-          ∙ ap (λ (r : Option DbKey). on_current db unit r (insert_checks schema capacity db unit s) (inserted schema db unit s)) current
-          ∙ ap (λ (checks : List (Bool × Cause)). unless_refused db unit (first_cause checks) (inserted schema db unit s k)) (sym checks-are)
-
-      module _ (free : first_cause (insert_checks_in schema unit hands s k) ≡ None) where
+      module _ (free : first_cause (insert_checks schema (in_hand hands) unit s k) ≡ None) (done : effect schema capacity db unit (Insert s) ≡ inserted schema db unit s k) where
         abbrev new : Database
         new = (inserted schema db unit s k).database
-
-        done : effect schema capacity db unit (Insert s) ≡ inserted schema db unit s k
-        done = effect-is ∙ ap (λ (c : Option Cause). unless_refused db unit c (inserted schema db unit s k)) free
 
         -- the edits, by the current of the set and the items of the record
         abbrev edits_by : Option Place → List Value → List CellEdit
@@ -148,8 +141,8 @@ module _ (schema : Lists) (capacity : ℕ) (unit : Unit) (hands : Hands) (s : �
             (λ i. edits_by (sym stands i) (sym items i))
             ∙ sym (ap (λ (r : Option DbKey). edits_of_current r (insert_edits schema db unit s)) current)
 
-        own : (is_some (stored_in hands k) ≡ true) × (is_some (owner_in hands s k) ≡ false) × (first_cause (place_checks_in schema unit hands s (key_item schema s k.rtype (items_in hands k))) ≡ None)
-        own = own-passed hands unit k (is_some (owner_in hands s k)) AlreadyMember (place_checks_in schema unit hands s (key_item schema s k.rtype (items_in hands k))) free
+        own : (is_some (stored_in hands k) ≡ true) × (is_some (owner_in hands s k) ≡ false) × (first_cause (place_checks schema (in_hand hands) unit s (key_item schema s k.rtype (items_in hands k))) ≡ None)
+        own = own-passed hands unit k (is_some (owner_in hands s k)) AlreadyMember (place_checks schema (in_hand hands) unit s (key_item schema s k.rtype (items_in hands k))) free
 
         listed : is_some (db.lists s here.owner) ≡ true
         listed =
@@ -187,40 +180,26 @@ module _ (schema : Lists) (capacity : ℕ) (unit : Unit) (hands : Hands) (s : �
 
         inserts : IsEffect schema capacity db unit hands.guesses (Insert s) (inserting schema unit hands s k)
         inserts =
-            done-is_effect schema capacity db unit hands (Insert s) (inserting schema unit hands s k) refl (may_plan may) agrees refl
+            done-is_effect schema capacity db unit hands (Insert s) (inserting schema unit hands s k) refl may agrees refl
             (sym (ap (λ (o : Outcome). o.answer) done)) edits-are
             (unit-is ∙ sym (ap (λ (o : Outcome). o.unit) done))
             (guesses-are ∙ sym (ap (guesses_after schema capacity (Insert s) hands.guesses) done))
 
-    -- on an agreeing database the plan is the effect
-    is-effect : IsEffect schema capacity db unit hands.guesses (Insert s) (insert_plan schema unit hands s)
-    is-effect = by_current unit.currency.run_unit refl where
-      by_current : (r : Option DbKey) → unit.currency.run_unit ≡ r → IsEffect schema capacity db unit hands.guesses (Insert s) (on_current_plan r (insert_checks_in schema unit hands s) (inserting schema unit hands s))
-      by_current None e =
-          refusal-is_effect schema capacity db unit hands.guesses (Insert s) NoCurrentOfRunUnit
-          (effect-on_cells schema capacity db unit (Insert s) passes ∙ ap (λ (r : Option DbKey). on_current db unit r (insert_checks schema capacity db unit s) (inserted schema db unit s)) e)
-      by_current (Some k) e = by_checks (first_cause (insert_checks_in schema unit hands s k)) refl where
-        by_checks : (c : Option Cause) → first_cause (insert_checks_in schema unit hands s k) ≡ c → IsEffect schema capacity db unit hands.guesses (Insert s) (unless_refusal c (inserting schema unit hands s k))
-        by_checks (Some cause) h =
-            refusal-is_effect schema capacity db unit hands.guesses (Insert s) cause (effect-is k e ∙ ap (λ (c : Option Cause). unless_refused db unit c (inserted schema db unit s k)) h)
-        by_checks None h = inserts k e h
+  abbrev checks : View → DbKey → List (Bool × Cause)
+  checks view = insert_checks schema view unit s
 
   -- what is prepared changes held cells alone
-  all-held : list_all (λ (e : CellEdit). holds hands.cells e.name) (insert_plan schema unit hands s).cells ≡ true
-  all-held = by_current unit.currency.run_unit where
-    by_current : (r : Option DbKey) → list_all (λ (e : CellEdit). holds hands.cells e.name) (on_current_plan r (insert_checks_in schema unit hands s) (inserting schema unit hands s)).cells ≡ true
-    by_current None = refl
-    by_current (Some k) = by_checks (first_cause (insert_checks_in schema unit hands s k)) refl where
-      by_checks : (c : Option Cause) → first_cause (insert_checks_in schema unit hands s k) ≡ c → list_all (λ (e : CellEdit). holds hands.cells e.name) (unless_refusal c (inserting schema unit hands s k)).cells ≡ true
-      by_checks (Some cause) h = refl
-      by_checks None h =
-          let own = own-passed hands unit k (is_some (owner_in hands s k)) AlreadyMember (place_checks_in schema unit hands s (key_item schema s k.rtype (items_in hands k))) h in
-          let slot = slot-held hands k own.0 in
-          let ring = ring-held hands s here.owner (some-from-none (joined_occurrence schema unit hands s) (passes_check (is_none (joined_occurrence schema unit hands s)) Deleted _ own.2).0) in
-          and_from _ _ ring (and_from _ _ slot (and_from _ _ slot refl))
+  all-held : (db : Database) → Agrees schema capacity db hands unit → list_all (λ (e : CellEdit). holds hands.cells e.name) (insert_plan schema unit hands s).cells ≡ true
+  all-held db agrees =
+      current-all_held schema capacity unit hands (Insert s) passes checks (inserting schema unit hands s)
+      (λ k current h. let slot = slot_held db agrees k current in and_from _ _ (ring_held db agrees) (and_from _ _ slot (and_from _ _ slot refl)))
 
   pub insert-is_prepared : IsPrepared schema capacity unit hands (Insert s) (insert_plan schema unit hands s)
-  insert-is_prepared = record { held = all-held; effects = is-effect }
+  insert-is_prepared = record {
+    held = all-held;
+    effects = λ db agrees.
+        current-is_effect schema capacity unit hands (Insert s) passes checks (inserting schema unit hands s) db (inserted schema db unit s) refl (checks-are db agrees) (inserts db agrees);
+  }
 
 -- THAT IT CAN BE MADE
 
@@ -228,7 +207,7 @@ module _ (schema : Lists) (capacity : ℕ) (unit : Unit) (hands : Hands) (s : �
 pub prepared-same : (schema : Lists) (capacity : ℕ) (unit : Unit) (old new : Hands) (statement : Statement) (plan : Plan) → ShowsTheSame old new
     → IsPrepared schema capacity unit old statement plan → IsPrepared schema capacity unit new statement plan
 prepared-same schema capacity unit old new statement plan same prepared = record {
-  held = (λ i. list_all (λ (e : CellEdit). holds-same old new same e.name i) plan.cells) ∙ prepared.held;
+  held = λ db agrees. (λ i. list_all (λ (e : CellEdit). holds-same old new same e.name i) plan.cells) ∙ prepared.held db (agrees-same schema capacity db unit new old (same-sym same) agrees);
   effects = λ db agrees.
       subst (λ guesses. IsEffect schema capacity db unit guesses statement plan) (sym same.guesses)
       (prepared.effects db (agrees-same schema capacity db unit new old (same-sym same) agrees));
@@ -238,29 +217,29 @@ module _ (schema : Lists) (capacity : ℕ) (unit : Unit) (old new : Hands) (s : 
   abbrev ring_cell : CellName
   ring_cell = Ring s (place_of (joined_place schema unit s).owner)
 
-  module _ (k : DbKey) (current : unit.currency.run_unit ≡ Some k) (free : first_cause (insert_checks_in schema unit old s k) ≡ None) (room : OfHeld ring_cell new.cells (CanTakeMember k)) where
-    own-free : (is_some (stored_in old k) ≡ true) × (is_some (owner_in old s k) ≡ false) × (first_cause (place_checks_in schema unit old s (key_item schema s k.rtype (items_in old k))) ≡ None)
-    own-free = own-passed old unit k (is_some (owner_in old s k)) AlreadyMember (place_checks_in schema unit old s (key_item schema s k.rtype (items_in old k))) free
+  module _ (k : DbKey) (current : unit.currency.run_unit ≡ Some k) (free : first_cause (insert_checks schema (in_hand old) unit s k) ≡ None) (room : OfHeld ring_cell new.cells (CanTakeMember k)) where
+    own-free : (is_some (stored_in old k) ≡ true) × (is_some (owner_in old s k) ≡ false) × (first_cause (place_checks schema (in_hand old) unit s (key_item schema s k.rtype (items_in old k))) ≡ None)
+    own-free = own-passed old unit k (is_some (owner_in old s k)) AlreadyMember (place_checks schema (in_hand old) unit s (key_item schema s k.rtype (items_in old k))) free
 
     occurrence-is : occurrence_in new s (joined_place schema unit s).owner ≡ joined_occurrence schema unit old s
     occurrence-is = occurrence_in-same old new same s (joined_place schema unit s).owner
 
     module _ (db : Database) (agrees : Agrees schema capacity db old unit) where
       abbrev held-ring : holds old.cells ring_cell ≡ true
-      held-ring = ring_held schema capacity unit old s may passes db agrees
+      held-ring = ring_held schema capacity unit old s (may_plan may) passes db agrees
 
       abbrev held-slot : holds old.cells (slot_name k) ≡ true
-      held-slot = slot_held schema capacity unit old s may passes db agrees k current
+      held-slot = slot_held schema capacity unit old s (may_plan may) passes db agrees k current
 
       no-member : is_member k (keys_in (joined_occurrence schema unit old s)) ≡ false
       no-member =
           ap (is_member k) (sym (members_in_hand schema capacity db old unit agrees s (joined_place schema unit s).owner held-ring))
           ∙ member_nowhere schema capacity db agrees.legal s k
-          (none_is (owner_of schema capacity db s k) (ap is_some (owner_in_hand schema capacity db old unit agrees k held-slot s (in_sets schema capacity unit old s may passes)) ∙ own-free.1)) (joined_place schema unit s).owner
+          (none_is (owner_of schema capacity db s k) (ap is_some (owner_in_hand schema capacity db old unit agrees k held-slot s (in_sets schema capacity unit old s (may_plan may) passes)) ∙ own-free.1)) (joined_place schema unit s).owner
 
       can-place-here : CanPlace (order_of schema s) (joined_place schema unit s).at (key_item schema s k.rtype (items_in old k)) (joined_occurrence schema unit old s)
       can-place-here =
-          can-join-in_hand schema capacity db old unit agrees s held-ring may.sound k.rtype (items_in old k) (clause schema capacity unit old s may passes k current)
+          can-join-in_hand schema capacity db old unit agrees s held-ring may.sound k.rtype (items_in old k) (clause schema capacity unit old s (may_plan may) passes k current)
           (ap (values_fit (pictures schema k.rtype)) (sym (items_in_hand schema capacity db old unit agrees k held-slot))
           ∙ agrees.legal.items k (live_in_hand schema capacity db old unit agrees k held-slot ∙ own-free.0))
           own-free.2
@@ -285,8 +264,8 @@ module _ (schema : Lists) (capacity : ℕ) (unit : Unit) (old new : Hands) (s : 
     insert-can_finish = record {
       prepared = prepared-same schema capacity unit old new (Insert s) (inserting schema unit old s k) same
           (subst (IsPrepared schema capacity unit old (Insert s))
-          (ap (λ (r : Option DbKey). on_current_plan r (insert_checks_in schema unit old s) (inserting schema unit old s)) current ∙ ap (λ (c : Option Cause). unless_refusal c (inserting schema unit old s k)) free)
-          (insert-is_prepared schema capacity unit old s may passes));
+          (ap (λ (r : Option DbKey). on_current_plan r (insert_checks schema (in_hand old) unit s) (inserting schema unit old s)) current ∙ ap (λ (c : Option Cause). unless_refusal c (inserting schema unit old s k)) free)
+          (insert-is_prepared schema capacity unit old s (may_plan may) passes));
       can_make = λ db agrees. can-make db (agrees-same schema capacity db unit new old (same-sym same) agrees);
     }
 
@@ -294,4 +273,4 @@ module _ (schema : Lists) (capacity : ℕ) (unit : Unit) (old new : Hands) (s : 
 pub refused_insert-can_finish : (schema : Lists) (capacity : ℕ) (unit : Unit) (hands : Hands) (s : ℕ) → MayPrepare schema capacity unit hands (Insert s) → refused_at_once schema capacity unit (Insert s) ≡ None → (cause : Cause)
     → insert_plan schema unit hands s ≡ refusal cause → CanFinish schema capacity unit hands (Insert s) (refusal cause)
 refused_insert-can_finish schema capacity unit hands s may passes cause is =
-    record { prepared = subst (IsPrepared schema capacity unit hands (Insert s)) is (insert-is_prepared schema capacity unit hands s may passes); can_make = λ db agrees. tt }
+    record { prepared = subst (IsPrepared schema capacity unit hands (Insert s)) is (insert-is_prepared schema capacity unit hands s (may_plan may) passes); can_make = λ db agrees. tt }

@@ -16,6 +16,7 @@ pub mod FindPlans
 pub mod KeysInTurn
 pub mod ChosenKeys
 pub mod RingEdits
+pub mod CurrentPlans
 pub mod InsertingLemmas
 pub mod RemovingLemmas
 pub mod VersionLemmas

@@ -12,6 +12,8 @@ use Rattle.dbtg_cells.specs.declared.key.Value.{Value}
 use Rattle.dbtg_cells.specs.declared.ring.Occurrence.{Occurrence}
 use Rattle.dbtg_cells.specs.Keys.{key_eq}
 use Rattle.dbtg_cells.specs.Members.{has_sort_key, members_in}
+use Rattle.dbtg_unit.specs.View.{whole}
+use Rattle.dbtg_unit.proofs.SameView.{own_checks_agree, own_checks_then}
 use Rattle.dbtg_unit.specs.declared.edit.CellEdit.{CellEdit}
 use Rattle.dbtg_unit.specs.declared.edit.Edit.TheVariants.{ChangeItems, RaiseVersion, ReplaceMember}
 use Rattle.dbtg_unit.specs.declared.statement.Change.{Change}
@@ -22,19 +24,17 @@ use Rattle.dbtg_unit.specs.Base.{Database, Record, is_live, items_of, key_item, 
 use Rattle.dbtg_unit.specs.EditsOf.{modify_edits, replacing_edits, ring_edits, slot_edit}
 use Rattle.dbtg_unit.specs.Effect.{calc_taken, replaced_sets, changed_items, modify_checks, names_calc, option_value_eq, refuses_equal, with_items, with_its_items, without}
 use Rattle.dbtg_unit.specs.Hands.{Hands}
-use Rattle.dbtg_unit.specs.InHand.{numbers_in, occurrence_in, owner_in}
+use Rattle.dbtg_unit.specs.InHand.{numbers_in, occurrence_in, owner_in, in_hand}
 use Rattle.dbtg_unit.specs.Local.{Agrees, holds}
 use Rattle.dbtg_unit.specs.CellNames.{place_of, slot_name}
 use Rattle.dbtg_cells.specs.declared.name.CellName.TheVariants.{Ring}
-use Rattle.dbtg_unit.proofs.InHandLemmas.{entries_in_hand, listed_in_hand, own_in_hand, owner_in_hand}
-use Rattle.dbtg_unit.proofs.AlikeMoves.{own_checks_alike}
+use Rattle.dbtg_unit.proofs.InHandLemmas.{entries_in_hand, listed_in_hand, owner_in_hand, same_record}
 use Rattle.dbtg_unit.proofs.RingsLemmas.{there}
 use Rattle.dbtg_unit.specs.Units.{place_in}
 use Rattle.dbtg_unit.proofs.KeyLemmas.{key_eq-refl}
 use Rattle.dbtg_unit.proofs.LiveKeys.{In, member_of_owner}
 use Rattle.dbtg_unit.proofs.TwoDatabases.{any_agrees, flat_map_agrees}
-use Rattle.dbtg_plan.specs.Modifying.{calc_edits_in, is_numbered_in, is_rekeyed, is_replaced, modify_checks_in, modify_edits_in, replacing_edits_in, sort_key_taken}
-use Rattle.dbtg_plan.specs.Removing.{own_occurrence}
+use Rattle.dbtg_plan.specs.Modifying.{own_occurrence, calc_edits_in, is_numbered_in, is_rekeyed, is_replaced, modify_checks_in, modify_edits_in, replacing_edits_in, sort_key_taken}
 use Rattle.dbtg_plan.specs.Calc.{calc_taken_in}
 use Rattle.dbtg_plan.proofs.Kept.{and_agrees, any-filter, any-kept, any-map, first_cause-any, flat_map-kept}
 
@@ -149,8 +149,8 @@ module _ (schema : Lists) (capacity : ℕ) (db : Database) (hands : Hands) (unit
         → (is_numbered_in hands k ≡ true) × ((items : List Value) → calc_taken_in schema (numbers_in hands k.rtype) k.rtype items (Some k.number) ≡ calc_taken schema capacity db k.rtype items (key_eq k)))
         → first_cause (modify_checks_in schema hands unit changes k (changed_items changes (items_of db k))) ≡ first_cause (modify_checks schema capacity db unit changes k)
     checks_read calc =
-        ap (λ own. first_cause (own ++ rest_in)) (own_in_hand schema capacity db hands unit agrees k held)
-        ∙ own_checks_alike schema capacity db db agrees.legal agrees.legal unit k rest_in rest refl same where
+        ap (λ own. first_cause (own ++ rest_in)) (own_checks_agree (in_hand hands) (whole schema capacity db) unit k (same_record schema capacity db hands unit agrees k held))
+        ∙ own_checks_then (whole schema capacity db) unit k rest_in rest same where
           items : List Value
           items = changed_items changes (items_of db k)
 

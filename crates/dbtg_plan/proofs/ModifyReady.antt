@@ -118,7 +118,7 @@ module _ (schema : Lists) (capacity : ℕ) (unit : Unit) (hands : Hands) (change
   prepared_at versions =
       record {
         prepared = record {
-          held = by_cause (λ p. list_all (λ e. holds hands.cells e.name) p.cells ≡ true) (λ p none. ap (list_all (λ e. holds hands.cells e.name)) none)
+          held = λ db agrees. by_cause (λ p. list_all (λ e. holds hands.cells e.name) p.cells ≡ true) (λ p none. ap (list_all (λ e. holds hands.cells e.name)) none)
               (λ e p made. ap (list_all (λ e. holds hands.cells e.name)) made ∙ edits_held schema hands unit changes k items_now e);
           effects = effect_read;
         };

@@ -107,7 +107,7 @@ module _ (schema : Lists) (capacity : ℕ) (unit : Unit) (a : ℕ) where
         let free : list_any (λ e. conflict e.1 mode) (users_in new a) ≡ false = ap (list_any (λ e. conflict e.1 mode)) (users_in-same old new same a) ∙ there.1 in
         record {
           prepared = record {
-            held = and_from _ _ (holds-same old new same (Usage a) ∙ is_held old (Usage a) there.0) refl;
+            held = λ db agrees. and_from _ _ (holds-same old new same (Usage a) ∙ is_held old (Usage a) there.0) refl;
             effects = λ db agrees. open_makes new (may_prepare-same schema capacity unit old new (OpenArea a mode) same may) db agrees false (λ held. free);
           };
           can_make = λ db agrees. (λ x cell_is. can_enter unit.number mode x (room x cell_is), λ y shows. tt);
@@ -125,7 +125,7 @@ module _ (schema : Lists) (capacity : ℕ) (unit : Unit) (a : ℕ) where
     pub close_finishes : is_missing hands (Usage a) ≡ false → CanFinish schema capacity unit hands (CloseArea a) (close_plan unit a)
     close_finishes there = record {
       prepared = record {
-        held = and_from _ _ (is_held hands (Usage a) there) refl;
+        held = λ db agrees. and_from _ _ (is_held hands (Usage a) there) refl;
         effects = λ db agrees.
             makes-effect schema capacity db unit hands.guesses (CloseArea a) passes (close_plan unit a) (record {
               answer = refl;

@@ -80,7 +80,7 @@ current-no_cells (Some k) checks plan h = unless-no_cells (first_cause (checks k
 pub no_cells-can_finish : (schema : Lists) (capacity : ℕ) (unit : Unit) (hands : Hands) (statement : Statement) (plan : Plan) → plan.cells ≡ []
     → ((db : Database) → Agrees schema capacity db hands unit → IsEffect schema capacity db unit hands.guesses statement plan) → CanFinish schema capacity unit hands statement plan
 no_cells-can_finish schema capacity unit hands statement plan none effects = record {
-  prepared = record { held = subst (λ (es : List CellEdit). list_all (λ (e : CellEdit). holds hands.cells e.name) es ≡ true) (sym none) refl; effects = effects };
+  prepared = record { held = λ db agrees. subst (λ (es : List CellEdit). list_all (λ (e : CellEdit). holds hands.cells e.name) es ≡ true) (sym none) refl; effects = effects };
   can_make = λ db agrees. subst (λ (es : List CellEdit). CanMake es hands.cells) (sym none) tt;
 }
 

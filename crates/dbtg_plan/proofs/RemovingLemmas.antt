@@ -1,9 +1,9 @@
 -- What is prepared of a REMOVE is its effect.
 -- k is a key, s a set, o an owner, db a database.
 use Rattle.std.proofs.Common.{◌≡◌, refl, sym, ◌∙◌, ap, subst, ℕ, ◌+◌, Bool, true, false, cond, ◌&&◌, ◌||◌, List, [], ◌∷◌, ◌++◌, length, Option, Some, None, eqb, inl, arith}
-use Rattle.std.specs.Prelude.{is_none, is_some, option_and_then, option_map, slice_set}
+use Rattle.std.specs.Prelude.{is_none, option_map, slice_set}
 use Rattle.std.specs.List.{list_all, list_any}
-use Rattle.std.proofs.lemmas.Bool.{and_from, false≢true, true≢false, not-false, ltb-true, or_parts}
+use Rattle.std.proofs.lemmas.Bool.{and_from, true≢false, not-false, ltb-true, or_parts}
 use Rattle.std.proofs.lemmas.List.Folds.{list_all-append}
 use Rattle.dbtg_schema.specs.Lists.{Lists}
 use Rattle.dbtg_schema.specs.Lookups.{at, first_cause, some_and}
@@ -14,42 +14,43 @@ use Rattle.dbtg_cells.specs.declared.name.CellName.TheVariants.{Ring}
 use Rattle.dbtg_cells.specs.declared.ring.Occurrence.{Occurrence}
 use Rattle.dbtg_cells.specs.Keys.{is_member, owner_eq}
 use Rattle.dbtg_cells.specs.Members.{keys_in}
+use Rattle.dbtg_unit.proofs.OnePlan.{MayPlan}
+use Rattle.dbtg_unit.specs.CellChecks.{remove_checks}
 use Rattle.dbtg_unit.specs.declared.edit.CellEdit.{CellEdit}
 use Rattle.dbtg_unit.specs.declared.edit.Edit.TheVariants.{ChangeOwner, RaiseVersion, TakeOut}
 use Rattle.dbtg_unit.specs.declared.statement.Statement.TheVariants.{Remove}
 use Rattle.dbtg_unit.specs.declared.unit.Cause.{Cause}
-use Rattle.dbtg_unit.specs.declared.unit.Cause.TheVariants.{NoCurrentOfRunUnit, NotMember}
+use Rattle.dbtg_unit.specs.declared.unit.Cause.TheVariants.{NotMember}
 use Rattle.dbtg_unit.specs.declared.unit.Unit.{Unit}
 use Rattle.dbtg_unit.specs.Base.{Database, is_live, members_of, owner_of}
 use Rattle.dbtg_unit.specs.CellNames.{place_of, slot_name}
 use Rattle.dbtg_unit.specs.Checks.{refused_at_once}
 use Rattle.dbtg_unit.specs.EditsOf.{edits_of, edits_of_current, remove_edits, ring_edits, slot_edit}
-use Rattle.dbtg_unit.specs.Effect.{Outcome, effect, on_current, remove_checks, removed, unless_refused, version_of, without}
+use Rattle.dbtg_unit.specs.Effect.{Outcome, effect, remove_checks, removed, version_of, without}
 use Rattle.dbtg_unit.specs.Guesses.{guesses_after, noted_guesses}
 use Rattle.dbtg_unit.specs.Hands.{Hands}
-use Rattle.dbtg_unit.specs.InHand.{occurrence_in, owner_in, version_in}
+use Rattle.dbtg_unit.specs.InHand.{owner_in, version_in}
 use Rattle.dbtg_unit.specs.Local.{Agrees, holds}
-use Rattle.dbtg_unit.specs.Making.{CanFinish, CanMake, MayPrepare}
+use Rattle.dbtg_unit.specs.Making.{CanFinish, CanMake, HaveNextVersions}
 use Rattle.dbtg_unit.specs.Needs.{is_wrong_guess, ring_names, slot_names}
 use Rattle.dbtg_unit.specs.Prepared.{IsEffect, IsPrepared, unit_after}
-use Rattle.dbtg_unit.proofs.InHandLemmas.{listed_in_hand, live_in_hand, members_in_hand, own_in_hand, owner_in_hand, version_in_hand}
+use Rattle.dbtg_unit.proofs.InHandLemmas.{listed_in_hand, live_in_hand, members_in_hand, same_record, owner_in_hand, version_in_hand}
 use Rattle.dbtg_unit.proofs.KeyLemmas.{same_owner}
 use Rattle.dbtg_unit.proofs.LiveKeys.{In, in_left, in_range, in_right, some_and_is}
 use Rattle.dbtg_unit.proofs.MakingLemmas.{can_make-raised, leaves-owner}
-use Rattle.dbtg_unit.proofs.OnePlan.{may_plan}
 use Rattle.dbtg_unit.proofs.OwnersFound.{owner_has, some_list}
+use Rattle.dbtg_unit.proofs.SameView.{remove_checks_agree}
+use Rattle.dbtg_unit.specs.InHand.{in_hand}
+use Rattle.dbtg_unit.specs.View.{View, whole}
+use Rattle.dbtg_plan.proofs.CurrentPlans.{current-all_held, current-is_effect}
 use Rattle.dbtg_unit.proofs.ReadyParts.{prepared_has_all}
 use Rattle.dbtg_plan.specs.Plans.{on_current_plan, refusal, unless_refusal}
-use Rattle.dbtg_plan.specs.Removing.{own_occurrence, remove_checks_in, remove_plan, removing}
-use Rattle.dbtg_plan.proofs.InsertingLemmas.{own-passed, some-from-none, version-raised}
-use Rattle.dbtg_plan.proofs.PlanLemmas.{done-is_effect, effect-on_cells, noted-renoted, refusal-is_effect}
-use Rattle.dbtg_plan.proofs.RingEdits.{can-edit-ring, free-owner, ring-held, slot-held}
+use Rattle.dbtg_plan.specs.Removing.{remove_plan, removing}
+use Rattle.dbtg_plan.proofs.InsertingLemmas.{own-passed, version-raised}
+use Rattle.dbtg_plan.proofs.PlanLemmas.{done-is_effect, noted-renoted}
+use Rattle.dbtg_plan.proofs.RingEdits.{can-edit-ring, free-owner}
 
-none-from-some : {X : Type 0} (o : Option X) → is_some o ≡ true → is_none o ≡ false
-none-from-some None h = absurd (false≢true h)
-none-from-some (Some x) h = refl
-
-module _ (schema : Lists) (capacity : ℕ) (unit : Unit) (hands : Hands) (s : ℕ) (may : MayPrepare schema capacity unit hands (Remove s)) (passes : refused_at_once schema capacity unit (Remove s) ≡ None) where
+module _ (schema : Lists) (capacity : ℕ) (unit : Unit) (hands : Hands) (s : ℕ) (may : MayPlan schema capacity unit hands (Remove s)) (passes : refused_at_once schema capacity unit (Remove s) ≡ None) where
   in_sets : In s (set_numbers schema)
   in_sets = let below = ltb-true s (length schema.sets) may.fits in in_range (length schema.sets) 0 s (omega arith) (omega arith)
 
@@ -84,31 +85,12 @@ module _ (schema : Lists) (capacity : ℕ) (unit : Unit) (hands : Hands) (s : �
         (in_left _ (ring_names s (at hands.guesses s)) (slot_names unit.currency.run_unit)
         (subst (λ (g : Option Owner). In (Ring s (place_of o)) (ring_names s g)) (sym (guess-is o e)) (inl refl)))
 
-    -- it is a member where its own owner's occurrence is in hand
-    is-member : is_none (own_occurrence hands s k) ≡ is_none (owner_of schema capacity db s k)
-    is-member = by_owner (owner_in hands s k) refl ∙ ap is_none (sym owner-is) where
-      by_owner : (q : Option Owner) → owner_in hands s k ≡ q → is_none (option_and_then (occurrence_in hands s) q) ≡ is_none q
-      by_owner None e = refl
-      by_owner (Some o) e =
-          none-from-some (occurrence_in hands s o) (sym (listed_in_hand schema capacity db hands unit agrees s o (ring_held o e)) ∙ some_list (db.lists s o) k (owner-has o e))
+    checks-are : remove_checks (in_hand hands) unit s k ≡ remove_checks (whole schema capacity db) unit s k
+    checks-are = remove_checks_agree (in_hand hands) (whole schema capacity db) unit s k (same_record schema capacity db hands unit agrees k slot_held) (sym owner-is)
 
-    checks-are : remove_checks_in unit hands s k ≡ remove_checks schema capacity db unit s k
-    checks-are =
-        let own = own_in_hand schema capacity db hands unit agrees k slot_held in
-        λ i. own i ++ (is-member i, NotMember) ∷ []
-
-    effect-is : effect schema capacity db unit (Remove s) ≡ unless_refused db unit (first_cause (remove_checks_in unit hands s k)) (removed db unit s k)
-    effect-is =
-        effect-on_cells schema capacity db unit (Remove s) passes
-        ∙ ap (λ (r : Option DbKey). on_current db unit r (remove_checks schema capacity db unit s) (removed db unit s)) current
-        ∙ ap (λ (checks : List (Bool × Cause)). unless_refused db unit (first_cause checks) (removed db unit s k)) (sym checks-are)
-
-    module _ (free : first_cause (remove_checks_in unit hands s k) ≡ None) where
+    module _ (free : first_cause (remove_checks (in_hand hands) unit s k) ≡ None) (done : effect schema capacity db unit (Remove s) ≡ removed db unit s k) where
       abbrev new : Database
       new = (removed db unit s k).database
-
-      done : effect schema capacity db unit (Remove s) ≡ removed db unit s k
-      done = effect-is ∙ ap (λ (c : Option Cause). unless_refused db unit c (removed db unit s k)) free
 
       edits-are : (removing hands s k).cells ≡ edits_of schema capacity db unit (Remove s)
       edits-are =
@@ -117,7 +99,7 @@ module _ (schema : Lists) (capacity : ℕ) (unit : Unit) (hands : Hands) (s : �
 
       version-is : version_of new k ≡ version_in hands k + 1
       version-is =
-          let there = (own-passed hands unit k (is_none (own_occurrence hands s k)) NotMember [] free).0 in
+          let there = (own-passed hands unit k (is_none (owner_in hands s k)) NotMember [] free).0 in
           version-raised (record db { lists = λ t o. cond (eqb t s) (option_map (without k) (db.lists t o)) (db.lists t o) }) k (live_in_hand schema capacity db hands unit agrees k slot_held ∙ there)
           ∙ ap (λ v. v + 1) (version_in_hand schema capacity db hands unit agrees k slot_held)
 
@@ -129,68 +111,56 @@ module _ (schema : Lists) (capacity : ℕ) (unit : Unit) (hands : Hands) (s : �
 
       removes : IsEffect schema capacity db unit hands.guesses (Remove s) (removing hands s k)
       removes =
-          done-is_effect schema capacity db unit hands (Remove s) (removing hands s k) refl (may_plan may) agrees refl
+          done-is_effect schema capacity db unit hands (Remove s) (removing hands s k) refl may agrees refl
           (sym (ap (λ (o : Outcome). o.answer) done)) edits-are
           (unit-is ∙ sym (ap (λ (o : Outcome). o.unit) done))
           (guesses-are ∙ sym (ap (guesses_after schema capacity (Remove s) hands.guesses) done))
 
-  -- on an agreeing database the plan is the effect
-  is-effect : (db : Database) → Agrees schema capacity db hands unit → IsEffect schema capacity db unit hands.guesses (Remove s) (remove_plan unit hands s)
-  is-effect db agrees = by_current unit.currency.run_unit refl where
-    by_current : (r : Option DbKey) → unit.currency.run_unit ≡ r → IsEffect schema capacity db unit hands.guesses (Remove s) (on_current_plan r (remove_checks_in unit hands s) (removing hands s))
-    by_current None e =
-        refusal-is_effect schema capacity db unit hands.guesses (Remove s) NoCurrentOfRunUnit
-        (effect-on_cells schema capacity db unit (Remove s) passes ∙ ap (λ (r : Option DbKey). on_current db unit r (remove_checks schema capacity db unit s) (removed db unit s)) e)
-    by_current (Some k) e = by_checks (first_cause (remove_checks_in unit hands s k)) refl where
-      by_checks : (c : Option Cause) → first_cause (remove_checks_in unit hands s k) ≡ c → IsEffect schema capacity db unit hands.guesses (Remove s) (unless_refusal c (removing hands s k))
-      by_checks (Some cause) h =
-          refusal-is_effect schema capacity db unit hands.guesses (Remove s) cause (effect-is db agrees k e ∙ ap (λ (c : Option Cause). unless_refused db unit c (removed db unit s k)) h)
-      by_checks None h = removes db agrees k e h
+  abbrev checks : View → DbKey → List (Bool × Cause)
+  checks view = remove_checks view unit s
 
   -- what is prepared changes held cells alone
-  all-held : list_all (λ (e : CellEdit). holds hands.cells e.name) (remove_plan unit hands s).cells ≡ true
-  all-held = by_current unit.currency.run_unit where
-    ring-held-by : (k : DbKey) (q : Option Owner) → is_none (option_and_then (occurrence_in hands s) q) ≡ false → list_all (λ (e : CellEdit). holds hands.cells e.name) (ring_edits s q (TakeOut k ∷ [])) ≡ true
-    ring-held-by k None h = refl
-    ring-held-by k (Some o) h = and_from _ _ (ring-held hands s o (some-from-none (occurrence_in hands s o) h)) refl
+  all-held : (db : Database) → Agrees schema capacity db hands unit → list_all (λ (e : CellEdit). holds hands.cells e.name) (remove_plan unit hands s).cells ≡ true
+  all-held db agrees = current-all_held schema capacity unit hands (Remove s) passes checks (removing hands s) by_key where
+    ring-held-by : (k : DbKey) → unit.currency.run_unit ≡ Some k → (q : Option Owner) → owner_in hands s k ≡ q → list_all (λ (e : CellEdit). holds hands.cells e.name) (ring_edits s q (TakeOut k ∷ [])) ≡ true
+    ring-held-by k current None e = refl
+    ring-held-by k current (Some o) e = and_from _ _ (ring_held db agrees k current o e) refl
 
-    by_current : (r : Option DbKey) → list_all (λ (e : CellEdit). holds hands.cells e.name) (on_current_plan r (remove_checks_in unit hands s) (removing hands s)).cells ≡ true
-    by_current None = refl
-    by_current (Some k) = by_checks (first_cause (remove_checks_in unit hands s k)) refl where
-      by_checks : (c : Option Cause) → first_cause (remove_checks_in unit hands s k) ≡ c → list_all (λ (e : CellEdit). holds hands.cells e.name) (unless_refusal c (removing hands s k)).cells ≡ true
-      by_checks (Some cause) h = refl
-      by_checks None h =
-          let own = own-passed hands unit k (is_none (own_occurrence hands s k)) NotMember [] h in
-          let slot = slot-held hands k own.0 in
-          list_all-append (λ (e : CellEdit). holds hands.cells e.name) (ring_edits s (owner_in hands s k) (TakeOut k ∷ [])) (slot_edit k (ChangeOwner s None) ∷ slot_edit k RaiseVersion ∷ [])
-          ∙ and_from _ _ (ring-held-by k (owner_in hands s k) own.1) (and_from _ _ slot (and_from _ _ slot refl))
+    by_key : (k : DbKey) → unit.currency.run_unit ≡ Some k → first_cause (remove_checks (in_hand hands) unit s k) ≡ None → list_all (λ (e : CellEdit). holds hands.cells e.name) (removing hands s k).cells ≡ true
+    by_key k current h =
+        let slot = slot_held db agrees k current in
+        list_all-append (λ (e : CellEdit). holds hands.cells e.name) (ring_edits s (owner_in hands s k) (TakeOut k ∷ [])) (slot_edit k (ChangeOwner s None) ∷ slot_edit k RaiseVersion ∷ [])
+        ∙ and_from _ _ (ring-held-by k current (owner_in hands s k) refl) (and_from _ _ slot (and_from _ _ slot refl))
 
   pub remove-is_prepared : IsPrepared schema capacity unit hands (Remove s) (remove_plan unit hands s)
-  remove-is_prepared = record { held = all-held; effects = is-effect }
+  remove-is_prepared = record {
+    held = all-held;
+    effects = λ db agrees. current-is_effect schema capacity unit hands (Remove s) passes checks (removing hands s) db (removed db unit s) refl (checks-are db agrees) (removes db agrees);
+  }
 
   -- THAT IT CAN BE MADE
 
-  module _ (k : DbKey) (current : unit.currency.run_unit ≡ Some k) (free : first_cause (remove_checks_in unit hands s k) ≡ None) where
+  module _ (versions : HaveNextVersions hands.cells) (k : DbKey) (current : unit.currency.run_unit ≡ Some k) (free : first_cause (remove_checks (in_hand hands) unit s k) ≡ None) where
     can-make : (db : Database) → Agrees schema capacity db hands unit → CanMake (removing hands s k).cells hands.cells
-    can-make db agrees = by_owner (owner_in hands s k) refl (own-passed hands unit k (is_none (own_occurrence hands s k)) NotMember [] free).1 where
-      by_owner : (q : Option Owner) → owner_in hands s k ≡ q → is_none (option_and_then (occurrence_in hands s) q) ≡ false
+    can-make db agrees = by_owner (owner_in hands s k) refl where
+      by_owner : (q : Option Owner) → owner_in hands s k ≡ q
           → CanMake (ring_edits s q (TakeOut k ∷ []) ++ slot_edit k (ChangeOwner s None) ∷ slot_edit k RaiseVersion ∷ []) hands.cells
-      by_owner None e h = absurd (true≢false h)
-      by_owner (Some o) e h =
+      by_owner None e = absurd (true≢false (ap is_none (sym e) ∙ (own-passed hands unit k (is_none (owner_in hands s k)) NotMember [] free).1))
+      by_owner (Some o) e =
           can_make-raised (record { name = Ring s (place_of o); edit = TakeOut k } ∷ []) (slot_name k) (ChangeOwner s None) hands.cells refl refl (
-            can-edit-ring hands s o (TakeOut k) (some-from-none (occurrence_in hands s o) h) (λ v there is.
+            can-edit-ring hands s o (TakeOut k) (sym (listed_in_hand schema capacity db hands unit agrees s o (ring_held db agrees k current o e)) ∙ some_list (db.lists s o) k (owner-has db agrees k current o e)) (λ v there is.
                 ap (λ (r : Option Occurrence). is_member k (keys_in r)) is
                 ∙ ap (is_member k) (sym (members_in_hand schema capacity db hands unit agrees s o (ring_held db agrees k current o e)))
                 ∙ owner-has db agrees k current o e),
             tt,
           )
-          (λ x there. free-owner s None x) (leaves-owner s None) may.versions
+          (λ x there. free-owner s None x) (leaves-owner s None) versions
 
     -- a REMOVE that nothing refuses
     pub remove-can_finish : CanFinish schema capacity unit hands (Remove s) (removing hands s k)
     remove-can_finish = record {
       prepared = subst (IsPrepared schema capacity unit hands (Remove s))
-          (ap (λ (r : Option DbKey). on_current_plan r (remove_checks_in unit hands s) (removing hands s)) current ∙ ap (λ (c : Option Cause). unless_refusal c (removing hands s k)) free)
+          (ap (λ (r : Option DbKey). on_current_plan r (remove_checks (in_hand hands) unit s) (removing hands s)) current ∙ ap (λ (c : Option Cause). unless_refusal c (removing hands s k)) free)
           remove-is_prepared;
       can_make = can-make;
     }

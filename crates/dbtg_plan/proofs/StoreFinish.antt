@@ -95,7 +95,7 @@ module _ (schema : Lists) (capacity : ℕ) (unit : Unit) (old new : Hands) (t : 
   store_finishes rooms =
       record {
         prepared = record {
-          held = (λ i. list_all (λ (e : CellEdit). holds-same old new same e.name i) (store_plan schema unit old t items suppress).cells) ∙ held-by_missing (missing_of_store schema unit old t items) refl;
+          held = λ db agrees. (λ i. list_all (λ (e : CellEdit). holds-same old new same e.name i) (store_plan schema unit old t items suppress).cells) ∙ held-by_missing (missing_of_store schema unit old t items) refl;
           effects = λ db agrees.
               subst (λ (guesses : List (Option Owner)). IsEffect schema capacity db unit guesses (Store t items suppress) (store_plan schema unit old t items suppress)) (sym same.guesses)
               (plan-is_effect schema capacity unit old t items suppress (may_plan may) passes db (agrees_old db agrees));

@@ -13,6 +13,7 @@ use Rattle.dbtg_cells.specs.declared.key.Value.{Value}
 use Rattle.dbtg_cells.specs.declared.name.CellName.{CellName}
 use Rattle.dbtg_cells.specs.declared.name.CellName.TheVariants.{Extent, Ring}
 use Rattle.dbtg_cells.specs.Names.{name_eq}
+use Rattle.dbtg_unit.specs.View.{whole}
 use Rattle.dbtg_unit.specs.declared.statement.Statement.TheVariants.{Store}
 use Rattle.dbtg_unit.specs.declared.statement.Suppress.{Suppress}
 use Rattle.dbtg_unit.specs.declared.unit.Cause.{Cause}
@@ -26,7 +27,7 @@ use Rattle.dbtg_unit.specs.EditsOf.{first_owners, store_edits}
 use Rattle.dbtg_unit.specs.Effect.{Outcome, calc_taken, connected_in, effect, free_number, new_key, place_checks, store_checks, stored, unless_refused, with_new}
 use Rattle.dbtg_unit.specs.Guesses.{guesses_after}
 use Rattle.dbtg_unit.specs.Hands.{Hands}
-use Rattle.dbtg_unit.specs.InHand.{numbers_in}
+use Rattle.dbtg_unit.specs.InHand.{numbers_in, in_hand}
 use Rattle.dbtg_unit.specs.Legal.{Legal}
 use Rattle.dbtg_unit.specs.Local.{Agrees, holds}
 use Rattle.dbtg_unit.specs.Needs.{cells_of, current_owner, ring_names, store_cells, store_rings}
@@ -43,7 +44,7 @@ use Rattle.dbtg_unit.proofs.ReadyParts.{prepared_has_all}
 use Rattle.dbtg_unit.proofs.StoreCells.{owners-first}
 use Rattle.dbtg_unit.proofs.TwoDatabases.{flat_map_agrees}
 use Rattle.dbtg_plan.specs.Calc.{calc_taken_in, fresh_key}
-use Rattle.dbtg_plan.specs.Joining.{joined_place, place_checks_in}
+use Rattle.dbtg_plan.specs.Joining.{joined_place}
 use Rattle.dbtg_plan.specs.Missing.{first_missing}
 use Rattle.dbtg_plan.specs.Plans.{refusal, unless_refusal}
 use Rattle.dbtg_plan.specs.Store.{cells_of_key, key_plan, store_cells_in, store_checks_in, store_plan, stored_plan, missing_of_store}
@@ -136,14 +137,14 @@ module _ (schema : Lists) (capacity : ℕ) (unit : Unit) (hands : Hands) (t : �
 
       pub checks-in_hand : first_cause (store_checks schema capacity db unit t items) ≡ first_cause (store_checks_in schema unit hands t items)
       checks-in_hand =
-          let joins = flat_map (λ s. place_checks schema db unit s (key_item schema s t items)) (automatic_sets schema t) in
-          let joins_in = flat_map (λ s. place_checks_in schema unit hands s (key_item schema s t items)) (automatic_sets schema t) in
+          let joins = flat_map (λ s. place_checks schema (whole schema capacity db) unit s (key_item schema s t items)) (automatic_sets schema t) in
+          let joins_in = flat_map (λ s. place_checks schema (in_hand hands) unit s (key_item schema s t items)) (automatic_sets schema t) in
           let taken = taken-in_hand db agrees extent in
           elim (cases_Bool (calc_taken schema capacity db t items (λ k. false))) [
             | inl e ↦ (λ i. first_cause ((is_none (free i), NoRoom) ∷ (e i, DuplicatesNotAllowed) ∷ joins)) ∙ (λ i. first_cause ((sym (sym taken ∙ e) i, DuplicatesNotAllowed) ∷ joins_in))
             | inr e ↦
                 let same : joins ≡ joins_in
-                = flat_map_agrees (λ s. place_checks schema db unit s (key_item schema s t items)) (λ s. place_checks_in schema unit hands s (key_item schema s t items)) (automatic_sets schema t)
+                = flat_map_agrees (λ s. place_checks schema (whole schema capacity db) unit s (key_item schema s t items)) (λ s. place_checks schema (in_hand hands) unit s (key_item schema s t items)) (automatic_sets schema t)
                 (λ s i. sym (place_checks-in_hand schema capacity db hands unit agrees s (joined-held e s i) (key_item schema s t items))) in
                 λ i. first_cause ((is_none (free i), NoRoom) ∷ (taken i, DuplicatesNotAllowed) ∷ same i)
           ]
@@ -179,7 +180,7 @@ module _ (schema : Lists) (capacity : ℕ) (unit : Unit) (hands : Hands) (t : �
     by-number None e =
         refusal-is_effect schema capacity db unit hands.guesses (Store t items suppress) NoRoom
         (effect-on_cells schema capacity db unit (Store t items suppress) passes
-        ∙ (λ i. unless_refused db unit (first_cause ((is_none (e i), NoRoom) ∷ (calc_taken schema capacity db t items (λ k. false), DuplicatesNotAllowed) ∷ flat_map (λ s. place_checks schema db unit s (key_item schema s t items)) (automatic_sets schema t)))
+        ∙ (λ i. unless_refused db unit (first_cause ((is_none (e i), NoRoom) ∷ (calc_taken schema capacity db t items (λ k. false), DuplicatesNotAllowed) ∷ flat_map (λ s. place_checks schema (whole schema capacity db) unit s (key_item schema s t items)) (automatic_sets schema t)))
         (stored schema capacity db unit (new_key db t (unwrap_or (free_number capacity db t) 0)) items suppress)))
     by-number (Some n) e = by-cause n e (first_cause (store_checks_in schema unit hands t items)) refl
 

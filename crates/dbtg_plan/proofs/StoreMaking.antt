@@ -24,6 +24,7 @@ use Rattle.dbtg_cells.specs.Members.{keys_in}
 use Rattle.dbtg_cells.specs.Names.{name_eq, place_eq}
 use Rattle.dbtg_cells.specs.Numbers.{entry_of, is_free}
 use Rattle.dbtg_cells.specs.Shown.{RingValue}
+use Rattle.dbtg_unit.specs.View.{whole}
 use Rattle.dbtg_unit.specs.declared.edit.CellEdit.{CellEdit}
 use Rattle.dbtg_unit.specs.declared.edit.Edit.TheVariants.{EnterNumber, Fill, OpenRing, PlaceMember}
 use Rattle.dbtg_unit.specs.declared.unit.Cause.TheVariants.{Deleted, DuplicatesNotAllowed, NoRoom}
@@ -37,7 +38,7 @@ use Rattle.dbtg_unit.specs.EditsOf.{first_owners, joining_edits, placed_at, ring
 use Rattle.dbtg_unit.specs.Effect.{calc_taken, free_number, new_key, place_checks, store_checks}
 use Rattle.dbtg_unit.specs.Fits.{values_fit}
 use Rattle.dbtg_unit.specs.Hands.{Hands, cell_of}
-use Rattle.dbtg_unit.specs.InHand.{numbers_in, numbers_of, occurrence_of, of_owner}
+use Rattle.dbtg_unit.specs.InHand.{numbers_in, numbers_of, occurrence_of, of_owner, in_hand}
 use Rattle.dbtg_unit.specs.Local.{Agrees, holds}
 use Rattle.dbtg_unit.specs.Making.{CanMake}
 use Rattle.dbtg_unit.specs.Needs.{current_owner, ring_names, store_rings}
@@ -58,7 +59,7 @@ use Rattle.dbtg_unit.proofs.PlacedLemmas.{pairwise-filter}
 use Rattle.dbtg_unit.proofs.ReadingCells.{held_cell}
 use Rattle.dbtg_unit.proofs.StoreCells.{own_ring-before, owner-not_k}
 use Rattle.dbtg_unit.proofs.StoreLegal.{not_member}
-use Rattle.dbtg_plan.specs.Joining.{joined_occurrence, joined_place, place_checks_in}
+use Rattle.dbtg_plan.specs.Joining.{joined_occurrence, joined_place}
 use Rattle.dbtg_plan.specs.Missing.{first_missing}
 use Rattle.dbtg_plan.specs.Store.{HasRoom, store_rings_in}
 use Rattle.dbtg_plan.proofs.JoiningLemmas.{can-join-in_hand, place_checks-in_hand}
@@ -258,9 +259,9 @@ module _ (schema : Lists) (capacity : ℕ) (db : Database) (hands : Hands) (unit
           let held = there-held (Ring s (place_of (joined_place schema unit s).owner)) hands.cells (RingCell v) there in
           let clause = some_and_is (λ m. is_automatic m.class) (member_clause schema s t) (of_filter (λ s. some_and (λ m. is_automatic m.class) (member_clause schema s t)) s (set_numbers schema) i).1 in
           let unique = (passes_check (calc_taken schema capacity db t items (λ k. false)) DuplicatesNotAllowed _ (passes_check (is_none (free_number capacity db t)) NoRoom _ passes).1).1 in
-          let checks : first_cause (place_checks_in schema unit hands s (key_item schema s t items)) ≡ None
+          let checks : first_cause (place_checks schema (in_hand hands) unit s (key_item schema s t items)) ≡ None
           = ap first_cause (place_checks-in_hand schema capacity db hands unit agrees s held (key_item schema s t items))
-          ∙ passes-each (λ s. place_checks schema db unit s (key_item schema s t items)) (automatic_sets schema t) s (automatic s i) unique in
+          ∙ passes-each (λ s. place_checks schema (whole schema capacity db) unit s (key_item schema s t items)) (automatic_sets schema t) s (automatic s i) unique in
           let present = some_from (joined_occurrence schema unit hands s) (passes_check (is_none (joined_occurrence schema unit hands s)) Deleted _ checks).0 in
           let read : joined_occurrence schema unit hands s ≡ of_owner (joined_place schema unit s).owner v.occurrence = ap (occurrence_of (joined_place schema unit s).owner) there in
           let fresh : is_member k (members_of db s (joined_place schema unit s).owner) ≡ false = false_from_ne_true _ (not_member schema capacity db k agrees.legal (new_is_fresh schema capacity db t n agrees.legal) s (joined_place schema unit s).owner) in

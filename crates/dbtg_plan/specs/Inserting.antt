@@ -1,27 +1,19 @@
 -- INSERT, read off the cells in hand.
 -- k is a key, s a set.
-use Rattle.std.specs.Prelude.{ℕ, ◌+◌, Bool, List, [], ◌∷◌, ◌++◌, Some, is_some}
+use Rattle.std.specs.Prelude.{ℕ, ◌+◌, [], ◌∷◌, Some}
 use Rattle.dbtg_schema.specs.Lists.{Lists}
 use Rattle.dbtg_cells.specs.declared.key.DbKey.{DbKey}
+use Rattle.dbtg_unit.specs.CellChecks.{insert_checks}
 use Rattle.dbtg_unit.specs.declared.edit.Edit.TheVariants.{ChangeOwner, RaiseVersion}
 use Rattle.dbtg_unit.specs.declared.edit.UnitEdit.TheVariants.{Move}
-use Rattle.dbtg_unit.specs.declared.unit.Cause.{Cause}
-use Rattle.dbtg_unit.specs.declared.unit.Cause.TheVariants.{AlreadyMember}
 use Rattle.dbtg_unit.specs.declared.unit.Unit.{Unit}
 use Rattle.dbtg_unit.specs.Base.{key_item}
 use Rattle.dbtg_unit.specs.EditsOf.{slot_edit}
 use Rattle.dbtg_unit.specs.Hands.{Hands}
-use Rattle.dbtg_unit.specs.InHand.{items_in, owner_in, own_checks_in, version_in}
+use Rattle.dbtg_unit.specs.InHand.{items_in, version_in, in_hand}
 use Rattle.dbtg_unit.specs.Prepared.{Plan}
-use Rattle.dbtg_plan.specs.Joining.{joined_place, joining_edit, place_checks_in}
+use Rattle.dbtg_plan.specs.Joining.{joined_place, joining_edit}
 use Rattle.dbtg_plan.specs.Plans.{done_answer, on_current_plan}
-
--- the record's own checks; already a member; then the place
-abbrev pub insert_checks_in : Lists → Unit → Hands → ℕ → DbKey → List (Bool × Cause)
-insert_checks_in schema unit hands s k =
-    own_checks_in hands unit k
-    ++ (is_some (owner_in hands s k), AlreadyMember)
-    ∷ place_checks_in schema unit hands s (key_item schema s k.rtype (items_in hands k))
 
 -- k in its place in the current occurrence, with that owner and its next version, and current of the set
 abbrev pub inserting : Lists → Unit → Hands → ℕ → DbKey → Plan
@@ -34,4 +26,4 @@ inserting schema unit hands s k = record {
 
 -- INSERT of the current of run-unit
 abbrev pub insert_plan : Lists → Unit → Hands → ℕ → Plan
-insert_plan schema unit hands s = on_current_plan unit.currency.run_unit (insert_checks_in schema unit hands s) (inserting schema unit hands s)
+insert_plan schema unit hands s = on_current_plan unit.currency.run_unit (insert_checks schema (in_hand hands) unit s) (inserting schema unit hands s)

@@ -1,6 +1,6 @@
 -- MODIFY, as it is read off the cells in hand.
 -- k is a key, s a set, t a record type, items what the record has after the changes.
-use Rattle.std.specs.Prelude.{ℕ, ◌+◌, Bool, not, ◌&&◌, ◌==◌, List, [], ◌∷◌, ◌++◌, Some, is_some, map, option_and_then, if◌then◌else◌}
+use Rattle.std.specs.Prelude.{ℕ, ◌+◌, Bool, not, ◌&&◌, ◌==◌, List, [], ◌∷◌, ◌++◌, Some, is_some, map, option_and_then, if◌then◌else◌, Option}
 use Rattle.std.specs.List.{list_any, flat_map}
 use Rattle.dbtg_schema.specs.Lists.{Lists}
 use Rattle.dbtg_schema.specs.Lookups.{some_and}
@@ -10,6 +10,8 @@ use Rattle.dbtg_cells.specs.declared.key.Value.{Value}
 use Rattle.dbtg_cells.specs.declared.name.CellName.TheVariants.{Extent}
 use Rattle.dbtg_cells.specs.Members.{has_sort_key, members_in}
 use Rattle.dbtg_cells.specs.Numbers.{entry_of, is_used}
+use Rattle.dbtg_cells.specs.declared.ring.Occurrence.{Occurrence}
+use Rattle.dbtg_unit.specs.CellChecks.{own_checks}
 use Rattle.dbtg_unit.specs.declared.edit.CellEdit.{CellEdit}
 use Rattle.dbtg_unit.specs.declared.edit.Edit.TheVariants.{ChangeItems, ChangeNumber, RaiseVersion, ReplaceMember}
 use Rattle.dbtg_unit.specs.declared.edit.UnitEdit.TheVariants.{Same}
@@ -21,14 +23,17 @@ use Rattle.dbtg_unit.specs.Base.{calc_items, key_item}
 use Rattle.dbtg_unit.specs.EditsOf.{ring_edits, slot_edit}
 use Rattle.dbtg_unit.specs.Effect.{changed_items, names_calc, refuses_equal}
 use Rattle.dbtg_unit.specs.Hands.{Hands}
-use Rattle.dbtg_unit.specs.InHand.{items_in, numbers_in, own_checks_in, owner_in, version_in}
+use Rattle.dbtg_unit.specs.InHand.{items_in, numbers_in, owner_in, version_in, in_hand, occurrence_in}
 use Rattle.dbtg_unit.specs.Prepared.{Plan}
 use Rattle.dbtg_unit.specs.Units.{place_in}
 use Rattle.dbtg_plan.specs.Calc.{calc_taken_in}
-use Rattle.dbtg_plan.specs.Removing.{own_occurrence}
 use Rattle.dbtg_plan.specs.Plans.{done_answer, on_current_plan}
 
 -- CHECKS
+
+-- the occurrence in hand that has k as a member of set s, by the owner that k itself names
+abbrev pub own_occurrence : Hands → ℕ → DbKey → Option Occurrence
+own_occurrence hands s k = option_and_then (occurrence_in hands s) (owner_in hands s k)
 
 -- its number is in use
 abbrev pub is_numbered_in : Hands → DbKey → Bool
@@ -58,7 +63,7 @@ calc_checks_in schema hands changes k items =
 -- the record's own checks; its CALC values; a sort key taken by another
 abbrev pub modify_checks_in : Lists → Hands → Unit → List Change → DbKey → List Value → List (Bool × Cause)
 modify_checks_in schema hands unit changes k items =
-    own_checks_in hands unit k
+    own_checks (in_hand hands) unit k
     ++ (calc_checks_in schema hands changes k items
     ++ (list_any (sort_key_taken schema hands changes k items) (set_numbers schema), DuplicatesNotAllowed) ∷ [])
 

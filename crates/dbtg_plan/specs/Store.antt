@@ -12,6 +12,7 @@ use Rattle.dbtg_cells.specs.declared.key.Owner.TheVariants.{Rec}
 use Rattle.dbtg_cells.specs.declared.key.Value.{Value}
 use Rattle.dbtg_cells.specs.declared.name.CellName.{CellName}
 use Rattle.dbtg_cells.specs.declared.name.CellName.TheVariants.{Extent, Ring}
+use Rattle.dbtg_unit.specs.CellChecks.{place_checks}
 use Rattle.dbtg_unit.specs.declared.edit.CellEdit.{CellEdit}
 use Rattle.dbtg_unit.specs.declared.edit.Edit.TheVariants.{OpenRing}
 use Rattle.dbtg_unit.specs.declared.edit.UnitEdit.TheVariants.{See}
@@ -24,13 +25,13 @@ use Rattle.dbtg_unit.specs.Base.{key_item}
 use Rattle.dbtg_unit.specs.CellNames.{place_of, slot_name}
 use Rattle.dbtg_unit.specs.EditsOf.{first_owners, joining_edits, store_edits}
 use Rattle.dbtg_unit.specs.Hands.{Hands}
-use Rattle.dbtg_unit.specs.InHand.{numbers_in}
+use Rattle.dbtg_unit.specs.InHand.{numbers_in, in_hand}
 use Rattle.dbtg_unit.specs.Needs.{current_owner, ring_names, store_rings}
 use Rattle.dbtg_unit.specs.Prepared.{Plan}
 use Rattle.dbtg_unit.specs.Reserving.{CanTakeMember, OfHeld}
 use Rattle.dbtg_unit.specs.Units.{place_in}
 use Rattle.dbtg_plan.specs.Calc.{calc_taken_in, fresh_key}
-use Rattle.dbtg_plan.specs.Joining.{joined_place, place_checks_in}
+use Rattle.dbtg_plan.specs.Joining.{joined_place}
 use Rattle.dbtg_plan.specs.Missing.{first_missing}
 use Rattle.dbtg_plan.specs.Plans.{refusal, unless_refusal}
 
@@ -62,7 +63,7 @@ missing_of_store schema unit hands t items = first_missing hands (store_cells_in
 abbrev pub store_checks_in : Lists → Unit → Hands → ℕ → List Value → List (Bool × Cause)
 store_checks_in schema unit hands t items =
     (calc_taken_in schema (numbers_in hands t) t items None, DuplicatesNotAllowed)
-    ∷ flat_map (λ s. place_checks_in schema unit hands s (key_item schema s t items)) (automatic_sets schema t)
+    ∷ flat_map (λ s. place_checks schema (in_hand hands) unit s (key_item schema s t items)) (automatic_sets schema t)
 
 -- k is stored, and seen
 abbrev pub stored_plan : Lists → Unit → List Value → Suppress → DbKey → Plan
@@ -88,7 +89,7 @@ store_plan schema unit hands t items suppress =
 
 -- the checks of set s; none where STORE does not connect a record of type t
 abbrev pub join_checks : Lists → Unit → Hands → ℕ → List Value → ℕ → List (Bool × Cause)
-join_checks schema unit hands t items s = if list_any (λ s'. s' == s) (automatic_sets schema t) then place_checks_in schema unit hands s (key_item schema s t items) else []
+join_checks schema unit hands t items s = if list_any (λ s'. s' == s) (automatic_sets schema t) then place_checks schema (in_hand hands) unit s (key_item schema s t items) else []
 
 -- the edits by which k joins set s
 abbrev pub joins_of : Lists → Unit → DbKey → List Value → ℕ → List CellEdit

@@ -1,14 +1,15 @@
 //! INSERT: what it needs next, and what it does once it needs nothing more.
 ghost use Rattle.std.specs.Prelude.{◌≡◌, ℕ, [], ◌∷◌, Some, IfOk};
 ghost use Rattle.dbtg_schema.specs.Lookups.{first_cause};
+ghost use Rattle.dbtg_unit.specs.CellChecks.{insert_checks};
 ghost use Rattle.dbtg_unit.specs.declared.statement.Statement.TheVariants.{Insert};
 ghost use Rattle.dbtg_unit.specs.Base.{Database, key_item};
 ghost use Rattle.dbtg_unit.specs.Checks.{refused_at_once};
 ghost use Rattle.dbtg_unit.specs.EditsOf.{slot_edit};
-ghost use Rattle.dbtg_unit.specs.InHand.{items_in};
+ghost use Rattle.dbtg_unit.specs.InHand.{items_in, in_hand};
 ghost use Rattle.dbtg_unit.specs.Making.{CanFinish, HaveNextVersions, MayPrepare, ShowsTheSame};
 ghost use Rattle.dbtg_unit.specs.Needs.{cells_of};
-ghost use Rattle.dbtg_plan.specs.Inserting.{insert_checks_in, inserting};
+ghost use Rattle.dbtg_plan.specs.Inserting.{inserting};
 ghost use Rattle.dbtg_plan.specs.Joining.{joined_place, joining_edit};
 ghost use Rattle.dbtg_plan.specs.Missing.{first_missing};
 
@@ -49,7 +50,7 @@ fn refusal(
     sort_key: &Option<Value>,
 ) -> Option<Cause>
     requires { sort_key.now ≡ key_item schema.now set key.now.rtype (items_in held.now key.now) }
-    ensures { result ≡ first_cause (insert_checks_in schema.now unit.now held.now set key.now) }
+    ensures { result ≡ first_cause (insert_checks schema.now (in_hand held.now) unit.now set key.now) }
 {
     let own = own_refusal(held, unit, key);
     if own.is_some() {

@@ -4,13 +4,15 @@ ghost use Rattle.std.specs.List.{list_any};
 ghost use Rattle.dbtg_schema.specs.Lookups.{first_cause};
 ghost use Rattle.dbtg_cells.specs.Keys.{option_value_eq};
 ghost use Rattle.dbtg_cells.specs.Members.{keys_in, members_in};
+ghost use Rattle.dbtg_unit.specs.InHand.{in_hand};
+ghost use Rattle.dbtg_unit.specs.CellChecks.{place_checks};
 ghost use Rattle.dbtg_unit.specs.CellNames.{place_of};
 ghost use Rattle.dbtg_unit.specs.Effect.{refuses_equal, uses_position};
 ghost use Rattle.dbtg_unit.specs.Found.{is_lost};
 ghost use Rattle.dbtg_unit.specs.Making.{ShowsTheSame};
 ghost use Rattle.dbtg_unit.specs.Needs.{current_owner};
 ghost use Rattle.dbtg_unit.specs.Reserving.{CanTakeMember, KeepsOthers, OfHeld};
-ghost use Rattle.dbtg_plan.specs.Joining.{checks_at, joined_place, joining_edit, place_checks_in};
+ghost use Rattle.dbtg_plan.specs.Joining.{joined_place, joining_edit};
 
 use crate::members::ring_name;
 use dbtg_cells::{CellName, DbKey, Owner, Ring, Value};
@@ -67,28 +69,6 @@ fn takes_twice(order: Order, sort_key: &Option<Value>, ring: &Ring) -> bool
     }
 }
 
-fn refusal_at(
-    schema: &Schema,
-    set: SetNo,
-    place: Place,
-    ring: &Ring,
-    sort_key: &Option<Value>,
-) -> Option<Cause>
-    ensures { result ≡ first_cause (checks_at schema.now set place ring.now.occurrence sort_key.now) }
-{
-    let order = schema.order_of(set);
-    if !ring.is_present() {
-        return Some(Cause::Deleted);
-    }
-    if loses_position(order, place.at, ring) {
-        return Some(Cause::PositionLost);
-    }
-    if takes_twice(order, sort_key, ring) {
-        return Some(Cause::DuplicatesNotAllowed);
-    }
-    None
-}
-
 /// Why a record with this sort key may not join the current occurrence of a set.
 pub(crate) fn place_refusal(
     schema: &Schema,
@@ -97,13 +77,20 @@ pub(crate) fn place_refusal(
     set: SetNo,
     sort_key: &Option<Value>,
 ) -> Option<Cause>
-    ensures { result ≡ first_cause (place_checks_in schema.now unit.now held.now set sort_key.now) }
+    ensures { result ≡ first_cause (place_checks schema.now (in_hand held.now) unit.now set sort_key.now) }
 {
     let place = joined_place(schema, unit, set);
-    match occurrence(held, set, &place.owner) {
-        Some(ring) => refusal_at(schema, set, place, ring, sort_key),
-        None => Some(Cause::Deleted),
+    let order = schema.order_of(set);
+    let Some(ring) = occurrence(held, set, &place.owner) else {
+        return Some(Cause::Deleted);
+    };
+    if loses_position(order, place.at, ring) {
+        return Some(Cause::PositionLost);
     }
+    if takes_twice(order, sort_key, ring) {
+        return Some(Cause::DuplicatesNotAllowed);
+    }
+    None
 }
 
 /// The edit by which a record with this sort key joins the current occurrence of a set.

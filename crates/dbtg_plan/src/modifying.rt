@@ -16,8 +16,7 @@ ghost use Rattle.dbtg_unit.specs.Needs.{cells_of, ring_names};
 ghost use Rattle.dbtg_unit.specs.Units.{place_in};
 ghost use Rattle.dbtg_plan.specs.Calc.{calc_taken_in};
 ghost use Rattle.dbtg_plan.specs.Missing.{first_missing};
-ghost use Rattle.dbtg_plan.specs.Modifying.{calc_checks_in, calc_edits_in, is_rekeyed, is_replaced, modified_plan, modify_checks_in, modify_edits_in, modify_plan, replacing_edits_in, sort_key_taken};
-ghost use Rattle.dbtg_plan.specs.Removing.{own_occurrence};
+ghost use Rattle.dbtg_plan.specs.Modifying.{own_occurrence, calc_checks_in, calc_edits_in, is_rekeyed, is_replaced, modified_plan, modify_checks_in, modify_edits_in, modify_plan, replacing_edits_in, sort_key_taken};
 
 use crate::calc::{copy_calc, is_calc_taken};
 use crate::members::{copy_sort_key, next_version, owner_of, ring_name, slot_edit};

@@ -1,15 +1,16 @@
 //! REMOVE: what it needs next, and what it does once it needs nothing more.
 ghost use Rattle.std.specs.Prelude.{◌≡◌, ℕ, [], ◌∷◌, ◌++◌, None, is_some, IfOk};
 ghost use Rattle.dbtg_schema.specs.Lookups.{first_cause};
+ghost use Rattle.dbtg_unit.specs.CellChecks.{remove_checks};
 ghost use Rattle.dbtg_unit.specs.declared.statement.Statement.TheVariants.{Remove};
 ghost use Rattle.dbtg_unit.specs.Base.{Database};
 ghost use Rattle.dbtg_unit.specs.Checks.{refused_at_once};
 ghost use Rattle.dbtg_unit.specs.EditsOf.{ring_edits, slot_edit};
-ghost use Rattle.dbtg_unit.specs.InHand.{owner_in};
+ghost use Rattle.dbtg_unit.specs.InHand.{owner_in, in_hand};
 ghost use Rattle.dbtg_unit.specs.Making.{CanFinish, HaveNextVersions, MayPrepare};
 ghost use Rattle.dbtg_unit.specs.Needs.{cells_of};
 ghost use Rattle.dbtg_plan.specs.Missing.{first_missing};
-ghost use Rattle.dbtg_plan.specs.Removing.{own_occurrence, remove_checks_in, removing};
+ghost use Rattle.dbtg_plan.specs.Removing.{removing};
 
 use crate::members::{next_version, owner_of, ring_name, slot_edit};
 use crate::missing::{missing_ring, missing_slot};
@@ -17,7 +18,7 @@ use crate::outcomes::refused;
 use dbtg_cells::{CellName, DbKey, Owner};
 use dbtg_schema::{Row, Schema, SetNo};
 use dbtg_unit::{
-    Answer, Cause, CellEdit, Edit, Held, Prepared, Status, Unit, UnitEdit, occurrence, own_refusal,
+    Answer, Cause, CellEdit, Edit, Held, Prepared, Status, Unit, UnitEdit, own_refusal,
 };
 use std::alloc::{AllocError, Global};
 
@@ -38,29 +39,18 @@ pub(crate) fn next_cell_of_remove(
     missing_slot(held, unit.currency.run_unit)
 }
 
-// Is the occurrence of the record's own owner in hand?
-fn is_member(held: &Held, set: SetNo, key: &DbKey) -> bool
-    ensures { result ≡ is_some (own_occurrence held.now set key.now) }
-{
-    match owner_of(held, set, key) {
-        Some(owner) => occurrence(held, set, &owner).is_some(),
-        None => false,
-    }
-}
-
 // Why the record is not removed.
 fn refusal(unit: &Unit, set: SetNo, held: &Held, key: &DbKey) -> Option<Cause>
-    ensures { result ≡ first_cause (remove_checks_in unit.now held.now set key.now) }
+    ensures { result ≡ first_cause (remove_checks (in_hand held.now) unit.now set key.now) }
 {
     let own = own_refusal(held, unit, key);
     if own.is_some() {
         return own;
     }
-    if is_member(held, set, key) {
-        None
-    } else {
-        Some(Cause::NotMember)
+    if owner_of(held, set, key).is_none() {
+        return Some(Cause::NotMember);
     }
+    None
 }
 
 // Out of the ring of its owner, where it has one.

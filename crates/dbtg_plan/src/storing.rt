@@ -4,19 +4,20 @@ ghost use Rattle.std.specs.List.{flat_map, list_any};
 ghost use Rattle.dbtg_cells.specs.declared.key.DbKey.{DbKey};
 ghost use Rattle.dbtg_schema.specs.Lookups.{first_cause};
 ghost use Rattle.dbtg_schema.specs.Structure.{automatic_sets, owns, set_numbers};
+ghost use Rattle.dbtg_unit.specs.CellChecks.{place_checks};
 ghost use Rattle.dbtg_unit.specs.declared.statement.Statement.TheVariants.{Store};
 ghost use Rattle.dbtg_unit.specs.Base.{Database, key_item};
 ghost use Rattle.dbtg_unit.specs.CellNames.{place_of};
 ghost use Rattle.dbtg_unit.specs.Checks.{refused_at_once};
 ghost use Rattle.dbtg_unit.specs.EditsOf.{first_owners, joining_edits, slot_edit, store_edits};
-ghost use Rattle.dbtg_unit.specs.InHand.{numbers_in};
+ghost use Rattle.dbtg_unit.specs.InHand.{numbers_in, in_hand};
 ghost use Rattle.dbtg_unit.specs.Local.{Agrees};
 ghost use Rattle.dbtg_unit.specs.Making.{CanFinish, MayPrepare, ShowsTheSame};
 ghost use Rattle.dbtg_unit.specs.Needs.{cells_of, current_owner, ring_names, store_rings};
 ghost use Rattle.dbtg_unit.specs.Reserving.{KeepsOthers};
 ghost use Rattle.dbtg_unit.specs.Units.{place_in};
 ghost use Rattle.dbtg_plan.specs.Calc.{calc_taken_in, fresh_key};
-ghost use Rattle.dbtg_plan.specs.Joining.{joined_place, place_checks_in};
+ghost use Rattle.dbtg_plan.specs.Joining.{joined_place};
 ghost use Rattle.dbtg_plan.specs.Missing.{first_missing};
 ghost use Rattle.dbtg_plan.specs.Plans.{unless_refusal};
 ghost use Rattle.dbtg_plan.specs.Store.{HasRoom, first_owner, join_checks, joins_of, missing_of_store, openings_of, store_checks_in, store_plan, store_rings_in, stored_plan};
@@ -197,7 +198,7 @@ fn refusal_in_sets(
     rtype: RecordNo,
     items: &[Value],
 ) -> Result<Option<Cause>, AllocError>
-    ensures { IfOk result (λ cause. cause ≡ first_cause (flat_map (λ s. place_checks_in schema.now unit.now held.now s (key_item schema.now s rtype items.now)) (automatic_sets schema.now rtype))) }
+    ensures { IfOk result (λ cause. cause ≡ first_cause (flat_map (λ s. place_checks schema.now (in_hand held.now) unit.now s (key_item schema.now s rtype items.now)) (automatic_sets schema.now rtype))) }
 {
     for s in 0..set_count(schema) {
         let set = SetNo::new(s);

@@ -12,7 +12,7 @@ use crate::role::Role;
 use crate::scanner::Word;
 
 /// A word of the grammar.
-#[derive(Clone, Copy, Debug)]
+#[derive(Clone, Copy)]
 pub enum Keyword {
     Schema,
     Name,
@@ -104,7 +104,7 @@ impl Keyword {
 }
 
 /// What a word that is wanted has to be.
-#[derive(Clone, Copy, Debug)]
+#[derive(Clone, Copy)]
 pub enum Kind {
     Key(Keyword),
     Name,
@@ -112,14 +112,14 @@ pub enum Kind {
 }
 
 /// A word that is wanted, its role, and the state behind it.
-#[derive(Clone, Copy, Debug)]
+#[derive(Clone, Copy)]
 pub struct Start {
     pub kind: Kind,
     pub role: Role,
     pub next: State,
 }
 
-#[derive(Clone, Copy, Debug, PartialEq, Eq)]
+#[derive(Clone, Copy, PartialEq, Eq)]
 pub enum State {
     Opening,
     SchemaNameWord,

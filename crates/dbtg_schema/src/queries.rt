@@ -11,7 +11,7 @@ use crate::role::Role;
 use crate::scanner::Word;
 
 /// A word with its role.
-#[derive(Clone, Copy, Debug)]
+#[derive(Clone, Copy)]
 pub struct Labelled<'a> {
     pub role: Role,
     pub word: Word<'a>,

@@ -4,14 +4,14 @@ ghost use Rattle.std.specs.Prelude.{◌≡◌, ℕ, ◌+◌, ◌-◌, ◌<◌, �
 ghost use Rattle.dbtg_schema.specs.Words.{words, view, is_gap, is_letter, line_after};
 
 /// A word of a text, and the line on which it stands, from 1.
-#[derive(Clone, Copy, Debug)]
+#[derive(Clone, Copy)]
 pub struct Word<'a> {
     pub text: &'a [u8],
     pub line: u64,
 }
 
 /// What is left of a text, and the line on which that begins.
-#[derive(Clone, Copy, Debug)]
+#[derive(Clone, Copy)]
 pub struct Scanner<'a> {
     pub rest: &'a [u8],
     pub line: u64,

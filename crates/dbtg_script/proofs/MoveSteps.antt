@@ -4,7 +4,7 @@ use Rattle.std.specs.Prelude.{nat_lt, replicate}
 use Rattle.std.proofs.lemmas.List.{length-replicate}
 use Rattle.std.proofs.lemmas.Bool.{false≢true}
 use Rattle.std.proofs.lemmas.Bool.Decides.{nat_tests}
-use Rattle.dbtg_step.specs.declared.moves.Move.{Move}
+use Rattle.dbtg_unit.specs.declared.moves.Move.{Move}
 use Rattle.dbtg_script.specs.declared.moves.MovesCause.TheVariants.{NotAMove, TooManyMoves}
 use Rattle.dbtg_script.specs.Moves.{is_gap, onto_word, words, spelled_move, refused_word}
 

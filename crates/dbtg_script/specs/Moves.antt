@@ -1,7 +1,7 @@
 -- The moves of a moves file.
 use Rattle.std.specs.Prelude.{◌≡◌, ℕ, ◌+◌, Bool, true, false, not, ◌&&◌, ◌||◌, ◌==◌, nat_le, nat_lt, List, [], ◌∷◌, ◌++◌, Option, Some, None, if◌then◌else◌, replicate}
-use Rattle.dbtg_step.specs.declared.moves.Move.{Move}
-use Rattle.dbtg_step.specs.declared.moves.Move.TheVariants.{Step, Quit}
+use Rattle.dbtg_unit.specs.declared.moves.Move.{Move}
+use Rattle.dbtg_unit.specs.declared.moves.Move.TheVariants.{Step, Quit}
 use Rattle.dbtg_script.specs.declared.moves.MovesCause.{MovesCause}
 use Rattle.dbtg_script.specs.declared.moves.MovesCause.TheVariants.{NotAMove, TooManyMoves}
 use Rattle.dbtg_script.specs.declared.moves.MovesFault.{MovesFault}

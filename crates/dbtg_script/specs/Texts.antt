@@ -17,8 +17,8 @@ use Rattle.dbtg_unit.specs.Codes.{status_code}
 use Rattle.dbtg_unit.specs.declared.unit.Entry.{Entry}
 use Rattle.dbtg_unit.specs.declared.unit.Place.{Place}
 use Rattle.dbtg_unit.specs.declared.unit.Unit as unit
-use Rattle.dbtg_step.specs.declared.moves.Stepped.{Stepped}
-use Rattle.dbtg_step.specs.declared.moves.Stepped.TheVariants as stepped
+use Rattle.dbtg_unit.specs.declared.moves.Stepped.{Stepped}
+use Rattle.dbtg_unit.specs.declared.moves.Stepped.TheVariants as stepped
 
 -- ---- keys and values
 

@@ -12,7 +12,7 @@ use crate::spelling::{is_key, is_number, is_signed};
 use crate::token::Token;
 
 /// What a word that is wanted has to be.
-#[derive(Clone, Copy, Debug)]
+#[derive(Clone, Copy)]
 pub enum Kind {
     /// this very word
     Key(Keyword),
@@ -26,7 +26,7 @@ pub enum Kind {
 }
 
 /// A word that is wanted, its role, and the state behind it.
-#[derive(Clone, Copy, Debug)]
+#[derive(Clone, Copy)]
 pub struct Start {
     pub kind: Kind,
     pub role: Role,
@@ -34,7 +34,7 @@ pub struct Start {
 }
 
 /// How far a statement has been read.
-#[derive(Clone, Copy, Debug, PartialEq, Eq)]
+#[derive(Clone, Copy, PartialEq, Eq)]
 pub enum State {
     Opening,
     OpenArea,

@@ -7,7 +7,7 @@ ghost use Rattle.std.specs.Prelude.{◌≡◌, ◌++◌, IfOk, OnOk, map};
 use crate::print::{push_items, push_key, push_keys, push_mode, push_number, push_owner};
 use dbtg_cells::{DbKey, Mode, Owner, Value};
 use dbtg_schema::{Area, Row, Schema, SetType};
-use dbtg_step::{Image, Stepped};
+use dbtg_unit::{Image, Stepped};
 use std::alloc::{AllocError, Global};
 
 fn push_record(

@@ -4,7 +4,7 @@ ghost use Rattle.dbtg_script.specs.Automaton.{spelling};
 ghost use Rattle.std.specs.Prelude.{◌≡◌};
 
 /// A word of the grammar.
-#[derive(Clone, Copy, Debug)]
+#[derive(Clone, Copy)]
 pub enum Keyword {
     Open,
     Close,

@@ -5,7 +5,7 @@ ghost use Rattle.std.specs.Prelude.{◌≡◌, ◌==◌, ◌&&◌, ◌<◌, ◌�
 ghost use Rattle.std.specs.List.{list_all};
 
 /// What is left of a script.
-#[derive(Clone, Copy, Debug)]
+#[derive(Clone, Copy)]
 pub struct Lines<'a> {
     pub rest: &'a [u8],
 }

@@ -5,7 +5,7 @@ ghost use Rattle.dbtg_script.specs.declared.moves.MovesFault.TheVariants.{Memory
 ghost use Rattle.std.specs.Prelude.{◌≡◌, ◌+◌, ◌++◌, ◌<◌, ◌≤◌, ◌∷◌, ℕ, List, [], IfErr, IfOk, IfSome, MatchOption, None, OnOk, OnSome, false, length, replicate, slice_index, true};
 
 use crate::spelling::{behind, has_byte, in_front, is_number, number};
-use dbtg_step::Move;
+use dbtg_unit::Move;
 use std::alloc::{AllocError, AllocFailed, Global};
 use thiserror::Error;
 
@@ -58,7 +58,7 @@ impl From<AllocError> for MovesFault {
 }
 
 /// What is left of a text of moves.
-#[derive(Clone, Copy, Debug)]
+#[derive(Clone, Copy)]
 struct Words<'a> {
     rest: &'a [u8],
 }

@@ -10,7 +10,7 @@ use crate::role::Role;
 use crate::token::Token;
 
 /// A word with its role.
-#[derive(Clone, Copy, Debug)]
+#[derive(Clone, Copy)]
 pub struct Labelled<'a> {
     pub role: Role,
     pub token: Token<'a>,

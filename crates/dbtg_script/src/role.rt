@@ -1,7 +1,7 @@
 //! What the words of a statement are there for.
 
 /// What a word of a statement is there for.
-#[derive(Clone, Copy, Debug, PartialEq, Eq)]
+#[derive(Clone, Copy, PartialEq, Eq)]
 pub enum Role {
     Plain,
     Open,

@@ -7,8 +7,7 @@ use crate::image::image_text;
 use crate::print::push_number;
 use crate::texts::{answers_text, units_text};
 use dbtg_schema::Schema;
-use dbtg_step::Image;
-use dbtg_unit::{Entry, Unit};
+use dbtg_unit::{Entry, Image, Unit};
 use std::alloc::{AllocError, Global};
 
 fn push_name(out: &mut Vec<u8>, name: &[u8]) -> Result<(), AllocError>

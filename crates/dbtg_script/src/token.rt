@@ -2,7 +2,7 @@ ghost use Rattle.std.specs.Prelude.{◌≡◌, ℕ, ◌+◌, ◌-◌, ◌<◌, �
 ghost use Rattle.dbtg_script.specs.Tokens.{tokens, view, is_letter};
 
 /// A word of a line.
-#[derive(Clone, Copy, Debug)]
+#[derive(Clone, Copy)]
 pub enum Token<'a> {
     Plain(&'a [u8]),
     Equals,
@@ -10,7 +10,7 @@ pub enum Token<'a> {
 }
 
 /// What is left of a line.
-#[derive(Clone, Copy, Debug)]
+#[derive(Clone, Copy)]
 pub struct Tokens<'a> {
     pub rest: &'a [u8],
 }

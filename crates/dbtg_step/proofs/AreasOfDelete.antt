@@ -11,6 +11,7 @@ use Rattle.dbtg_cells.specs.declared.key.Owner.TheVariants.{Rec}
 use Rattle.dbtg_cells.specs.declared.name.CellName.{CellName}
 use Rattle.dbtg_cells.specs.declared.name.CellName.TheVariants.{Extent, Ring}
 use Rattle.dbtg_cells.specs.Names.{name_eq}
+use Rattle.dbtg_unit.specs.View.{whole}
 use Rattle.dbtg_unit.specs.declared.statement.Erase.{Erase}
 use Rattle.dbtg_unit.specs.declared.unit.Unit.{Unit}
 use Rattle.dbtg_unit.specs.Base.{Database, is_member, members_of}
@@ -131,7 +132,7 @@ module _ (schema : Lists) (capacity : ℕ) (db : Database) (legal : Legal schema
 
   pub delete_cells_lie : (unit : Unit) (option : Erase) (k : DbKey) → k.rtype ≡ root → list_all (lies_in schema areas) (delete_cells schema capacity db unit option k) ≡ true
   delete_cells_lie unit option k e =
-      cond_both (is_some (first_cause (own_checks db unit k))) _ _ (λ cs. list_all (lies_in schema areas) cs ≡ true) (λ f. slot_lies)
+      cond_both (is_some (first_cause (own_checks (whole schema capacity db) unit k))) _ _ (λ cs. list_all (lies_in schema areas) cs ≡ true) (λ f. slot_lies)
       (λ f. cond_both (is_plain option && has_members schema db k) _ _ (λ cs. list_all (lies_in schema areas) cs ≡ true)
       (λ g. and_from _ _ slot_here (to_member_lie k here _ (all_each (λ s. owns schema s k.rtype) _ (λ s i. (of_filter (λ s. owns schema s k.rtype) s _ i).1))))
       (λ g. once_all (lies_in schema areas) [] (slot_name k ∷ own_rings schema k ++ flat_map (cells_of_doomed schema db) gone ++ outer_cells schema capacity db gone) all_lie))

@@ -23,7 +23,7 @@ use Rattle.dbtg_unit.specs.Replay.{State as DatabaseState, AnswersHold as Answer
 use Rattle.dbtg_unit.proofs.ReplayLemmas.{answers-behind}
 use Rattle.dbtg_step.specs.declared.parts.Parts.{Parts}
 use Rattle.dbtg_step.specs.declared.parts.Runner.{Runner}
-use Rattle.dbtg_step.specs.declared.moves.Stepped.TheVariants.{Moved}
+use Rattle.dbtg_unit.specs.declared.moves.Stepped.TheVariants.{Moved}
 use Rattle.dbtg_step.specs.SequentialDatabase.{In, unit_at, with_unit_at}
 use Rattle.dbtg_step.specs.Machine.{HistoryEntry, State, UnitState, statements_of}
 use Rattle.dbtg_step.specs.Lawful.{Lawful}

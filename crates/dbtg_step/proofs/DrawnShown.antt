@@ -34,7 +34,7 @@ use Rattle.dbtg_unit.proofs.ReplayLemmas.{versions_are_bounded}
 use Rattle.dbtg_step.specs.declared.parts.Parts.{Parts}
 use Rattle.dbtg_step.specs.declared.parts.Runner.{Runner}
 use Rattle.dbtg_step.specs.declared.parts.Stage.{Stage}
-use Rattle.dbtg_step.specs.declared.moves.Stepped.TheVariants.{Moved, NoMemory}
+use Rattle.dbtg_unit.specs.declared.moves.Stepped.TheVariants.{Moved, NoMemory}
 use Rattle.dbtg_step.specs.SequentialDatabase.{HeldCell, with_unit_at}
 use Rattle.dbtg_step.specs.Machine.{unless_over}
 use Rattle.dbtg_step.specs.Step.{MovedTo, due_cells, follows_need, with_ticket}

@@ -14,7 +14,7 @@ use Rattle.dbtg_unit.specs.Hands.{Hands}
 use Rattle.dbtg_step.specs.declared.parts.Parts.{Parts}
 use Rattle.dbtg_step.specs.declared.parts.Runner.{Runner}
 use Rattle.dbtg_step.specs.declared.parts.Stage.{Stage}
-use Rattle.dbtg_step.specs.declared.moves.Stepped.TheVariants.{Moved, Idle}
+use Rattle.dbtg_unit.specs.declared.moves.Stepped.TheVariants.{Moved, Idle}
 use Rattle.dbtg_step.specs.SequentialDatabase.{HeldCell, In, SequentialDatabase, unit_at, with_unit_at}
 use Rattle.dbtg_step.specs.Machine.{Location, Home, HeldBy, Progress, UnitState, State, begun, held_cells, relocated, unless_over}
 use Rattle.dbtg_step.specs.Step.{IsIdle, MovedTo, after_ticket, is_nonempty, step, updated, with_progress}

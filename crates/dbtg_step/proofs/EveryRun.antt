@@ -3,8 +3,8 @@ use Rattle.std.proofs.Common.{ℕ, ◌≡◌, Bool, List, [], ◌∷◌, Some}
 use Rattle.dbtg_step.specs.SequentialDatabase.{SequentialDatabase, IsSequentialDatabase, unit_at}
 use Rattle.dbtg_step.specs.Machine.{Progress, UnitState, State, SequentialState}
 use Rattle.dbtg_step.specs.Step.{Transition, MovedTo, IsBlocked, IsIdle, IfMoved, transition, state_after, run}
-use Rattle.dbtg_step.specs.declared.moves.Move.{Move}
-use Rattle.dbtg_step.specs.declared.moves.Move.TheVariants.{Step, Quit}
+use Rattle.dbtg_unit.specs.declared.moves.Move.{Move}
+use Rattle.dbtg_unit.specs.declared.moves.Move.TheVariants.{Step, Quit}
 use Rattle.dbtg_step.specs.Lawful.{Lawful, IsOpening}
 use Rattle.dbtg_step.specs.NeverStuck.{SomeUnitMoves, NeedsInOrder, AllInTurn, IsStrictOrder}
 use Rattle.dbtg_step.proofs.Keeps.{move_keeps, run_keeps}

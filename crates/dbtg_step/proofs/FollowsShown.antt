@@ -19,8 +19,8 @@ use Rattle.dbtg_step.specs.declared.parts.Place.{Place}
 use Rattle.dbtg_step.specs.declared.parts.Place.TheVariants.{Home as AtHome, HeldBy as WithUnit}
 use Rattle.dbtg_step.specs.declared.parts.Runner.{Runner}
 use Rattle.dbtg_step.specs.declared.parts.Stage.{Stage}
-use Rattle.dbtg_step.specs.declared.moves.Stepped.{Stepped}
-use Rattle.dbtg_step.specs.declared.moves.Stepped.TheVariants.{Moved, Blocked, Idle, NoMemory}
+use Rattle.dbtg_unit.specs.declared.moves.Stepped.{Stepped}
+use Rattle.dbtg_unit.specs.declared.moves.Stepped.TheVariants.{Moved, Blocked, Idle, NoMemory}
 use Rattle.dbtg_step.specs.Machine.{HeldBy, held_areas, holds_exclusively, relocated, ticket_of}
 use Rattle.dbtg_step.specs.Step.{any_but, any_other, conflicts, follows_need, is_nonempty, step, takes_area, takes_cell, IsBlocked}
 use Rattle.dbtg_step.specs.Network.{network, next_need_of}

@@ -3,8 +3,8 @@ use Rattle.std.proofs.Common.{ℕ, ◌≡◌, Bool, true, false, ltb, List, [], 
 use Rattle.dbtg_step.specs.SequentialDatabase.{HeldCell, SequentialDatabase, IsSequentialDatabase, NextNeed, NeedsArea, NeedsCell, StaleGuesses, NeedsNothing, MayMake, unit_at}
 use Rattle.dbtg_step.specs.Machine.{Location, Home, HeldBy, Progress, UnitState, State, SequentialState, replay}
 use Rattle.dbtg_step.specs.Step.{next_need, conflicts, any_other, Transition, MovedTo, IsBlocked, IsIdle, updated, with_progress, with_ticket, after_ticket, takes_area, takes_cell, follows_need, before_ticket, in_statement, step_of_unit, step_if_unit, step, quit_unless_ticket, quit_of_unit, quit_if_unit, quit, IfMoved, transition, state_after, run}
-use Rattle.dbtg_step.specs.declared.moves.Move.{Move}
-use Rattle.dbtg_step.specs.declared.moves.Move.TheVariants.{Step, Quit}
+use Rattle.dbtg_unit.specs.declared.moves.Move.{Move}
+use Rattle.dbtg_unit.specs.declared.moves.Move.TheVariants.{Step, Quit}
 use Rattle.dbtg_step.specs.Lawful.{Lawful}
 use Rattle.dbtg_step.proofs.Keeps.{move_keeps}
 use Rattle.dbtg_step.proofs.UnitFacts.{may_make}

@@ -22,7 +22,7 @@ use Rattle.dbtg_step.specs.Lawful.{Lawful, IsOpening}
 use Rattle.dbtg_step.specs.Network.{network}
 use Rattle.dbtg_step.specs.Headline.{IsSequential, entry_of, machine_after, machine_of, opening_of, units_from}
 use Rattle.dbtg_step.specs.Laws.{scripts_fit}
-use Rattle.dbtg_step.specs.declared.moves.Move.{Move}
+use Rattle.dbtg_unit.specs.declared.moves.Move.{Move}
 use Rattle.dbtg_step.proofs.Keeps.{run_keeps}
 use Rattle.dbtg_step.proofs.Opening.{opening_is_lawful}
 use Rattle.dbtg_step.proofs.Histories.{run_scripts}

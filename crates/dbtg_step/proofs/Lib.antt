@@ -1,55 +1,56 @@
-mod Premises
-mod UnitLists
-mod UnitFacts
-mod Updates
-mod Events
-mod TicketParts
-mod Tickets
-mod Keeps
-mod Opening
-mod Images
-mod Scripts
-mod StepCases
-mod Chains
-mod Waiting
-mod Ordered
-mod Turns
-mod EveryRun
-mod EventCounts
-mod Histories
-mod NetworkNeeds
-mod NameOrder
-mod Headlines
-mod Serials
-mod SerialShown
-mod FoundKeys
-mod AreasOfCells
-mod AreasOfDelete
-mod NeededCells
-mod Ascending
-mod SameCells
-mod StableCells
-mod CellsAscend
-mod TakingOrder
-mod SoundSchemas
-mod CellsExist
-mod StatementsLocal
-mod NetworkFacts
-mod TurnsBack
-mod GuessesKept
-mod NeededCellsExist
-mod PlacesOfCells
-mod EventsShown
-mod NeedsShown
-mod FollowsShown
-mod Makings
-mod DrawnShown
-mod QuitShown
-mod OpeningShown
-mod RangePushes
-mod ImagesRead
-mod CellsFound
-mod RunsShown
-mod Alone
-mod Audits
-mod Work
+pub mod Premises
+pub mod UnitLists
+pub mod UnitFacts
+pub mod Updates
+pub mod Events
+pub mod TicketParts
+pub mod Tickets
+pub mod Keeps
+pub mod Renewed
+pub mod Opening
+pub mod Images
+pub mod Scripts
+pub mod StepCases
+pub mod Chains
+pub mod Waiting
+pub mod Ordered
+pub mod Turns
+pub mod EveryRun
+pub mod EventCounts
+pub mod Histories
+pub mod NetworkNeeds
+pub mod NameOrder
+pub mod Headlines
+pub mod Serials
+pub mod SerialShown
+pub mod FoundKeys
+pub mod AreasOfCells
+pub mod AreasOfDelete
+pub mod NeededCells
+pub mod Ascending
+pub mod SameCells
+pub mod StableCells
+pub mod CellsAscend
+pub mod TakingOrder
+pub mod SoundSchemas
+pub mod CellsExist
+pub mod StatementsLocal
+pub mod NetworkFacts
+pub mod TurnsBack
+pub mod GuessesKept
+pub mod NeededCellsExist
+pub mod PlacesOfCells
+pub mod EventsShown
+pub mod NeedsShown
+pub mod FollowsShown
+pub mod Makings
+pub mod DrawnShown
+pub mod QuitShown
+pub mod OpeningShown
+pub mod RangePushes
+pub mod ImagesRead
+pub mod CellsFound
+pub mod RunsShown
+pub mod Alone
+pub mod Audits
+pub mod Work

@@ -12,11 +12,11 @@ use Rattle.dbtg_unit.specs.Replay.{opening_state, replay as replay_entries}
 use Rattle.dbtg_unit.specs.Units.{opening_unit}
 use Rattle.dbtg_unit.proofs.FitLemmas.{drop_none}
 use Rattle.dbtg_unit.proofs.LegalHistory.{opening_is_legal}
-use Rattle.dbtg_step.specs.declared.image.Run.{Run}
-use Rattle.dbtg_step.specs.declared.moves.Move.{Move}
-use Rattle.dbtg_step.specs.declared.moves.Move.TheVariants.{Step, Quit}
-use Rattle.dbtg_step.specs.declared.moves.Stepped.{Stepped}
-use Rattle.dbtg_step.specs.declared.moves.Stepped.TheVariants.{Moved, Blocked, Idle, NoMemory}
+use Rattle.dbtg_step.specs.declared.results.Run.{Run}
+use Rattle.dbtg_unit.specs.declared.moves.Move.{Move}
+use Rattle.dbtg_unit.specs.declared.moves.Move.TheVariants.{Step, Quit}
+use Rattle.dbtg_unit.specs.declared.moves.Stepped.{Stepped}
+use Rattle.dbtg_unit.specs.declared.moves.Stepped.TheVariants.{Moved, Blocked, Idle, NoMemory}
 use Rattle.dbtg_step.specs.declared.parts.Runner.{Runner}
 use Rattle.dbtg_step.specs.Machine.{State, UnitState, replay}
 use Rattle.dbtg_step.specs.Step.{Transition, MovedTo, IsBlocked, IsIdle, transition, state_after, result_of, run, results}

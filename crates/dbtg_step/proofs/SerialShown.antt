@@ -1,6 +1,6 @@
 -- A step more, and a unit more, of a serial run.
 use Rattle.std.proofs.Common.{ℕ, zero, suc, ◌≡◌, ◌≤◌, ◌+◌, ◌-◌, refl, sym, ap, subst, ◌∙◌, arith}
-use Rattle.dbtg_step.specs.declared.moves.Stepped.TheVariants.{Moved, Blocked, Idle, NoMemory}
+use Rattle.dbtg_unit.specs.declared.moves.Stepped.TheVariants.{Moved, Blocked, Idle, NoMemory}
 use Rattle.dbtg_step.specs.SequentialDatabase.{SequentialDatabase}
 use Rattle.dbtg_step.specs.Machine.{State, SequentialState}
 use Rattle.dbtg_step.specs.Network.{network}

@@ -12,7 +12,7 @@ use Rattle.dbtg_cells.specs.Shown.{CellValue}
 use Rattle.dbtg_unit.specs.declared.statement.Statement.{Statement}
 use Rattle.dbtg_unit.specs.declared.unit.Unit.{Unit}
 use Rattle.dbtg_unit.specs.Base.{Database}
-use Rattle.dbtg_step.specs.declared.moves.Stepped.TheVariants.{Blocked, Idle, Moved}
+use Rattle.dbtg_unit.specs.declared.moves.Stepped.TheVariants.{Blocked, Idle, Moved}
 use Rattle.dbtg_step.specs.declared.parts.Parts.{Parts}
 use Rattle.dbtg_step.specs.declared.parts.Runner.{Runner}
 use Rattle.dbtg_step.specs.SequentialDatabase.{HeldCell, NextNeed, NeedsArea, NeedsCell, StaleGuesses, NeedsNothing, In, unit_at}

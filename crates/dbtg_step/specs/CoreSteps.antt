@@ -1,8 +1,8 @@
 -- What a step and a quit of the core come to.
 use Rattle.std.specs.Prelude.{ℕ, ◌≡◌}
-use Rattle.dbtg_step.specs.declared.moves.Move.{Move}
-use Rattle.dbtg_step.specs.declared.moves.Stepped.{Stepped}
-use Rattle.dbtg_step.specs.declared.moves.Stepped.TheVariants.{Moved, Blocked, Idle, NoMemory}
+use Rattle.dbtg_unit.specs.declared.moves.Move.{Move}
+use Rattle.dbtg_unit.specs.declared.moves.Stepped.{Stepped}
+use Rattle.dbtg_unit.specs.declared.moves.Stepped.TheVariants.{Moved, Blocked, Idle, NoMemory}
 use Rattle.dbtg_step.specs.Machine.{State}
 use Rattle.dbtg_step.specs.Network.{network}
 use Rattle.dbtg_step.specs.Step.{IsBlocked, IsIdle, MovedTo, Transition, quit, result_of, state_after, step, transition}

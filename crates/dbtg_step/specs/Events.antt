@@ -28,8 +28,8 @@ use Rattle.dbtg_step.specs.declared.parts.Runner.{Runner}
 use Rattle.dbtg_step.specs.declared.parts.Stage.{Stage}
 use Rattle.dbtg_step.specs.declared.runner.Standing.{Standing}
 use Rattle.dbtg_step.specs.declared.runner.Standing.TheVariants.{Over, Between, TurningBack, Needing, Ticketed}
-use Rattle.dbtg_step.specs.declared.moves.Stepped.{Stepped}
-use Rattle.dbtg_step.specs.declared.moves.Stepped.TheVariants.{Moved, Blocked, Idle, NoMemory}
+use Rattle.dbtg_unit.specs.declared.moves.Stepped.{Stepped}
+use Rattle.dbtg_unit.specs.declared.moves.Stepped.TheVariants.{Moved, Blocked, Idle, NoMemory}
 use Rattle.dbtg_step.specs.SequentialDatabase.{unit_at}
 use Rattle.dbtg_step.specs.Machine.{UnitState, State, SequentialState, replay, ticket_of}
 use Rattle.dbtg_step.specs.Step.{next_need, quit, step, MovedTo, IsBlocked, IsIdle}

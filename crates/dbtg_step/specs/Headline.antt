@@ -10,9 +10,9 @@ use Rattle.dbtg_unit.specs.Cells.{cell}
 use Rattle.dbtg_unit.specs.Image.{Image, image_of}
 use Rattle.dbtg_unit.specs.Replay.{AnswersHold, TicketsInOrder, entries_of, opening_state, replay}
 use Rattle.dbtg_unit.specs.Units.{opening_unit}
-use Rattle.dbtg_step.specs.declared.image.Run.{Run}
-use Rattle.dbtg_step.specs.declared.moves.Move.{Move}
-use Rattle.dbtg_step.specs.declared.moves.Stepped.{Stepped}
+use Rattle.dbtg_step.specs.declared.results.Run.{Run}
+use Rattle.dbtg_unit.specs.declared.moves.Move.{Move}
+use Rattle.dbtg_unit.specs.declared.moves.Stepped.{Stepped}
 use Rattle.dbtg_step.specs.SequentialDatabase.{unit_at}
 use Rattle.dbtg_step.specs.Machine.{Home, UnitState, HistoryEntry, State, SequentialState}
 use Rattle.dbtg_step.specs.Step.{results, run}

@@ -2,6 +2,8 @@
 use Rattle.std.specs.Prelude.{ℕ, suc, List, [], ◌∷◌, None, map, length, replicate}
 use Rattle.dbtg_schema.specs.Lists.{Lists}
 use Rattle.dbtg_cells.specs.declared.name.CellName.{CellName}
+use Rattle.dbtg_cells.specs.declared.cell.Cell.{Cell}
+use Rattle.dbtg_cells.specs.Cells.{shown}
 use Rattle.dbtg_cells.specs.Shown.{CellValue}
 use Rattle.dbtg_unit.specs.declared.statement.Statement.{Statement}
 use Rattle.dbtg_unit.specs.Base.{opening}
@@ -15,6 +17,10 @@ use Rattle.dbtg_step.specs.Parts.{location_of}
 -- where the cells of a table are
 abbrev pub locations_of : List Place → List (Location CellValue)
 locations_of = map location_of
+
+-- these cells at home
+abbrev pub homes_shown : List Cell → List (Location CellValue)
+homes_shown = map (λ x. Home (shown x))
 
 -- cells at home as the opening database has them
 abbrev pub homes_of : Lists → ℕ → List CellName → List (Location CellValue)

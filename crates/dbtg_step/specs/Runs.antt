@@ -2,9 +2,9 @@
 use Rattle.std.specs.Prelude.{◌≡◌, List, map, length}
 use Rattle.dbtg_unit.specs.Image.{image_of}
 use Rattle.dbtg_unit.specs.Replay.{opening_state, replay}
-use Rattle.dbtg_step.specs.declared.image.Run.{Run}
-use Rattle.dbtg_step.specs.declared.moves.Move.{Move}
-use Rattle.dbtg_step.specs.declared.moves.Stepped.{Stepped}
+use Rattle.dbtg_step.specs.declared.results.Run.{Run}
+use Rattle.dbtg_unit.specs.declared.moves.Move.{Move}
+use Rattle.dbtg_unit.specs.declared.moves.Stepped.{Stepped}
 use Rattle.dbtg_step.specs.Network.{network}
 use Rattle.dbtg_step.specs.Step.{results, run}
 use Rattle.dbtg_step.specs.Parts.{CoreParts, CoreState, with_state}

@@ -5,7 +5,7 @@ use Rattle.dbtg_unit.specs.declared.statement.Statement.{Statement}
 use Rattle.dbtg_unit.specs.declared.unit.Unit.{Unit}
 use Rattle.dbtg_unit.specs.declared.unit.Entry.{Entry}
 use Rattle.dbtg_unit.specs.Image.{Image}
-use Rattle.dbtg_step.specs.declared.image.Run.{Run}
+use Rattle.dbtg_step.specs.declared.results.Run.{Run}
 use Rattle.dbtg_step.specs.SequentialDatabase.{SequentialDatabase}
 use Rattle.dbtg_step.specs.Machine.{State, SequentialState}
 use Rattle.dbtg_step.specs.Step.{Transition, MovedTo, IsBlocked, IsIdle, step}

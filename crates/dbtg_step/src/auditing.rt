@@ -14,15 +14,13 @@ ghost use Rattle.dbtg_step.specs.Events.{IsWell};
 ghost use Rattle.dbtg_step.specs.Audit.{GoesOn, HasJoined, HasMade, IsAtWork, IsAudited, IsHanded, IsMaking, IsOpened, IsReady, Rests};
 
 use crate::comparing::same_answer;
-use crate::image::Image;
 use crate::imaging::read_image;
-use crate::moves::Stepped;
 use crate::opening_parts::{opening_runners, opening_table};
 use crate::parts::{Parts, Runner};
 use crate::runner::units_of;
 use crate::stepping::step;
 use dbtg_schema::{Row, Schema};
-use dbtg_unit::{Answer, Entry, Statement, Unit};
+use dbtg_unit::{Answer, Entry, Image, Statement, Stepped, Unit};
 use std::alloc::{AllocError, Global};
 
 fn empty_scripts(alloc: Global, count: u8) -> Result<Row<Row<Statement>>, AllocError>

@@ -11,12 +11,11 @@ ghost use Rattle.dbtg_unit.specs.Making.{MayPrepare, ShowsTheSame};
 ghost use Rattle.dbtg_step.specs.declared.parts.Runner.{Runner};
 ghost use Rattle.dbtg_step.specs.Events.{IsDrawn, IsMadeOn, IsStepped, IsUnmade, IsWell, NeedsNext, StandsNeeding};
 
-use crate::moves::Stepped;
 use crate::parts::{Parts, Runner, Stage};
 use crate::runner::{close, pass, statement_of};
 use crate::statements::prepare;
 use dbtg_schema::Schema;
-use dbtg_unit::{Answer, Entry, Held, Statement, Unit, finish};
+use dbtg_unit::{Answer, Entry, Held, Statement, Stepped, Unit, finish};
 use std::alloc::{AllocError, Global};
 
 /// Makes the statement on the cells in hand. Where memory is refused, all shows the same.

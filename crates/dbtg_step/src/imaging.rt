@@ -7,12 +7,12 @@ ghost use Rattle.dbtg_unit.specs.InHand.{numbers_of, users_of};
 ghost use Rattle.dbtg_step.specs.SequentialDatabase.{unit_at};
 ghost use Rattle.dbtg_step.specs.Imaging.{cell_in, found_cell, generations_in, image_from, list_of, lists_of, next_in, occurrence_at, record_of, records_of, stored_at, version_of, versions_of};
 
-use crate::image::Image;
 use crate::parts::{Parts, Place, Runner};
 use dbtg_cells::{
     Cell, CellName, DbKey, Extent, Mode, Owner, Ring, Stored, Usage, Value, cell_number, copy_items,
 };
 use dbtg_schema::{AreaNo, RecordNo, Row, Schema, SetNo};
+use dbtg_unit::Image;
 use std::alloc::{AllocError, Global};
 
 fn place_at(table: &[Place], number: usize) -> Option<&Place>

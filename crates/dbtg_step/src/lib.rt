@@ -4,15 +4,14 @@
 mod auditing;
 mod comparing;
 mod drawing;
-mod image;
 mod imaging;
 mod laws;
 mod machine;
-mod moves;
 mod needing;
 mod opening_parts;
 mod parts;
 mod quitting;
+mod results;
 mod runner;
 mod running;
 mod serially;
@@ -21,7 +20,6 @@ mod stepping;
 mod table;
 
 pub use auditing::audit;
-pub use image::{Image, Run};
 pub use laws::{
     each_event_keeps_lawful, every_image_is_of_its_history, every_run_extends_history,
     every_run_is_lawful, every_run_is_sequential, every_serial_run_is_a_run, machine_is_opening,
@@ -29,5 +27,7 @@ pub use laws::{
     statements_have_their_events,
 };
 pub use machine::Core;
-pub use moves::{Move, Stepped};
+pub use opening_parts::{opening_cells, opening_unit};
+pub use results::Run;
 pub use running::{run, run_serial};
+pub use statements::{next_need, prepare};

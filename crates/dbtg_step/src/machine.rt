@@ -10,16 +10,15 @@ ghost use Rattle.dbtg_step.specs.Laws.{scripts_fit};
 ghost use Rattle.dbtg_step.specs.Parts.{machine};
 ghost use Rattle.dbtg_step.specs.Runs.{IsHandedOut};
 
-use crate::image::{Image, Run};
 use crate::imaging::read_image;
-use crate::moves::Stepped;
 use crate::opening_parts::{opening_runners, opening_table};
 use crate::parts::Parts;
 use crate::quitting::quit;
+use crate::results::Run;
 use crate::runner::units_of;
 use crate::stepping::step;
 use dbtg_schema::{Row, Schema};
-use dbtg_unit::{Entry, Statement, Unit};
+use dbtg_unit::{Entry, Image, Statement, Stepped, Unit};
 use std::alloc::{AllocError, Global};
 use std::marker::Model;
 

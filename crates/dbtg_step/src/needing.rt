@@ -8,13 +8,12 @@ ghost use Rattle.dbtg_step.specs.declared.parts.Runner.{Runner};
 ghost use Rattle.dbtg_step.specs.Events.{holds_against, IsStepped, IsTaken, IsWell, NeedsNext, StandsNeeding};
 
 use crate::drawing::draws;
-use crate::moves::Stepped;
 use crate::parts::{Parts, Place, Runner, Stage};
 use crate::runner::{statement_of, turn_back};
 use crate::statements::next_need;
 use dbtg_cells::{CellName, Owner, cell_number};
 use dbtg_schema::{AreaNo, Schema};
-use dbtg_unit::{Held, Need, Owners};
+use dbtg_unit::{Held, Need, Owners, Stepped};
 use std::alloc::{AllocError, Global};
 use std::mem;
 

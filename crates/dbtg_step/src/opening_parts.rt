@@ -8,7 +8,7 @@ ghost use Rattle.dbtg_cells.specs.CellNumbers.{cells_in_order, rings_of, slots_o
 ghost use Rattle.dbtg_unit.specs.Base.{opening};
 ghost use Rattle.dbtg_unit.specs.Cells.{cell};
 ghost use Rattle.dbtg_unit.specs.Units.{opening_unit};
-ghost use Rattle.dbtg_step.specs.Openings.{homes_of, locations_of, opening_runner, runners_from};
+ghost use Rattle.dbtg_step.specs.Openings.{homes_of, homes_shown, locations_of, opening_runner, runners_from};
 
 use crate::parts::{Place, Runner};
 use dbtg_cells::{Cell, CellName, Extent, Owner, Ring, Slot, Usage};
@@ -47,18 +47,18 @@ fn opening_cell(
     }
 }
 
-// The table with one cell more.
+// The cells with one more.
 fn add_cell(
     alloc: Global,
     schema: &Schema,
     capacity: u16,
-    table: &mut Vec<Place>,
+    cells: &mut Vec<Cell>,
     name: &CellName,
 ) -> Result<(), AllocError>
-    ensures { OnOk result (locations_of table.new.items ≡ locations_of table.old.items ++ homes_of schema.now capacity (name.now ∷ [])) }
+    ensures { OnOk result (homes_shown cells.new.items ≡ homes_shown cells.old.items ++ homes_of schema.now capacity (name.now ∷ [])) }
 {
     let cell = opening_cell(alloc, schema, capacity, name)?;
-    table.push(Place::Home(cell))?;
+    cells.push(cell)?;
     Ok(())
 }
 
@@ -66,16 +66,16 @@ fn add_usages(
     alloc: Global,
     schema: &Schema,
     capacity: u16,
-    table: &mut Vec<Place>,
+    cells: &mut Vec<Cell>,
 ) -> Result<(), AllocError>
-    ensures { OnOk result (locations_of table.new.items ≡ locations_of table.old.items ++ homes_of schema.now capacity (map CellName.Usage (range_with_len 0 (length schema.now.areas)))) }
+    ensures { OnOk result (homes_shown cells.new.items ≡ homes_shown cells.old.items ++ homes_of schema.now capacity (map CellName.Usage (range_with_len 0 (length schema.now.areas)))) }
 {
     for area in 0..schema.areas().len() as u8 {
         add_cell(
             alloc,
             schema,
             capacity,
-            table,
+            cells,
             &CellName::Usage(AreaNo::new(area)),
         )?;
     }
@@ -86,16 +86,16 @@ fn add_extents(
     alloc: Global,
     schema: &Schema,
     capacity: u16,
-    table: &mut Vec<Place>,
+    cells: &mut Vec<Cell>,
 ) -> Result<(), AllocError>
-    ensures { OnOk result (locations_of table.new.items ≡ locations_of table.old.items ++ homes_of schema.now capacity (map CellName.Extent (range_with_len 0 (length schema.now.types)))) }
+    ensures { OnOk result (homes_shown cells.new.items ≡ homes_shown cells.old.items ++ homes_of schema.now capacity (map CellName.Extent (range_with_len 0 (length schema.now.types)))) }
 {
     for rtype in 0..schema.types().len() as u8 {
         add_cell(
             alloc,
             schema,
             capacity,
-            table,
+            cells,
             &CellName::Extent(RecordNo::new(rtype)),
         )?;
     }
@@ -108,13 +108,13 @@ fn add_owned_rings(
     capacity: u16,
     set: SetNo,
     owner: RecordNo,
-    table: &mut Vec<Place>,
+    cells: &mut Vec<Cell>,
 ) -> Result<(), AllocError>
-    ensures { OnOk result (locations_of table.new.items ≡ locations_of table.old.items ++ homes_of schema.now capacity (map (λ n. CellName.Ring set (Some (owner, n))) (range_with_len 1 capacity))) }
+    ensures { OnOk result (homes_shown cells.new.items ≡ homes_shown cells.old.items ++ homes_of schema.now capacity (map (λ n. CellName.Ring set (Some (owner, n))) (range_with_len 1 capacity))) }
 {
     for lower in 0..capacity {
         let name = CellName::Ring(set, Some((owner, lower as u32 + 1)));
-        add_cell(alloc, schema, capacity, table, &name)?;
+        add_cell(alloc, schema, capacity, cells, &name)?;
     }
     Ok(())
 }
@@ -124,15 +124,15 @@ fn add_rings_of(
     schema: &Schema,
     capacity: u16,
     set: SetNo,
-    table: &mut Vec<Place>,
+    cells: &mut Vec<Cell>,
 ) -> Result<(), AllocError>
-    ensures { OnOk result (locations_of table.new.items ≡ locations_of table.old.items ++ homes_of schema.now capacity (rings_of schema.now capacity set)) }
+    ensures { OnOk result (homes_shown cells.new.items ≡ homes_shown cells.old.items ++ homes_of schema.now capacity (rings_of schema.now capacity set)) }
 {
     if schema.is_system(set) {
-        return add_cell(alloc, schema, capacity, table, &CellName::Ring(set, None));
+        return add_cell(alloc, schema, capacity, cells, &CellName::Ring(set, None));
     }
     match schema.owner_type(set) {
-        Some(owner) => add_owned_rings(alloc, schema, capacity, set, owner, table),
+        Some(owner) => add_owned_rings(alloc, schema, capacity, set, owner, cells),
         None => Ok(()),
     }
 }
@@ -141,12 +141,12 @@ fn add_rings(
     alloc: Global,
     schema: &Schema,
     capacity: u16,
-    table: &mut Vec<Place>,
+    cells: &mut Vec<Cell>,
 ) -> Result<(), AllocError>
-    ensures { OnOk result (locations_of table.new.items ≡ locations_of table.old.items ++ homes_of schema.now capacity (flat_map (rings_of schema.now capacity) (set_numbers schema.now))) }
+    ensures { OnOk result (homes_shown cells.new.items ≡ homes_shown cells.old.items ++ homes_of schema.now capacity (flat_map (rings_of schema.now capacity) (set_numbers schema.now))) }
 {
     for set in 0..schema.sets().len() as u8 {
-        add_rings_of(alloc, schema, capacity, SetNo::new(set), table)?;
+        add_rings_of(alloc, schema, capacity, SetNo::new(set), cells)?;
     }
     Ok(())
 }
@@ -156,13 +156,13 @@ fn add_slots_of(
     schema: &Schema,
     capacity: u16,
     rtype: RecordNo,
-    table: &mut Vec<Place>,
+    cells: &mut Vec<Cell>,
 ) -> Result<(), AllocError>
-    ensures { OnOk result (locations_of table.new.items ≡ locations_of table.old.items ++ homes_of schema.now capacity (slots_of capacity rtype)) }
+    ensures { OnOk result (homes_shown cells.new.items ≡ homes_shown cells.old.items ++ homes_of schema.now capacity (slots_of capacity rtype)) }
 {
     for lower in 0..capacity {
         let name = CellName::Slot(rtype, lower as u32 + 1);
-        add_cell(alloc, schema, capacity, table, &name)?;
+        add_cell(alloc, schema, capacity, cells, &name)?;
     }
     Ok(())
 }
@@ -171,17 +171,40 @@ fn add_slots(
     alloc: Global,
     schema: &Schema,
     capacity: u16,
-    table: &mut Vec<Place>,
+    cells: &mut Vec<Cell>,
 ) -> Result<(), AllocError>
-    ensures { OnOk result (locations_of table.new.items ≡ locations_of table.old.items ++ homes_of schema.now capacity (flat_map (slots_of capacity) (range_with_len 0 (length schema.now.types)))) }
+    ensures { OnOk result (homes_shown cells.new.items ≡ homes_shown cells.old.items ++ homes_of schema.now capacity (flat_map (slots_of capacity) (range_with_len 0 (length schema.now.types)))) }
 {
     for rtype in 0..schema.types().len() as u8 {
-        add_slots_of(alloc, schema, capacity, RecordNo::new(rtype), table)?;
+        add_slots_of(alloc, schema, capacity, RecordNo::new(rtype), cells)?;
     }
     Ok(())
 }
 
-/// All cells of the schema at this capacity, as the opening database has them.
+/// All cells of the schema at this capacity in the order of their numbers, as the opening database has them.
+pub fn opening_cells(alloc: Global, schema: &Schema, capacity: u16) -> Result<Vec<Cell>, AllocError>
+    ensures { IfOk result (λ cells. homes_shown cells.items ≡ homes_of schema.now capacity (cells_in_order schema.now capacity)) }
+{
+    let mut cells = Vec::new(alloc);
+    add_usages(alloc, schema, capacity, &mut cells)?;
+    add_extents(alloc, schema, capacity, &mut cells)?;
+    add_rings(alloc, schema, capacity, &mut cells)?;
+    add_slots(alloc, schema, capacity, &mut cells)?;
+    Ok(cells)
+}
+
+// The table in which these cells are at home.
+fn table_of(alloc: Global, cells: Vec<Cell>) -> Result<Vec<Place>, AllocError>
+    ensures { IfOk result (λ table. locations_of table.items ≡ homes_shown cells.items) }
+{
+    let mut table = Vec::with_capacity(alloc, cells.len())?;
+    for cell in cells {
+        table.push(Place::Home(cell))?;
+    }
+    Ok(table)
+}
+
+/// All cells of the schema at this capacity, at home as the opening database has them.
 pub fn opening_table(
     alloc: Global,
     schema: &Schema,
@@ -189,12 +212,7 @@ pub fn opening_table(
 ) -> Result<Vec<Place>, AllocError>
     ensures { IfOk result (λ table. locations_of table.items ≡ homes_of schema.now capacity (cells_in_order schema.now capacity)) }
 {
-    let mut table = Vec::new(alloc);
-    add_usages(alloc, schema, capacity, &mut table)?;
-    add_extents(alloc, schema, capacity, &mut table)?;
-    add_rings(alloc, schema, capacity, &mut table)?;
-    add_slots(alloc, schema, capacity, &mut table)?;
-    Ok(table)
+    table_of(alloc, opening_cells(alloc, schema, capacity)?)
 }
 
 fn nones<T: Copy>(alloc: Global, count: usize) -> Result<Row<Option<T>>, AllocError>
@@ -207,7 +225,8 @@ fn nones<T: Copy>(alloc: Global, count: usize) -> Result<Row<Option<T>>, AllocEr
     Ok(Row::of(items))
 }
 
-fn opening_unit(alloc: Global, schema: &Schema, number: u8) -> Result<Unit, AllocError>
+/// A unit with this number, before its first statement.
+pub fn opening_unit(alloc: Global, schema: &Schema, number: u8) -> Result<Unit, AllocError>
     ensures { IfOk result (λ unit. unit ≡ opening_unit schema.now number) }
 {
     let types = nones(alloc, schema.types().len())?;

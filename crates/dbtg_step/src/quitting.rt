@@ -4,11 +4,10 @@ ghost use Rattle.dbtg_step.specs.declared.parts.Runner.{Runner};
 ghost use Rattle.dbtg_step.specs.Parts.{written_homes};
 ghost use Rattle.dbtg_step.specs.Events.{IsQuit, IsWell, StandsUnticketed};
 
-use crate::moves::Stepped;
 use crate::parts::{Parts, Place};
 use crate::table::put_home;
 use dbtg_schema::Schema;
-use dbtg_unit::Held;
+use dbtg_unit::{Held, Stepped};
 
 /// All cells go home, the newest first.
 fn give_cells(schema: &Schema, capacity: u16, table: &mut Vec<Place>, held: &mut Held)

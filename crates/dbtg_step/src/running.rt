@@ -8,12 +8,11 @@ ghost use Rattle.dbtg_step.specs.Parts.{machine};
 ghost use Rattle.dbtg_step.specs.Runs.{after_moves, results_of_moves};
 ghost use Rattle.dbtg_step.specs.Serial.{SerialRunIs};
 
-use crate::image::Run;
 use crate::machine::Core;
-use crate::moves::{Move, Stepped};
+use crate::results::Run;
 use crate::serially::step_serially;
 use dbtg_schema::{Row, Schema};
-use dbtg_unit::Statement;
+use dbtg_unit::{Move, Statement, Stepped};
 use std::alloc::{AllocError, Global};
 
 // Makes one move; a step that finds no memory is an error, and changes nothing.

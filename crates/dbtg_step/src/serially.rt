@@ -5,7 +5,7 @@ ghost use Rattle.dbtg_step.specs.Serial.{serial_limit};
 ghost use Rattle.dbtg_step.specs.SerialSteps.{IsCutOff, IsIdleAfter, IsUnitCutOff, serial_from};
 
 use crate::machine::Core;
-use crate::moves::Stepped;
+use dbtg_unit::Stepped;
 use std::alloc::AllocError;
 
 /// The most steps in all.

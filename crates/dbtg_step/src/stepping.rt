@@ -4,12 +4,12 @@ ghost use Rattle.dbtg_schema.specs.Lists.{Lists};
 ghost use Rattle.dbtg_step.specs.declared.parts.Runner.{Runner};
 ghost use Rattle.dbtg_step.specs.Events.{IsStepped, IsWell, StandsBetween, StandsTicketed, StandsTurning};
 
-use crate::moves::Stepped;
 use crate::needing::follows;
 use crate::parts::{Parts, Stage};
 use crate::runner::{Standing, begin, close, link, turn_back, where_it_stands};
 use crate::table::give_cell;
 use dbtg_schema::Schema;
+use dbtg_unit::Stepped;
 use std::alloc::Global;
 
 /// Begins the next statement.

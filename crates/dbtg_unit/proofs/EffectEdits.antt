@@ -29,6 +29,7 @@ use Rattle.dbtg_unit.specs.Cells.{cell}
 use Rattle.dbtg_unit.specs.Checks.{lacks_current}
 use Rattle.dbtg_unit.specs.Edits.{edited_at}
 use Rattle.dbtg_unit.specs.EditsOf.{edits_of, is_delete}
+use Rattle.dbtg_unit.specs.View.{whole}
 use Rattle.dbtg_unit.specs.Effect.{Outcome, calc_taken, conflict, done, effect, effect_on_cells, free_number, inserted, insert_checks, modified, modify_checks, new_key, own_checks, place_checks, refused, removed, remove_checks, store_checks, stored, version_of}
 use Rattle.dbtg_unit.specs.Found.{found}
 use Rattle.dbtg_unit.specs.Legal.{Legal}
@@ -80,7 +81,7 @@ module _ (schema : Lists) (capacity : ℕ) (db : Database) (unit : Unit) (legal 
   -- STORE
 
   -- where placing is not refused, the set has a current owner with a list
-  placing : (s : ℕ) (key : Option Value) → is_none (place_in schema unit s) ≡ false → first_cause (place_checks schema db unit s key) ≡ None
+  placing : (s : ℕ) (key : Option Value) → is_none (place_in schema unit s) ≡ false → first_cause (place_checks schema (whole schema capacity db) unit s key) ≡ None
       → (place : Place) × (place_in schema unit s ≡ Some place) × (is_some (db.lists s place.owner) ≡ true)
   placing s key stands checks =
       let at = some_from (place_in schema unit s) stands in
@@ -105,7 +106,7 @@ module _ (schema : Lists) (capacity : ℕ) (db : Database) (unit : Unit) (legal 
         counted = subst (λ (m : ℕ). 1 ≤ m) is low;
         unused = subst (λ m. is_live db (key_at db t m) ≡ false) is (not-true _ (and_parts (not (is_live db (key_at db t n.0))) (ltb (db.last t n.0) 255) chosen.1).0);
         stands = λ s h. placing s (key_item schema s t items) (none_at (λ s. is_none (place_in schema unit s)) s (automatic_sets schema t) h placed)
-            (passes-each (λ s. place_checks schema db unit s (key_item schema s t items)) (automatic_sets schema t) s h unique.1);
+            (passes-each (λ s. place_checks schema (whole schema capacity db) unit s (key_item schema s t items)) (automatic_sets schema t) s h unique.1);
       } where
         free : ℕ → Bool
         free n = not (is_live db (key_at db t n)) && ltb (db.last t n) 255
@@ -122,18 +123,18 @@ module _ (schema : Lists) (capacity : ℕ) (db : Database) (unit : Unit) (legal 
 
   -- STATEMENTS ABOUT THE CURRENT OF RUN-UNIT
 
-  pub alive : (k : DbKey) (checks : List (Bool × Cause)) → first_cause (own_checks db unit k ++ checks) ≡ None → (is_live db k ≡ true) × (first_cause checks ≡ None)
+  pub alive : (k : DbKey) (checks : List (Bool × Cause)) → first_cause (own_checks (whole schema capacity db) unit k ++ checks) ≡ None → (is_live db k ≡ true) × (first_cause checks ≡ None)
   alive k checks h =
-      let parts = passes-append (own_checks db unit k) checks h in
+      let parts = passes-append (own_checks (whole schema capacity db) unit k) checks h in
       (not-false _ (passes_check (not (is_live db k)) Deleted _ parts.0).0, parts.1)
 
   of_insert : (s : ℕ) → lacks_current schema unit (Insert s) ≡ false → Edited (edits_of schema capacity db unit (Insert s)) (effect_on_cells schema capacity db unit (Insert s))
   of_insert s placed =
       of_current db unit (Edited (edits_of schema capacity db unit (Insert s))) (no_refusal (edits_of schema capacity db unit (Insert s)))
-      unit.currency.run_unit (insert_checks schema capacity db unit s) (inserted schema db unit s)
+      unit.currency.run_unit (insert_checks schema (whole schema capacity db) unit s) (inserted schema db unit s)
       (λ k is checks is_done lawful c.
-      let own = alive k ((is_some (owner_of schema capacity db s k), AlreadyMember) ∷ place_checks schema db unit s (sort_key schema db s k)) checks in
-      let rest = passes (is_some (owner_of schema capacity db s k), AlreadyMember) (place_checks schema db unit s (sort_key schema db s k)) own.1 in
+      let own = alive k ((is_some (owner_of schema capacity db s k), AlreadyMember) ∷ place_checks schema (whole schema capacity db) unit s (sort_key schema db s k)) checks in
+      let rest = passes (is_some (owner_of schema capacity db s k), AlreadyMember) (place_checks schema (whole schema capacity db) unit s (sort_key schema db s k)) own.1 in
       let at = placing s (sort_key schema db s k) placed rest.1 in
       insert_makes schema capacity db unit s k at.0 legal at.1 own.0 lawful at.2 c
       ∙ ap (λ current. edited_at c (edits_of schema capacity db (record unit { currency = record unit.currency { run_unit = current } }) (Insert s)) (cell schema capacity db c)) (sym is))
@@ -141,7 +142,7 @@ module _ (schema : Lists) (capacity : ℕ) (db : Database) (unit : Unit) (legal 
   of_remove : (s : ℕ) → Edited (edits_of schema capacity db unit (Remove s)) (effect_on_cells schema capacity db unit (Remove s))
   of_remove s =
       of_current db unit (Edited (edits_of schema capacity db unit (Remove s))) (no_refusal (edits_of schema capacity db unit (Remove s)))
-      unit.currency.run_unit (remove_checks schema capacity db unit s) (removed db unit s)
+      unit.currency.run_unit (remove_checks (whole schema capacity db) unit s) (removed db unit s)
       (λ k is checks is_done lawful c.
       let own = alive k ((is_none (owner_of schema capacity db s k), NotMember) ∷ []) checks in
       let owner = some_from (owner_of schema capacity db s k) (passes (is_none (owner_of schema capacity db s k), NotMember) [] own.1).0 in

@@ -1,11 +1,11 @@
 -- What is read off the cells in hand is so in each database that agrees with them.
-use Rattle.std.proofs.Common.{◌≡◌, refl, sym, ◌∙◌, ap, subst, ℕ, Bool, true, false, cond, not, List, [], ◌∷◌, length, Option, Some, None, arith, eqb, map, inl, inr}
-use Rattle.std.specs.Prelude.{◌==◌, is_some, option_map, option_and_then, unwrap_or}
-use Rattle.std.specs.List.{range_with_len}
-use Rattle.std.proofs.lemmas.Bool.{cases_Bool, false≢true}
+use Rattle.std.proofs.Common.{◌≡◌, refl, sym, ◌∙◌, ap, subst, ℕ, Bool, true, false, cond, ◌||◌, List, [], ◌∷◌, length, Option, Some, None, arith, eqb, map, inl, inr}
+use Rattle.std.specs.Prelude.{is_none, is_some, option_map, option_and_then, unwrap_or}
+use Rattle.std.specs.List.{list_any, range_with_len}
+use Rattle.std.proofs.lemmas.Bool.{cases_Bool, false≢true, true≢false}
 use Rattle.std.proofs.lemmas.List.FromFn.{get_or-map-range_with_len}
 use Rattle.dbtg_schema.specs.Lists.{Lists}
-use Rattle.dbtg_schema.specs.Lookups.{at, some_and}
+use Rattle.dbtg_schema.specs.Lookups.{at}
 use Rattle.dbtg_schema.specs.Structure.{set_numbers}
 use Rattle.dbtg_cells.specs.declared.key.DbKey.{DbKey}
 use Rattle.dbtg_cells.specs.declared.key.Owner.{Owner}
@@ -17,19 +17,21 @@ use Rattle.dbtg_cells.specs.declared.cell.Cell.TheVariants.{Usage as UsageCell, 
 use Rattle.dbtg_cells.specs.declared.ring.Occurrence.{Occurrence}
 use Rattle.dbtg_cells.specs.declared.slot.Stored.{Stored}
 use Rattle.dbtg_cells.specs.Cells.{shown}
-use Rattle.dbtg_cells.specs.Keys.{owner_eq}
+use Rattle.dbtg_cells.specs.Keys.{option_value_eq, owner_eq}
 use Rattle.dbtg_cells.specs.Members.{keys_in, members_in}
 use Rattle.dbtg_cells.specs.Shown.{CellValue, SlotValue, RingValue}
-use Rattle.dbtg_unit.specs.declared.unit.Cause.TheVariants.{ChangedByAnother, Deleted}
 use Rattle.dbtg_unit.specs.declared.unit.Unit.{Unit}
 use Rattle.dbtg_unit.specs.Base.{Database, Record, is_live, items_of, members_of, owner_of, sort_key}
 use Rattle.dbtg_unit.specs.CellNames.{slot_name, place_of}
 use Rattle.dbtg_unit.specs.Cells.{cell, number_of}
-use Rattle.dbtg_unit.specs.Effect.{own_checks, version_of}
+use Rattle.dbtg_unit.specs.View.{whole}
+use Rattle.dbtg_unit.specs.Effect.{version_of}
 use Rattle.dbtg_unit.specs.Hands.{Hands, cell_of}
-use Rattle.dbtg_unit.specs.InHand.{stored_of, stored_in, of_owner, occurrence_of, occurrence_in, numbers_of, numbers_in, users_of, users_in, items_in, version_in, owner_in, own_checks_in}
+use Rattle.dbtg_unit.specs.InHand.{stored_of, stored_in, of_owner, occurrence_of, occurrence_in, numbers_of, numbers_in, users_of, users_in, items_in, version_in, owner_in, in_hand}
 use Rattle.dbtg_unit.specs.Local.{Agrees, holds}
-use Rattle.dbtg_unit.specs.Units.{kept_version, owners_of}
+use Rattle.dbtg_unit.specs.Units.{owners_of}
+use Rattle.dbtg_unit.specs.View.{whole}
+use Rattle.dbtg_unit.proofs.SameView.{SameOccurrence, SameRecord}
 use Rattle.dbtg_unit.proofs.Determined.{usage_in, extent_in, ring_in, slot_in, record_in}
 use Rattle.dbtg_unit.proofs.LiveKeys.{In, of_range, no_owner}
 use Rattle.dbtg_unit.proofs.ReadingCells.{held_is, held_cell, list_in, record_at, slot_reads, slot_owners_read, ring_reads, ring_keys_read}
@@ -80,6 +82,16 @@ picked_from {X} p (Some y) x h =
       | inr e ↦ let none : ◌≡◌ {A = Option X} None (Some x) = subst (λ b. cond b (Some y) None ≡ Some x) e h in cc
     ]
 
+any-map : {X Y : Type 0} (f : X → Y) (p : Y → Bool) (xs : List X) → list_any p (map f xs) ≡ list_any (λ x. p (f x)) xs
+any-map f p [] = refl
+any-map f p (x ∷ xs) = ap (λ b. p (f x) || b) (any-map f p xs)
+
+same_none : {X Y : Type 0} (a : Option X) (b : Option Y) → is_some a ≡ is_some b → is_none b ≡ is_none a
+same_none None None h = refl
+same_none None (Some y) h = absurd (false≢true h)
+same_none (Some x) None h = absurd (true≢false h)
+same_none (Some x) (Some y) h = refl
+
 -- what a cell in hand shows
 pub held_shows : (schema : Lists) (capacity : ℕ) (db : Database) (hands : Hands) (unit : Unit) → Agrees schema capacity db hands unit → (c : CellName) → holds hands.cells c ≡ true
     → (x : Cell) × (cell_of c hands.cells ≡ Some x) × (shown x ≡ cell schema capacity db c)
@@ -123,12 +135,9 @@ module _ (schema : Lists) (capacity : ℕ) (db : Database) (hands : Hands) (unit
       there None = refl
       there (Some r) = refl
 
-    -- the checks of the current of run-unit
-    pub own_in_hand : own_checks_in hands unit k ≡ own_checks db unit k
-    own_in_hand =
-        let live : is_some (stored_in hands k) ≡ is_live db k = sym live_in_hand in
-        let version : version_in hands k ≡ version_of db k = sym version_in_hand in
-        λ i. (not (live i), Deleted) ∷ (some_and (λ v. not (v == version i)) (kept_version unit k), ChangedByAnother) ∷ []
+    -- its slot answers as the database does
+    pub same_record : SameRecord (in_hand hands) (whole schema capacity db) k
+    same_record = record { is_live = sym live_in_hand; items = sym items_in_hand; version = sym version_in_hand }
 
     -- its owners
     pub owners_in_hand : (stored : Stored) → stored_in hands k ≡ Some stored → stored.owners ≡ owners_of schema capacity db k
@@ -194,6 +203,16 @@ module _ (schema : Lists) (capacity : ℕ) (db : Database) (hands : Hands) (unit
                   | inl e ↦ let same : ◌≡◌ {A = Option Occurrence} (Some y) (Some r) = subst (λ b. cond b (Some y) None ≡ Some r) e h in (same, cc)
                   | inr e ↦ let none : ◌≡◌ {A = Option Occurrence} None (Some r) = subst (λ b. cond b (Some y) None ≡ Some r) e h in cc
                 ]
+
+    -- its ring answers as the database does
+    pub same_occurrence : SameOccurrence (in_hand hands) (whole schema capacity db) s o
+    same_occurrence = record {
+      is_absent = same_none (db.lists s o) (occurrence_in hands s o) listed_in_hand;
+      members = sym members_in_hand;
+      has_sort_key = λ v.
+          ap (list_any (λ (e : DbKey × Option Value). option_value_eq e.1 v)) entries_in_hand
+          ∙ any-map (λ k. (k, sort_key schema db s k)) (λ (e : DbKey × Option Value). option_value_eq e.1 v) (members_of db s o);
+    }
 
   -- EXTENTS AND USAGE LISTS
 

@@ -18,6 +18,7 @@ use Rattle.dbtg_unit.specs.declared.unit.Unit.{Unit}
 use Rattle.dbtg_unit.specs.Base.{Database, is_member, members_of, sort_key}
 use Rattle.dbtg_unit.specs.Units.{place_in}
 use Rattle.dbtg_unit.specs.Fits.{values_fit}
+use Rattle.dbtg_unit.specs.View.{whole}
 use Rattle.dbtg_unit.specs.Effect.{place_checks, is_current_owner, refuses_equal, option_value_eq, uses_position}
 use Rattle.dbtg_unit.specs.Found.{is_lost}
 use Rattle.dbtg_unit.specs.declared.unit.Cause.{Cause}
@@ -60,8 +61,8 @@ module _ (schema : Lists) (db : Database) (unit : Unit) (s : ℕ) (key : Option 
   abbrev taken : Bool × Cause
   taken = (refuses_equal (order_of schema s) && list_any (λ x. option_value_eq (sort_key schema db s x) key) (members_of db s current_place.owner), DuplicatesNotAllowed)
 
-  pub can_join : first_cause (place_checks schema db unit s key) ≡ None → CanJoin schema db unit s key
-  can_join h =
+  pub can_join : (capacity : ℕ) → first_cause (place_checks schema (whole schema capacity db) unit s key) ≡ None → CanJoin schema db unit s key
+  can_join capacity h =
       let present = passes (is_none (db.lists s current_place.owner), Deleted) (lost ∷ taken ∷ []) h in
       let found = passes lost (taken ∷ []) present.1 in
       let free = passes taken [] found.1 in

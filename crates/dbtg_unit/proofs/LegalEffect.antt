@@ -29,6 +29,7 @@ use Rattle.dbtg_unit.specs.Found.{found}
 use Rattle.dbtg_unit.specs.Doomed.{doomed}
 use Rattle.dbtg_unit.specs.Fits.{fits, is_type, values_fit, value_fits, suppress_fits, distinct_items}
 use Rattle.dbtg_unit.specs.Checks.{accepts_type, current_type, is_inserting_mandatory_automatic, is_opening_again, is_removing_mandatory, lacks_current, needs_current, refused_at_once}
+use Rattle.dbtg_unit.specs.View.{whole}
 use Rattle.dbtg_unit.specs.Effect.{calc_taken, changed_items, conflict, connected_in, delete_checks, deleted, done, effect, effect_on_cells, free_number, insert_checks, inserted, modified, modify_checks, moved, new_key, own_checks, place_checks, remove_checks, removed, renoted, replaced_sets, store_checks, stored, version_of, with_new, has_members, is_plain, names_calc}
 use Rattle.dbtg_unit.specs.Legal.{Legal, mode_in}
 use Rattle.dbtg_unit.specs.LegalWith.{IsUnitIn}
@@ -176,7 +177,7 @@ module _ (schema : Lists) (capacity : ℕ) (db : Database) (unit : Unit) (number
       let is_fresh = fresh t its there fit room.0 in
       let lawful = store_legal schema capacity db t n its legal is_fresh unit schema_is unique.0
       (λ s h. none_at (λ s. is_none (place_in schema unit s)) s (automatic_sets schema t) h placed)
-      (λ s h. can_join schema db unit s (key_item schema s t its) (passes-each (λ s. place_checks schema db unit s (key_item schema s t its)) (automatic_sets schema t) s h unique.1)) in
+      (λ s h. can_join schema db unit s (key_item schema s t its) capacity (passes-each (λ s. place_checks schema (whole schema capacity db) unit s (key_item schema s t its)) (automatic_sets schema t) s h unique.1)) in
       let new = connected_in schema (with_new schema db k its) unit (automatic_sets schema t) k in
       quiet new (seen schema capacity new unit k suppress) lawful refl refl refl (good-seen schema capacity unit good new k suppress lawful (live_new schema capacity db t n its legal is_fresh k (key_eq-refl k)))
 
@@ -187,24 +188,24 @@ module _ (schema : Lists) (capacity : ℕ) (db : Database) (unit : Unit) (number
   good-renoted test new after fine =
       with_kept schema capacity after fine (map (λ e. cond (test e.0) (e.0, version_of new e.0) e) after.kept) (kept-renoted schema capacity after.kept (kept_of schema capacity after fine) test (version_of new))
 
-  live_of : (k : DbKey) (checks : List (Bool × Cause)) → first_cause (own_checks db unit k ++ checks) ≡ None → (is_live db k ≡ true) × (first_cause checks ≡ None)
+  live_of : (k : DbKey) (checks : List (Bool × Cause)) → first_cause (own_checks (whole schema capacity db) unit k ++ checks) ≡ None → (is_live db k ≡ true) × (first_cause checks ≡ None)
   live_of k checks h =
-      let parts = passes-append (own_checks db unit k) checks h in
+      let parts = passes-append (own_checks (whole schema capacity db) unit k) checks h in
       (not-false _ (passes_check (not (is_live db k)) Deleted _ parts.0).0, parts.1)
 
   -- the current is of a type that the statement takes
   accepted : (statement : Statement) (k : DbKey) → unit.currency.run_unit ≡ Some k → some_and (λ t. not (accepts_type schema statement t)) (current_type unit) ≡ false → accepts_type schema statement k.rtype ≡ true
   accepted statement k is h = not-false _ (ap (λ (o : Option DbKey). some_and (λ t. not (accepts_type schema statement t)) (option_map (λ (j : DbKey). j.rtype) o)) (sym is) ∙ h)
 
-  insert_step : (s : ℕ) (k : DbKey) → is_some (member_clause schema s k.rtype) ≡ true → first_cause (insert_checks schema capacity db unit s k) ≡ None → Step (inserted schema db unit s k).database (inserted schema db unit s k).unit
+  insert_step : (s : ℕ) (k : DbKey) → is_some (member_clause schema s k.rtype) ≡ true → first_cause (insert_checks schema (whole schema capacity db) unit s k) ≡ None → Step (inserted schema db unit s k).database (inserted schema db unit s k).unit
   insert_step s k clause checks =
-      let own = live_of k ((is_some (owner_of schema capacity db s k), AlreadyMember) ∷ place_checks schema db unit s (sort_key schema db s k)) checks in
-      let free = passes (is_some (owner_of schema capacity db s k), AlreadyMember) (place_checks schema db unit s (sort_key schema db s k)) own.1 in
+      let own = live_of k ((is_some (owner_of schema capacity db s k), AlreadyMember) ∷ place_checks schema (whole schema capacity db) unit s (sort_key schema db s k)) checks in
+      let free = passes (is_some (owner_of schema capacity db s k), AlreadyMember) (place_checks schema (whole schema capacity db) unit s (sort_key schema db s k)) own.1 in
       let present = passes_check (is_none (db.lists s (unwrap_or (place_in schema unit s) (record { owner = System; at = None })).owner)) Deleted _ free.1 in
       let there = some_from (db.lists s (unwrap_or (place_in schema unit s) (record { owner = System; at = None })).owner) present.0 in
       let owner = unwrap_or (option_map (λ place. place.owner) (place_in schema unit s)) System in
       let owner_fits = list_owner schema capacity db legal s owner (subst (λ (o : Owner). is_some (db.lists s o) ≡ true) (sym (owner_is (place_in schema unit s))) (ap is_some there.1)) in
-      let lawful = insert_legal schema capacity db unit s k legal schema_is own.0 clause free.0 (can_join schema db unit s (sort_key schema db s k) free.1) in
+      let lawful = insert_legal schema capacity db unit s k legal schema_is own.0 clause free.0 (can_join schema db unit s (sort_key schema db s k) capacity free.1) in
       quiet (inserted schema db unit s k).database (inserted schema db unit s k).unit lawful refl refl refl
       (good-renoted (key_eq k) (inserted schema db unit s k).database (moved unit s (record { owner = owner; at = Some k })) (good-moved schema capacity unit good s owner k owner_fits (live_key schema capacity db legal k own.0)))
 
@@ -223,7 +224,7 @@ module _ (schema : Lists) (capacity : ℕ) (db : Database) (unit : Unit) (number
       quiet (modified schema capacity db unit changes k).database (modified schema capacity db unit changes k).unit (modify_legal schema capacity db unit changes k legal own.0 schema_is can) refl refl refl
       (good-renoted (key_eq k) (modified schema capacity db unit changes k).database unit good)
 
-  delete_step : (option : Erase) (k : DbKey) → first_cause (delete_checks schema db unit option k) ≡ None → Step (deleted schema capacity db unit option k).database (deleted schema capacity db unit option k).unit
+  delete_step : (option : Erase) (k : DbKey) → first_cause (delete_checks schema capacity db unit option k) ≡ None → Step (deleted schema capacity db unit option k).database (deleted schema capacity db unit option k).unit
   delete_step option k checks =
       let empty = passes (is_plain option && has_members schema db k, OwnerHasMembers) [] (live_of k ((is_plain option && has_members schema db k, OwnerHasMembers) ∷ []) checks).1 in
       let new = (deleted schema capacity db unit option k).database in
@@ -254,8 +255,8 @@ module _ (schema : Lists) (capacity : ℕ) (db : Database) (unit : Unit) (number
       let f = and_parts (is_type schema t && values_fit (pictures schema t) its) (suppress_fits schema suppress) fit in
       let g = and_parts (is_type schema t) (values_fit (pictures schema t) its) f.0 in
       unless_kept Step db unit now (first_cause (store_checks schema capacity db unit t its)) (stored schema capacity db unit (new_key db t (unwrap_or (free_number capacity db t) 0)) its suppress) (store_step t its suppress g.0 g.1 p.placed)
-  on_cells (Insert s) fit p = on_current_kept Step db unit now unit.currency.run_unit (insert_checks schema capacity db unit s) (inserted schema db unit s) (λ k e h. insert_step s k (accepted (Insert s) k e p.type_is) h)
-  on_cells (Remove s) fit p = on_current_kept Step db unit now unit.currency.run_unit (remove_checks schema capacity db unit s) (removed db unit s) (λ k e h. remove_step s k (free s k e p.leaves)) where
+  on_cells (Insert s) fit p = on_current_kept Step db unit now unit.currency.run_unit (insert_checks schema (whole schema capacity db) unit s) (inserted schema db unit s) (λ k e h. insert_step s k (accepted (Insert s) k e p.type_is) h)
+  on_cells (Remove s) fit p = on_current_kept Step db unit now unit.currency.run_unit (remove_checks (whole schema capacity db) unit s) (removed db unit s) (λ k e h. remove_step s k (free s k e p.leaves)) where
     by_clause : (m : Option Member) → some_and is_mandatory (option_map (λ m. m.class) m) ≡ false → some_and (λ c. is_mandatory c.class && is_automatic c.class) m ≡ false
     by_clause None h = refl
     by_clause (Some m) h = and_left _ _ h
@@ -266,7 +267,7 @@ module _ (schema : Lists) (capacity : ℕ) (db : Database) (unit : Unit) (number
       let of_type = eqb-true k.rtype t (accepted (Modify t changes) k e p.type_is) in
       let f = and_parts (is_type schema t && distinct_items changes) (list_all (λ c. some_and (λ p. value_fits p c.value) (picture_of schema t c.item)) changes) fit in
       modify_step changes k (subst (λ u. list_all (λ c. some_and (λ p. value_fits p c.value) (picture_of schema u c.item)) changes ≡ true) (sym of_type) f.1) h)
-  on_cells (Delete option) fit p = on_current_kept Step db unit now unit.currency.run_unit (delete_checks schema db unit option) (deleted schema capacity db unit option) (λ k e h. delete_step option k h)
+  on_cells (Delete option) fit p = on_current_kept Step db unit now unit.currency.run_unit (delete_checks schema capacity db unit option) (deleted schema capacity db unit option) (λ k e h. delete_step option k h)
   on_cells Keep fit p = on_current_kept Step db unit now unit.currency.run_unit is_there (λ k. done db (record unit { kept = noted k (version_of db k) unit.kept }) None None) (λ k e h.
       let key = live_key schema capacity db legal k (not-false _ (passes (not (is_live db k), Deleted) [] h).0) in
       quiet db (record unit { kept = noted k (version_of db k) unit.kept }) legal refl refl refl

@@ -71,13 +71,11 @@ pub mod EffectEdits
 pub mod TwoDatabases
 pub mod AlikeFind
 pub mod AlikeReading
-pub mod AlikeMoves
-pub mod AlikeRemove
-pub mod AlikeInsert
 pub mod ManyEdits
 pub mod DeleteCells
 pub mod EveryEdit
 pub mod MakingLemmas
+pub mod SameView
 pub mod InHandLemmas
 pub mod ExtentInHand
 pub mod ReadyParts

@@ -29,6 +29,7 @@ use Rattle.dbtg_unit.specs.declared.unit.Cause.{Cause}
 use Rattle.dbtg_unit.specs.declared.unit.Cause.TheVariants.{UsageConflict, Deleted, NotMember, NoRoom, DuplicatesNotAllowed, OwnerHasMembers}
 use Rattle.dbtg_unit.specs.Base.{Database, is_live, owner_of, owners, members_of, is_member, key_item}
 use Rattle.dbtg_unit.specs.Doomed.{all_keys, doomed}
+use Rattle.dbtg_unit.specs.View.{whole}
 use Rattle.dbtg_unit.specs.Effect.{Outcome, effect_on_cells, done, store_checks, stored, new_key, free_number, conflict, own_checks, is_plain, has_members, names_calc, calc_taken, place_checks}
 use Rattle.dbtg_unit.specs.CellNames.{slot_name, place_of}
 use Rattle.dbtg_unit.specs.Cells.{cell}
@@ -122,7 +123,7 @@ module _ (schema : Lists) (capacity : ℕ) (db : Database) (unit : Unit) (guesse
   pub of_remove : (s : ℕ) → is_stale schema capacity db unit guesses (Remove s) ≡ false → Stays (Remove s) (effect_on_cells schema capacity db unit (Remove s))
   of_remove s fresh =
       of_current db unit (Stays (Remove s)) (λ cause legal' c h. refl) unit.currency.run_unit _ _ (λ k e checks legal' c h.
-      let split = passes-append (own_checks db unit k) ((is_none (owner_of schema capacity db s k), NotMember) ∷ []) checks in
+      let split = passes-append (own_checks (whole schema capacity db) unit k) ((is_none (owner_of schema capacity db s k), NotMember) ∷ []) checks in
       let owner = some_is (owner_of schema capacity db s k) (not_none (owner_of schema capacity db s k) (passes (is_none (owner_of schema capacity db s k), NotMember) [] split.1).0) in
       let has = member_of_owner schema capacity db legal s owner.0 k owner.1 in
       let guess = guess_is (Remove s) k fresh e (own_live k _ checks) s owner.0 (inl refl) has in
@@ -222,7 +223,7 @@ module _ (schema : Lists) (capacity : ℕ) (db : Database) (unit : Unit) (guesse
       (λ checks legal' c h.
       let n = unwrap_or (free_number capacity db t) 0 in
       let k = new_key db t n in
-      let rest = flat_map (λ s. place_checks schema db unit s (key_item schema s t items)) (automatic_sets schema t) in
+      let rest = flat_map (λ s. place_checks schema (whole schema capacity db) unit s (key_item schema s t items)) (automatic_sets schema t) in
       let first = passes (is_none (free_number capacity db t), NoRoom) ((calc_taken schema capacity db t items (λ k. false), DuplicatesNotAllowed) ∷ rest) checks in
       let second = passes (calc_taken schema capacity db t items (λ k. false), DuplicatesNotAllowed) rest first.1 in
       let free : free_number capacity db t ≡ Some n = there (free_number capacity db t) first.0 in
@@ -243,13 +244,13 @@ module _ (schema : Lists) (capacity : ℕ) (db : Database) (unit : Unit) (guesse
   pub of_delete : (option : Erase) → Stays (Delete option) (effect_on_cells schema capacity db unit (Delete option))
   of_delete option =
       of_current db unit (Stays (Delete option)) (λ cause legal' c h. refl) unit.currency.run_unit _ _ (λ k e checks legal' c h.
-      let split = passes-append (own_checks db unit k) ((is_plain option && has_members schema db k, OwnerHasMembers) ∷ []) checks in
+      let split = passes-append (own_checks (whole schema capacity db) unit k) ((is_plain option && has_members schema db k, OwnerHasMembers) ∷ []) checks in
       let met = doomed_in_turn schema capacity db option k in
       let live = own_live k _ checks in
       let names = slot_name k ∷ own_rings schema k ++ flat_map (cells_of_doomed schema db) met ++ outer_cells schema capacity db met in
       let named : delete_cells_of schema capacity db unit option unit.currency.run_unit ≡ names_once [] names
       = ap (delete_cells_of schema capacity db unit option) e
-      ∙ cond-false (is_some (first_cause (own_checks db unit k))) (slot_name k ∷ []) _ (ap is_some split.0)
+      ∙ cond-false (is_some (first_cause (own_checks (whole schema capacity db) unit k))) (slot_name k ∷ []) _ (ap is_some split.0)
       ∙ cond-false (is_plain option && has_members schema db k) _ _ (passes (is_plain option && has_members schema db k, OwnerHasMembers) [] split.1).0 in
       let others : list_any (name_eq c) (names_once [] names) ≡ false = ap (list_any (name_eq c)) (sym named) ∙ h in
       let turn : (d : DbKey) → is_member d (doomed schema capacity db option k) ≡ true → In d met = λ d g. member_in d met (doomed_is_met schema capacity db legal option k live d g) in

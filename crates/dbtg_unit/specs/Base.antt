@@ -37,6 +37,10 @@ is_live db k = is_some (db.records k)
 abbrev pub items_of : Database → DbKey → List Value
 items_of db k = unwrap_or (option_map (λ r. r.items) (db.records k)) []
 
+-- the version of a record
+abbrev pub version_of : Database → DbKey → ℕ
+version_of db k = unwrap_or (option_map (λ r. r.version) (db.records k)) 0
+
 -- the latest key of a number
 abbrev pub key_at : Database → ℕ → ℕ → DbKey
 key_at db t n = record { rtype = t; number = n; generation = db.last t n }

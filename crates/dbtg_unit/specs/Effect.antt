@@ -5,7 +5,6 @@ use Rattle.std.specs.List.{list_any, range_with_len, flat_map}
 use Rattle.dbtg_schema.specs.Lists.{Lists}
 use Rattle.dbtg_schema.specs.declared.shape.Order.{Order}
 use Rattle.dbtg_schema.specs.declared.shape.Order.TheVariants.{First, Last, Next, Prior, Sorted}
-use Rattle.dbtg_schema.specs.declared.shape.Duplicates.TheVariants.{NotAllowed}
 use Rattle.dbtg_cells.specs.declared.key.DbKey.{DbKey}
 use Rattle.dbtg_cells.specs.declared.key.Owner.{Owner}
 use Rattle.dbtg_cells.specs.declared.key.Owner.TheVariants.{System, Rec}
@@ -26,11 +25,14 @@ use Rattle.dbtg_unit.specs.declared.unit.Unit.{Unit}
 use Rattle.dbtg_unit.specs.declared.unit.Answer.{Answer}
 use Rattle.dbtg_unit.specs.declared.unit.Status.TheVariants.{Done, Refused}
 use Rattle.dbtg_unit.specs.declared.unit.Cause.{Cause}
-use Rattle.dbtg_unit.specs.declared.unit.Cause.TheVariants.{ChangedByAnother, DuplicatesNotAllowed, NoRoom, NoCurrentOfRunUnit, AlreadyMember, Deleted, NotMember, PositionLost, UsageConflict, OwnerHasMembers}
+use Rattle.dbtg_unit.specs.declared.unit.Cause.TheVariants.{DuplicatesNotAllowed, NoRoom, NoCurrentOfRunUnit, Deleted, UsageConflict, OwnerHasMembers}
 use Rattle.dbtg_schema.specs.Lookups.{first, some_and, first_cause}
+pub use Rattle.dbtg_unit.specs.Base.{version_of}
 use Rattle.dbtg_unit.specs.Base.{Database, Record, is_live, items_of, key_at, members_of, is_member, owner_of, calc_items, key_item, sort_key}
-use Rattle.dbtg_unit.specs.Units.{place_in, seen, kept_version, forgotten, noted}
-use Rattle.dbtg_unit.specs.Found.{found, is_lost, with_calc}
+pub use Rattle.dbtg_unit.specs.View.{whole}
+pub use Rattle.dbtg_unit.specs.CellChecks.{uses_position, refuses_equal, own_checks, place_checks, insert_checks, remove_checks}
+use Rattle.dbtg_unit.specs.Units.{place_in, seen, forgotten, noted}
+use Rattle.dbtg_unit.specs.Found.{found, with_calc}
 use Rattle.dbtg_unit.specs.Doomed.{doomed}
 use Rattle.dbtg_unit.specs.Checks.{refused_at_once}
 use Rattle.dbtg_schema.specs.Structure.{automatic_sets, calc_of, order_of, owns, rekeyed_sets, set_numbers}
@@ -73,27 +75,6 @@ spot Last p key m = Back
 spot Next p key m = after_position p
 spot Prior p key m = before_position p
 spot (Sorted ascending duplicates) p key m = Among (λ x. comes_before ascending duplicates (key x) (key m))
-
--- orders in which a new member goes beside the position
-abbrev pub uses_position : Order → Bool
-uses_position Next = true
-uses_position Prior = true
-uses_position _ = false
-
--- orders in which sort keys are unique
-abbrev pub refuses_equal : Order → Bool
-refuses_equal (Sorted ascending NotAllowed) = true
-refuses_equal _ = false
-
--- m, with this sort key, into the current occurrence of set s: owner deleted, position lost, duplicates
-abbrev pub place_checks : Lists → Database → Unit → ℕ → Option Value → List (Bool × Cause)
-place_checks schema db unit s key =
-    let place = unwrap_or (place_in schema unit s) (record { owner = System; at = None }) in
-    let list = members_of db s place.owner in
-    (is_none (db.lists s place.owner), Deleted)
-    ∷ (uses_position (order_of schema s) && is_lost place.at list, PositionLost)
-    ∷ (refuses_equal (order_of schema s) && list_any (λ x. option_value_eq (sort_key schema db s x) key) list, DuplicatesNotAllowed)
-    ∷ []
 
 -- the list with m in its place
 abbrev pub joined : Lists → Database → Unit → ℕ → DbKey → List DbKey → List DbKey
@@ -149,7 +130,7 @@ abbrev pub store_checks : Lists → ℕ → Database → Unit → ℕ → List V
 store_checks schema capacity db unit t items =
     (is_none (free_number capacity db t), NoRoom)
     ∷ (calc_taken schema capacity db t items (λ k. false), DuplicatesNotAllowed)
-    ∷ flat_map (λ s. place_checks schema db unit s (key_item schema s t items)) (automatic_sets schema t)
+    ∷ flat_map (λ s. place_checks schema (whole schema capacity db) unit s (key_item schema s t items)) (automatic_sets schema t)
 
 -- the record added, connected in its automatic sets, and seen
 abbrev pub stored : Lists → ℕ → Database → Unit → DbKey → List Value → Suppress → Outcome
@@ -167,29 +148,11 @@ next_version r = record { items = r.items; version = r.version + 1 }
 abbrev pub raised : (DbKey → Bool) → Database → Database
 raised test db = record db { records = λ x. if test x then option_map next_version (db.records x) else db.records x }
 
--- the version of a record
-abbrev pub version_of : Database → DbKey → ℕ
-version_of db k = unwrap_or (option_map (λ r. r.version) (db.records k)) 0
-
 -- the kept list after this unit's own statement raised the versions of the records that pass the test
 abbrev pub renoted : (DbKey → Bool) → Database → Unit → Unit
 renoted test db unit = record unit { kept = map (λ e. if test e.0 then (e.0, version_of db e.0) else e) unit.kept }
 
--- the current of run-unit is deleted; it is kept, with another version than it has
-abbrev pub own_checks : Database → Unit → DbKey → List (Bool × Cause)
-own_checks db unit k =
-    (not (is_live db k), Deleted)
-    ∷ (some_and (λ v. not (v == version_of db k)) (kept_version unit k), ChangedByAnother)
-    ∷ []
-
 -- INSERT and REMOVE
-
--- already a member; then the place
-abbrev pub insert_checks : Lists → ℕ → Database → Unit → ℕ → DbKey → List (Bool × Cause)
-insert_checks schema capacity db unit s k =
-    own_checks db unit k
-    ++ (is_some (owner_of schema capacity db s k), AlreadyMember)
-    ∷ place_checks schema db unit s (sort_key schema db s k)
 
 -- the unit with another current of set s
 abbrev pub moved : Unit → ℕ → Place → Unit
@@ -201,10 +164,6 @@ inserted schema db unit s k =
     let new = raised (key_eq k) (connected_in schema db unit (s ∷ []) k) in
     let owner = unwrap_or (option_map (λ place. place.owner) (place_in schema unit s)) System in
     done new (renoted (key_eq k) new (moved unit s (record { owner = owner; at = Some k }))) None None
-
--- not a member
-abbrev pub remove_checks : Lists → ℕ → Database → Unit → ℕ → DbKey → List (Bool × Cause)
-remove_checks schema capacity db unit s k = own_checks db unit k ++ (is_none (owner_of schema capacity db s k), NotMember) ∷ []
 
 -- k taken out of its list of set s
 abbrev pub removed : Database → Unit → ℕ → DbKey → Outcome
@@ -240,7 +199,7 @@ abbrev pub modify_checks : Lists → ℕ → Database → Unit → List Change �
 modify_checks schema capacity db unit changes k =
     let items = changed_items changes (items_of db k) in
     let new = with_items db k items in
-    own_checks db unit k
+    own_checks (whole schema capacity db) unit k
     ++ (names_calc schema k.rtype changes && calc_taken schema capacity db k.rtype items (key_eq k), DuplicatesNotAllowed)
     ∷ map (λ s.
     let list = without k (unwrap_or (option_map (members_of db s) (owner_of schema capacity db s k)) []) in
@@ -272,9 +231,9 @@ abbrev pub has_members : Lists → Database → DbKey → Bool
 has_members schema db k = list_any (λ s. nat_lt 0 (length (members_of db s (Rec k)))) (set_numbers schema)
 
 -- the plain form wants no members
-abbrev pub delete_checks : Lists → Database → Unit → Erase → DbKey → List (Bool × Cause)
-delete_checks schema db unit option k =
-    own_checks db unit k ++ (is_plain option && has_members schema db k, OwnerHasMembers) ∷ []
+abbrev pub delete_checks : Lists → ℕ → Database → Unit → Erase → DbKey → List (Bool × Cause)
+delete_checks schema capacity db unit option k =
+    own_checks (whole schema capacity db) unit k ++ (is_plain option && has_members schema db k, OwnerHasMembers) ∷ []
 
 -- the owner is one of the records that go
 abbrev pub is_gone : List DbKey → Owner → Bool
@@ -319,10 +278,10 @@ effect_on_cells schema capacity db unit (Get r) =
 effect_on_cells schema capacity db unit (Store t items suppress) =
     unless_refused db unit (first_cause (store_checks schema capacity db unit t items))
     (stored schema capacity db unit (new_key db t (unwrap_or (free_number capacity db t) 0)) items suppress)
-effect_on_cells schema capacity db unit (Insert s) = on_current db unit unit.currency.run_unit (insert_checks schema capacity db unit s) (inserted schema db unit s)
-effect_on_cells schema capacity db unit (Remove s) = on_current db unit unit.currency.run_unit (remove_checks schema capacity db unit s) (removed db unit s)
+effect_on_cells schema capacity db unit (Insert s) = on_current db unit unit.currency.run_unit (insert_checks schema (whole schema capacity db) unit s) (inserted schema db unit s)
+effect_on_cells schema capacity db unit (Remove s) = on_current db unit unit.currency.run_unit (remove_checks (whole schema capacity db) unit s) (removed db unit s)
 effect_on_cells schema capacity db unit (Modify t changes) = on_current db unit unit.currency.run_unit (modify_checks schema capacity db unit changes) (modified schema capacity db unit changes)
-effect_on_cells schema capacity db unit (Delete option) = on_current db unit unit.currency.run_unit (delete_checks schema db unit option) (deleted schema capacity db unit option)
+effect_on_cells schema capacity db unit (Delete option) = on_current db unit unit.currency.run_unit (delete_checks schema capacity db unit option) (deleted schema capacity db unit option)
 effect_on_cells schema capacity db unit Keep =
     on_current db unit unit.currency.run_unit (λ k. (not (is_live db k), Deleted) ∷ []) (λ k. done db (record unit { kept = noted k (version_of db k) unit.kept }) None None)
 effect_on_cells schema capacity db unit (Free true) = done db (record unit { kept = [] }) None None

@@ -12,6 +12,7 @@ use Rattle.dbtg_unit.specs.declared.unit.Unit.{Unit}
 use Rattle.dbtg_schema.specs.Lookups.{first_cause}
 use Rattle.dbtg_unit.specs.Base.{Database, owners, members_of, is_member}
 use Rattle.dbtg_unit.specs.Doomed.{all_keys, takes}
+use Rattle.dbtg_unit.specs.View.{whole}
 use Rattle.dbtg_unit.specs.Effect.{own_checks, is_plain, has_members}
 use Rattle.dbtg_unit.specs.CellNames.{slot_name, place_of}
 use Rattle.dbtg_schema.specs.Structure.{owns, set_numbers}
@@ -80,7 +81,7 @@ rings_to_member schema db k (s ∷ sets) =
 -- deleted or changed by another: the slot alone; refused for its members: as far as the first; else all
 abbrev pub delete_cells : Lists → ℕ → Database → Unit → Erase → DbKey → List CellName
 delete_cells schema capacity db unit option k =
-    if is_some (first_cause (own_checks db unit k)) then slot_name k ∷ []
+    if is_some (first_cause (own_checks (whole schema capacity db) unit k)) then slot_name k ∷ []
     else if is_plain option && has_members schema db k then slot_name k ∷ rings_to_member schema db k (filter (λ s. owns schema s k.rtype) (set_numbers schema))
     else (
     let gone = doomed_in_turn schema capacity db option k in

@@ -1,7 +1,8 @@
 -- What is read off the cells in hand.
 -- k is a key, s a set, o an owner, t a record type, n a number, v a version, r a stored record, a an area, c the name of a cell.
-use Rattle.std.specs.Prelude.{ℕ, ◌+◌, Bool, not, ◌==◌, List, [], ◌∷◌, Option, Some, None, is_some, option_map, option_and_then, unwrap_or, if◌then◌else◌}
-use Rattle.dbtg_schema.specs.Lookups.{at, some_and}
+use Rattle.std.specs.Prelude.{ℕ, ◌+◌, ◌==◌, List, [], Option, Some, None, is_none, is_some, option_map, option_and_then, unwrap_or, if◌then◌else◌}
+use Rattle.std.specs.List.{list_any}
+use Rattle.dbtg_schema.specs.Lookups.{at}
 use Rattle.dbtg_cells.specs.declared.cell.Cell.{Cell}
 use Rattle.dbtg_cells.specs.declared.cell.Cell.TheVariants.{Usage as UsageCell, Extent as ExtentCell, Ring as RingCell, Slot as SlotCell}
 use Rattle.dbtg_cells.specs.declared.extent.Number.{Number}
@@ -12,14 +13,12 @@ use Rattle.dbtg_cells.specs.declared.ring.Occurrence.{Occurrence}
 use Rattle.dbtg_cells.specs.declared.slot.Stored.{Stored}
 use Rattle.dbtg_cells.specs.declared.usage.Mode.{Mode}
 use Rattle.dbtg_cells.specs.declared.key.Value.{Value}
-use Rattle.dbtg_cells.specs.Keys.{owner_eq}
+use Rattle.dbtg_cells.specs.Keys.{option_value_eq, owner_eq}
+use Rattle.dbtg_cells.specs.Members.{keys_in, members_in}
 use Rattle.dbtg_cells.specs.Numbers.{entry_of, last_of}
-use Rattle.dbtg_unit.specs.declared.unit.Unit.{Unit}
-use Rattle.dbtg_unit.specs.declared.unit.Cause.{Cause}
-use Rattle.dbtg_unit.specs.declared.unit.Cause.TheVariants.{ChangedByAnother, Deleted}
 use Rattle.dbtg_unit.specs.CellNames.{place_of, slot_name}
 use Rattle.dbtg_unit.specs.Hands.{Hands, cell_of}
-use Rattle.dbtg_unit.specs.Units.{kept_version}
+use Rattle.dbtg_unit.specs.View.{View}
 
 -- the record of this generation in a slot
 abbrev pub stored_of : ℕ → Option Cell → Option Stored
@@ -86,9 +85,15 @@ next_key_of numbers t n = record { rtype = t; number = n; generation = last_of n
 abbrev pub values_of_key : List Number → DbKey → Option (List Value)
 values_of_key numbers k = option_and_then (λ e. if e.last == k.generation then e.calc else None) (entry_of k.number numbers)
 
--- the checks of the current of run-unit: it is deleted; it is kept, with another version than it has
-abbrev pub own_checks_in : Hands → Unit → DbKey → List (Bool × Cause)
-own_checks_in hands unit k =
-    (not (is_some (stored_in hands k)), Deleted)
-    ∷ (some_and (λ v. not (v == version_in hands k)) (kept_version unit k), ChangedByAnother)
-    ∷ []
+-- what the cells in hand answer
+abbrev pub in_hand : Hands → View
+in_hand hands =
+    record {
+      is_live = λ k. is_some (stored_in hands k);
+      items = items_in hands;
+      version = version_in hands;
+      owner = owner_in hands;
+      is_absent = λ s o. is_none (occurrence_in hands s o);
+      members = λ s o. keys_in (occurrence_in hands s o);
+      has_sort_key = λ s o v. list_any (λ e. option_value_eq e.1 v) (members_in (occurrence_in hands s o));
+    }

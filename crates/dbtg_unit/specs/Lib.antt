@@ -2,6 +2,8 @@ pub mod Base
 pub mod Units
 pub mod Found
 pub mod Doomed
+pub mod View
+pub mod CellChecks
 pub mod Checks
 pub mod Effect
 pub mod Cells

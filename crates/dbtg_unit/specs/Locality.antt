@@ -5,7 +5,6 @@ use Rattle.dbtg_schema.specs.Sound.{IsSound}
 use Rattle.dbtg_cells.specs.declared.name.CellName.{CellName}
 use Rattle.dbtg_unit.specs.declared.held.Need.TheVariants.{Ready}
 use Rattle.dbtg_unit.specs.declared.statement.Statement.{Statement}
-use Rattle.dbtg_unit.specs.declared.statement.Statement.TheVariants.{Insert, Remove}
 use Rattle.dbtg_unit.specs.declared.unit.Unit.{Unit}
 use Rattle.dbtg_unit.specs.Base.{Database}
 use Rattle.dbtg_unit.specs.Cells.{cell}
@@ -37,17 +36,3 @@ ReadingIsDetermined =
     (schema : Lists) (capacity : ℕ) (db eb : Database) (hands : Hands) (unit : Unit) (statement : Statement)
     → IsUnitOf schema unit → Agrees schema capacity db hands unit → Agrees schema capacity eb hands unit → changes_records statement ≡ false
     → need schema capacity db unit hands statement ≡ Ready → DoTheSame schema capacity hands (effect schema capacity db unit statement) (effect schema capacity eb unit statement)
-
--- what a REMOVE that fits has in hand, once it is ready, determines the same
-abbrev pub RemoveIsDetermined : Type 0
-RemoveIsDetermined =
-    (schema : Lists) (capacity : ℕ) (db eb : Database) (hands : Hands) (unit : Unit) (s : ℕ)
-    → fits schema (Remove s) ≡ true → Agrees schema capacity db hands unit → Agrees schema capacity eb hands unit
-    → need schema capacity db unit hands (Remove s) ≡ Ready → DoTheSame schema capacity hands (effect schema capacity db unit (Remove s)) (effect schema capacity eb unit (Remove s))
-
--- what an INSERT that fits has in hand, once it is ready, determines the same
-abbrev pub InsertIsDetermined : Type 0
-InsertIsDetermined =
-    (schema : Lists) (capacity : ℕ) (db eb : Database) (hands : Hands) (unit : Unit) (s : ℕ)
-    → fits schema (Insert s) ≡ true → Agrees schema capacity db hands unit → Agrees schema capacity eb hands unit
-    → need schema capacity db unit hands (Insert s) ≡ Ready → DoTheSame schema capacity hands (effect schema capacity db unit (Insert s)) (effect schema capacity eb unit (Insert s))

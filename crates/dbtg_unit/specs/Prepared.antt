@@ -85,5 +85,5 @@ pub record IsEffect (schema : Lists) (capacity : ℕ) (db : Database) (unit : Un
 
 -- the plan changes held cells alone, and is the statement's effect on every database that agrees with what is held
 pub record IsPrepared (schema : Lists) (capacity : ℕ) (unit : Unit) (hands : Hands) (statement : Statement) (plan : Plan) : Type 0 where
-  pub held : list_all (λ (e : CellEdit). holds hands.cells e.name) plan.cells ≡ true
+  pub held : (db : Database) → Agrees schema capacity db hands unit → list_all (λ (e : CellEdit). holds hands.cells e.name) plan.cells ≡ true
   pub effects : (db : Database) → Agrees schema capacity db hands unit → IsEffect schema capacity db unit hands.guesses statement plan

@@ -18,7 +18,7 @@ use dbtg_cells::DbKey;
 use dbtg_schema::{AreaNo, ItemNo, RecordNo, Schema, SetNo};
 
 /// What is asked of an area.
-#[derive(Clone, Copy, Debug)]
+#[derive(Clone, Copy)]
 pub enum Question {
     /// The unit has it not open.
     NotOpen,

@@ -1,8 +1,9 @@
 //! What is read off the cells in hand. Nothing here takes memory.
 ghost use Rattle.std.specs.Prelude.{◌≡◌, [], is_some, option_and_then, option_copied, option_map, unwrap_or};
 ghost use Rattle.dbtg_schema.specs.Lookups.{first_cause};
+ghost use Rattle.dbtg_unit.specs.CellChecks.{own_checks};
 ghost use Rattle.dbtg_unit.specs.CellNames.{place_of};
-ghost use Rattle.dbtg_unit.specs.InHand.{numbers_in, occurrence_in, own_checks_in, stored_in, users_in};
+ghost use Rattle.dbtg_unit.specs.InHand.{in_hand, numbers_in, occurrence_in, stored_in, users_in};
 
 use crate::held::Held;
 use crate::unit::{Cause, Unit};
@@ -81,7 +82,7 @@ pub fn usage(held: &Held, area: AreaNo) -> Option<&Usage>
 /// Why a statement about a unit's current of run-unit is refused for the record itself: it is deleted, or it was changed since the
 /// unit kept it.
 pub fn own_refusal(held: &Held, unit: &Unit, key: &DbKey) -> Option<Cause>
-    ensures { result ≡ first_cause (own_checks_in held.now unit.now key.now) }
+    ensures { result ≡ first_cause (own_checks (in_hand held.now) unit.now key.now) }
 {
     let Some(stored) = stored(held, key) else {
         return Some(Cause::Deleted);

@@ -13,10 +13,12 @@ mod edit;
 mod entries;
 mod fits;
 mod held;
+mod image;
 mod in_hand;
 mod kept;
 mod laws;
 mod legality;
+mod moves;
 mod names;
 mod order;
 mod owners;
@@ -36,18 +38,20 @@ pub use counts::{set_count, type_count};
 pub use edit::{CellEdit, Edit, UnitEdit};
 pub use entries::entry_at;
 pub use held::{Held, Need};
+pub use image::Image;
 pub use in_hand::{numbers, occurrence, own_refusal, stored, usage};
 pub use kept::Kept;
 pub use laws::{
     cells_determine, delete_stays_in_its_areas, doomed_is_least, doomed_is_least_set,
     each_statement_goes_forward, each_statement_is_answered, effect_is_its_edits,
-    insert_is_determined, placing_keeps_order, reachable_types_are_least, reading_is_determined,
-    ready_statement_changes_only_its_cells, remove_is_determined, replay_goes_forward,
-    replay_takes_one_more, statements_determine_replay, versions_are_bounded,
+    placing_keeps_order, reachable_types_are_least, reading_is_determined,
+    ready_statement_changes_only_its_cells, replay_goes_forward, replay_takes_one_more,
+    statements_determine_replay, versions_are_bounded,
 };
 pub use legality::{
     effect_keeps_legal, opening_is_legal, replay_keeps_legal, units_never_conflict,
 };
+pub use moves::{Move, Stepped};
 pub use order::{has_area, next_area};
 pub use owners::Owners;
 pub use prepared::{Prepared, finish, has_next_versions};

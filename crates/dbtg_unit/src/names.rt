@@ -11,7 +11,7 @@ use indexmap::IndexMap;
 use std::alloc::AllocError;
 
 /// A name as the index reads it: its kind, what it names, and of a ring the record type of the owner.
-#[derive(Clone, Copy, Debug, PartialEq, Eq, Hash)]
+#[derive(Clone, Copy, PartialEq, Eq, Hash)]
 pub(crate) struct NameKey {
     kind: u8,
     of: u8,

@@ -21,6 +21,7 @@ use Rattle.dbtg_unit.specs.declared.statement.Statement.{Statement}
 use Rattle.dbtg_unit.specs.declared.unit.Cause.TheVariants.{DuplicatesNotAllowed, NoRoom}
 use Rattle.dbtg_unit.specs.declared.unit.Unit.{Unit}
 use Rattle.dbtg_unit.specs.Base.{Database, Record, is_live, is_member, key_at, key_item, live_keys, members_of, owner_of, sort_key}
+use Rattle.dbtg_unit.specs.View.{whole}
 use Rattle.dbtg_unit.specs.Effect.{Outcome, calc_taken, comes_before, connected_in, done, effect, free_number, joined, new_key, place_checks, spot, stored, unless_refused, with_new}
 use Rattle.dbtg_unit.specs.Replay.{State, after_outcome, answers, outcome_of, state_after}
 use Rattle.dbtg_unit.specs.Units.{owners_of, seen, seen_with}
@@ -297,7 +298,7 @@ module _ (c k : ℕ) (current : DbKey) (last : Option DbKey) where
       unless_refused (shop_with k) (unit_at current last)
       (first_cause ((is_none free, NoRoom)
       ∷ (calc_taken shop (suc c) (shop_with k) items (the_items (suc k)) (λ x. false), DuplicatesNotAllowed)
-      ∷ flat_map (λ s. place_checks shop (shop_with k) (unit_at current last) s (key_item shop s items (the_items (suc k)))) (automatic_sets shop items)))
+      ∷ flat_map (λ s. place_checks shop (whole shop (suc c) (shop_with k)) (unit_at current last) s (key_item shop s items (the_items (suc k)))) (automatic_sets shop items)))
       (stored shop (suc c) (shop_with k) (unit_at current last) (new_key (shop_with k) items (unwrap_or free 0)) (the_items (suc k)) nothing)
 
   by_free_number : effect shop (suc c) (shop_with k) (unit_at current last) (store_item (suc k)) ≡ outcome_at (free_number (suc c) (shop_with k) items)

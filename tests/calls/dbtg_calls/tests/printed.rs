@@ -4,8 +4,7 @@ use super::shop::shop;
 use dbtg_cells::{DbKey, Mode, Owner, Value};
 use dbtg_schema::{AreaNo, RecordNo, Row};
 use dbtg_script::{answers_text, image_text, moves_text, units_text};
-use dbtg_step::{Image, Stepped};
-use dbtg_unit::{Answer, Cause, Currency, Entry, Kept, Place, Statement, Status, Unit};
+use dbtg_unit::{Answer, Cause, Currency, Entry, Image, Kept, Place, Statement, Status, Stepped, Unit};
 use std::alloc::Global;
 use std::test::*;
 

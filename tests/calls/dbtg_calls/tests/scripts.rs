@@ -3,7 +3,7 @@
 use super::shop::shop;
 use dbtg_schema::Schema;
 use dbtg_script::{MovesFault, ScriptFault, read_moves, read_script};
-use dbtg_step::Move;
+use dbtg_unit::Move;
 use std::test::*;
 
 // The number of the fault and its line; (0, 0) where the script is read and each of its statements fits the schema.

@@ -1,5 +1,5 @@
 use Rattle.std.proofs.Common.{◌+◌, List, length, sym, ap, ◌∙◌, arith}
-use Rattle.dbtg_step.specs.declared.moves.Move.{Move}
+use Rattle.dbtg_unit.specs.declared.moves.Move.{Move}
 use Rattle.dbtg_script.specs.Moves.{refused_word}
 use Rattle.dbtg_script.proofs.MoveSteps.{no_move, too_many, moves_on}
 use Rattle.dbtg_script.proofs.moves.take_word.Goals as goal

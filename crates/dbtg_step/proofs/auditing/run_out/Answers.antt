@@ -1,7 +1,7 @@
 use Rattle.std.proofs.Common.{◌≡◌, Some, slice_get, length, refl, sym, ◌∙◌, subst, ◌-◌, arith}
 use Rattle.std.proofs.lemmas.Bool.{false≢true}
 use Rattle.std.proofs.lemmas.Option.{same_Some, slice_get_read}
-use Rattle.dbtg_step.specs.declared.moves.Stepped.TheVariants.{Moved}
+use Rattle.dbtg_unit.specs.declared.moves.Stepped.TheVariants.{Moved}
 use Rattle.dbtg_step.specs.declared.parts.Runner.{Runner}
 use Rattle.dbtg_step.specs.Network.{network}
 use Rattle.dbtg_step.specs.Parts.{unit_state_of}

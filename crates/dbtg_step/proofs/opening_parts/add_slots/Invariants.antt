@@ -1,8 +1,8 @@
 use Rattle.std.proofs.Common.{◌≡◌, ◌++◌}
 use Rattle.std.specs.List.{flat_map, range_with_len}
 use Rattle.dbtg_cells.specs.CellNumbers.{slots_of}
-use Rattle.dbtg_step.specs.Openings.{homes_of, locations_of}
+use Rattle.dbtg_step.specs.Openings.{homes_of, homes_shown}
 use Rattle.dbtg_step.proofs.opening_parts.add_slots.Given as goal
 
 abbrev pub invariant-loop-rtype : goal.invariant-loop-rtype
-invariant-loop-rtype l = locations_of l.table.items ≡ locations_of l.initial.table.items ++ homes_of l.schema l.capacity (flat_map (slots_of l.capacity) (range_with_len 0 l.rtype))
+invariant-loop-rtype l = homes_shown l.cells.items ≡ homes_shown l.initial.cells.items ++ homes_of l.schema l.capacity (flat_map (slots_of l.capacity) (range_with_len 0 l.rtype))

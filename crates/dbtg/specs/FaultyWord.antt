@@ -1,0 +1,35 @@
+-- The word of a schema's text at which its fault is: the text is laid out with each word on a line of its own, so the line of
+-- its refusal says the word.
+use Rattle.std.specs.Prelude.{ℕ, zero, suc, ◌==◌, ◌&&◌, ◌||◌, nat_le, Bool, List, [], ◌∷◌, ◌++◌, Option, Some, None, if◌then◌else◌}
+use Rattle.std.specs.List.{flat_map}
+use Rattle.dbtg_schema.specs.Causes.{cause_number}
+use Rattle.dbtg_schema.specs.Words.{is_gap}
+use Rattle.dbtg_schema.specs.declared.fault.Fault.{Fault}
+use Rattle.dbtg_script.specs.Spelling.{behind, in_front}
+
+-- a byte between words ends a line, and a period stands alone
+abbrev pub apart : ℕ → List ℕ
+apart b = if b == 46 then 10 ∷ 46 ∷ 10 ∷ [] else (if is_gap b then 10 ∷ [] else b ∷ [])
+
+-- no word stands on the last line
+abbrev pub laid_out : List ℕ → List ℕ
+laid_out text = flat_map apart text ++ 10 ∷ 10 ∷ []
+
+-- what is left behind so many c
+abbrev pub behind_all : ℕ → ℕ → List ℕ → List ℕ
+behind_all c zero text = text
+behind_all c (suc n) text = behind c (behind_all c n text)
+
+-- the line of a refusal with this number, and 0 for another one
+abbrev pub line_in : ℕ → Option Fault → ℕ
+line_in number None = 0
+line_in number (Some fault) = if cause_number fault.cause == number then fault.line else 0
+
+-- the line of this number, from 1
+abbrev pub line_at : ℕ → List ℕ → List ℕ
+line_at zero text = []
+line_at (suc n) text = in_front 10 (behind_all 10 n text)
+
+-- the faults of a whole entry, which are told at its first word
+abbrev pub is_of_entry : ℕ → Bool
+is_of_entry n = nat_le 12 n && nat_le n 15 || n == 17

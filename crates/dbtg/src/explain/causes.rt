@@ -1,0 +1,24 @@
+//! What each cause of a refusal means, as docs/profile/statuses.md says it.
+
+/// The last two digits of a status, the cause's name, what it means, and what a program does next.
+pub static CAUSES: &str = "\
+01|area not open|One of the statement's areas is not open by this unit. statements.md lists the areas of each statement.|OPEN the area, in an UPDATE mode if records are to be changed, and make the statement again.
+03|changed by another|The current of run-unit is in this unit's kept list with a version other than its own now: another unit has changed it since it was kept. Only the current of run-unit is judged, not members or other records that a DELETE takes. It comes directly after 17 of the record.|GET the record and judge whether the change is still wanted. KEEP notes the version that it has now, FREE drops it from the kept list; then make the statement again.
+05|duplicates not allowed|Another live record has the same CALC items where duplicates are NOT ALLOWED, or another member of the list has the same sort key where the set's duplicates are NOT ALLOWED.|Take other values, or FIND the record that has them and work on that one.
+06|no such current|A current that the statement needs is null: of the set for INSERT, FIND in a set, FIND SORTED and FIND OWNER; of each automatic set for STORE; of the record type, set or area for FIND CURRENT; of the record type for NEXT DUPLICATE; of the area for FIND NEXT and PRIOR in an area. A SYSTEM set always has an occurrence to stand in; only FIND CURRENT OF SET counts standing at SYSTEM itself as null.|FIND or STORE a record that becomes this current, and make the statement again.
+07|end|There is no such member, no such key in the area, no further duplicate.|Take it as the end of the search. Nothing became current, so what was current before can be used on.
+09|update mode needed|One of the areas of a statement that changes records is open, but not in an UPDATE mode.|CLOSE the area and OPEN it in an UPDATE mode. What is current stays current meanwhile.
+11|no room|Each number of the record type, from 1 to the capacity, has a live record or is spent. See keys.md.|DELETE records that are not needed, or run with a greater capacity (--capacity, at most 1000).
+13|no current of run-unit|The statement is about the current of run-unit, and there is none: nothing was found or stored yet, or this unit deleted it.|FIND or STORE a record, which becomes the current of run-unit.
+14|mandatory automatic|INSERT into a set in which the record's type is MANDATORY AUTOMATIC.|Leave the INSERT out: STORE has connected the record. To bring it under another owner, DELETE it and STORE it anew.
+15|mandatory|REMOVE from a set in which the record's type is MANDATORY.|Leave the record where it is. To bring it under another owner, DELETE it and STORE it anew.
+16|already member|INSERT of a record that is a member of an occurrence of the set, this one or another.|Leave it there, or REMOVE it first if it is to stand in another list.
+17|deleted|A record that the statement starts from was deleted: the current of run-unit, the current that FIND CURRENT or NEXT DUPLICATE starts from, or the owner in the current of a set. It comes also where a new record has the same number, as its generation is another.|FIND another record. The deleted one does not come back; its values can be stored anew.
+20|other record type|GET or MODIFY names a type, and the current of run-unit is of another; or its type is no member type of the set of an INSERT or REMOVE.|FIND a record of the type that is wanted, or name the type or the set that fits the current of run-unit.
+22|not a member|REMOVE of a record that is in no occurrence of the set.|Nothing is left to be done; INSERT would put it in.
+23|position lost|NEXT or PRIOR, in FIND or as the ORDER of the set, from a position whose record is no longer in that owner's list.|FIND FIRST or FIND LAST of the set, or another FIND of one of its members, makes a position in the list again.
+26|none satisfies|No live record has the key, the CALC values or the sort key that the FIND names; or the number of the key is above the capacity.|Take it as not found: STORE the record, or search by another value. Nothing became current.
+28|area already open|OPEN of an area that this unit has open, in whatever mode.|Use the area as it is open. For another mode CLOSE it first.
+29|usage conflict|OPEN in a mode that conflicts with the mode of a unit that has the area open. See usage-modes.md.|OPEN it in a mode that does not conflict, or again after the other unit has closed it.
+30|owner has members|The plain DELETE of a record that owns a member in some set.|DELETE ONLY, SELECTIVE or ALL takes members with it; else REMOVE or DELETE the members first.
+31|not kept|FREE where the current of run-unit is not in the kept list.|Nothing is left to be done: the record is not kept.";

@@ -1,0 +1,225 @@
+//! The second line that `--explain` asks for: where a fault is, and what it means.
+
+use crate::explain::{Kind, advice_for, line_of, meaning_of, said_of_schema_word, said_of_word};
+use crate::fault::Fault;
+use crate::files::{SCRIPT_BYTES, STANDARD_INPUT, read_bytes, read_schema};
+use std::alloc::AllocError;
+use std::io;
+
+/// The files that a command names.
+#[derive(Debug, Drop)]
+pub struct Files<'a> {
+    pub schema: &'a str,
+    pub scripts: &'a [&'a str],
+    pub moves: &'a str,
+}
+
+/// The first word of a text, as far as it is letters.
+fn first_word(text: &[u8]) -> &[u8] {
+    let text = text.trim_ascii_start();
+    for end in 0..text.len() {
+        if !text[end].is_ascii_alphabetic() {
+            return &text[..end];
+        }
+    }
+    text
+}
+
+fn is_statement_word(word: &[u8]) -> bool {
+    matches!(
+        word,
+        b"OPEN"
+            | b"CLOSE"
+            | b"FIND"
+            | b"GET"
+            | b"STORE"
+            | b"INSERT"
+            | b"REMOVE"
+            | b"MODIFY"
+            | b"DELETE"
+            | b"KEEP"
+            | b"FREE"
+    )
+}
+
+/// Says that a file has a text of another kind than is wanted there.
+fn mistaken(kind: Kind, text: &[u8]) -> &'static str {
+    let word = first_word(text);
+    match kind {
+        Kind::Schema if is_statement_word(word) => "; this is a script, and a schema is wanted",
+        Kind::Script if matches!(word, b"SCHEMA") => "; this is a schema, and a script is wanted",
+        _ => "",
+    }
+}
+
+/// Why the system does not give a file.
+fn reason_of(kind: io::ErrorKind) -> &'static str {
+    match kind {
+        io::ErrorKind::NotFound => "there is no such file",
+        io::ErrorKind::PermissionDenied => "permission is denied",
+        io::ErrorKind::IsADirectory => "it is a directory",
+        io::ErrorKind::NotADirectory => "a part of the path is no directory",
+        _ => "the system cannot read it",
+    }
+}
+
+fn unread_line(rt: &HostRuntime, path: &str) -> Result<String, AllocError> {
+    let reason = match read_bytes(rt, path, SCRIPT_BYTES) {
+        Ok(_) => "the system could not read it",
+        Err(error) => reason_of(error.kind()),
+    };
+    format!(in rt.alloc(); "{path}: {reason}")
+}
+
+/// What is wrong with this file, or nothing where standard input has been read already.
+fn mistaken_file(rt: &HostRuntime, kind: Kind, path: &str) -> &'static str {
+    if path == STANDARD_INPUT {
+        return "";
+    }
+    match read_bytes(rt, path, SCRIPT_BYTES) {
+        Ok(text) => mistaken(kind, text.as_slice()),
+        Err(_) => "",
+    }
+}
+
+/// Puts the place of a fault behind a text, then what it means, and what else there is to say.
+fn push_line(
+    out: &mut Vec<u8>,
+    place: &str,
+    meaning: &[u8],
+    other: &str,
+) -> Result<(), AllocError> {
+    out.extend_from_slice(place.as_bytes())?;
+    out.extend_from_slice(meaning)?;
+    out.extend_from_slice(other.as_bytes())
+}
+
+/// Puts the same, with what is said of a word in place of what the fault means, where there is such a word and nothing else.
+fn push_place(
+    out: &mut Vec<u8>,
+    place: &str,
+    word: &[u8],
+    meaning: &[u8],
+    other: &str,
+) -> Result<(), AllocError> {
+    let is_plain = word.is_empty() || !other.is_empty();
+    push_line(out, place, if is_plain { meaning } else { word }, other)
+}
+
+/// What is said of the word of a script that is at fault; nothing where no single word is, or a file cannot be read again.
+fn word_line(
+    rt: &HostRuntime,
+    schema: &str,
+    script: &str,
+    line: u64,
+    number: u8,
+    meaning: &[u8],
+) -> Result<Vec<u8>, AllocError> {
+    let alloc = rt.alloc();
+    if schema == STANDARD_INPUT || script == STANDARD_INPUT {
+        return Ok(Vec::new(alloc));
+    }
+    if let (Ok(known), Ok(text)) = (
+        read_schema(rt, schema),
+        read_bytes(rt, script, SCRIPT_BYTES),
+    ) {
+        said_of_word(
+            alloc,
+            &known,
+            line_of(text.as_slice(), line),
+            number,
+            meaning,
+        )
+    } else {
+        Ok(Vec::new(alloc))
+    }
+}
+
+/// Puts what there is to say of a fault of the script with this number, from 1, behind a text.
+fn push_script(
+    rt: &HostRuntime,
+    files: &Files,
+    out: &mut Vec<u8>,
+    script: usize,
+    line: u64,
+    number: u8,
+) -> Result<(), AllocError> {
+    let path = files
+        .scripts
+        .get(script.wrapping_sub(1))
+        .copied()
+        .unwrap_or("");
+    let place = format!(in rt.alloc(); "{path}:{line}: ")?;
+    let meaning = meaning_of(Kind::Script, number);
+    let other = mistaken_file(rt, Kind::Script, path);
+    let word = word_line(rt, files.schema, path, line, number, meaning)?;
+    push_place(out, place.as_str(), word.as_slice(), meaning, other)
+}
+
+/// What is said of the word of a schema that is at fault; nothing where no single word is, or the file cannot be read again.
+fn schema_word_line(
+    rt: &HostRuntime,
+    path: &str,
+    number: u8,
+    meaning: &[u8],
+) -> Result<Vec<u8>, AllocError> {
+    let alloc = rt.alloc();
+    if path == STANDARD_INPUT {
+        return Ok(Vec::new(alloc));
+    }
+    match read_bytes(rt, path, SCRIPT_BYTES) {
+        Ok(text) => {
+            let advice = advice_for(Kind::Schema, number);
+            said_of_schema_word(alloc, text.as_slice(), number, meaning, advice)
+        }
+        Err(_) => Ok(Vec::new(alloc)),
+    }
+}
+
+/// Puts what there is to say of the fault of the schema behind a text.
+fn push_schema(
+    rt: &HostRuntime,
+    path: &str,
+    out: &mut Vec<u8>,
+    line: u64,
+    number: u8,
+) -> Result<(), AllocError> {
+    let place = format!(in rt.alloc(); "{path}:{line}: ")?;
+    let meaning = meaning_of(Kind::Schema, number);
+    let other = mistaken_file(rt, Kind::Schema, path);
+    let word = schema_word_line(rt, path, number, meaning)?;
+    push_place(out, place.as_str(), word.as_slice(), meaning, other)
+}
+
+/// The second line of a fault, where there is one.
+pub fn reason(
+    rt: &HostRuntime,
+    files: &Files,
+    fault: &Fault,
+) -> Result<Option<String>, AllocError> {
+    let alloc = rt.alloc();
+    let mut out = Vec::new(alloc);
+    match fault {
+        Fault::Schema { line, cause } => {
+            push_schema(rt, files.schema, &mut out, *line, cause.number())?;
+        }
+        Fault::Script {
+            number,
+            line,
+            cause,
+        } => push_script(rt, files, &mut out, *number, *line, cause.number())?,
+        Fault::Moves { word, cause } => {
+            let path = files.moves;
+            let place = format!(in alloc; "{path}: word {word}: ")?;
+            push_line(
+                &mut out,
+                place.as_str(),
+                meaning_of(Kind::Moves, cause.number()),
+                "",
+            )?;
+        }
+        Fault::Unreadable { path } => return Ok(Some(unread_line(rt, path.as_str())?)),
+        _ => return Ok(None),
+    }
+    Ok(Some(String::from_utf8_lossy(alloc, out.as_slice())?))
+}

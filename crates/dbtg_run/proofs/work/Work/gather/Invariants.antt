@@ -1,0 +1,21 @@
+use Rattle.std.proofs.Common.{◌≡◌, ◌⊎◌, ◌<◌, false}
+use Rattle.dbtg_unit.specs.Making.{IsReady}
+use Rattle.dbtg_unit.specs.Needs.{is_stale}
+use Rattle.dbtg_run.specs.Kept.{database_after}
+use Rattle.dbtg_run.specs.Posed.{HoldsSo, turns_left}
+use Rattle.dbtg_run.specs.Works.{Belongs, IsAtWork, IsSameUnit}
+use Rattle.dbtg_run.proofs.work.Work.gather.Given as goal
+
+-- in a database of one unit, whose database does not change, one turn back is enough
+abbrev pub invariant-needs : goal.invariant-needs
+invariant-needs l = record {
+  belongs : Belongs l.db l.self;
+  same : IsSameUnit l.initial.self l.self;
+  work : IsAtWork l.self;
+  so : HoldsSo l.exclusive l.self.exclusive l.self.held;
+  free : IsReady l.initial.self.about.schema.value l.initial.self.about.capacity l.initial.self.unit l.initial.self.held l.statement → IsReady l.self.about.schema.value l.self.about.capacity l.self.unit l.self.held l.statement;
+  known : l.self.about.units ≡ 1 → 0 < l.initial.tries → (0 < l.tries) ⊎ (is_stale l.self.about.schema.value l.self.about.capacity (database_after l.self.about l.self.journal.items) l.self.unit l.self.held.guesses l.statement ≡ false);
+}
+
+abbrev pub decreases-needs : goal.decreases-needs
+decreases-needs l = turns_left l.self.about l.tries l.self.held

@@ -1,0 +1,64 @@
+use Rattle.std.proofs.Common.{◌≡◌, ◌<◌, ◌++◌, ◌∷◌, [], true, false, List, Option, length, sym, ap, ◌∙◌, subst}
+use Rattle.dbtg_schema.specs.Lists.{Lists}
+use Rattle.dbtg_cells.specs.CellNumbers.{cell_number}
+use Rattle.dbtg_cells.specs.declared.cell.Cell.{Cell}
+use Rattle.dbtg_cells.specs.declared.key.Owner.{Owner}
+use Rattle.dbtg_unit.specs.declared.held.Need.TheVariants.{Stale}
+use Rattle.dbtg_unit.specs.Base.{Database}
+use Rattle.dbtg_unit.specs.Guesses.{with_owners}
+use Rattle.dbtg_unit.specs.Hands.{Hands}
+use Rattle.dbtg_unit.specs.Needs.{is_stale}
+use Rattle.dbtg_step.proofs.NeedsShown.{need_owners, ok_also}
+use Rattle.dbtg_run.specs.declared.view.About.{About}
+use Rattle.dbtg_run.specs.Posed.{turns_left}
+use Rattle.dbtg_run.proofs.Needing.{area_needed, cell_needed, stale_needed, not_stale_then, area_nearer, cell_nearer, no_times, match_true}
+use Rattle.dbtg_run.proofs.work.Work.meet.Goals as goal
+
+pub take_area-requires-clause-area : goal.take_area-requires-clause-area
+take_area-requires-clause-area c =
+    let w = c.args.self.now in
+    let r = c.requires.work.real in
+    let h = area_needed w.about.schema.value w.about.capacity r.db w.unit w.held c.args.statement.now c.in-Area.area (sym c.in-Area.is ∙ c.requires.needed r.db r.agrees) in
+    (h.inside, no_times c.in-Area.area w.held.areas h.fresh)
+
+pub guess-requires-clause-count : goal.guess-requires-clause-count
+guess-requires-clause-count c =
+    let w = c.args.self.now in
+    let r = c.requires.work.real in
+    need_owners w.about.schema.value w.about.capacity r.db w.unit c.args.statement.now w.held (Stale c.in-Stale.owners) (sym c.in-Stale.is ∙ c.requires.needed r.db r.agrees)
+    ∙ sym (ap (λ (a : About). length a.schema.value.sets) c.put_cells.ensures.same.about)
+
+pub returns-in-Area-clause-nearer : goal.returns-in-Area-clause-nearer
+returns-in-Area-clause-nearer c =
+    let w = c.args.self.now in
+    let r = c.requires.work.real in
+    let h = area_needed w.about.schema.value w.about.capacity r.db w.unit w.held c.args.statement.now c.in-Area.area (sym c.in-Area.is ∙ c.requires.needed r.db r.agrees) in
+    ok_also c.take_area.result _ _
+    (λ b t q tries. let held : c.take_area.new.self.held ≡ record w.held { areas = w.held.areas ++ c.in-Area.area ∷ [] } = (match_true b ((c.take_area.new.self.held ≡ record w.held { areas = w.held.areas ++ c.in-Area.area ∷ [] }) × (c.take_area.new.self.exclusive ≡ c.args.exclusive)) ((c.take_area.new.self.held ≡ w.held) × (c.take_area.new.self.exclusive ≡ w.exclusive)) q t).0 in
+    subst (λ (a : About). turns_left a tries c.take_area.new.self.held < turns_left w.about tries w.held) (sym c.take_area.ensures.same.about)
+    (subst (λ (hands : Hands). turns_left w.about tries hands < turns_left w.about tries w.held) (sym held) (area_nearer w.about tries w.held c.in-Area.area h.in_range_of h.fresh)))
+    c.take_area.ensures.took
+
+pub returns-in-Some-clause-nearer : goal.returns-in-Some-clause-nearer
+returns-in-Some-clause-nearer c =
+    let w = c.args.self.now in
+    let r = c.requires.work.real in
+    let named = ap (λ (a : About). cell_number a.schema.value a.capacity c.in-Take.name) c.requires.belongs.about ∙ ap (λ (s : Lists). cell_number s c.args.db.now.about.capacity c.in-Take.name) c.args.db.now.same ∙ sym c.cell_number.ensures ∙ c.in-Some.is in
+    let fresh = cell_needed w.about.schema.value w.about.capacity r.db w.unit w.held c.args.statement.now c.in-Take.name (sym c.in-Take.is ∙ c.requires.needed r.db r.agrees) in
+    ok_also c.take_cell.result _ _
+    (λ b t q tries. let held : (y : Cell) × (c.take_cell.new.self.held ≡ record w.held { cells = w.held.cells ++ (c.in-Take.name, y) ∷ [] }) = match_true b ((y : Cell) × (c.take_cell.new.self.held ≡ record w.held { cells = w.held.cells ++ (c.in-Take.name, y) ∷ [] })) (c.take_cell.new.self.held ≡ w.held) q t in
+    subst (λ (a : About). turns_left a tries c.take_cell.new.self.held < turns_left w.about tries w.held) (sym c.take_cell.ensures.same.about)
+    (subst (λ (hands : Hands). turns_left w.about tries hands < turns_left w.about tries w.held) (sym held.1) (cell_nearer w.about tries c.in-Some.number w.held c.in-Take.name held.0 named fresh)))
+    c.take_cell.ensures.took
+
+pub returns-in-Stale-clause-alone : goal.returns-in-Stale-clause-alone
+returns-in-Stale-clause-alone c one =
+    let w = c.args.self.now in
+    let r = c.requires.work.real in
+    let s = stale_needed w.about.schema.value w.about.capacity r.db w.unit w.held c.args.statement.now c.in-Stale.owners (sym c.in-Stale.is ∙ c.requires.needed r.db r.agrees) in
+    let no = not_stale_then w.about.schema.value w.about.capacity r.db w.unit w.held c.args.statement.now c.in-Stale.owners c.requires.fits s in
+    let guesses : c.guess.new.self.held.guesses ≡ with_owners w.held.guesses c.in-Stale.owners = ap (λ (h : Hands). h.guesses) c.guess.ensures.held ∙ ap (λ (h : Hands). with_owners h.guesses c.in-Stale.owners) c.put_cells.ensures.held in (
+      subst (λ (db : Database). is_stale w.about.schema.value w.about.capacity db w.unit w.held.guesses c.args.statement.now ≡ true) (r.alone one) s.now,
+      subst (λ (db : Database). is_stale w.about.schema.value w.about.capacity db w.unit c.guess.new.self.held.guesses c.args.statement.now ≡ false) (r.alone one)
+          (subst (λ (g : List (Option Owner)). is_stale w.about.schema.value w.about.capacity r.db w.unit g c.args.statement.now ≡ false) (sym guesses) no),
+    )

@@ -1,0 +1,26 @@
+use Rattle.std.proofs.Common.{◌≡◌, ℕ, ◌+◌, ◌<◌, arith, refl, ap, subst}
+use Rattle.dbtg_run.specs.declared.view.About.{About}
+use Rattle.dbtg_run.specs.Views.{lone}
+use Rattle.dbtg_run.specs.Kept.{area_count}
+use Rattle.dbtg_run.specs.Posed.{member_of, empty_slots}
+use Rattle.dbtg_run.proofs.Uses.{alone_as, free_as}
+use Rattle.dbtg_run.proofs.work.Work.take_alone.Goals as goal
+
+pub compare_exchange-found-requires : goal.compare_exchange-found-requires
+compare_exchange-found-requires c =
+    let db = c.args.db.now in let w = c.args.self.now in
+    let ours = c.requires.work.ours in
+    let word : 1 + c.index.result ≡ 1 + c.args.area = ap (λ (n : ℕ). 1 + n) c.index.ensures in
+    let inside : c.args.area < area_count db.about = subst (λ (a : About). c.args.area < area_count a) c.requires.belongs.about c.requires.area.0 in
+    let is = subst (λ (a : About). w.seat.me ≡ (lone a (member_of w.unit w.journal.items w.exclusive w.held), empty_slots a w.held.cells)) c.requires.belongs.about w.tied in (
+      c.requires.belongs.table,
+      (let z = db.sized.words in omega arith),
+      alone_as db.board.shared.key db.about w.seat.id db.board.shared.table_id.slots (1 + c.index.result) w.seat.me (member_of w.unit w.journal.items w.exclusive w.held) (empty_slots db.about w.held.cells) c.args.area db.keyed is inside word
+          _ c.requires.so c.requires.area.1 (let i = ours.inside in let f = ours.few in let n = ours.numbered in omega arith) refl,
+    )
+
+pub returns-then-found-ne0-clause-alone : goal.returns-then-found-ne0-clause-alone
+returns-then-found-ne0-clause-alone c one =
+    let w = c.args.self.now in
+    let word : 1 + c.index.result ≡ 1 + c.args.area = ap (λ (n : ℕ). 1 + n) c.index.ensures in
+    absurd (c.if-found-ne0.true (free_as w.about c.args.area (1 + c.index.result) c.compare_exchange-found.result w.seat.me (member_of w.unit w.journal.items w.exclusive w.held) (empty_slots w.about w.held.cells) w.tied word c.compare_exchange-found.ensures.2.2 one c.requires.area.1))

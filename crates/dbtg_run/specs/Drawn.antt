@@ -1,0 +1,27 @@
+-- What a ticket makes of a unit.
+use Rattle.std.specs.Prelude.{◌≡◌, ◌<◌, List, [], ◌∷◌, ◌++◌, map, length, Some}
+use Rattle.dbtg_cells.specs.declared.cell.Cell.{Cell}
+use Rattle.dbtg_cells.specs.declared.name.CellName.{CellName}
+use Rattle.dbtg_unit.specs.declared.statement.Statement.{Statement}
+use Rattle.dbtg_unit.specs.declared.unit.Answer.{Answer}
+use Rattle.dbtg_unit.specs.declared.unit.Entry.{Entry}
+use Rattle.dbtg_unit.specs.declared.unit.Unit.{Unit}
+use Rattle.dbtg_unit.specs.Prepared.{Plan, edited_values, values_of}
+use Rattle.dbtg_unit.specs.Replay.{IsHistoryOf, entries_of, opening_state, replay as replay_entries, unit_of}
+use Rattle.dbtg_run.specs.declared.view.About.{About}
+use Rattle.dbtg_run.specs.Views.{Has, bare}
+use Rattle.dbtg_run.specs.Kept.{entry}
+
+-- the held cells after the plan, without room
+abbrev pub cells_after : Plan → List (CellName × Cell) → List (CellName × Cell)
+cells_after plan cells = map (λ v. (v.0, bare v.1)) (edited_values plan.cells (values_of cells))
+
+-- the unit's journal has one entry more, of this statement and answer, with a ticket above its earlier ones; and a history of
+-- the sequential database that ends with this entry gives the unit as it is, and has just the journal of the unit's entries
+pub record IsDone (about : About) (old new : List Entry) (unit : Unit) (x : Statement) (answer : Answer) : Type 0 where
+  pub before : List Entry
+  pub journal : new ≡ old ++ entry (length before) unit.number x answer ∷ []
+  pub above : (e : Entry) → Has e old → e.ticket < length before
+  pub history : IsHistoryOf about.schema.value about.capacity about.units (before ++ entry (length before) unit.number x answer ∷ [])
+  pub unit_is : unit_of (replay_entries about.schema.value about.capacity (opening_state about.schema.value about.units) (before ++ entry (length before) unit.number x answer ∷ [])) unit.number ≡ Some unit
+  pub entries : entries_of unit.number (before ++ entry (length before) unit.number x answer ∷ []) ≡ new

@@ -1,0 +1,119 @@
+//! A statement of a unit at work: what it needs is taken, the ticket is drawn, and all goes back.
+ghost use Rattle.std.specs.Prelude.{◌≡◌, ◌≢◌, ◌↔◌, ◌<◌, ◌≤◌, ◌∷◌, [], true, length, IfOk, IfNone, IfSome, IsSome, OnErr};
+ghost use Rattle.dbtg_unit.specs.Fits.{fits};
+ghost use Rattle.dbtg_unit.specs.Making.{CanFinish, IsReady};
+ghost use Rattle.dbtg_run.specs.Drawn.{IsDone};
+ghost use Rattle.dbtg_run.specs.Outcomes.{IfDone, IfNotDone, NeedsNoLatch};
+ghost use Rattle.dbtg_run.specs.Works.{Belongs, IsAtWork, IsSameUnit};
+
+use crate::database::Database;
+use crate::outcome::{Gate, Outcome, Point};
+use crate::work::Work;
+use dbtg_step::prepare;
+use dbtg_unit::{Answer, Prepared, Statement};
+use std::alloc::{AllocError, Global};
+use std::marker::Brand;
+
+impl Work {
+    // Prepares the statement on what is in hand.
+    fn prepare_in_hand(
+        &mut self,
+        alloc: Global,
+        db: &Database,
+        statement: &Statement,
+    ) -> Result<Prepared, AllocError>
+        requires belongs { Belongs db.now self.old }
+        requires work { IsAtWork self.old }
+        requires fits { fits self.old.about.schema.value statement.now ≡ true }
+        requires ready { IsReady self.old.about.schema.value self.old.about.capacity self.old.unit self.old.held statement.now }
+        ensures same { IsSameUnit self.old self.new }
+        ensures work { IsAtWork self.new }
+        ensures ready { IsReady self.new.about.schema.value self.new.about.capacity self.new.unit self.new.held statement.now }
+        ensures can { IfOk result (λ plan. CanFinish self.new.about.schema.value self.new.about.capacity self.new.unit self.new.held statement.now plan) }
+    {
+        prepare(
+            alloc,
+            &db.schema,
+            db.about.capacity,
+            &self.unit,
+            statement,
+            &mut self.held,
+        )
+    }
+
+    // Takes what the statement needs and makes it, with so many tries more. None where the tries are used up.
+    fn attempt<G: Gate>(
+        &mut self,
+        alloc: Global,
+        db: &Database,
+        statement: &Statement,
+        tries: u32,
+        gate: &G,
+    ) -> Result<Option<Answer>, AllocError>
+        requires belongs { Belongs db.now self.old }
+        requires work { IsAtWork self.old }
+        requires idle { (self.old.held.areas ≡ []) × (self.old.held.cells ≡ []) }
+        requires fits { fits self.old.about.schema.value statement.now ≡ true }
+        requires room { length self.old.journal.items < 65535 }
+        ensures same { (self.new.about ≡ self.old.about) × (self.new.seat.table_id ≡ self.old.seat.table_id) × (self.new.unit.number ≡ self.old.unit.number) }
+        ensures work { IsAtWork self.new }
+        ensures done { IfOk result (λ o. IfSome o (λ a. IsDone self.old.about self.old.journal.items self.new.journal.items self.new.unit statement.now a)) }
+        ensures none { IfOk result (λ o. IfNone o ((self.new.unit ≡ self.old.unit) × (self.new.journal.items ≡ self.old.journal.items))) }
+        ensures err { OnErr result ((self.new.unit ≡ self.old.unit) × (self.new.journal.items ≡ self.old.journal.items)) }
+        ensures free { NeedsNoLatch self.old.about self.old.unit statement.now → IfOk result (λ o. IsSome o) }
+        ensures alone { self.old.about.units ≡ 1 → 0 < tries → IfOk result (λ o. IsSome o) }
+    {
+        self.journal.reserve(1)?;
+        let copy = statement.copy(alloc)?;
+        if !self.gather(alloc, db, statement, tries)? {
+            return Ok(None);
+        }
+        let prepared = self.prepare_in_hand(alloc, db, statement)?;
+        let noted = prepared.answer().copy(alloc)?;
+        Ok(Some(self.commit::<Brand, G>(db, copy, noted, prepared, gate)))
+    }
+
+    // The gate is passed after the last latch is left.
+    fn pass_answered<G: Gate>(&self, gate: &G) {
+        if let Some(entry) = self.journal.as_slice().last() {
+            gate.pass(entry.unit, entry.ticket, Point::Answered);
+        }
+    }
+
+    /// Makes a statement, with so many tries. It waits for nobody.
+    pub(crate) fn execute<G: Gate>(
+        &mut self,
+        alloc: Global,
+        db: &Database,
+        statement: &Statement,
+        tries: u32,
+        gate: &G,
+    ) -> Outcome
+        requires belongs { Belongs db.now self.old }
+        requires work { IsAtWork self.old }
+        requires idle { (self.old.held.areas ≡ []) × (self.old.held.cells ≡ []) }
+        requires fits { fits self.old.about.schema.value statement.now ≡ true }
+        ensures same { (self.new.about ≡ self.old.about) × (self.new.seat.table_id ≡ self.old.seat.table_id) × (self.new.unit.number ≡ self.old.unit.number) }
+        ensures work { IsAtWork self.new }
+        ensures idle { (self.new.held.areas ≡ []) × (self.new.held.cells ≡ []) }
+        ensures done { IfDone result (λ a. IsDone self.old.about self.old.journal.items self.new.journal.items self.new.unit statement.now a) }
+        ensures unchanged { IfNotDone result ((self.new.unit ≡ self.old.unit) × (self.new.journal.items ≡ self.old.journal.items)) }
+        ensures spent { (result ≡ Outcome.Spent) ↔ (65535 ≤ length self.old.journal.items) }
+        ensures free { NeedsNoLatch self.old.about self.old.unit statement.now → result ≢ Outcome.Busy }
+        ensures alone { self.old.about.units ≡ 1 → 0 < tries → result ≢ Outcome.Busy }
+    {
+        if self.journal.as_slice().len() >= 65535 {
+            return Outcome::Spent;
+        }
+        let attempted = self.attempt(alloc, db, statement, tries, gate);
+        self.give_back(db);
+        match attempted {
+            Err(_) => Outcome::NoMemory,
+            Ok(None) => Outcome::Busy,
+            Ok(Some(answer)) => {
+                self.pass_answered(gate);
+                Outcome::Done(answer)
+            }
+        }
+    }
+}

@@ -1,0 +1,95 @@
+//! What a unit at work has taken goes back: each cell to its slot, then each area.
+ghost use Rattle.std.specs.Prelude.{◌≡◌, ℕ, ◌+◌, ◌<◌, List, [], ◌∷◌, ◌++◌, cond, length};
+ghost use Rattle.dbtg_cells.specs.declared.cell.Cell.{Cell};
+ghost use Rattle.dbtg_cells.specs.declared.name.CellName.{CellName};
+ghost use Rattle.dbtg_run.specs.Works.{Belongs, IsAtWork, IsSameUnit};
+
+use crate::database::Database;
+use crate::plays::{LeaveArea, PutCell};
+use crate::work::Work;
+use dbtg_cells::cell_number;
+
+// The bit by which a unit has an area: one of the low eight where it shares it, one of the next eight where it has it alone.
+fn latch_bit(exclusive: bool, place: u32) -> u32
+    requires { place < 8 }
+    ensures { result ≡ cond exclusive (8 + place) place }
+{
+    if exclusive { 8 + place } else { place }
+}
+
+impl Work {
+    // Puts the cell back that was taken last.
+    fn put_cell(&mut self, db: &Database)
+        requires belongs { Belongs db.now self.old }
+        requires work { IsAtWork self.old }
+        requires some { 0 < length self.old.held.cells }
+        ensures same { IsSameUnit self.old self.new }
+        ensures work { IsAtWork self.new }
+        ensures exclusive { self.new.exclusive ≡ self.old.exclusive }
+        ensures held { (e : CellName × Cell) × (self.old.held.cells ≡ self.new.held.cells ++ e ∷ []) }
+        ensures rest { self.new.held ≡ record self.old.held { cells = self.new.held.cells } }
+    {
+        let Some((name, cell)) = self.held.pop_cell() else {
+            return;
+        };
+        let Some(number) = cell_number(&db.schema, db.about.capacity, &name) else {
+            unreachable!()
+        };
+        let word = 1 + db.schema.areas().len() + number;
+        db.board.shared.exchange(&mut self.seat, number, Some(cell));
+        db.board
+            .shared
+            .fetch_and::<PutCell>(&mut self.seat, word, 0);
+    }
+
+    // Puts all cells back.
+    pub(crate) fn put_cells(&mut self, db: &Database)
+        requires belongs { Belongs db.now self.old }
+        requires work { IsAtWork self.old }
+        ensures same { IsSameUnit self.old self.new }
+        ensures work { IsAtWork self.new }
+        ensures exclusive { self.new.exclusive ≡ self.old.exclusive }
+        ensures held { self.new.held ≡ record self.old.held { cells = [] } }
+    {
+        'cells: while 0 < self.held.cell_count() {
+            self.put_cell(db);
+        }
+    }
+
+    // Leaves the area that was taken last.
+    fn leave_area(&mut self, db: &Database)
+        requires belongs { Belongs db.now self.old }
+        requires work { IsAtWork self.old }
+        requires some { 0 < length self.old.held.areas }
+        requires no_cells { self.old.held.cells ≡ [] }
+        ensures same { IsSameUnit self.old self.new }
+        ensures work { IsAtWork self.new }
+        ensures exclusive { self.new.exclusive ≡ self.old.exclusive }
+        ensures held { (a : ℕ) × (self.old.held.areas ≡ self.new.held.areas ++ a ∷ []) }
+        ensures rest { self.new.held ≡ record self.old.held { areas = self.new.held.areas } }
+    {
+        let Some(area) = self.held.pop_area() else {
+            unreachable!()
+        };
+        let word = 1 + area.index() as usize;
+        let bit = latch_bit(self.exclusive, self.unit.number as u32 - 1);
+        db.board
+            .shared
+            .fetch_and::<LeaveArea>(&mut self.seat, word, !(1u64 << bit));
+    }
+
+    // Puts all cells back, then leaves all areas.
+    pub(crate) fn give_back(&mut self, db: &Database)
+        requires belongs { Belongs db.now self.old }
+        requires work { IsAtWork self.old }
+        ensures same { IsSameUnit self.old self.new }
+        ensures work { IsAtWork self.new }
+        ensures exclusive { self.new.exclusive ≡ self.old.exclusive }
+        ensures held { self.new.held ≡ record self.old.held { areas = []; cells = [] } }
+    {
+        self.put_cells(db);
+        'areas: while 0 < self.held.area_count() {
+            self.leave_area(db);
+        }
+    }
+}

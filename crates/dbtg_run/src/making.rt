@@ -1,0 +1,129 @@
+//! How a database is made: its table with all cells at home, and a seat there for each of its units.
+ghost use Rattle.std.specs.Prelude.{◌≡◌, ◌<◌, ◌≤◌, [], false, map, Some, IfOk};
+ghost use Rattle.dbtg_schema.specs.Sound.{IsSound};
+ghost use Rattle.dbtg_unit.specs.Units.{opening_unit};
+ghost use Rattle.dbtg_run.specs.Kept.{first_view};
+ghost use Rattle.dbtg_run.specs.Posed.{posed, IsSized};
+ghost use Rattle.dbtg_run.specs.UnitView.{opening_view, opening_views};
+
+use crate::database::Database;
+use crate::rule::{Board, Chair};
+use crate::seats::cut_off;
+use crate::unit::RunUnit;
+use crate::view::About;
+use crate::work::Work;
+use dbtg_cells::{Cell, cell_count};
+use dbtg_schema::Schema;
+use dbtg_step::{opening_cells, opening_unit};
+use dbtg_unit::{Held, Owners};
+use std::alloc::{AllocError, Global};
+use std::snapshot::Snapshot;
+
+// What a unit is told of its database: the same once more.
+fn told(about: &About, schema: &Schema) -> About
+    requires { about.now.schema.value ≡ schema.now }
+    ensures { result ≡ about.now }
+{
+    About {
+        schema: Snapshot::of(schema),
+        capacity: about.capacity,
+        units: about.units,
+    }
+}
+
+// The slots in which these cells are at home.
+fn slots_of(alloc: Global, cells: Vec<Cell>) -> Result<Vec<Option<Cell>>, AllocError>
+    ensures { IfOk result (λ slots. slots.items ≡ map Some cells.items) }
+{
+    let mut slots = Vec::with_capacity(alloc, cells.len())?;
+    for cell in cells {
+        slots.push(Some(cell))?;
+    }
+    Ok(slots)
+}
+
+// The table before the first step, with all its words 0, and the one seat there, which has all units.
+fn lay(alloc: Global, schema: &Schema, about: &About) -> Result<(Board, Chair), AllocError>
+    requires same { about.now.schema.value ≡ schema.now }
+    requires sound { IsSound schema.now }
+    requires few { about.now.units ≤ 8 }
+    ensures { IfOk result (λ t. IsSized about.now t.0.shared.table_id × (t.0.shared.key ≡ about.now) × (t.1.table_id ≡ t.0.shared.table_id) × (t.1.me ≡ (first_view about.now, []))) }
+{
+    let count = 1 + schema.areas().len() + cell_count(schema, about.capacity);
+    let words = Vec::from_elem(alloc, 0u64, count)?;
+    let cells = opening_cells(alloc, schema, about.capacity)?;
+    let slots = slots_of(alloc, cells)?;
+    let Ok((board, seat)) = Board::new(alloc, words.as_slice(), slots, about) else {
+        return Err(AllocError);
+    };
+    Ok((board, seat))
+}
+
+// The unit of this number before its first statement, at a seat of its own.
+fn newcomer(
+    alloc: Global,
+    schema: &Schema,
+    about: &About,
+    number: u8,
+    seat: Chair,
+) -> Result<RunUnit, AllocError>
+    requires same { about.now.schema.value ≡ schema.now }
+    requires sound { IsSound schema.now }
+    requires number { (0 < number) × (number ≤ about.now.units) × (about.now.units ≤ 8) }
+    requires seat { seat.me ≡ posed about.now (opening_unit about.now.schema.value number) [] false (record { areas = []; cells = []; guesses = [] }) }
+    ensures { IfOk result (λ u. u ≡ opening_view seat.table_id about.now number) }
+{
+    let unit = opening_unit(alloc, schema, number)?;
+    let guesses = Owners::none(schema.sets().len());
+    let work = Work {
+        about: told(about, schema),
+        unit,
+        journal: Vec::new(alloc),
+        exclusive: false,
+        held: Held::new(alloc, guesses),
+        seat,
+    };
+    Ok(RunUnit::of(work))
+}
+
+impl Database {
+    /// A database of this schema before its first statement, and its run-units in the order of their numbers, which are from 1
+    /// on. There are from 1 to 8 units. The capacity is the greatest number that a record of a type can have, and may be any.
+    /// The error means that memory was refused; then nothing is left of what was made.
+    pub fn make(
+        alloc: Global,
+        schema: Schema,
+        capacity: u16,
+        units: u8,
+    ) -> Result<(Database, Vec<RunUnit>), AllocError>
+        requires sound { IsSound schema }
+        requires units { (1 ≤ units) × (units ≤ 8) }
+        ensures database { IfOk result (λ t. (t.0.schema ≡ schema) × (t.0.about.capacity ≡ capacity) × (t.0.about.units ≡ units)) }
+        ensures units { IfOk result (λ t. t.1.items ≡ opening_views t.0.board.shared.table_id t.0.about units) }
+    {
+        let about = About {
+            schema: Snapshot::of(&schema),
+            capacity,
+            units,
+        };
+        let (board, mut rest) = lay(alloc, &schema, &about)?;
+        let mut made = Vec::with_capacity(alloc, units as usize)?;
+        let last = units - 1;
+        for place in 0..last {
+            let seat = cut_off(&board.shared, &mut rest);
+            let unit = newcomer(alloc, &schema, &about, place + 1, seat)?;
+            made.push_reserved(unit);
+        }
+        // The last unit has the first seat: a seat is for one thread, so the database keeps none.
+        let unit = newcomer(alloc, &schema, &about, units, rest)?;
+        made.push_reserved(unit);
+        Ok((
+            Database {
+                board,
+                schema,
+                about,
+            },
+            made,
+        ))
+    }
+}

@@ -1,0 +1,102 @@
+//! The end of a database: its units come together, and their journals are one history.
+ghost use Rattle.std.specs.Prelude.{◌≡◌, ◌↔◌, ◌<◌, ◌≤◌, length, All, IfOk, IfErr};
+ghost use Rattle.dbtg_step.specs.Audit.{IsAudited};
+ghost use Rattle.dbtg_run.specs.Settling.{AreAll, HaveJoined, IsSettled, all_entries, by_ticket};
+ghost use Rattle.dbtg_run.specs.UnitView.{BelongsTo};
+
+use crate::database::Database;
+use crate::merge::merge;
+use crate::rule::Chair;
+use crate::seats::{join_to, learn};
+use crate::settled::{Fault, Settled, Unsettled};
+use crate::unit::RunUnit;
+use dbtg_schema::Row;
+use dbtg_step::audit;
+use dbtg_unit::{Entry, Image, Unit};
+use std::alloc::{AllocError, Global};
+
+// One seat for all units.
+fn join_all(db: &Database, units: Vec<RunUnit>) -> Chair
+    requires belong { All (BelongsTo db.now) units.items }
+    requires some { 0 < length units.items }
+    ensures table { result.table_id ≡ db.now.board.shared.table_id }
+    ensures joined { HaveJoined db.now.about units.items result.me }
+{
+    let mut units = units;
+    let Some(first) = units.pop() else {
+        unreachable!()
+    };
+    let mut seat = first.into_seat();
+    'units: while let Some(unit) = units.pop() {
+        join_to(&db.board.shared, &mut seat, unit.into_seat());
+    }
+    seat
+}
+
+// Where as many units have come as there are, they are all, and one history made them.
+fn learn_all(db: &Database, units: Vec<RunUnit>)
+    requires belong { All (BelongsTo db.now) units.items }
+    requires all { db.now.about.units ≤ length units.items }
+    ensures { AreAll db.now.about units.items }
+{
+    let mut seat = join_all(db, units);
+    learn(&db.board.shared, &mut seat);
+}
+
+// The journals by ticket, and what they lead to, if they are a history.
+fn audit_all(
+    alloc: Global,
+    db: &Database,
+    units: &[RunUnit],
+) -> Result<(Vec<Entry>, Option<(Image, Row<Unit>)>), AllocError>
+    requires belong { All (BelongsTo db.now) units.now }
+    requires some { 0 < length units.now }
+    ensures { IfOk result (λ r. (r.0.items ≡ by_ticket (all_entries units.now)) × IsAudited db.now.schema db.now.about.capacity db.now.about.units r.0.items r.1) }
+{
+    let _about = units[0].about();
+    let history = merge(alloc, units)?;
+    let found = audit(
+        alloc,
+        &db.schema,
+        db.about.capacity,
+        db.about.units,
+        history.as_slice(),
+    )?;
+    Ok((history, found))
+}
+
+/// Ends the database, once all its units are handed in, in any order. All memory is taken before a seat is given up: where it is
+/// refused, or a unit is missing, the database and the units come back as they were.
+pub fn settle(alloc: Global, db: Database, units: Vec<RunUnit>) -> Result<Settled, Unsettled>
+    requires belong { All (BelongsTo db) units.items }
+    ensures ok { IfOk result (λ settled. IsSettled db units.items settled) }
+    ensures err { IfErr result (λ back. (back.db ≡ db) × (back.units ≡ units)) }
+    ensures missing { IfErr result (λ back. (back.fault ≡ Fault.Missing) ↔ (length units.items < db.about.units)) }
+{
+    if units.as_slice().len() < db.about.units as usize {
+        return Err(Unsettled {
+            fault: Fault::Missing,
+            db,
+            units,
+        });
+    }
+    match audit_all(alloc, &db, units.as_slice()) {
+        Err(_) => Err(Unsettled {
+            fault: Fault::NoMemory,
+            db,
+            units,
+        }),
+        Ok((history, found)) => {
+            learn_all(&db, units);
+            let Some((image, units)) = found else {
+                unreachable!()
+            };
+            Ok(Settled {
+                schema: db.schema,
+                image,
+                history: Row::of(history),
+                units,
+            })
+        }
+    }
+}

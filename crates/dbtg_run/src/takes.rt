@@ -1,0 +1,266 @@
+//! A unit at work: each step takes or gives one latch.
+ghost use Rattle.std.specs.Prelude.{◌≡◌, ◌≢◌, ℕ, ◌+◌, ◌-◌, ◌*◌, ◌^◌, ◌<◌, ◌≤◌, List, [], ◌∷◌, ◌++◌, length, vec_len, vec_capacity, true, false, Some, IsTrue, IfOk, OnErr, MatchBool};
+ghost use Rattle.dbtg_cells.specs.declared.cell.Cell.{Cell};
+ghost use Rattle.dbtg_cells.specs.declared.name.CellName.{CellName};
+ghost use Rattle.dbtg_cells.specs.CellNumbers.{cell_number};
+ghost use Rattle.dbtg_unit.specs.declared.held.Need.{Need};
+ghost use Rattle.dbtg_unit.specs.declared.held.Need.TheVariants.{Take};
+ghost use Rattle.dbtg_unit.specs.Base.{Database as Db};
+ghost use Rattle.dbtg_unit.specs.EditsOf.{is_delete};
+ghost use Rattle.dbtg_unit.specs.Fits.{fits};
+ghost use Rattle.dbtg_unit.specs.Guesses.{with_owners};
+ghost use Rattle.dbtg_unit.specs.Local.{Agrees};
+ghost use Rattle.dbtg_unit.specs.Making.{IsReady};
+ghost use Rattle.dbtg_unit.specs.Needs.{need};
+ghost use Rattle.dbtg_run.specs.Posed.{HoldsSo, turns_left};
+ghost use Rattle.dbtg_run.specs.Views.{times};
+ghost use Rattle.dbtg_run.specs.Kept.{area_count};
+ghost use Rattle.dbtg_run.specs.Works.{Belongs, IsAtWork, IsSameUnit, KnowsBetter};
+
+use crate::database::Database;
+use crate::plays::{LookAtArea, PutCell, TakeAlone, TakeCell, TakeShared};
+use crate::work::Work;
+use dbtg_cells::{CellName, Owner, cell_number};
+use dbtg_schema::AreaNo;
+use dbtg_step::next_need;
+use dbtg_unit::{Need, Owners, Statement};
+use std::alloc::{AllocError, Global};
+
+fn takes_alone(statement: &Statement) -> bool
+    ensures { result ≡ is_delete statement.now }
+{
+    matches!(statement, Statement::Delete(_))
+}
+
+fn is_ready(wanted: &Need) -> bool
+    ensures { MatchBool result (wanted.now ≡ Need.Ready) (wanted.now ≢ Need.Ready) }
+{
+    matches!(wanted, Need::Ready)
+}
+
+// The guesses with the true owners, where there is one.
+fn with_true_owners(guesses: &[Option<Owner>], mut owners: Owners) -> Owners
+    requires { length guesses.now ≡ length owners }
+    ensures { result ≡ with_owners guesses.now owners }
+{
+    for set in 0..guesses.len() {
+        let owner = owners.as_slice()[set].or(guesses[set]);
+        owners.set(set, owner);
+    }
+    owners
+}
+
+impl Work {
+    // Takes an area beside others that share it. False where another unit has it alone, or changed its word meanwhile.
+    fn take_shared(&mut self, db: &Database, area: AreaNo) -> Result<bool, AllocError>
+        requires belongs { Belongs db.now self.old }
+        requires work { IsAtWork self.old }
+        requires area { (area < area_count self.old.about) × (times area self.old.held.areas ≡ 0) }
+        requires so { HoldsSo false self.old.exclusive self.old.held }
+        ensures same { IsSameUnit self.old self.new }
+        ensures work { IsAtWork self.new }
+        ensures took { IfOk result (λ b. MatchBool b ((self.new.held ≡ record self.old.held { areas = self.old.held.areas ++ area ∷ [] }) × (self.new.exclusive ≡ false)) ((self.new.held ≡ self.old.held) × (self.new.exclusive ≡ self.old.exclusive))) }
+        ensures err { OnErr result ((self.new.held ≡ self.old.held) × (self.new.exclusive ≡ self.old.exclusive)) }
+        ensures alone { self.old.about.units ≡ 1 → IfOk result (λ b. b ≡ true) }
+    {
+        let word = 1 + area.index() as usize;
+        let place = self.unit.number as u32 - 1;
+        let board = &db.board.shared;
+        let seen = board.load::<LookAtArea>(&mut self.seat, word);
+        if seen >= 256 {
+            return Ok(false);
+        }
+        self.held.push_area(area)?;
+        let new = seen | (1u64 << place);
+        let found = board.compare_exchange::<TakeShared>(&mut self.seat, word, seen, new);
+        if found != seen {
+            self.held.pop_area();
+            return Ok(false);
+        }
+        self.exclusive = false;
+        Ok(true)
+    }
+
+    // Takes an area for itself. False where another unit has it.
+    fn take_alone(&mut self, db: &Database, area: AreaNo) -> Result<bool, AllocError>
+        requires belongs { Belongs db.now self.old }
+        requires work { IsAtWork self.old }
+        requires area { (area < area_count self.old.about) × (times area self.old.held.areas ≡ 0) }
+        requires so { HoldsSo true self.old.exclusive self.old.held }
+        ensures same { IsSameUnit self.old self.new }
+        ensures work { IsAtWork self.new }
+        ensures took { IfOk result (λ b. MatchBool b ((self.new.held ≡ record self.old.held { areas = self.old.held.areas ++ area ∷ [] }) × (self.new.exclusive ≡ true)) ((self.new.held ≡ self.old.held) × (self.new.exclusive ≡ self.old.exclusive))) }
+        ensures err { OnErr result ((self.new.held ≡ self.old.held) × (self.new.exclusive ≡ self.old.exclusive)) }
+        ensures alone { self.old.about.units ≡ 1 → IfOk result (λ b. b ≡ true) }
+    {
+        let word = 1 + area.index() as usize;
+        let place = self.unit.number as u32 - 1;
+        self.held.push_area(area)?;
+        let new = 1u64 << (8 + place);
+        let found = db
+            .board
+            .shared
+            .compare_exchange::<TakeAlone>(&mut self.seat, word, 0, new);
+        if found != 0 {
+            self.held.pop_area();
+            return Ok(false);
+        }
+        self.exclusive = true;
+        Ok(true)
+    }
+
+    // Takes an area. False where another unit is in the way.
+    fn take_area(
+        &mut self,
+        db: &Database,
+        area: AreaNo,
+        exclusive: bool,
+    ) -> Result<bool, AllocError>
+        requires belongs { Belongs db.now self.old }
+        requires work { IsAtWork self.old }
+        requires area { (area < area_count self.old.about) × (times area self.old.held.areas ≡ 0) }
+        requires so { HoldsSo exclusive self.old.exclusive self.old.held }
+        ensures same { IsSameUnit self.old self.new }
+        ensures work { IsAtWork self.new }
+        ensures took { IfOk result (λ b. MatchBool b ((self.new.held ≡ record self.old.held { areas = self.old.held.areas ++ area ∷ [] }) × (self.new.exclusive ≡ exclusive)) ((self.new.held ≡ self.old.held) × (self.new.exclusive ≡ self.old.exclusive))) }
+        ensures err { OnErr result ((self.new.held ≡ self.old.held) × (self.new.exclusive ≡ self.old.exclusive)) }
+        ensures alone { self.old.about.units ≡ 1 → IfOk result (λ b. b ≡ true) }
+    {
+        if exclusive {
+            self.take_alone(db, area)
+        } else {
+            self.take_shared(db, area)
+        }
+    }
+
+    // Takes the cell of this number. False where another unit has it.
+    fn take_cell(
+        &mut self,
+        db: &Database,
+        statement: &Statement,
+        name: CellName,
+        number: usize,
+    ) -> Result<bool, AllocError>
+        requires belongs { Belongs db.now self.old }
+        requires work { IsAtWork self.old }
+        requires named { cell_number self.old.about.schema.value self.old.about.capacity name ≡ Some number }
+        requires fits { fits self.old.about.schema.value statement.now ≡ true }
+        requires needed { (d : Db) → Agrees self.old.about.schema.value self.old.about.capacity d self.old.held self.old.unit → Take name ≡ need self.old.about.schema.value self.old.about.capacity d self.old.unit self.old.held statement.now }
+        ensures same { IsSameUnit self.old self.new }
+        ensures work { IsAtWork self.new }
+        ensures exclusive { self.new.exclusive ≡ self.old.exclusive }
+        ensures took { IfOk result (λ b. MatchBool b ((x : Cell) × (self.new.held ≡ record self.old.held { cells = self.old.held.cells ++ (name, x) ∷ [] })) (self.new.held ≡ self.old.held)) }
+        ensures err { OnErr result (self.new.held ≡ self.old.held) }
+        ensures alone { self.old.about.units ≡ 1 → IfOk result (λ b. b ≡ true) }
+    {
+        let _ = statement.fits(&db.schema);
+        let word = 1 + db.schema.areas().len() + number;
+        let board = &db.board.shared;
+        if board.compare_exchange::<TakeCell>(&mut self.seat, word, 0, self.unit.number as u64)
+            != 0
+        {
+            return Ok(false);
+        }
+        let Some(cell) = board.exchange(&mut self.seat, number, None) else {
+            unreachable!()
+        };
+        match self.held.push_cell(name, cell) {
+            Ok(()) => Ok(true),
+            Err(failed) => {
+                board.exchange(&mut self.seat, number, Some(failed.value));
+                board.fetch_and::<PutCell>(&mut self.seat, word, 0);
+                Err(AllocError)
+            }
+        }
+    }
+
+    // Other guesses.
+    fn guess(&mut self, owners: Owners)
+        requires count { length owners ≡ length self.old.about.schema.value.sets }
+        requires work { IsAtWork self.old }
+        ensures same { IsSameUnit self.old self.new }
+        ensures work { IsAtWork self.new }
+        ensures exclusive { self.new.exclusive ≡ self.old.exclusive }
+        ensures held { self.new.held ≡ record self.old.held { guesses = with_owners self.old.held.guesses owners } }
+    {
+        let guesses = with_true_owners(self.held.guesses(), owners);
+        self.held.set_guesses(guesses);
+    }
+
+    // Meets a need. False where another unit is in the way, or where the statement turned back.
+    fn meet(
+        &mut self,
+        db: &Database,
+        statement: &Statement,
+        exclusive: bool,
+        wanted: Need,
+    ) -> Result<bool, AllocError>
+        requires belongs { Belongs db.now self.old }
+        requires work { IsAtWork self.old }
+        requires so { HoldsSo exclusive self.old.exclusive self.old.held }
+        requires fits { fits self.old.about.schema.value statement.now ≡ true }
+        requires needed { (d : Db) → Agrees self.old.about.schema.value self.old.about.capacity d self.old.held self.old.unit → wanted ≡ need self.old.about.schema.value self.old.about.capacity d self.old.unit self.old.held statement.now }
+        requires some { wanted ≢ Need.Ready }
+        ensures same { IsSameUnit self.old self.new }
+        ensures work { IsAtWork self.new }
+        ensures so { IfOk result (λ _. HoldsSo exclusive self.new.exclusive self.new.held) }
+        ensures nearer { IfOk result (λ b. b ≡ true → (tries : ℕ) → turns_left self.new.about tries self.new.held < turns_left self.old.about tries self.old.held) }
+        ensures alone { self.old.about.units ≡ 1 → IfOk result (λ b. KnowsBetter statement.now self.old self.new b) }
+    {
+        match wanted {
+            Need::Ready => Ok(false),
+            Need::Area(area) => self.take_area(db, area, exclusive),
+            Need::Take(name) => match cell_number(&db.schema, db.about.capacity, &name) {
+                Some(number) => self.take_cell(db, statement, name, number),
+                None => Err(AllocError),
+            },
+            Need::Stale(owners) => {
+                self.put_cells(db);
+                self.guess(owners);
+                Ok(false)
+            }
+        }
+    }
+
+    // Takes all that the statement needs, with so many tries more. False where the tries are used up.
+    pub(crate) fn gather(
+        &mut self,
+        alloc: Global,
+        db: &Database,
+        statement: &Statement,
+        tries: u32,
+    ) -> Result<bool, AllocError>
+        requires belongs { Belongs db.now self.old }
+        requires work { IsAtWork self.old }
+        requires idle { (self.old.held.areas ≡ []) × (self.old.held.cells ≡ []) }
+        requires fits { fits self.old.about.schema.value statement.now ≡ true }
+        ensures same { IsSameUnit self.old self.new }
+        ensures work { IsAtWork self.new }
+        ensures ready { IfOk result (λ b. b ≡ true → IsReady self.new.about.schema.value self.new.about.capacity self.new.unit self.new.held statement.now) }
+        ensures free { IsReady self.old.about.schema.value self.old.about.capacity self.old.unit self.old.held statement.now → IfOk result (λ b. b ≡ true) }
+        ensures alone { self.old.about.units ≡ 1 → 0 < tries → IfOk result (λ b. b ≡ true) }
+    {
+        let exclusive = takes_alone(statement);
+        let mut tries = tries;
+        'needs: loop {
+            let wanted = next_need(
+                alloc,
+                &db.schema,
+                db.about.capacity,
+                &self.unit,
+                statement,
+                &self.held,
+            )?;
+            if is_ready(&wanted) {
+                return Ok(true);
+            }
+            if self.meet(db, statement, exclusive, wanted)? {
+                continue;
+            }
+            if tries == 0 {
+                return Ok(false);
+            }
+            tries -= 1;
+        }
+    }
+}

@@ -1,0 +1,88 @@
+//! A run-unit as callers see it. Between statements it holds nothing.
+ghost use Rattle.std.specs.Prelude.{◌≡◌, ◌<◌, [], Bool};
+ghost use Rattle.dbtg_run.specs.Posed.{IsOurs};
+ghost use Rattle.dbtg_run.specs.Settling.{resting};
+ghost use Rattle.dbtg_run.specs.Views.{lone};
+ghost use Rattle.dbtg_run.specs.Works.{IsAtWork};
+
+use crate::rule::Chair;
+use crate::view::About;
+use crate::work::Work;
+use dbtg_unit::{Currency, Entry, Kept};
+use std::marker::Model;
+
+/// A run-unit of a database. It belongs to the database that made it, and contracts see which one by its table.
+#[derive(Drop)]
+pub struct RunUnit {
+    pub(crate) work: Work,
+}
+
+impl Model for RunUnit {
+    ghost use Rattle.std.specs.Prelude.{◌≡◌, []};
+    ghost use Rattle.dbtg_run.specs.UnitView.{UnitView};
+
+    ghost Value = { UnitView };
+
+    ghost use Rattle.dbtg_run.specs.Works.{IsAtWork};
+
+    ghost view = { λ r. record { table = r.work.seat.table_id; about = r.work.about; unit = r.work.unit; journal = r.work.journal.items } };
+
+    ghost invariant = { λ r. ((r.work.held.areas ≡ []) × (r.work.held.cells ≡ [])) × IsAtWork r.work };
+}
+
+impl RunUnit {
+    // Of a unit at work that holds nothing.
+    pub(crate) fn of(work: Work) -> Self
+        requires idle { (work.held.areas ≡ []) × (work.held.cells ≡ []) }
+        requires work { IsAtWork work }
+        ensures { result ≡ record { table = work.seat.table_id; about = work.about; unit = work.unit; journal = work.journal.items } }
+    {
+        Self { work }
+    }
+
+    /// The number, from 1 on.
+    pub fn number(&self) -> u8
+        ensures { result ≡ self.now.unit.number }
+    {
+        self.work.unit.number
+    }
+
+    pub fn currency(&self) -> &Currency
+        ensures { result.now ≡ self.now.unit.currency }
+    {
+        &self.work.unit.currency
+    }
+
+    /// The records that the unit keeps, with their versions.
+    pub fn kept(&self) -> &Kept
+        ensures { result.now ≡ self.now.unit.kept }
+    {
+        &self.work.unit.kept
+    }
+
+    /// The statements that the unit has done, in their order.
+    pub fn journal(&self) -> &[Entry]
+        ensures { result.now ≡ self.now.journal }
+    {
+        self.work.journal.as_slice()
+    }
+
+    // What the database was made with, whose schema is sound.
+    pub(crate) fn about(&self) -> &About
+        ensures about { result.now ≡ self.now.about }
+        ensures ours { IsOurs self.now.about self.now.unit }
+    {
+        &self.work.about
+    }
+
+    // The unit's seat alone.
+    pub(crate) fn into_seat(self) -> Chair
+        ensures table { result.table_id ≡ self.table }
+        ensures numbered { 0 < self.unit.number }
+        ensures seat { (x : Bool) × (result.me ≡ (lone self.about (resting (self, x)), [])) }
+    {
+        let Self { work } = self;
+        let Work { seat, .. } = work;
+        seat
+    }
+}

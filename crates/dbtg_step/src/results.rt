@@ -1,0 +1,13 @@
+//! The results of a run: what its moves came to, the image of its database, its history and its units.
+use dbtg_schema::Row;
+use dbtg_unit::{Entry, Image, Stepped, Unit};
+
+/// What the moves of a run came to, one for one, and then the image, the statements that drew a ticket, in the order of their
+/// tickets, and the units by number.
+#[derive(Drop)]
+pub struct Run {
+    pub results: Row<Stepped>,
+    pub image: Image,
+    pub history: Row<Entry>,
+    pub units: Row<Unit>,
+}

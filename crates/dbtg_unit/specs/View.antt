@@ -1,0 +1,34 @@
+-- What the checks of a statement ask. A whole database answers, and so do the cells in hand.
+-- k is a key, s a set, o an owner, v a sort key, db a database.
+use Rattle.std.specs.Prelude.{ℕ, Bool, List, Option, is_none}
+use Rattle.std.specs.List.{list_any}
+use Rattle.dbtg_schema.specs.Lists.{Lists}
+use Rattle.dbtg_cells.specs.declared.key.DbKey.{DbKey}
+use Rattle.dbtg_cells.specs.declared.key.Owner.{Owner}
+use Rattle.dbtg_cells.specs.declared.key.Value.{Value}
+use Rattle.dbtg_cells.specs.Keys.{option_value_eq}
+use Rattle.dbtg_unit.specs.Base.{Database, is_live, items_of, members_of, owner_of, sort_key, version_of}
+
+-- of a record: is it live, its items, its version, its owner in a set; of an occurrence: is there none, its members, has one of
+-- them this sort key
+pub record View : Type 0 where
+  pub is_live : DbKey → Bool
+  pub items : DbKey → List Value
+  pub version : DbKey → ℕ
+  pub owner : ℕ → DbKey → Option Owner
+  pub is_absent : ℕ → Owner → Bool
+  pub members : ℕ → Owner → List DbKey
+  pub has_sort_key : ℕ → Owner → Option Value → Bool
+
+-- what a whole database answers
+abbrev pub whole : Lists → ℕ → Database → View
+whole schema capacity db =
+    record {
+      is_live = is_live db;
+      items = items_of db;
+      version = version_of db;
+      owner = owner_of schema capacity db;
+      is_absent = λ s o. is_none (db.lists s o);
+      members = members_of db;
+      has_sort_key = λ s o v. list_any (λ x. option_value_eq (sort_key schema db s x) v) (members_of db s o);
+    }

@@ -1,0 +1,148 @@
+"""Units side by side and what is printed of them: docs/profile/events.md, scripts.md, printed-texts.md."""
+import re
+
+from database import SYSTEM, Database
+from schema import Schema
+from statement import Statement
+
+CODES = {"OPEN": "01", "CLOSE": "02", "FIND": "03", "GET": "04", "STORE": "05", "INSERT": "06", "REMOVE": "07",
+         "MODIFY": "08", "DELETE": "09", "KEEP": "10", "FREE": "11"}
+
+
+class Unit:
+    def __init__(self, number, schema, script):
+        self.number, self.script, self.at = number, script, 0
+        self.run, self.records, self.areas = None, [None] * len(schema.types), [None] * len(schema.areas)
+        self.places, self.kept, self.guesses = [None] * len(schema.sets), {}, {}
+        self.modes = {}
+        self.events, self.wants, self.has_ticket, self.cells, self.held_areas = None, None, False, [], []
+
+
+def words_of(line):
+    return re.findall(r'"[^"]*"|=|[^ ="]+', line)
+
+
+def statements(text):
+    lines = text.removesuffix("\n").split("\n")
+    return [words_of(line.removesuffix(".")) for line in lines if line.strip() and not line.startswith("*")]
+
+
+class Machine:
+    def __init__(self, schema, capacity, scripts):
+        self.schema, self.db, self.lines = schema, Database(schema, capacity), []
+        self.units = [Unit(i + 1, schema, statements(text)) for i, text in enumerate(scripts)]
+
+    def key(self, key):
+        if key is None:
+            return "-"
+        if key == SYSTEM:
+            return "SYSTEM"
+        return f"{self.schema.types[key[0]].name}:{key[1]}" + (f".{key[2]}" if key[2] > 1 else "")
+
+    def items(self, key):
+        kinds, items = self.schema.types[key[0]].pictures, self.db.records[key].items
+        shown = {i: v if kinds[i][0] == "9" else f'"{v}"' for i, v in items.items()}
+        return "".join(f" {i}={shown[i]}" for i in self.schema.types[key[0]].items)
+
+    def answer(self, statement, cause, shown=None):
+        unit = statement.u
+        unit.has_ticket = True
+        key, with_items = shown or (None, False)
+        line = f"{len(self.lines)} {unit.number} {CODES[statement.kind] + cause if cause else '0000'}"
+        self.lines.append(line + (" " + self.key(key) if key else "") + (self.items(key) if with_items else ""))
+
+    def is_free(self, unit, wanted):
+        others = [u for u in self.units if u is not unit]
+        if wanted[0] == "area":
+            return not any(a == wanted[1] and (exclusive or wanted[2]) for u in others for _, a, exclusive in u.held_areas)
+        return not any(wanted in u.cells for u in others)
+
+    def step(self, number):
+        if not 1 <= number <= len(self.units):
+            return "I"
+        u = self.units[number - 1]
+        if u.events is None:
+            if u.at == len(u.script):
+                return "I"
+            u.events, u.has_ticket = Statement(self, u, u.script[u.at]).events(), False
+            u.wants = next(u.events)
+        if u.wants is not None:
+            if not self.is_free(u, u.wants):
+                return "B"
+            (u.held_areas if u.wants[0] == "area" else u.cells).append(u.wants)
+        try:
+            u.wants = next(u.events)
+        except StopIteration:
+            u.events, u.at = None, u.at + 1
+        return "M"
+
+    def quit(self, number):
+        u = self.units[number - 1] if 1 <= number <= len(self.units) else None
+        if u is None or u.events is None or u.has_ticket:
+            return "I"
+        u.events, u.cells, u.held_areas = None, [], []
+        return "M"
+
+    def run_serially(self):
+        for unit in self.units:
+            while self.step(unit.number) != "I":
+                pass
+
+    def run_moves(self, text):
+        letters = []
+        for word in text.split():
+            if word[0] == "Q":
+                letters.append(self.quit(int(word[1:])))
+            else:
+                number, _, times = word.partition("*")
+                letters += [self.step(int(number)) for _ in range(int(times or 1))]
+        return "".join(["MOVES", " " * bool(letters), *letters])
+
+    def image(self):
+        for key in sorted(self.db.records):
+            yield self.key(key) + self.items(key)
+        for s, owner in sorted(self.db.lists):
+            members = "".join(" " + self.key(m) for m in self.db.lists[s, owner])
+            yield f"{self.schema.sets[s].name} {self.key(owner)}:{members}"
+        yield "NEXT" + "".join(f" {self.db.free_number(t)}" for t in range(len(self.schema.types)))
+        for a, name in enumerate(self.schema.areas):
+            yield f"AREA {name}" + "".join(f" {u}:{mode}" for u, mode in self.db.usage[a])
+
+    def unit_line(self, u):
+        def place(it):
+            return "-" if it is None else f"{self.key(it[0])}/{'OWNER' if it[1] is None else self.key(it[1])}"
+        words = ["UNIT", str(u.number), "RUN", self.key(u.run), "RECORD", *map(self.key, u.records), "SET", *map(place, u.places),
+                 "AREA", *map(self.key, u.areas)]
+        if u.kept:
+            words += ["KEPT", *(f"{self.key(k)}/{u.kept[k]}" for k in sorted(u.kept))]
+        return " ".join(words)
+
+
+def read(path):
+    with open(path, encoding="ascii") as file:
+        return file.read()
+
+
+def words_in(folder, args="args"):
+    return read(f"{folder}/{args}").split("\n")[:-1]
+
+
+def replay(folder, words):
+    """What the command with these words prints."""
+    capacity, moves, files = 100, None, []
+    words = iter(words[1:])
+    for word in words:
+        if word == "--capacity":
+            capacity = int(next(words))
+        elif word == "--moves":
+            moves = read(f"{folder}/{next(words)}")
+        else:
+            files.append(read(f"{folder}/{word}"))
+    machine = Machine(Schema(files[0]), capacity, files[1:])
+    head = []
+    if moves is None:
+        machine.run_serially()
+    else:
+        head = [machine.run_moves(moves)]
+    units = [machine.unit_line(u) for u in machine.units]
+    return "".join(line + "\n" for line in [*head, *machine.lines, "--", *machine.image(), *units])

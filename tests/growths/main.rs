@@ -1,0 +1,270 @@
+//! Makes the public calls of a run of two scripts by moves, one after another, and each that tells of want of memory once more: so a run
+//! of which one growth of memory was refused ends as one of which none was. Prints what `dbtg replay --moves moves schema script.1
+//! script.2` does, and on standard error the call that met the refusal, or how a call was not as it must be. See tests/refuse-calls.
+#![tactic(auto)]
+
+use dbtg_schema::{Row, Schema, SchemaFault};
+use dbtg_script::{
+    MovesFault, ScriptFault, answers_text, image_text, moves_text, push_run, read_moves,
+    read_script, units_text,
+};
+use dbtg_step::{Core, Run, audit, run, run_serial};
+use dbtg_unit::{Move, Statement, Stepped};
+use std::alloc::{AllocError, Global};
+use std::io::{self, Write};
+use std::process::ExitCode;
+use std::{fs, slice};
+
+const CAPACITY: u16 = 100;
+
+fn tell(rt: &HostRuntime, call: &str) {
+    let _ = eprintln!(rt; "{call}");
+}
+
+fn file(rt: &HostRuntime, path: &str) -> Option<Vec<u8>> {
+    for _ in 0..2 {
+        match fs::read(rt, path) {
+            Ok(bytes) => return Some(bytes),
+            Err(_) => tell(rt, "fs::read"),
+        }
+    }
+    None
+}
+
+fn schema(rt: &HostRuntime) -> Option<Schema> {
+    let text = file(rt, "schema")?;
+    for _ in 0..2 {
+        match Schema::read(rt.alloc(), text.as_slice()) {
+            Ok(schema) => return Some(schema),
+            Err(SchemaFault::Memory) => tell(rt, "Schema::read"),
+            Err(_) => tell(rt, "a fault in place of want of memory"),
+        }
+    }
+    None
+}
+
+fn statements(rt: &HostRuntime, schema: &Schema, text: &[u8]) -> Option<Vec<Statement>> {
+    for _ in 0..2 {
+        match read_script(rt.alloc(), schema, text) {
+            Ok(statements) => return Some(statements),
+            Err(ScriptFault::Memory) => tell(rt, "read_script"),
+            Err(_) => tell(rt, "a fault in place of want of memory"),
+        }
+    }
+    None
+}
+
+fn moves(rt: &HostRuntime) -> Option<Vec<Move>> {
+    let text = file(rt, "moves")?;
+    for _ in 0..2 {
+        match read_moves(rt.alloc(), text.as_slice()) {
+            Ok(moves) => return Some(moves),
+            Err(MovesFault::Memory) => tell(rt, "read_moves"),
+            Err(_) => tell(rt, "a fault in place of want of memory"),
+        }
+    }
+    None
+}
+
+// The statements of both scripts. What finds no room is read again.
+fn scripts(rt: &HostRuntime, schema: &Schema) -> Option<Row<Row<Statement>>> {
+    let one = file(rt, "script.1")?;
+    let two = file(rt, "script.2")?;
+    for _ in 0..2 {
+        let mut scripts = Row::of(Vec::new(rt.alloc()));
+        let first = statements(rt, schema, one.as_slice())?;
+        let second = statements(rt, schema, two.as_slice())?;
+        if scripts.push(Row::of(first)).is_ok() && scripts.push(Row::of(second)).is_ok() {
+            return Some(scripts);
+        }
+        tell(rt, "Row::push");
+    }
+    None
+}
+
+fn core(rt: &HostRuntime, schema: &Schema) -> Option<Core> {
+    for _ in 0..2 {
+        match Core::new(rt.alloc(), schema, CAPACITY, scripts(rt, schema)?) {
+            Ok(core) => return Some(core),
+            Err(_) => tell(rt, "Core::new"),
+        }
+    }
+    None
+}
+
+// All that is shown of a core.
+fn shown(alloc: Global, schema: &Schema, core: &Core) -> Result<Vec<u8>, AllocError> {
+    let image = core.image(alloc)?;
+    let mut out = answers_text(alloc, schema, core.history())?;
+    out.extend_from_slice(image_text(alloc, schema, &image)?.as_slice())?;
+    for number in 1..3 {
+        if let Some(unit) = core.unit(number) {
+            out.extend_from_slice(units_text(alloc, schema, slice::from_ref(unit))?.as_slice())?;
+        }
+    }
+    Ok(out)
+}
+
+fn shows_the_same(alloc: Global, schema: &Schema, core: &Core, other: &Core) -> bool {
+    match (shown(alloc, schema, core), shown(alloc, schema, other)) {
+        (Ok(one), Ok(two)) => one.as_slice() == two.as_slice(),
+        _ => false,
+    }
+}
+
+fn make(core: &mut Core, one: Move) -> Stepped {
+    match one {
+        Move::Step(unit) => core.step(unit),
+        Move::Quit(unit) => core.quit(unit),
+    }
+}
+
+// Makes a move of a core; where a growth of it is refused the core is as the other one, which made the same moves before, and the same
+// move is made again.
+fn make_twice(rt: &HostRuntime, schema: &Schema, core: &mut Core, other: &Core, one: Move) -> Stepped {
+    let stepped = make(core, one);
+    if stepped != Stepped::NoMemory {
+        return stepped;
+    }
+    tell(rt, "Core::step");
+    if matches!(one, Move::Quit(_)) {
+        tell(rt, "a quit that takes memory");
+    }
+    if !shows_the_same(rt.alloc(), schema, core, other) {
+        tell(rt, "a step without memory that changes what is shown");
+    }
+    make(core, one)
+}
+
+fn results_of(rt: &HostRuntime, count: usize) -> Option<Vec<Stepped>> {
+    for _ in 0..2 {
+        match Vec::with_capacity(rt.alloc(), count) {
+            Ok(results) => return Some(results),
+            Err(_) => tell(rt, "Vec::with_capacity"),
+        }
+    }
+    None
+}
+
+// Makes the moves in a core and in another, which is never ahead: each move comes to the same in both.
+fn step(rt: &HostRuntime, schema: &Schema, moves: &[Move]) -> Option<(Core, Vec<Stepped>)> {
+    let mut first = core(rt, schema)?;
+    let mut second = core(rt, schema)?;
+    let mut results = results_of(rt, moves.len())?;
+    for one in moves {
+        let stepped = make_twice(rt, schema, &mut first, &second, *one);
+        let mut same = make(&mut second, *one);
+        if same == Stepped::NoMemory {
+            tell(rt, "Core::step");
+            same = make(&mut second, *one);
+        }
+        if stepped != same {
+            tell(rt, "a step that comes to something else");
+        }
+        results.push(stepped).ok()?;
+    }
+    Some((first, results))
+}
+
+// What is printed of a run, by its own results.
+fn printed(alloc: Global, schema: &Schema, given: &Run) -> Result<Vec<u8>, AllocError> {
+    let mut out = moves_text(alloc, given.results.as_slice())?;
+    push_run(
+        alloc,
+        &mut out,
+        schema,
+        given.history.as_slice(),
+        &given.image,
+        given.units.as_slice(),
+    )?;
+    Ok(out)
+}
+
+fn text(rt: &HostRuntime, schema: &Schema, given: &Run) -> Option<Vec<u8>> {
+    for _ in 0..2 {
+        match printed(rt.alloc(), schema, given) {
+            Ok(text) => return Some(text),
+            Err(_) => tell(rt, "push_run"),
+        }
+    }
+    None
+}
+
+// What the run that is stepped move by move comes to. Where taking it apart finds no memory it is made once more.
+fn stepped(rt: &HostRuntime, schema: &Schema, moves: &[Move]) -> Option<Run> {
+    for _ in 0..2 {
+        let (core, results) = step(rt, schema, moves)?;
+        match core.into_run(results) {
+            Ok(run) => return Some(run),
+            Err(_) => tell(rt, "Core::into_run"),
+        }
+    }
+    None
+}
+
+fn run_whole(rt: &HostRuntime, schema: &Schema, moves: &[Move]) -> Option<Run> {
+    for _ in 0..2 {
+        match run(rt.alloc(), schema, CAPACITY, scripts(rt, schema)?, moves) {
+            Ok(run) => return Some(run),
+            Err(_) => tell(rt, "run"),
+        }
+    }
+    None
+}
+
+fn run_in_turn(rt: &HostRuntime, schema: &Schema) -> Option<Run> {
+    for _ in 0..2 {
+        match run_serial(rt.alloc(), schema, CAPACITY, scripts(rt, schema)?) {
+            Ok(run) => return Some(run),
+            Err(_) => tell(rt, "run_serial"),
+        }
+    }
+    None
+}
+
+// Whether the history of a run is audited to its image and its units.
+fn is_audited(rt: &HostRuntime, schema: &Schema, given: &Run) -> Option<bool> {
+    let alloc = rt.alloc();
+    for _ in 0..2 {
+        match audit(alloc, schema, CAPACITY, 2, given.history.as_slice()) {
+            Ok(Some((image, units))) => {
+                let same = image_text(alloc, schema, &image).ok()?.as_slice()
+                    == image_text(alloc, schema, &given.image).ok()?.as_slice()
+                    && units_text(alloc, schema, units.as_slice()).ok()?.as_slice()
+                        == units_text(alloc, schema, given.units.as_slice()).ok()?.as_slice();
+                return Some(same);
+            }
+            Ok(None) => return Some(false),
+            Err(_) => tell(rt, "audit"),
+        }
+    }
+    None
+}
+
+fn all(rt: &HostRuntime) -> Option<Vec<u8>> {
+    let schema = schema(rt)?;
+    let moves = moves(rt)?;
+    let whole = run_whole(rt, &schema, moves.as_slice())?;
+    let given = stepped(rt, &schema, moves.as_slice())?;
+    let in_turn = run_in_turn(rt, &schema)?;
+    for run in [&whole, &given, &in_turn] {
+        if is_audited(rt, &schema, run) == Some(false) {
+            tell(rt, "a history that is none");
+        }
+    }
+    let out = text(rt, &schema, &given)?;
+    if text(rt, &schema, &whole)?.as_slice() != out.as_slice() {
+        tell(rt, "a run that comes to something else");
+    }
+    Some(out)
+}
+
+fn main(rt: HostRuntime) -> ExitCode {
+    match all(&rt) {
+        Some(out) => match io::writer(&rt).write_all(out.as_slice()) {
+            Ok(()) => ExitCode::SUCCESS,
+            Err(_) => ExitCode::FAILURE,
+        },
+        None => ExitCode::from(4),
+    }
+}

@@ -1,0 +1,163 @@
+"""Edits of a crate: wrong bodies, each a file that says which lines are put in the place of which.
+
+A line `file: PATH` names the file; pairs of lines `old: TEXT` and `new: TEXT` say what changes, where each old text stands exactly
+once in the file, or, behind a line `in: FUNCTION`, once in that function (`name` or `Type::name`)."""
+
+import os
+import re
+
+from functions import functions_of
+from kit import text_of
+
+
+class BadEdit(Exception):
+    """An edit that cannot be applied."""
+
+
+class Edit:
+    """An edit, with the text that each function's body gets; `elsewhere` where it changes more than bodies of functions."""
+
+    def __init__(self, path, crate_folder, sources):
+        self.path, self.name = path, os.path.basename(path).removesuffix(".edit")
+        self.texts = applied(text_of(path), sources)
+        self.bodies, self.elsewhere = {}, False
+        for file, text in self.texts.items():
+            found = changed_bodies(sources.functions(file), sources.text(file), text) if file.startswith("src/") else None
+            if found is None:
+                self.elsewhere = True
+            else:
+                self.bodies.update({(file, function): body for function, body in found.items()})
+
+    def is_harmless(self):
+        """Whether the edit changes no meaning: it stands among the others to show that such a one is told from them."""
+        return self.name.startswith("harmless")
+
+
+class Sources:
+    """The files of a crate, read once."""
+
+    def __init__(self, folder):
+        self.folder, self.texts, self.found = folder, {}, {}
+
+    def text(self, file):
+        if file not in self.texts:
+            if os.path.normpath(file) != file or not file.startswith(("src/", "specs/", "proofs/")):
+                raise BadEdit(f"{file} is no file below src/, specs/ or proofs/")
+            if not os.path.isfile(f"{self.folder}/{file}"):
+                raise BadEdit(f"there is no file {file}")
+            self.texts[file] = text_of(f"{self.folder}/{file}")
+        return self.texts[file]
+
+    def functions(self, file):
+        if file not in self.found:
+            self.found[file] = functions_of(self.folder, file)
+        return self.found[file]
+
+    def function(self, file, shown):
+        found = [it for it in self.functions(file) if it.shown() == shown]
+        if len(found) != 1:
+            raise BadEdit(f"{file} has {len(found)} functions {shown}, and not one")
+        return found[0]
+
+
+def applied(text, sources):
+    """The texts of the files that an edit changes, by their paths in the crate."""
+    texts, file, inside, old = {}, None, None, None
+    for line in text.splitlines():
+        word, _, rest = line.partition(":")
+        rest = rest.removeprefix(" ")
+        if word == "file":
+            file, inside = rest.strip(), None
+        elif word == "in":
+            inside = sources.function(file, rest.strip())
+        elif word == "old":
+            old = rest
+        elif word == "new":
+            if not file or not old:
+                raise BadEdit("a new text stands before any file or old text")
+            texts[file] = replaced(texts.get(file, sources.text(file)), inside, old, rest)
+            old = None
+    if not texts:
+        raise BadEdit("it has no pair of an old and a new text")
+    return texts
+
+
+def replaced(text, inside, old, new):
+    """The text with a new part in the place of the old one, which stands once in it, or in the function that is named."""
+    first, end = (inside.start, inside.end) if inside else (0, len(text))
+    count = text.count(old, first, end)
+    if count != 1:
+        raise BadEdit(f"an old text stands {count} times, and not once: {old[:80]}")
+    at = text.index(old, first, end)
+    return text[:at] + new + text[at + len(old) :]
+
+
+def changed_bodies(functions, was, new):
+    """The functions whose bodies differ, each with its new body, or None where something differs outside bodies. What follows a
+    body up to the next one tells where the new body ends: an edit may put a second function behind a body."""
+    found, at, to = {}, 0, 0
+    for number, function in enumerate(functions):
+        head = was[at : function.opens]
+        if new[to : to + len(head)] != head:
+            return None
+        to += len(head)
+        is_last = number + 1 == len(functions)
+        behind = was[function.end :] if is_last else was[function.end : functions[number + 1].opens]
+        end = len(new) - len(behind) if is_last else new.find(behind, to)
+        if end < to or new[end : end + len(behind)] != behind:
+            return None
+        if new[to:end] != was[function.opens : function.end]:
+            found[function] = alone_of_its_name(new[to:end], was, function)
+        at, to = function.end, end
+    return found if new[to:] == was[at:] else None
+
+
+def alone_of_its_name(body, was, function):
+    """The body with each function that the edit adds under a name that no other edit gives to one."""
+    for name in set(re.findall(r"\bfn (\w+)", body)) - set(re.findall(r"\bfn (\w+)", was)):
+        body = re.sub(rf"\b{name}\b", f"{name}_of_{function.name}", body)
+    return body
+
+
+def together(edits, sources):
+    """The texts of all files that the edits change, when they are applied together."""
+    texts = {}
+    for file in {file for it in edits for file in it.texts}:
+        whole = [it.texts[file] for it in edits if it.elsewhere and file in it.texts]
+        texts[file] = whole[0] if whole else "".join(part for part, _ in parts_of(edits, file, sources))
+    return texts
+
+
+def parts_of(edits, file, sources):
+    """The parts of a file's text under the edits, in their order: each with the edit that wrote it, or with none."""
+    written = sorted((f.opens, f.end, body, it) for it in edits for (at, f), body in it.bodies.items() if at == file)
+    text, at = sources.text(file), 0
+    for opens, end, body, edit in written:
+        yield text[at:opens], None
+        yield body, edit
+        at = end
+    yield text[at:], None
+
+
+def edit_at(edits, file, line, sources):
+    """The edit that wrote a line of a file."""
+    passed = 1
+    for part, edit in parts_of(edits, file, sources):
+        passed += part.count("\n")
+        if line < passed or line == passed and edit:
+            return edit
+    return None
+
+
+def in_batches(edits):
+    """Puts each edit into the first batch of which none changes a function that it changes; one that changes more than bodies
+    stands alone. The largest batch comes first."""
+    batches = []
+    for it in edits:
+        own = set(it.bodies)
+        room = [b for b in batches if not it.elsewhere and not b[0].elsewhere and not any(own & set(other.bodies) for other in b)]
+        if room:
+            room[0].append(it)
+        else:
+            batches.append([it])
+    return sorted(batches, key=len, reverse=True)

@@ -1,0 +1,68 @@
+"""Where a gate's minutes go: samples the processor time of the toolchain's processes, by crate and by what they do."""
+
+import os
+import threading
+
+import kit
+
+TICK = os.sysconf("SC_CLK_TCK")
+
+
+class Minutes:
+    """Processor minutes by crate and kind, read every second while the gate runs (what a process does after its last reading is
+    lost, so the sum is a little less than the whole). Calls `kept` with a crate, and the folder of what is proved of it, once the
+    gate has tried the first of the crate's must-fail edits: its check proves all that the edit does not touch."""
+
+    def __init__(self, kept):
+        self.ticks, self.ended, self.kept, self.rooms = {}, threading.Event(), kept, {}
+        self.thread = threading.Thread(target=self.watch, daemon=True)
+        self.thread.start()
+
+    def watch(self):
+        while not self.ended.wait(1):
+            for process in filter(str.isdigit, os.listdir("/proc")):
+                try:
+                    self.read(process)
+                except (OSError, IndexError, ValueError):
+                    # It ended while it was read.
+                    pass
+
+    def read(self, process):
+        with open(f"/proc/{process}/cmdline", "rb") as it:
+            words = it.read().decode(errors="replace").split("\0")
+        if "--crate-name" not in words:
+            return
+        crate, room = words[words.index("--crate-name") + 1], os.readlink(f"/proc/{process}/cwd")
+        kind = kind_of(room)
+        with open(f"/proc/{process}/stat", encoding="utf-8", errors="replace") as it:
+            fields = it.read().rpartition(")")[2].split()
+        if kind:
+            self.ticks[process, fields[19]] = crate, kind, int(fields[11]) + int(fields[12])
+        if kind == "must-fail" and "--incremental" in words:
+            self.note_room(crate, room, words[words.index("--incremental") + 1])
+
+    def note_room(self, crate, room, folder):
+        """The gate tries each edit in a room of its own, over one folder for the crate: in the second room, the first is done."""
+        rooms = self.rooms.setdefault(crate, set())
+        if len(rooms | {room}) == 2 > len(rooms):
+            self.kept(crate, folder)
+        rooms.add(room)
+
+    def table(self, edits):
+        """The lines of a table: a crate a line, with the minutes of its proof, its must-fail edits and its other edits."""
+        self.ended.set()
+        spent = {}
+        for crate, kind, ticks in self.ticks.values():
+            spent[crate, kind] = spent.get((crate, kind), 0) + ticks / TICK / 60
+        lines = [f"{'processor minutes':<18}{'proof':>8}{'must-fail':>11}{'edits':>8}"]
+        for crate in kit.crates_of():
+            row = spent.get((crate, "proof"), 0), spent.get((crate, "must-fail"), 0), edits.get(crate, 0) / 60
+            lines.append(f"{crate:<18}{row[0]:>8.1f}{row[1]:>11.1f}{row[2]:>8.1f}")
+        return lines
+
+
+def kind_of(folder):
+    """What a check in this folder does, if it is the gate's."""
+    if folder.startswith(f"{kit.ROOT}/crates/"):
+        return "proof"
+    return "must-fail" if "/rt-edit-" in folder else None

@@ -1,0 +1,185 @@
+"""Tries the edits of a crate: as many in one check as change different functions of it, since functions are proved one by one
+against the contracts of the others. An edit passes only where a goal of the function that it changes is not proved."""
+
+import os
+import shutil
+import signal
+import subprocess
+import tempfile
+import threading
+import time
+from concurrent.futures import ThreadPoolExecutor
+
+import kit
+from edits import BadEdit, Edit, Sources, edit_at, in_batches, together
+from verdicts import Said, Verdict, names_of
+
+PARTS = ("src", "specs", "proofs")
+
+
+class Lanes:
+    """As many checks at a time as there are lanes, each as nice as is said; counts the processor seconds that they took. A check
+    waits for memory while others run, and is what the system kills first where memory ends: then it runs again."""
+
+    ROOM = 5_000_000_000
+    RUNS = 3
+
+    def __init__(self, count, nice=0):
+        self.free, self.lock, self.seconds, self.nice, self.running = threading.BoundedSemaphore(count), threading.Lock(), {}, nice, 0
+
+    def run(self, crate, words, folder):
+        """Runs a command once a lane is free, and gives what it printed."""
+        with self.free:
+            for _ in range(self.RUNS):
+                self.wait_for_memory()
+                status, text = self.ran(crate, words, folder)
+                if status != -signal.SIGKILL:
+                    break
+        return text
+
+    def wait_for_memory(self):
+        while self.running and kit.free_memory() < self.ROOM:
+            time.sleep(2)
+
+    def ran(self, crate, words, folder):
+        """Runs a command once, and gives how it ended and what it printed."""
+        with tempfile.TemporaryFile("w+", errors="replace") as out:
+            process = subprocess.Popen(words, cwd=folder, stdin=subprocess.DEVNULL, stdout=out, stderr=subprocess.STDOUT, preexec_fn=self.step_back)
+            self.count(1)
+            _, status, used = os.wait4(process.pid, 0)
+            self.count(-1)
+            process.returncode = os.waitstatus_to_exitcode(status)
+            with self.lock:
+                self.seconds[crate] = self.seconds.get(crate, 0) + used.ru_utime + used.ru_stime
+            out.seek(0)
+            return process.returncode, out.read()
+
+    def count(self, change):
+        with self.lock:
+            self.running += change
+
+    def step_back(self):
+        """Leaves processors and memory to what is not a check of edits."""
+        os.nice(self.nice)
+        with open("/proc/self/oom_score_adj", "w", encoding="ascii") as it:
+            it.write("900")
+
+
+class Trial:
+    """The edits of one crate, and what became of each."""
+
+    def __init__(self, crate, lanes, log, libraries=None, kept=None):
+        """Over the libraries of the repository and over what the crate's own check kept; or over those in another folder, and
+        over what is given or nothing."""
+        self.crate, self.lanes, self.log = crate, lanes, log
+        self.folder = f"{kit.ROOT}/crates/{crate}"
+        self.kept = kept if libraries else f"{self.folder}/out/incremental"
+        self.sources, self.passed, self.failed = Sources(self.folder), 0, 0
+        self.words = [kit.rattle(), "check", *kit.check_words(kit.crates_of(), crate, libraries or kit.ROOT)]
+
+    def files(self):
+        """The edits that stand in tests/edits, and those that the kit's own gate tries too."""
+        found = []
+        for folder in (f"{kit.ROOT}/tests/edits/{self.crate}", f"{self.folder}/must-fail"):
+            if os.path.isdir(folder):
+                found += [f"{folder}/{it}" for it in sorted(os.listdir(folder)) if it.endswith(".edit")]
+        return found
+
+    def run(self, only=None):
+        """Tries all edits, or those whose names hold a word, and counts them."""
+        with tempfile.TemporaryDirectory(prefix="edits-") as self.room:
+            edits = [it for it in map(self.read, self.files()) if it and (not only or only in it.name or it.is_harmless())]
+            if not edits:
+                return self
+            batches, again = in_batches(edits), []
+            if not self.kept or not os.path.isdir(self.kept):
+                # The first check proves what no edit changes, and the others begin with that.
+                self.kept = f"{self.room}/kept"
+                os.mkdir(self.kept)
+                again = self.judged(batches.pop(0), self.kept)
+            again += self.side_by_side(batches)
+            self.side_by_side([[it] for it in again])
+        return self
+
+    def read(self, path):
+        try:
+            return Edit(path, self.folder, self.sources)
+        except BadEdit as why:
+            self.tell(os.path.basename(path).removesuffix(".edit"), False, f"cannot be applied: {why}")
+
+    def side_by_side(self, batches):
+        """Judges each batch by a check of its own, and gives the edits that have to be tried again alone."""
+        with ThreadPoolExecutor(max(1, len(batches))) as pool:
+            return [it for again in pool.map(self.judged, batches) for it in again]
+
+    def judged(self, batch, kept=None):
+        said = self.checked(batch, kept)
+        if len(batch) > 1 and not said.is_whole:
+            return self.without_blamed(batch, said, kept)
+        again = []
+        for it in batch:
+            verdict, words = self.verdict(it, said)
+            if verdict is Verdict.REFUSED or len(batch) == 1 or it.is_harmless():
+                self.count(it, verdict, words)
+            else:
+                again.append(it)
+        return again
+
+    def without_blamed(self, batch, said, kept):
+        """What does not parse or has wrong types ends a check early: the others are tried without the edits that it blames."""
+        blamed = {edit_at(batch, file, line, self.sources) for file, line in said.front_errors()}
+        rest = [it for it in batch if it not in blamed]
+        if len(rest) in (0, len(batch)):
+            return batch
+        return [*(it for it in batch if it in blamed), *self.judged(rest, kept)]
+
+    def verdict(self, edit, said):
+        if not said.is_whole:
+            return Verdict.UNREAD, next((it for it in said.text.splitlines() if ": error" in it), "the check did not come to its end")
+        if not edit.elsewhere:
+            return said.verdict(names_of(edit, self.crate, said.lines))
+        return said.verdict(list(said.lines))
+
+    def checked(self, batch, kept):
+        """Checks a copy of the crate with the edits of the batch, over a copy of what was kept or, where it is given, over `kept`."""
+        with tempfile.TemporaryDirectory(dir=self.room) as copy:
+            for part in PARTS:
+                if os.path.isdir(f"{self.folder}/{part}"):
+                    shutil.copytree(f"{self.folder}/{part}", f"{copy}/{part}")
+            for file, text in together(batch, self.sources).items():
+                with open(f"{copy}/{file}", "w", encoding="utf-8") as out:
+                    out.write(text)
+            if not kept:
+                kept = f"{copy}/kept"
+                shutil.copytree(self.kept, kept, copy_function=linked)
+            text = self.lanes.run(self.crate, [*self.words, "--incremental", kept], copy)
+        self.log.write(f"=== {self.crate}: {' '.join(it.name for it in batch)}\n{text}\n")
+        return Said(text, self.crate)
+
+    def count(self, edit, verdict, words):
+        wanted = Verdict.LET_THROUGH if edit.is_harmless() else Verdict.REFUSED
+        shown = words if len(words) <= 200 else f"{words[:200]} .."
+        if edit.is_harmless():
+            self.tell(edit.name, verdict is wanted, f"changes no meaning, and came out as {verdict.value} ({shown})")
+        elif verdict is Verdict.REFUSED:
+            self.tell(edit.name, True, f"refused by {shown}")
+        else:
+            self.tell(edit.name, False, f"{verdict.value} ({shown})")
+
+    def tell(self, name, is_well, words):
+        with self.lanes.lock:
+            self.passed, self.failed = self.passed + is_well, self.failed + (not is_well)
+            print(f"{'ok' if is_well else 'FAILED'} {self.crate}/{name}: {words}", flush=True)
+
+
+def linked(source, target):
+    """A hard link: a check reads what was kept, and writes files of its own."""
+    try:
+        os.link(source, target)
+    except OSError:
+        shutil.copy2(source, target)
+
+
+def minutes(lanes):
+    """A line for each crate: the processor minutes that its edits took."""
+    return [f"{seconds / 60:6.1f} {crate}" for crate, seconds in lanes.seconds.items()]
