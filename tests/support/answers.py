@@ -64,6 +64,11 @@ def script_lines(text):
     return [it[:-1] if it.endswith(b".") else it for it in lines]
 
 
+def statement_count(text):
+    """How many statements a script has, if it has no fault."""
+    return sum(1 for line in script_lines(text) if line.strip(b" ") and not line.startswith(b"*"))
+
+
 def is_odd(line):
     return len(line) > 1000 or bool(SCRIPT_BYTES.search(line))
 
