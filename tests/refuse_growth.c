@@ -1,5 +1,5 @@
 // Loaded in front of the C library. It counts the growths of memory; the one with the number that REFUSE_AT says, from 1, finds no
-// memory, and with REFUSE_ON so do all behind it. At the program's end the file that REFUSE_NOTE names says how many growths there
+// memory, and with REFUSE_ON so do all behind it; with REFUSE_IN this is so in the program of that path alone. At the program's end the file that REFUSE_NOTE names says how many growths there
 // were, how many were refused, and how many blocks were not given back.
 #define _GNU_SOURCE
 #include <dlfcn.h>
@@ -7,17 +7,25 @@
 #include <fcntl.h>
 #include <stdio.h>
 #include <stdlib.h>
+#include <string.h>
 #include <sys/syscall.h>
 #include <unistd.h>
 
 static long growths, refused, live, at;
 static int is_read, goes_on;
 
+static int is_program(const char *path)
+{
+    char name[4096];
+    ssize_t size = path ? readlink("/proc/self/exe", name, sizeof name) : 0;
+    return !path || (size == (ssize_t)strlen(path) && memcmp(name, path, size) == 0);
+}
+
 static void read_words(void)
 {
     const char *number = getenv("REFUSE_AT");
     is_read = 1;
-    at = number ? atol(number) : 0;
+    at = number && is_program(getenv("REFUSE_IN")) ? atol(number) : 0;
     goes_on = getenv("REFUSE_ON") != NULL;
 }
 

@@ -1,8 +1,21 @@
 //! Makes the public calls of a run of two scripts by moves, one after another, and each that tells of want of memory once more: so a run
-//! of which one growth of memory was refused ends as one of which none was. Prints what `dbtg replay --moves moves schema script.1
-//! script.2` does, and on standard error the call that met the refusal, or how a call was not as it must be. See tests/refuse-calls.
+//! of which one growth of memory was refused ends as one of which none was. Prints what `dbtg check schema script.1 script.2` and
+//! `dbtg replay --moves moves schema script.1 script.2` do, and on standard error the call that met the refusal, or how a call was not
+//! as it must be. It stands in the place of the program's main file, beside its other files. See tests/refuse-calls.
 #![tactic(auto)]
 
+mod capacity;
+mod check;
+mod command;
+mod explain;
+mod fault;
+mod files;
+mod hands;
+mod reading;
+mod reason;
+mod replay;
+
+use check::check_bytes;
 use dbtg_schema::{Row, Schema, SchemaFault};
 use dbtg_script::{
     MovesFault, ScriptFault, answers_text, image_text, moves_text, push_run, read_moves,
@@ -10,6 +23,9 @@ use dbtg_script::{
 };
 use dbtg_step::{Core, Run, audit, run, run_serial};
 use dbtg_unit::{Move, Statement, Stepped};
+use fault::Fault;
+use hands::by_hand;
+use replay::replay_bytes;
 use std::alloc::{AllocError, Global};
 use std::io::{self, Write};
 use std::process::ExitCode;
@@ -241,7 +257,49 @@ fn is_audited(rt: &HostRuntime, schema: &Schema, given: &Run) -> Option<bool> {
     None
 }
 
-fn all(rt: &HostRuntime) -> Option<Vec<u8>> {
+// The bytes of both scripts.
+fn script_bytes(rt: &HostRuntime) -> Option<Vec<Row<u8>>> {
+    for _ in 0..2 {
+        let mut scripts = Vec::new(rt.alloc());
+        let one = Row::of(file(rt, "script.1")?);
+        let two = Row::of(file(rt, "script.2")?);
+        if scripts.push(one).is_ok() && scripts.push(two).is_ok() {
+            return Some(scripts);
+        }
+        tell(rt, "Row::push");
+    }
+    None
+}
+
+fn call_bytes<F: Fn() -> Result<Vec<u8>, Fault>>(rt: &HostRuntime, call: &str, make: &F) -> Option<Vec<u8>> {
+    for _ in 0..2 {
+        match make() {
+            Ok(text) => return Some(text),
+            Err(Fault::Memory) => tell(rt, call),
+            Err(_) => tell(rt, "a fault in place of want of memory"),
+        }
+    }
+    None
+}
+
+// What `check` and `replay` print, from bytes to bytes.
+fn from_bytes(rt: &HostRuntime) -> Option<(Vec<u8>, Vec<u8>)> {
+    let alloc = rt.alloc();
+    let schema = file(rt, "schema")?;
+    let scripts = script_bytes(rt)?;
+    let moves = file(rt, "moves")?;
+    let checked = call_bytes(rt, "check_bytes", &|| -> Result<Vec<u8>, Fault> {
+        check_bytes(alloc, schema.as_slice(), scripts.as_slice())
+    })?;
+    let replayed = call_bytes(rt, "replay_bytes", &|| -> Result<Vec<u8>, Fault> {
+        replay_bytes(alloc, schema.as_slice(), scripts.as_slice(), Some(moves.as_slice()), CAPACITY)
+    })?;
+    Some((checked, replayed))
+}
+
+fn all(rt: &HostRuntime) -> Option<(Vec<u8>, Vec<u8>)> {
+    by_hand(rt)?;
+    let (checked, replayed) = from_bytes(rt)?;
     let schema = schema(rt)?;
     let moves = moves(rt)?;
     let whole = run_whole(rt, &schema, moves.as_slice())?;
@@ -256,12 +314,20 @@ fn all(rt: &HostRuntime) -> Option<Vec<u8>> {
     if text(rt, &schema, &whole)?.as_slice() != out.as_slice() {
         tell(rt, "a run that comes to something else");
     }
-    Some(out)
+    if replayed.as_slice() != out.as_slice() {
+        tell(rt, "a replay that comes to something else");
+    }
+    Some((checked, out))
+}
+
+fn print(rt: &HostRuntime, texts: &(Vec<u8>, Vec<u8>)) -> io::Result<()> {
+    io::writer(rt).write_all(texts.0.as_slice())?;
+    io::writer(rt).write_all(texts.1.as_slice())
 }
 
 fn main(rt: HostRuntime) -> ExitCode {
     match all(&rt) {
-        Some(out) => match io::writer(&rt).write_all(out.as_slice()) {
+        Some(texts) => match print(&rt, &texts) {
             Ok(()) => ExitCode::SUCCESS,
             Err(_) => ExitCode::FAILURE,
         },

@@ -2,11 +2,24 @@
 is then printed, and where its first fault can lie."""
 
 import re
+from dataclasses import replace
 
 SCHEMA_BYTES = re.compile(rb"[^ -~\t\r\n]")
 SCRIPT_BYTES = re.compile(rb"[^ -~]")
 MOVE = re.compile(rb"(Q?)([1-9][0-9]?)|([1-9][0-9]?)\*([1-9][0-9]{0,6})")
 GREATEST_SCHEMA, GREATEST_SCRIPT, MOST_STATEMENTS, MOST_MOVES = 65_536, 1_048_576, 65_535, 1_000_000
+
+
+def unexplained(path, ran):
+    """A run without the line that --explain adds to a fault. That line names the file and the same place; a run that has another, or
+    none, is given a line that no answer has."""
+    first, _, second = ran.err.partition(b"\n")
+    place = re.fullmatch(rb"(?:schema|script 1|moves) fault \d+ (line|word) (\d+)", first)
+    if not place:
+        return ran
+    named = path.encode() + (b":%s: " if place[1] == b"line" else b": word %s: ") % place[2]
+    is_told = second.startswith(named) and re.fullmatch(rb"[ -~]+\n", second[len(named) :])
+    return replace(ran, err=first + (b"\n" if is_told else b" is not explained\n"))
 
 
 def last_line(text):
@@ -49,6 +62,11 @@ def script_lines(text):
         lines.pop()
     lines = [it[:-1] if it.endswith(b"\r") else it for it in lines]
     return [it[:-1] if it.endswith(b".") else it for it in lines]
+
+
+def statement_count(text):
+    """How many statements a script has, if it has no fault."""
+    return sum(1 for line in script_lines(text) if line.strip(b" ") and not line.startswith(b"*"))
 
 
 def is_odd(line):

@@ -2,8 +2,9 @@
 answered."""
 
 import os
-from dataclasses import dataclass
+from dataclasses import dataclass, replace
 
+from answers import unexplained
 from kit import ROOT, text_of
 
 CARD = f"{ROOT}/tests/cases/open_store_find_get"
@@ -22,11 +23,14 @@ class Wanted:
     after: tuple
     out: bytes = b""
     err: bytes = b""
+    is_explained: bool = False
 
     def words(self, path):
-        return [*self.before, path, *self.after]
+        before = [self.before[0], *(["--explain"] if self.is_explained else []), *self.before[1:]]
+        return [*before, path, *self.after]
 
-    def is_met(self, ran):
+    def is_met(self, path, ran):
+        ran = unexplained(path, ran) if self.is_explained else ran
         if self.err:
             return (ran.status, ran.out, ran.err) == (1, b"", self.err)
         return ran.status == 0 and not ran.err and ran.out.startswith(self.out)
@@ -165,5 +169,6 @@ def all_moves():
 
 
 def texts():
-    """All of them: the kind of each, its bytes, and what is wanted."""
-    return [*schemas(), *scripts(), *all_moves()]
+    """All of them: the kind of each, its bytes, and what is wanted. Those that have a fault come twice, the second time explained."""
+    plain = [*schemas(), *scripts(), *all_moves()]
+    return [*plain, *((kind, text, replace(wanted, is_explained=True)) for kind, text, wanted in plain if wanted.err)]

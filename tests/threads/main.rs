@@ -1,5 +1,5 @@
-//! Makes calls of `dbtg_run` on threads, as its first word says: `chance` runs units by chance, `meetings` lets two units meet,
-//! `alone CAPACITY SCHEMA SCRIPT` makes a script with no tries, `refused` makes calls again that found no memory, and
+//! Makes calls of `dbtg_run` on threads, as its first word says: `chance` runs units by chance, `meetings` lets two units meet, and one
+//! wait in vain, `alone CAPACITY SCHEMA SCRIPT` makes a script with no tries, `refused` makes calls again that found no memory, and
 //! `pace HOW CAPACITY SCHEMA SCRIPT..` is to be measured. See tests/run-threads, tests/refuse-threads and tests/pace.
 #![tactic(auto)]
 
@@ -13,7 +13,7 @@ mod texts;
 
 use alone::run_alone;
 use chance::{Chance, is_sound_run};
-use meeting::{AS_IT_MUST, meeting};
+use meeting::{AS_IT_MUST, IN_VAIN, meeting, waiting_in_vain};
 use pace::pace;
 use refused::refused;
 use std::env;
@@ -58,7 +58,9 @@ fn meet<R: Threads + Wait + Sync>(rt: &HostRuntime, threads: &R) -> Option<()> {
             right += 1;
         }
     }
-    println!(rt; "meetings: {MEETINGS} runs, {right} sound").ok()
+    println!(rt; "meetings: {MEETINGS} runs, {right} sound").ok()?;
+    let in_vain = if waiting_in_vain(threads, rt.alloc()) == Some(IN_VAIN) { 1 } else { 0 };
+    println!(rt; "waits in vain: 1 runs, {in_vain} sound").ok()
 }
 
 fn words_of(rt: &HostRuntime) -> io::Result<Vec<String>> {

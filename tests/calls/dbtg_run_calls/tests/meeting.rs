@@ -10,9 +10,14 @@ use std::sync::Wait;
 use std::sync::atomic::{AtomicBool, AtomicU64, Ordering};
 use std::thread::{self, Threads};
 
+// The turns that a unit waits for its partner, and no longer.
+const TURNS: u32 = 10_000_000;
+const FEW_TURNS: u32 = 1000;
+
 // Holds unit 2 at its second answer until unit 1 has nine, and unit 1 at its tenth ticket until unit 2 has four answers.
 #[derive(Drop)]
 struct Turnstile {
+    turns: u32,
     first_tickets: AtomicU64,
     first_answers: AtomicU64,
     second_answers: AtomicU64,
@@ -20,8 +25,9 @@ struct Turnstile {
 }
 
 impl Turnstile {
-    fn new() -> Self {
+    fn new(turns: u32) -> Self {
         Self {
+            turns,
             first_tickets: AtomicU64::new(0),
             first_answers: AtomicU64::new(0),
             second_answers: AtomicU64::new(0),
@@ -30,7 +36,7 @@ impl Turnstile {
     }
 
     fn wait_for(&self, counter: &AtomicU64, count: u64) {
-        for _ in 0..10_000_000 {
+        for _ in 0..self.turns {
             if counter.load(Ordering::SeqCst) >= count {
                 return;
             }
@@ -85,12 +91,24 @@ pub type Shown = (bool, bool, Option<usize>, Option<usize>, bool, bool);
 
 pub const AS_IT_MUST: Shown = (false, true, Some(2), Some(0), true, true);
 
+// What is shown where the second unit makes no REMOVE: the first waits for its fourth answer in vain, and all else is done.
+pub const IN_VAIN: Shown = (true, true, Some(2), Some(1), true, true);
+
 // The two units meet, and the database is settled.
 pub fn meeting<R: Threads + Wait + Sync>(rt: &R, alloc: Global) -> Option<Shown> {
+    meeting_of(rt, alloc, TURNS, &[SECOND, REMOVE], 13)
+}
+
+// The first unit waits at its ticket for a partner that never comes there.
+pub fn waiting_in_vain<R: Threads + Wait + Sync>(rt: &R, alloc: Global) -> Option<Shown> {
+    meeting_of(rt, alloc, FEW_TURNS, &[SECOND], 12)
+}
+
+fn meeting_of<R: Threads + Wait + Sync>(rt: &R, alloc: Global, turns: u32, seconds: &[&[u8]], last: u64) -> Option<Shown> {
     let (db, units) = made(alloc, 2)?;
     let first = whole(alloc, &db, &[FIRST, REMOVE])?;
-    let second = whole(alloc, &db, &[SECOND, REMOVE])?;
-    let turnstile = Turnstile::new();
+    let second = whole(alloc, &db, seconds)?;
+    let turnstile = Turnstile::new(turns);
     let settled = run_units(rt, alloc, db, units, &[first, second], &turnstile).ok()?;
     let late = turnstile.somebody_is_late.load(Ordering::SeqCst);
     Some((
@@ -98,7 +116,7 @@ pub fn meeting<R: Threads + Wait + Sync>(rt: &R, alloc: Global) -> Option<Shown>
         all_done(&settled),
         members(&settled, 0),
         members(&settled, 1),
-        ends_with_ticket(&settled, 13),
+        ends_with_ticket(&settled, last),
         is_audited(alloc, &settled, 10, 2),
     ))
 }

@@ -1,6 +1,6 @@
 //! Units make their scripts on threads of their own. What is expected stands in docs/profile: REMOVE in statements.md.
 
-use super::meeting::{AS_IT_MUST, made, meeting, whole};
+use super::meeting::{AS_IT_MUST, IN_VAIN, made, meeting, waiting_in_vain, whole};
 use super::shop::{DELETE, FIRST, ends_with_ticket, is_audited};
 use dbtg_run::{Fault, NoGate, Settled, Unsettled, run_units};
 use std::alloc::Global;
@@ -11,6 +11,12 @@ use std::thread::Threads;
 #[test]
 fn two_units_meet_on_threads(rt: HostRuntime) {
     assert_eq!(rt; meeting(&rt, rt.alloc()), Some(AS_IT_MUST));
+}
+
+// A gate that never sees its partner lets its unit go at its limit of turns, and tells of it.
+#[test]
+fn a_unit_waits_in_vain(rt: HostRuntime) {
+    assert_eq!(rt; waiting_in_vain(&rt, rt.alloc()), Some(IN_VAIN));
 }
 
 // How many entries of a unit the history has.
