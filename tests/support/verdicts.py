@@ -64,9 +64,15 @@ class Said:
             return Verdict.UNREAD, words
         return (Verdict.REFUSED, "; ".join(own)) if own else (Verdict.HIDDEN, words)
 
+    def errors_of(self, name):
+        """The errors in a function's answers by hand, or in those of the cycle of calls that it is in: `module::+closure+name`."""
+        module, _, own = name.rpartition("::")
+        cycles = (it for it in self.errors if it.startswith(f"{module}::+") and own in it.removeprefix(f"{module}::+").split("+"))
+        return [error for place in (name, *cycles) for error in self.errors.get(place, [])]
+
     def judged_by_errors(self, name):
         """A function that has answers by hand is refused where an error stands in them."""
-        errors = self.errors.get(name, [])
+        errors = self.errors_of(name)
         told = [it for it in errors if not OF_NAMES.search(it)]
         if told:
             return Verdict.REFUSED, told[0]
