@@ -88,6 +88,13 @@ class Machine:
             while self.step(unit.number) != "I":
                 pass
 
+    def run_turns(self, order):
+        """Each unit in this order makes its next statement whole."""
+        for number in order:
+            at = self.units[number - 1].at
+            while self.units[number - 1].at == at and self.step(number) != "I":
+                pass
+
     def run_moves(self, text):
         letters = []
         for word in text.split():
@@ -127,8 +134,8 @@ def words_in(folder, args="args"):
     return read(f"{folder}/{args}").split("\n")[:-1]
 
 
-def replay(folder, words):
-    """What the command with these words prints."""
+def machine_of(folder, words):
+    """The machine before the command with these words, and the text of its moves, if it has one."""
     capacity, moves, files = 100, None, []
     words = iter(words[1:])
     for word in words:
@@ -138,11 +145,25 @@ def replay(folder, words):
             moves = read(f"{folder}/{next(words)}")
         else:
             files.append(read(f"{folder}/{word}"))
-    machine = Machine(Schema(files[0]), capacity, files[1:])
-    head = []
-    if moves is None:
-        machine.run_serially()
-    else:
-        head = [machine.run_moves(moves)]
+    return Machine(Schema(files[0]), capacity, files[1:]), moves
+
+
+def printed(machine, *head):
     units = [machine.unit_line(u) for u in machine.units]
     return "".join(line + "\n" for line in [*head, *machine.lines, "--", *machine.image(), *units])
+
+
+def replay(folder, words):
+    """What the command with these words prints."""
+    machine, moves = machine_of(folder, words)
+    if moves is None:
+        machine.run_serially()
+        return printed(machine)
+    return printed(machine, machine.run_moves(moves))
+
+
+def threads(folder, words, order):
+    """What `threads` with the files of these words prints, where its tickets are drawn by the units in this order."""
+    machine, _ = machine_of(folder, words)
+    machine.run_turns(order)
+    return printed(machine) + "AUDIT EQUAL\n"

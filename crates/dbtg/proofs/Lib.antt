@@ -1,2 +1,3 @@
 mod InTurn
 mod FilesRead
+mod OnThreads

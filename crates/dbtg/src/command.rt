@@ -22,6 +22,12 @@ pub enum Call<'a> {
         schema: &'a str,
         scripts: Vec<&'a str>,
     },
+    Threads {
+        explains: bool,
+        capacity: u16,
+        schema: &'a str,
+        scripts: Vec<&'a str>,
+    },
     Explain(Topic),
 }
 
@@ -116,6 +122,22 @@ fn replay_command<'a>(alloc: Global, name: &'a str) -> Result<Command<'a>, Alloc
         ))
 }
 
+// The command `threads`, by the name that its usage shows.
+fn threads_command<'a>(alloc: Global, name: &'a str) -> Result<Command<'a>, AllocError> {
+    Command::new(alloc, name)
+        .about(
+            "Runs scripts on threads, and prints the answers, the database, the units and the audit",
+        )
+        .after_help("Example: dbtg threads --capacity 10 shop.schema unit1.script unit2.script")
+        .arg(capacity_option(alloc))?
+        .arg(explain_option(alloc))?
+        .arg(schema_word(alloc))?
+        .arg(script_words(
+            alloc,
+            "Files of the scripts of units 1, 2, ..: 1 to 8 of them, each on a thread of its own; - for standard input, once",
+        ))
+}
+
 /// The command with all that it can be asked.
 pub fn command<'a>(alloc: Global) -> Result<Command<'a>, AllocError> {
     Command::new(alloc, "dbtg")
@@ -129,6 +151,7 @@ pub fn command<'a>(alloc: Global) -> Result<Command<'a>, AllocError> {
         .after_help("Example: dbtg replay card.schema unit1.script")
         .subcommand(check_command(alloc, "check")?)?
         .subcommand(replay_command(alloc, "replay")?)?
+        .subcommand(threads_command(alloc, "threads")?)?
         .subcommand(explain_command(alloc, "explain")?)
 }
 
@@ -143,19 +166,27 @@ fn words_of<'a>(
     }
 }
 
-fn capacity_wanted(alloc: Global, matches: &ArgMatches) -> Result<u16, Error> {
+fn capacity_wanted<'a>(
+    alloc: Global,
+    command: &mut Command<'a>,
+    matches: &ArgMatches,
+) -> Result<u16, Error> {
     let word = matches.get_str("capacity").unwrap_or("");
     match capacity_of(word) {
         Some(capacity) => Ok(capacity),
-        None => Err(no_capacity(alloc, word)?),
+        None => Err(no_capacity(alloc, command, word)?),
     }
 }
 
-fn no_capacity(alloc: Global, word: &str) -> Result<Error, AllocError> {
+fn no_capacity<'a>(
+    alloc: Global,
+    command: &mut Command<'a>,
+    word: &str,
+) -> Result<Error, AllocError> {
     let told = format!(in alloc;
         "invalid value '{word}' for '--capacity <N>': a whole number from 1 to 1000 is wanted"
     )?;
-    replay_command(alloc, "dbtg replay")?.error(ErrorKind::ValueValidation, told.as_str())
+    command.error(ErrorKind::ValueValidation, told.as_str())
 }
 
 /// How often standard input is asked for.
@@ -164,7 +195,7 @@ fn count_inputs(paths: &[&str]) -> usize {
 }
 
 fn check_inputs<'a>(
-    mut command: Command<'a>,
+    command: &mut Command<'a>,
     schema: &str,
     scripts: &[&'a str],
     moves: &str,
@@ -184,12 +215,8 @@ fn check_inputs<'a>(
 fn check_call<'a>(alloc: Global, given: &ArgMatches<'a>) -> Result<Call<'a>, Error> {
     let schema = given.get_str("schema").unwrap_or("");
     let scripts = words_of(alloc, given, "scripts")?;
-    check_inputs(
-        check_command(alloc, "dbtg check")?,
-        schema,
-        scripts.as_slice(),
-        "",
-    )?;
+    let mut command = check_command(alloc, "dbtg check")?;
+    check_inputs(&mut command, schema, scripts.as_slice(), "")?;
     Ok(Call::Check {
         explains: given.get_flag("explain"),
         schema,
@@ -201,9 +228,10 @@ fn replay_call<'a>(alloc: Global, given: &ArgMatches<'a>) -> Result<Call<'a>, Er
     let schema = given.get_str("schema").unwrap_or("");
     let scripts = words_of(alloc, given, "scripts")?;
     let moves = given.get_str("moves");
-    let capacity = capacity_wanted(alloc, given)?;
+    let mut command = replay_command(alloc, "dbtg replay")?;
+    let capacity = capacity_wanted(alloc, &mut command, given)?;
     check_inputs(
-        replay_command(alloc, "dbtg replay")?,
+        &mut command,
         schema,
         scripts.as_slice(),
         moves.unwrap_or(""),
@@ -212,6 +240,20 @@ fn replay_call<'a>(alloc: Global, given: &ArgMatches<'a>) -> Result<Call<'a>, Er
         explains: given.get_flag("explain"),
         capacity,
         moves,
+        schema,
+        scripts,
+    })
+}
+
+fn threads_call<'a>(alloc: Global, given: &ArgMatches<'a>) -> Result<Call<'a>, Error> {
+    let schema = given.get_str("schema").unwrap_or("");
+    let scripts = words_of(alloc, given, "scripts")?;
+    let mut command = threads_command(alloc, "dbtg threads")?;
+    let capacity = capacity_wanted(alloc, &mut command, given)?;
+    check_inputs(&mut command, schema, scripts.as_slice(), "")?;
+    Ok(Call::Threads {
+        explains: given.get_flag("explain"),
+        capacity,
         schema,
         scripts,
     })
@@ -234,6 +276,7 @@ pub fn call_of<'a>(alloc: Global, words: &'a [String]) -> Result<Call<'a>, Error
     match matches.subcommand() {
         Some(("check", given)) => check_call(alloc, given),
         Some(("replay", given)) => replay_call(alloc, given),
+        Some(("threads", given)) => threads_call(alloc, given),
         Some(("explain", given)) => explain_call(alloc, given),
         _ => Err(Error::from(AllocError)),
     }

@@ -189,3 +189,19 @@ pub fn replay_files(
     let known = read_schema(rt, schema)?;
     replay_known(rt, &known, scripts, moves, capacity)
 }
+
+/// The schema and the scripts in these files.
+pub fn read_texts(
+    rt: &HostRuntime,
+    schema: &str,
+    scripts: &[&str],
+) -> Result<(Schema, Row<Row<Statement>>), Fault>
+    ensures sound { IfOk result (λ read. IsSound read.0) }
+    ensures counted { IfOk result (λ read. is_count (length read.1) ≡ true) }
+    ensures fit { IfOk result (λ read. scripts_fit read.0 read.1 ≡ true) }
+{
+    check_count(scripts.len())?;
+    let known = read_schema(rt, schema)?;
+    let statements = read_scripts(rt, &known, scripts)?;
+    Ok((known, statements))
+}

@@ -10,16 +10,20 @@ mod files;
 mod reading;
 mod reason;
 mod replay;
+mod threads;
 
 use clap::error::ErrorKind;
 use command::{Call, call_of};
 use explain::{Topic, explained};
 use fault::{Fault, status_of};
-use files::{check_files, replay_files};
+use files::{check_files, read_texts, replay_files};
 use reason::{Files, reason};
 use std::env;
 use std::io::{self, Write};
 use std::process::ExitCode;
+use std::sync::Wait;
+use std::thread::Threads;
+use threads::threads_text;
 
 fn told(rt: &HostRuntime, fault: &Fault) -> ExitCode {
     let _ = eprintln!(rt; "{fault}");
@@ -70,7 +74,31 @@ fn print_replay(
     }
 }
 
-fn carry_out(rt: &HostRuntime, call: &Call) -> ExitCode {
+// What scripts in files come to on threads, or the first fault.
+fn run_threads<R: Threads + Wait + Sync>(
+    rt: &HostRuntime,
+    threads: &R,
+    files: &Files,
+    capacity: u16,
+) -> Result<Vec<u8>, Fault> {
+    let (schema, scripts) = read_texts(rt, files.schema, files.scripts)?;
+    Ok(threads_text(threads, rt.alloc(), schema, capacity, scripts.as_slice())?)
+}
+
+fn print_threads<R: Threads + Wait + Sync>(
+    rt: &HostRuntime,
+    threads: &R,
+    files: &Files,
+    capacity: u16,
+    explains: bool,
+) -> ExitCode {
+    match run_threads(rt, threads, files, capacity) {
+        Ok(text) => print_text(rt, text.as_slice()),
+        Err(fault) => told_of(rt, &fault, files, explains),
+    }
+}
+
+fn carry_out<R: Threads + Wait + Sync>(rt: &HostRuntime, threads: &R, call: &Call) -> ExitCode {
     match call {
         Call::Check {
             explains,
@@ -97,6 +125,19 @@ fn carry_out(rt: &HostRuntime, call: &Call) -> ExitCode {
                 moves: moves.unwrap_or(""),
             };
             print_replay(rt, &files, *moves, *capacity, *explains)
+        }
+        Call::Threads {
+            explains,
+            capacity,
+            schema,
+            scripts,
+        } => {
+            let files = Files {
+                schema: *schema,
+                scripts: scripts.as_slice(),
+                moves: "",
+            };
+            print_threads(rt, threads, &files, *capacity, *explains)
         }
         Call::Explain(topic) => print_topic(rt, topic),
     }
@@ -147,7 +188,7 @@ fn main(rt: HostRuntime) -> ExitCode {
         Err(error) => return without_words(&rt, &error),
     };
     match call_of(rt.alloc(), words.as_slice()) {
-        Ok(call) => carry_out(&rt, &call),
+        Ok(call) => carry_out(&rt, &rt, &call),
         Err(error) => without_call(&rt, &error),
     }
 }

@@ -1,0 +1,35 @@
+-- What `threads` prints.
+-- lists is the schema that a text says; script k + 1 is that of the unit with number k + 1.
+use Rattle.std.specs.Prelude.{ℕ, ◌≡◌, ◌≤◌, ◌⊎◌, ◌+◌, List, [], ◌∷◌, ◌++◌, length, map, Some, slice_get, codes}
+use Rattle.dbtg_schema.specs.Lists.{Lists}
+use Rattle.dbtg_unit.specs.declared.statement.Statement.{Statement}
+use Rattle.dbtg_unit.specs.declared.unit.Entry.{Entry}
+use Rattle.dbtg_unit.specs.declared.unit.Unit.{Unit}
+use Rattle.dbtg_unit.specs.Image.{Image}
+use Rattle.dbtg_unit.specs.Replay.{entries_of}
+use Rattle.dbtg_step.specs.Audit.{LeadsTo}
+use Rattle.dbtg_script.specs.Texts.{run_text}
+
+-- the entries are those of the script's statements, in order: of all, or of as many as a journal has room for
+pub record AreOf (script : List Statement) (entries : List Entry) : Type 0 where
+  pub left : List Statement
+  pub script_is : script ≡ map (λ (e : Entry). e.statement) entries ++ left
+  pub whole : (left ≡ []) ⊎ (65535 ≤ length entries)
+
+-- a history of the sequential database in which each unit makes its script from its opening state, and the image and the units
+-- to which it leads
+pub record IsHistoryOfAll (lists : Lists) (capacity : ℕ) (scripts : List (List Statement)) (history : List Entry) (image : Image) (units : List Unit) : Type 0 where
+  pub leads : LeadsTo lists capacity (length scripts) history image units
+  pub own : (k : ℕ) (script : List Statement) → slice_get scripts k ≡ Some script → AreOf script (entries_of (k + 1) history)
+
+-- the line that says that the audit of the history gives the same image and units
+abbrev pub audit_line : List ℕ
+audit_line = codes "AUDIT EQUAL" ++ 10 ∷ []
+
+-- the text is that of such a history: its answers, image and units, and the line of the audit
+pub record IsPrintedOnThreads (lists : Lists) (capacity : ℕ) (scripts : List (List Statement)) (out : List ℕ) : Type 0 where
+  pub history : List Entry
+  pub image : Image
+  pub units : List Unit
+  pub is_history : IsHistoryOfAll lists capacity scripts history image units
+  pub is_text : out ≡ run_text lists history image.records image.lists image.next image.usage units ++ audit_line

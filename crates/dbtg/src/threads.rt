@@ -1,0 +1,53 @@
+//! Running scripts on threads, and the text of what comes of it.
+ghost use Rattle.std.specs.Prelude.{◌≡◌, ◌++◌, ◌≤◌, IfOk, OnOk, length, true};
+ghost use Rattle.dbtg_schema.specs.Sound.{IsSound};
+ghost use Rattle.dbtg_script.specs.Texts.{run_text};
+ghost use Rattle.dbtg_step.specs.Laws.{scripts_fit};
+ghost use Rattle.dbtg.specs.Refusals.{is_count};
+ghost use Rattle.dbtg.specs.Threading.{IsPrintedOnThreads, audit_line};
+
+use dbtg_run::{Database, NoGate, Settled, run_units};
+use dbtg_schema::{Row, Schema};
+use dbtg_script::push_run;
+use dbtg_unit::Statement;
+use std::alloc::{AllocError, Global};
+use std::sync::Wait;
+use std::thread::Threads;
+
+// Answers, image and units of a settled database, and the line of the audit. The audit is equal by proof: no other line is printed.
+fn settled_text(alloc: Global, settled: &Settled) -> Result<Vec<u8>, AllocError>
+    ensures { IfOk result (λ out. out.items ≡ run_text settled.now.schema settled.now.history settled.now.image.records settled.now.image.lists settled.now.image.next settled.now.image.usage settled.now.units ++ audit_line) }
+{
+    let mut out = Vec::new(alloc);
+    push_run(
+        alloc,
+        &mut out,
+        &settled.schema,
+        settled.history.as_slice(),
+        &settled.image,
+        settled.units.as_slice(),
+    )?;
+    out.extend_from_slice(b"AUDIT EQUAL\n")?;
+    Ok(out)
+}
+
+/// Runs each script by a unit of its own, on a thread of its own.
+pub fn threads_text<R: Threads + Wait + Sync>(
+    rt: &R,
+    alloc: Global,
+    schema: Schema,
+    capacity: u16,
+    scripts: &[Row<Statement>],
+) -> Result<Vec<u8>, AllocError>
+    requires sound { IsSound schema }
+    requires count { is_count (length scripts.now) ≡ true }
+    requires fit { scripts_fit schema scripts.now ≡ true }
+    ensures { IfOk result (λ out. IsPrintedOnThreads schema capacity scripts.now out.items) }
+{
+    let (db, units) = Database::make(alloc, schema, capacity, scripts.len() as u8)?;
+    match run_units(rt, alloc, db, units, scripts, &NoGate) {
+        Ok(settled) => settled_text(alloc, &settled),
+        // All units of the database came, so it was memory that was refused.
+        Err(_) => Err(AllocError),
+    }
+}
