@@ -14,6 +14,7 @@ mod hands;
 mod reading;
 mod reason;
 mod replay;
+mod threads;
 
 use check::check_bytes;
 use dbtg_schema::{Row, Schema, SchemaFault};
