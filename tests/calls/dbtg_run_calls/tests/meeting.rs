@@ -10,14 +10,14 @@ use std::sync::Wait;
 use std::sync::atomic::{AtomicBool, AtomicU64, Ordering};
 use std::thread::{self, Threads};
 
-// The turns that a unit waits for its partner, and no longer.
+// The turns that a unit waits for its partner, and no longer; few where the partner never comes.
 const TURNS: u32 = 10_000_000;
 const FEW_TURNS: u32 = 1000;
 
 // Holds unit 2 at its second answer until unit 1 has nine, and unit 1 at its tenth ticket until unit 2 has four answers.
 #[derive(Drop)]
 struct Turnstile {
-    turns: u32,
+    first_turns: u32,
     first_tickets: AtomicU64,
     first_answers: AtomicU64,
     second_answers: AtomicU64,
@@ -25,9 +25,9 @@ struct Turnstile {
 }
 
 impl Turnstile {
-    fn new(turns: u32) -> Self {
+    fn new(first_turns: u32) -> Self {
         Self {
-            turns,
+            first_turns,
             first_tickets: AtomicU64::new(0),
             first_answers: AtomicU64::new(0),
             second_answers: AtomicU64::new(0),
@@ -35,8 +35,8 @@ impl Turnstile {
         }
     }
 
-    fn wait_for(&self, counter: &AtomicU64, count: u64) {
-        for _ in 0..self.turns {
+    fn wait_for(&self, turns: u32, counter: &AtomicU64, count: u64) {
+        for _ in 0..turns {
             if counter.load(Ordering::SeqCst) >= count {
                 return;
             }
@@ -51,7 +51,7 @@ impl Gate for Turnstile {
         match (unit, point) {
             (1, Point::Ticketed) => {
                 if self.first_tickets.fetch_add(1, Ordering::SeqCst) == 9 {
-                    self.wait_for(&self.second_answers, 4);
+                    self.wait_for(self.first_turns, &self.second_answers, 4);
                 }
             }
             (1, Point::Answered) => {
@@ -59,7 +59,7 @@ impl Gate for Turnstile {
             }
             (_, Point::Answered) => {
                 if self.second_answers.fetch_add(1, Ordering::SeqCst) == 1 {
-                    self.wait_for(&self.first_answers, 9);
+                    self.wait_for(TURNS, &self.first_answers, 9);
                 }
             }
             (_, Point::Ticketed) => {}
