@@ -4,6 +4,7 @@
 //! as it must be. It stands in the place of the program's main file, beside its other files. See tests/refuse-calls.
 #![tactic(auto)]
 
+mod at_hand;
 mod capacity;
 mod check;
 mod command;
@@ -11,9 +12,12 @@ mod explain;
 mod fault;
 mod files;
 mod hands;
+mod place;
 mod reading;
 mod reason;
 mod replay;
+mod source;
+mod texts;
 mod threads;
 
 use check::check_bytes;

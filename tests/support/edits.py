@@ -3,10 +3,11 @@
 A line `file: PATH` names the file; pairs of lines `old: TEXT` and `new: TEXT` say what changes, where each old text stands exactly
 once in the file, or, behind a line `in: FUNCTION`, once in that function (`name` or `Type::name`)."""
 
+import functools
 import os
 import re
 
-from functions import functions_of
+from functions import declared_in, functions_of, module_of
 from kit import text_of
 
 
@@ -32,6 +33,10 @@ class Edit:
         """Whether the edit changes no meaning: it stands among the others to show that such a one is told from them."""
         return self.name.startswith("harmless")
 
+    def paths(self, sources):
+        """The names of the functions that it changes, as a check can be asked for them."""
+        return [function.path(module_of(file), sources.declared()) for file, function in self.bodies]
+
 
 class Sources:
     """The files of a crate, read once."""
@@ -52,6 +57,12 @@ class Sources:
         if file not in self.found:
             self.found[file] = functions_of(self.folder, file)
         return self.found[file]
+
+    @functools.lru_cache(maxsize=None)
+    def declared(self):
+        """The structs and enums of the crate, each with the module that declares it."""
+        files = [f"{at}/{name}" for at, _, names in os.walk(f"{self.folder}/src") for name in names if name.endswith(".rt")]
+        return {name: module for it in files for name, module in declared_in(os.path.relpath(it, self.folder), text_of(it)).items()}
 
     def function(self, file, shown):
         found = [it for it in self.functions(file) if it.shown() == shown]

@@ -8,13 +8,35 @@ from kit import rattle
 
 
 class Function:
-    """A function with a body. `start`, `opens` and `end` are places in the text of its file."""
+    """A function with a body: its name, the type and the trait of the impl block in which it stands, if any. `start`, `opens` and
+    `end` are places in the text of its file."""
 
-    def __init__(self, name, owner, start, opens, end):
-        self.name, self.owner, self.start, self.opens, self.end = name, owner, start, opens, end
+    def __init__(self, name, owner, trait, start, opens, end):
+        self.name, self.owner, self.trait, self.start, self.opens, self.end = name, owner, trait, start, opens, end
 
     def shown(self):
         return f"{self.owner}::{self.name}" if self.owner else self.name
+
+    def path(self, module, declared):
+        """The name that a check gives it, without that of the crate: a method bears the module that declares its type, which may be
+        another, and one of a trait the module of its impl block and the trait's name."""
+        if not self.owner:
+            parts = [module, self.name]
+        elif self.trait:
+            parts = [module, self.owner + self.trait, self.name]
+        else:
+            parts = [declared.get(self.owner, module), self.owner, self.name]
+        return "::".join(filter(None, parts))
+
+
+def module_of(file):
+    """The module that a file of src/ is, as a path below its crate."""
+    return re.sub(r"(^|::)(lib|main|mod)$", "", re.sub(r"(^src/|\.rt$)", "", file).replace("/", "::"))
+
+
+def declared_in(file, text):
+    """The structs and enums that a file declares, each with its module."""
+    return {name: module_of(file) for name in re.findall(r"(?m)^(?:pub(?:\(\w+\))? )?(?:struct|enum) (\w+)", text)}
 
 
 def functions_of(folder, path):
@@ -38,9 +60,9 @@ def functions_of(folder, path):
         elif kind == "Code" and text == "fn" and tokens[at + 1][0] == "Code":
             opens, end = body_of(tokens, at)
             if opens is not None:
-                owner = owners[-1][1] if owners else ""
+                owner, trait = owners[-1][1] if owners else ("", "")
                 places = [len(data[:n].decode()) for n in (item_start(data, first), tokens[opens][1], tokens[end][2])]
-                found.append(Function(tokens[at + 1][3], owner, *places))
+                found.append(Function(tokens[at + 1][3], owner, trait, *places))
             at = end
         at += 1
     return found
@@ -56,19 +78,38 @@ def next_code(tokens, at, text):
 
 
 def owner_of(tokens):
-    """The type of an impl block's head: its last name outside angle brackets, behind `for` where there is one."""
-    words, depth = [], 0
-    for kind, _, _, text in tokens:
+    """The type of an impl block's head, and its trait where there is one, as a check names it: the last name outside angle brackets
+    behind `for`, and before it the last such name with the names of its arguments."""
+    words, depth, at_trait = [], 0, None
+    for n, (kind, _, _, text) in enumerate(tokens):
         if text == "<":
             depth += 1
         elif text == ">":
             depth -= 1
         elif kind == "Code" and depth == 0:
+            at_trait = n if text == "for" else at_trait
             words.append(text)
     if "where" in words:
         words = words[: words.index("where")]
-    if "for" in words:
-        words = words[words.index("for") + 1 :]
+    if "for" not in words:
+        return last_name(words), ""
+    at = words.index("for")
+    return last_name(words[at + 1 :]), last_name(words[:at]) + arguments_of(tokens[:at_trait])
+
+
+def arguments_of(tokens):
+    """The names of the arguments of the trait with which a head begins, one behind another, without arguments of their own."""
+    names, depth = [], 0
+    for kind, _, _, text in reversed(tokens):
+        if kind == "Code":
+            depth += {">": 1, "<": -1}.get(text, 0)
+            if depth == 0:
+                break
+            names += [text] if depth == 1 and re.fullmatch(r"[A-Za-z_]\w*", text) else []
+    return "".join(reversed(names))
+
+
+def last_name(words):
     return next((it for it in reversed(words) if re.fullmatch(r"\w+", it)), "")
 
 

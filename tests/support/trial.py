@@ -1,5 +1,7 @@
 """Tries the edits of a crate: as many in one check as change different functions of it, since functions are proved one by one
-against the contracts of the others. An edit passes only where a goal of the function that it changes is not proved."""
+against the contracts of the others. An edit passes only where a goal of the function that it changes is not proved. Over a crate that
+was proved before, a check proves anew what is changed; over nothing, it is asked for the functions that are changed, and proves with
+them only what they call."""
 
 import os
 import shutil
@@ -73,7 +75,7 @@ class Trial:
         over what is given or nothing."""
         self.crate, self.lanes, self.log = crate, lanes, log
         self.folder = f"{kit.ROOT}/crates/{crate}"
-        self.kept = kept if libraries else f"{self.folder}/out/incremental"
+        self.kept, self.is_partial = kept if libraries else f"{self.folder}/out/incremental", False
         self.sources, self.passed, self.failed = Sources(self.folder), 0, 0
         self.words = [kit.rattle(), "check", *kit.check_words(kit.crates_of(), crate, libraries or kit.ROOT)]
 
@@ -93,8 +95,8 @@ class Trial:
                 return self
             batches, again = in_batches(edits), []
             if not self.kept or not os.path.isdir(self.kept):
-                # The first check proves what no edit changes, and the others begin with that.
-                self.kept = f"{self.room}/kept"
+                # The first check proves what the functions that are changed call, and the others begin with that.
+                self.kept, self.is_partial = f"{self.room}/kept", True
                 os.mkdir(self.kept)
                 again = self.judged(batches.pop(0), self.kept)
             again += self.side_by_side(batches)
@@ -119,7 +121,7 @@ class Trial:
         again = []
         for it in batch:
             verdict, words = self.verdict(it, said)
-            if verdict is Verdict.REFUSED or len(batch) == 1 or it.is_harmless():
+            if verdict is wanted(it) or len(batch) == 1:
                 self.count(it, verdict, words)
             else:
                 again.append(it)
@@ -152,15 +154,20 @@ class Trial:
             if not kept:
                 kept = f"{copy}/kept"
                 shutil.copytree(self.kept, kept, copy_function=linked)
-            text = self.lanes.run(self.crate, [*self.words, "--incremental", kept], copy)
+            text = self.lanes.run(self.crate, [*self.words, *self.asked(batch), "--incremental", kept], copy)
         self.log.write(f"=== {self.crate}: {' '.join(it.name for it in batch)}\n{text}\n")
         return Said(text, self.crate)
 
+    def asked(self, batch):
+        """What a check is asked for: the functions that the batch changes, or all where one changes more than bodies."""
+        if not self.is_partial or any(it.elsewhere for it in batch):
+            return []
+        return [word for path in sorted({path for it in batch for path in it.paths(self.sources)}) for word in ("--only", f"{self.crate}::{path}")]
+
     def count(self, edit, verdict, words):
-        wanted = Verdict.LET_THROUGH if edit.is_harmless() else Verdict.REFUSED
         shown = words if len(words) <= 200 else f"{words[:200]} .."
         if edit.is_harmless():
-            self.tell(edit.name, verdict is wanted, f"changes no meaning, and came out as {verdict.value} ({shown})")
+            self.tell(edit.name, verdict is wanted(edit), f"changes no meaning, and came out as {verdict.value} ({shown})")
         elif verdict is Verdict.REFUSED:
             self.tell(edit.name, True, f"refused by {shown}")
         else:
@@ -170,6 +177,11 @@ class Trial:
         with self.lanes.lock:
             self.passed, self.failed = self.passed + is_well, self.failed + (not is_well)
             print(f"{'ok' if is_well else 'FAILED'} {self.crate}/{name}: {words}", flush=True)
+
+
+def wanted(edit):
+    """What a check has to show of an edit."""
+    return Verdict.LET_THROUGH if edit.is_harmless() else Verdict.REFUSED
 
 
 def linked(source, target):

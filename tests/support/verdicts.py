@@ -3,7 +3,7 @@
 import enum
 import re
 
-from functions import symbols_of
+from functions import module_of, symbols_of
 
 
 class Verdict(enum.Enum):
@@ -30,7 +30,7 @@ class Said:
     def __init__(self, text, crate):
         self.text = text
         self.lines = dict(re.findall(r"(?m)^fn (\S+): (.*)", text))
-        self.is_whole = bool(re.search(r"(?m)^logic=(proved|not-proved)", text))
+        self.is_whole = bool(re.search(r"(?m)^(logic=(proved|not-proved)|only=\d+ proved=\d+)", text))
         self.errors = {}
         for place, error in re.findall(r"(?m)^(?:\./)?proofs/(\S+)/\w+\.antt:\d+:\d+: error: (.*)", text):
             self.errors.setdefault("::".join([crate, *place.split("/")]), []).append(error)
@@ -83,7 +83,6 @@ def names_of(edit, crate, lines):
     """The names under which a check speaks of the functions that an edit changes."""
     found = []
     for file, function in edit.bodies:
-        module = "::".join([crate, *re.sub(r"(^src/|\.rt$)", "", file).split("/")])
-        module = re.sub(r"::(lib|main|mod)$", "", module)
+        module = "::".join(filter(None, [crate, module_of(file)]))
         found += symbols_of(function, module, lines)
     return found

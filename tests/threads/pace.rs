@@ -3,8 +3,8 @@
 use super::texts::{Texts, texts};
 use dbtg_run::{Database, NoGate, Outcome, RunUnit, run_script};
 use dbtg_schema::Row;
-use dbtg_step::run_serial;
-use dbtg_unit::Statement;
+use dbtg_step::Core;
+use dbtg_unit::{Statement, Stepped};
 use std::alloc::Global;
 use std::sync::Wait;
 use std::thread::{Threads, join};
@@ -19,9 +19,14 @@ fn read(alloc: Global, given: Texts) -> Done {
     if units.is_empty() { None } else { Some(0) }
 }
 
-// One script after the other, on the core.
-fn serial(alloc: Global, given: Texts) -> Done {
-    Some(run_serial(alloc, &given.schema, given.capacity, given.scripts).ok()?.history.len())
+// One script after the other, on the core, event by event.
+fn step(alloc: Global, given: Texts) -> Done {
+    let units = given.scripts.len() as u8;
+    let mut core = Core::new(alloc, &given.schema, given.capacity, given.scripts).ok()?;
+    for before in 0..units {
+        while matches!(core.step(before + 1), Stepped::Moved) {}
+    }
+    Some(core.history().len())
 }
 
 fn run_in_place(alloc: Global, db: &Database, unit: &mut RunUnit, script: &[Statement]) -> Done {
@@ -83,7 +88,7 @@ pub fn pace<R: Threads + Wait + Sync>(rt: &HostRuntime, threads: &R, words: &[St
     let given = texts(rt, words.get(1..)?)?;
     let done = match words.get(0)?.as_str() {
         "read" => read(rt.alloc(), given)?,
-        "serial" => serial(rt.alloc(), given)?,
+        "step" => step(rt.alloc(), given)?,
         "execute" => execute(rt.alloc(), given)?,
         "abreast" => return timed(rt, threads, given),
         _ => return None,

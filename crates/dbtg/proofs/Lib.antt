@@ -1,3 +1,4 @@
 mod InTurn
-mod FilesRead
+mod TextsRead
+mod BytesAtHand
 mod OnThreads

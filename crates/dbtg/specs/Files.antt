@@ -1,63 +1,31 @@
--- What is said of files: no definition knows what a file has, but there are texts, one for each file that is named, of which
--- all is as the definitions say.
-use Rattle.std.specs.Prelude.{ℕ, ◌≡◌, Bool, false, List, Option, None, length, is_some, ◌⊎◌}
-use Rattle.dbtg_schema.specs.Lists.{Lists}
-use Rattle.dbtg_schema.specs.SchemaFaults.{refusal as schema_refusal}
+-- What is said of files. No definition knows what a file has: `has` says that reading so many bytes of a path gave a text, `lacks`
+-- that it gave none. Both are what the reader of files says.
+use Rattle.std.specs.Prelude.{ℕ, ◌≡◌, List, Option, string_bytes}
 use Rattle.dbtg.specs.declared.fault.Fault.{Fault}
-use Rattle.dbtg.specs.declared.fault.Fault.TheVariants.{Schema, Script, Moves, Unreadable, ScriptCount, Memory}
-use Rattle.dbtg.specs.Checking.{IsCheck}
-use Rattle.dbtg.specs.Refusals.{schema_in, AllAccepted, RefusesReplay, RefusesSchema, RefusesScripts, RefusesTexts}
-use Rattle.dbtg.specs.Replaying.{IsReplay}
+use Rattle.dbtg.specs.declared.fault.Fault.TheVariants.{Schema as InSchema, Script as InScript, Moves as InMoves, Unreadable, ScriptCount, Memory}
+use Rattle.dbtg.specs.declared.place.Place.{Place}
+use Rattle.dbtg.specs.declared.place.Place.TheVariants.{Schema, Script, Moves}
+use Rattle.dbtg.specs.Sources.{StandsIn}
 
--- a file cannot be read, or memory ran out
-abbrev pub IsUnread : Fault → Type 0
-IsUnread (Unreadable path) = Unit {0}
-IsUnread Memory = Unit {0}
-IsUnread (Schema line cause) = ⊥
-IsUnread (Script n line cause) = ⊥
-IsUnread (Moves word cause) = ⊥
-IsUnread ScriptCount = ⊥
+-- so much of a file is read: a byte more than a schema or a script may have, and moves to their end
+abbrev pub most_of : Place → ℕ
+most_of Schema = 65537
+most_of (Script n) = 1048577
+most_of Moves = 18446744073709551615
 
--- a text that is accepted, and says this schema
-pub record IsReadSchema (lists : Lists) : Type 0 where
-  pub text : List ℕ
-  pub accepted : schema_refusal text ≡ None
-  pub says : lists ≡ schema_in text
+-- the file with this path cannot be read, or memory ran out
+abbrev pub IsUnread : List ℕ → Fault → Type 0
+IsUnread path (Unreadable told) = string_bytes told ≡ path
+IsUnread path Memory = Unit {0}
+IsUnread path (InSchema line cause) = ⊥
+IsUnread path (InScript n line cause) = ⊥
+IsUnread path (InMoves word cause) = ⊥
+IsUnread path ScriptCount = ⊥
 
--- so many texts of scripts that are accepted
-pub record ReadScripts (lists : Lists) (count : ℕ) : Type 0 where
-  pub texts : List (List ℕ)
-  pub many : length texts ≡ count
-  pub accepted : AllAccepted lists texts
+-- the file that is named in this place gave this text
+abbrev pub FileHolds : (List ℕ → ℕ → List ℕ → Type 0) → List ℕ → List (List ℕ) → Option (List ℕ) → Place → List ℕ → Type 0
+FileHolds has schema scripts moves place text = (path : List ℕ) × StandsIn schema scripts moves place path × has path (most_of place) text
 
--- the fault is that of some text of a schema
-abbrev pub RefusesSomeSchema : Fault → Type 0
-RefusesSomeSchema fault = (text : List ℕ) × RefusesSchema fault (schema_refusal text)
-
--- the fault is the first of so many texts of scripts
-abbrev pub RefusesSomeScripts : Fault → Lists → ℕ → Type 0
-RefusesSomeScripts fault lists count = (texts : List (List ℕ)) × (length texts ≡ count) × RefusesScripts fault lists 1 texts
-
--- the texts of a schema, of so many scripts, and of moves where they are named
-pub record Texts (count : ℕ) (with_moves : Bool) : Type 0 where
-  pub schema : List ℕ
-  pub scripts : List (List ℕ)
-  pub moves : Option (List ℕ)
-  pub many : length scripts ≡ count
-  pub has_moves : is_some moves ≡ with_moves
-
--- what `check` prints of some texts
-abbrev pub ChecksSome : ℕ → List ℕ → Type 0
-ChecksSome count out = (texts : Texts count false) × IsCheck texts.schema texts.scripts out
-
--- a file cannot be read, or the fault is the first that `check` finds in some texts
-abbrev pub RefusesCheckOfSome : Fault → ℕ → Type 0
-RefusesCheckOfSome fault count = IsUnread fault ⊎ ((texts : Texts count false) × RefusesTexts fault texts.schema texts.scripts)
-
--- what `replay` prints of some texts
-abbrev pub ReplaysSome : ℕ → Bool → ℕ → List ℕ → Type 0
-ReplaysSome count with_moves capacity out = (texts : Texts count with_moves) × IsReplay texts.schema texts.scripts texts.moves capacity out
-
--- a file cannot be read, or the fault is the first that `replay` finds in some texts
-abbrev pub RefusesReplayOfSome : Fault → ℕ → Bool → Type 0
-RefusesReplayOfSome fault count with_moves = IsUnread fault ⊎ ((texts : Texts count with_moves) × RefusesReplay fault texts.schema texts.scripts texts.moves)
+-- the file that is named in this place gave no text, and the fault tells so
+abbrev pub FileFails : (List ℕ → ℕ → Type 0) → List ℕ → List (List ℕ) → Option (List ℕ) → Place → Fault → Type 0
+FileFails lacks schema scripts moves place fault = (path : List ℕ) × StandsIn schema scripts moves place path × lacks path (most_of place) × IsUnread path fault

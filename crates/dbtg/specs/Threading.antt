@@ -1,6 +1,6 @@
 -- What `threads` prints.
 -- lists is the schema that a text says; script k + 1 is that of the unit with number k + 1.
-use Rattle.std.specs.Prelude.{ℕ, ◌≡◌, ◌≤◌, ◌⊎◌, ◌+◌, List, [], ◌∷◌, ◌++◌, length, map, Some, slice_get, codes}
+use Rattle.std.specs.Prelude.{ℕ, ◌≡◌, ◌≤◌, ◌⊎◌, ◌+◌, true, List, [], ◌∷◌, ◌++◌, length, map, Some, slice_get, codes}
 use Rattle.dbtg_schema.specs.Lists.{Lists}
 use Rattle.dbtg_unit.specs.declared.statement.Statement.{Statement}
 use Rattle.dbtg_unit.specs.declared.unit.Entry.{Entry}
@@ -8,7 +8,9 @@ use Rattle.dbtg_unit.specs.declared.unit.Unit.{Unit}
 use Rattle.dbtg_unit.specs.Image.{Image}
 use Rattle.dbtg_unit.specs.Replay.{entries_of}
 use Rattle.dbtg_step.specs.Audit.{LeadsTo}
+use Rattle.dbtg_script.specs.Statements.{script}
 use Rattle.dbtg_script.specs.Texts.{run_text}
+use Rattle.dbtg.specs.Refusals.{schema_in, is_count, AcceptsTexts}
 
 -- the entries are those of the script's statements, in order: of all, or of as many as a journal has room for
 pub record AreOf (script : List Statement) (entries : List Entry) : Type 0 where
@@ -33,3 +35,9 @@ pub record IsPrintedOnThreads (lists : Lists) (capacity : ℕ) (scripts : List (
   pub units : List Unit
   pub is_history : IsHistoryOfAll lists capacity scripts history image units
   pub is_text : out ≡ run_text lists history image.records image.lists image.next image.usage units ++ audit_line
+
+-- 1 to 8 scripts, nothing is refused, and the text is what is printed of running on threads what the texts say
+pub record IsThreads (text : List ℕ) (scripts : List (List ℕ)) (capacity : ℕ) (out : List ℕ) : Type 0 where
+  pub count : is_count (length scripts) ≡ true
+  pub texts : AcceptsTexts text scripts
+  pub run : IsPrintedOnThreads (schema_in text) capacity (map (script (schema_in text)) scripts) out

@@ -1,13 +1,8 @@
 //! What stops the program, and the status with which it then ends.
-ghost use Rattle.std.specs.Prelude.{◌≡◌, ℕ, Option};
-ghost use Rattle.dbtg_schema.specs.Reading.{Refuses as RefusesText};
-ghost use Rattle.dbtg_schema.specs.declared.fault.Fault.{Fault as SchemaRefusal};
-ghost use Rattle.dbtg_script.specs.Moves.{Refuses as RefusesMovesText};
-ghost use Rattle.dbtg_script.specs.Reading.{RefusesScript as RefusesScriptText};
-ghost use Rattle.dbtg_script.specs.declared.fault.Fault.{Fault as ScriptRefusal};
-ghost use Rattle.dbtg_script.specs.declared.moves.MovesCause.{MovesCause as MovesRefusal};
+ghost use Rattle.std.specs.Prelude.{◌≡◌};
 ghost use Rattle.dbtg.specs.declared.fault.Fault.TheVariants.{Memory};
-ghost use Rattle.dbtg.specs.Refusals.{RefusesMoves, RefusesSchema, RefusesScript, status_of};
+ghost use Rattle.dbtg.specs.Refusals.{status_of};
+ghost use Rattle.dbtg.specs.Telling.{moves_fault, schema_fault, script_fault};
 
 use dbtg_schema::{Cause as SchemaCause, SchemaFault};
 use dbtg_script::{Cause as ScriptCause, MovesCause, MovesFault, ScriptFault};
@@ -68,7 +63,7 @@ impl<T: Drop> From<AllocFailed<T>> for Fault {
 impl Fault {
     /// The fault of a schema.
     pub fn of_schema(fault: SchemaFault) -> Fault
-        ensures { (refusal : Option SchemaRefusal) → RefusesText fault refusal → RefusesSchema result refusal }
+        ensures { result ≡ schema_fault fault }
     {
         match fault {
             SchemaFault::Refused { line, cause } => Fault::Schema { line, cause },
@@ -78,7 +73,7 @@ impl Fault {
 
     /// The fault of the script of this number.
     pub fn of_script(number: usize, fault: ScriptFault) -> Fault
-        ensures { (refusal : Option ScriptRefusal) → RefusesScriptText fault refusal → RefusesScript result number refusal }
+        ensures { result ≡ script_fault number fault }
     {
         match fault {
             ScriptFault::Refused { line, cause } => {
@@ -94,7 +89,7 @@ impl Fault {
 
     /// The fault of moves.
     pub fn of_moves(fault: MovesFault) -> Fault
-        ensures { (refusal : Option (ℕ × MovesRefusal)) → RefusesMovesText fault refusal → RefusesMoves result refusal }
+        ensures { result ≡ moves_fault fault }
     {
         match fault {
             MovesFault::Refused { word, cause } => Fault::Moves { word, cause },

@@ -1,23 +1,12 @@
-//! Reading the files that the command names, each judged before the next is opened. No contract can say what a file has: each
-//! says that there are texts, one for each file that is named, of which the answer is the definition's.
-ghost use Rattle.std.specs.Prelude.{◌≡◌, ◌++◌, ◌⊎◌, ℕ, List, None, IfErr, IfOk, IsErrAnd, OnOk, false, is_some, length, map, true};
-ghost use Rattle.dbtg_schema.specs.Sound.{IsSound};
-ghost use Rattle.dbtg_script.specs.Moves.{refusal as moves_refusal};
-ghost use Rattle.dbtg_script.specs.Statements.{script};
-ghost use Rattle.dbtg_step.specs.Laws.{scripts_fit};
-ghost use Rattle.dbtg.specs.Checking.{script_lines};
-ghost use Rattle.dbtg.specs.Files.{ChecksSome, IsReadSchema, IsUnread, ReadScripts, RefusesCheckOfSome, RefusesReplayOfSome, RefusesSomeSchema, RefusesSomeScripts, ReplaysSome};
-ghost use Rattle.dbtg.specs.Refusals.{RefusesMoves, is_count};
-ghost use Rattle.dbtg.specs.Replaying.{moves_in};
-ghost use Rattle.dbtg.specs.declared.fault.Fault.TheVariants.{ScriptCount};
+//! Files as the source of the texts. No contract can say what a file has: that is what the reader of files says, and all that is
+//! proved here holds for each reader.
+ghost use Rattle.std.specs.Prelude.{◌≡◌, ℕ, List, IfErr, IfOk, is_some, length, map, option_map};
+ghost use Rattle.dbtg.specs.Files.{FileFails, FileHolds, IsUnread, most_of};
+ghost use Rattle.dbtg.specs.Sources.{HasPlace, StandsIn};
 
-use crate::check::check_script;
 use crate::fault::Fault;
-use crate::reading::{moves_of, schema_of, take_script};
-use crate::replay::{check_count, moved_text, serial_text};
-use dbtg_schema::{Row, Schema};
-use dbtg_script::push_schema_line;
-use dbtg_unit::{Move, Statement};
+use crate::place::Place;
+use crate::source::Source;
 use std::alloc::Global;
 use std::fs::File;
 use std::io::{self, Input, Read};
@@ -32,13 +21,18 @@ const MOVES_BYTES: u64 = u64::MAX;
 /// The path that stands for standard input.
 pub const STANDARD_INPUT: &str = "-";
 
-fn unreadable(alloc: Global, path: &str) -> Fault
-    ensures { IsUnread result }
-{
-    match String::from_str(alloc, path) {
-        Ok(path) => Fault::Unreadable { path },
-        Err(_) => Fault::Memory,
-    }
+/// What reads files.
+pub trait FileReader {
+    /// So many bytes of the file with this path, or all where it has fewer, were this text.
+    ghost has: { Self → List ℕ → ℕ → List ℕ → Type 0 };
+
+    /// So many bytes of the file with this path could not be read.
+    ghost lacks: { Self → List ℕ → ℕ → Type 0 };
+
+    /// The first bytes of a file, so many where it has them, or the system's reason why it cannot be read.
+    fn read(&self, path: &str, most: u64) -> io::Result<Vec<u8>>
+        ensures read { IfOk result (λ text. has self.now path.now most text.items) }
+        ensures unread { IfErr result (λ _. lacks self.now path.now most) };
 }
 
 fn read_input(rt: &HostRuntime, most: u64) -> io::Result<Vec<u8>> {
@@ -53,155 +47,92 @@ fn read_path(rt: &HostRuntime, path: &str, most: u64) -> io::Result<Vec<u8>> {
     Ok(bytes)
 }
 
-/// The first bytes of a file, so many where it has them, or the system's reason why it cannot be read.
-pub fn read_bytes(rt: &HostRuntime, path: &str, most: u64) -> io::Result<Vec<u8>> {
-    if path == STANDARD_INPUT {
-        read_input(rt, most)
-    } else {
-        read_path(rt, path, most)
-    }
-}
+impl FileReader for HostRuntime {
+    ghost has = { λ rt path most text. Unit {0} };
 
-fn read_file(rt: &HostRuntime, path: &str, most: u64) -> Result<Vec<u8>, Fault>
-    ensures { IfErr result (λ fault. IsUnread fault) }
-{
-    match read_bytes(rt, path, most) {
-        Ok(bytes) => Ok(bytes),
-        Err(error) => {
-            if error.kind() == io::ErrorKind::OutOfMemory {
-                Err(Fault::Memory)
-            } else {
-                Err(unreadable(rt.alloc(), path))
-            }
+    ghost lacks = { λ rt path most. Unit {0} };
+
+    fn read(&self, path: &str, most: u64) -> io::Result<Vec<u8>> {
+        if path == STANDARD_INPUT {
+            read_input(self, most)
+        } else {
+            read_path(self, path, most)
         }
     }
 }
 
-pub fn read_schema(rt: &HostRuntime, path: &str) -> Result<Schema, Fault>
-    ensures read { IfOk result (λ schema. IsReadSchema schema) }
-    ensures sound { IfOk result (λ schema. IsSound schema) }
-    ensures refused { IfErr result (λ fault. IsUnread fault ⊎ RefusesSomeSchema fault) }
-{
-    let text = read_file(rt, path, SCHEMA_BYTES)?;
-    schema_of(rt.alloc(), text.as_slice())
+/// The paths that a command names, as they were given.
+#[derive(Drop)]
+pub struct Paths<'a> {
+    pub schema: &'a str,
+    pub scripts: &'a [&'a str],
+    pub moves: Option<&'a str>,
 }
 
-fn read_scripts(
-    rt: &HostRuntime,
-    schema: &Schema,
-    paths: &[&str],
-) -> Result<Row<Row<Statement>>, Fault>
-    ensures read { IfOk result (λ scripts. (read : ReadScripts schema.now (length paths.now)) × (scripts ≡ map (script schema.now) read.texts)) }
-    ensures many { IfOk result (λ scripts. length scripts ≡ length paths.now) }
-    ensures fitting { IsSound schema.now → IfOk result (λ scripts. scripts_fit schema.now scripts ≡ true) }
-    ensures refused { IfErr result (λ fault. IsUnread fault ⊎ RefusesSomeScripts fault schema.now (length paths.now)) }
-{
-    let mut scripts = Row::of(Vec::new(rt.alloc()));
-    for (i, path) in paths.iter().enumerate() {
-        let text = read_file(rt, path, SCRIPT_BYTES)?;
-        take_script(rt.alloc(), &mut scripts, schema, i + 1, text.as_slice())?;
-    }
-    Ok(scripts)
-}
-
-fn read_lines(
-    rt: &HostRuntime,
-    out: &mut Vec<u8>,
-    schema: &Schema,
-    paths: &[&str],
-) -> Result<(), Fault>
-    ensures read { OnOk result ((read : ReadScripts schema.now (length paths.now)) × (out.new.items ≡ out.old.items ++ script_lines schema.now 1 read.texts)) }
-    ensures refused { IfErr result (λ fault. IsUnread fault ⊎ RefusesSomeScripts fault schema.now (length paths.now)) }
-{
-    for (i, path) in paths.iter().enumerate() {
-        let text = read_file(rt, path, SCRIPT_BYTES)?;
-        check_script(rt.alloc(), out, schema, i + 1, text.as_slice())?;
-    }
-    Ok(())
-}
-
-fn read_moves(rt: &HostRuntime, path: &str) -> Result<Vec<Move>, Fault>
-    ensures read { IfOk result (λ moves. (text : List ℕ) × (moves_refusal text ≡ None) × (moves.items ≡ moves_in text)) }
-    ensures refused { IfErr result (λ fault. IsUnread fault ⊎ ((text : List ℕ) × RefusesMoves fault (moves_refusal text))) }
-{
-    let text = read_file(rt, path, MOVES_BYTES)?;
-    moves_of(rt.alloc(), text.as_slice())
-}
-
-/// How large a schema that was read and the scripts in these files are.
-fn file_sizes(rt: &HostRuntime, known: &Schema, scripts: &[&str]) -> Result<Vec<u8>, Fault>
-    requires read { IsReadSchema known.now }
-    ensures done { IfOk result (λ out. ChecksSome (length scripts.now) out.items) }
-    ensures refused { IfErr result (λ fault. RefusesCheckOfSome fault (length scripts.now)) }
-{
-    let mut out = Vec::new(rt.alloc());
-    push_schema_line(&mut out, known)?;
-    read_lines(rt, &mut out, known, scripts)?;
-    Ok(out)
-}
-
-/// How large the schema and the scripts in these files are.
-pub fn check_files(rt: &HostRuntime, schema: &str, scripts: &[&str]) -> Result<Vec<u8>, Fault>
-    ensures done { IfOk result (λ out. ChecksSome (length scripts.now) out.items) }
-    ensures refused { IfErr result (λ fault. RefusesCheckOfSome fault (length scripts.now)) }
-{
-    let known = read_schema(rt, schema)?;
-    file_sizes(rt, &known, scripts)
-}
-
-/// What is printed of the run of the scripts and the moves in these files, over a schema that was read.
-fn replay_known(
-    rt: &HostRuntime,
-    known: &Schema,
-    scripts: &[&str],
-    moves: Option<&str>,
-    capacity: u16,
-) -> Result<Vec<u8>, Fault>
-    requires counted { is_count (length scripts.now) ≡ true }
-    requires read { IsReadSchema known.now }
-    requires sound { IsSound known.now }
-    ensures done { IfOk result (λ out. ReplaysSome (length scripts.now) (is_some moves.entry) capacity out.items) }
-    ensures refused { IfErr result (λ fault. RefusesReplayOfSome fault (length scripts.now) (is_some moves.entry)) }
-{
-    let statements = read_scripts(rt, known, scripts)?;
-    match moves {
-        None => Ok(serial_text(rt.alloc(), known, capacity, statements)?),
-        Some(path) => {
-            let made = read_moves(rt, path)?;
-            Ok(moved_text(rt.alloc(), known, capacity, statements, made.as_slice())?)
+impl<'a> Paths<'a> {
+    fn path(&self, place: Place) -> &'a str
+        requires { HasPlace (length self.now.scripts.now) (is_some self.now.moves) place }
+        ensures { StandsIn self.now.schema.now (map (λ path. path.now) self.now.scripts.now) (option_map (λ path. path.now) self.now.moves) place result.now }
+    {
+        match place {
+            Place::Schema => self.schema,
+            Place::Script(number) => self.scripts[number - 1],
+            Place::Moves => self.moves.unwrap(),
         }
     }
 }
 
-/// What `replay` prints of the schema, the scripts and the moves in these files. Without moves one script runs after the other.
-pub fn replay_files(
-    rt: &HostRuntime,
-    schema: &str,
-    scripts: &[&str],
-    moves: Option<&str>,
-    capacity: u16,
-) -> Result<Vec<u8>, Fault>
-    ensures done { IfOk result (λ out. ReplaysSome (length scripts.now) (is_some moves.entry) capacity out.items) }
-    ensures refused { IfErr result (λ fault. RefusesReplayOfSome fault (length scripts.now) (is_some moves.entry)) }
-    ensures counted_first { is_count (length scripts.now) ≡ false → IsErrAnd result (λ fault. fault ≡ ScriptCount) }
-{
-    check_count(scripts.len())?;
-    let known = read_schema(rt, schema)?;
-    replay_known(rt, &known, scripts, moves, capacity)
+/// Files, and what reads them.
+#[derive(Drop)]
+pub struct Files<'a, F> {
+    pub reader: &'a F,
+    pub paths: &'a Paths<'a>,
 }
 
-/// The schema and the scripts in these files.
-pub fn read_texts(
-    rt: &HostRuntime,
-    schema: &str,
-    scripts: &[&str],
-) -> Result<(Schema, Row<Row<Statement>>), Fault>
-    ensures sound { IfOk result (λ read. IsSound read.0) }
-    ensures counted { IfOk result (λ read. is_count (length read.1) ≡ true) }
-    ensures fit { IfOk result (λ read. scripts_fit read.0 read.1 ≡ true) }
+fn most_of(place: Place) -> u64
+    ensures { result ≡ most_of place }
 {
-    check_count(scripts.len())?;
-    let known = read_schema(rt, schema)?;
-    let statements = read_scripts(rt, &known, scripts)?;
-    Ok((known, statements))
+    match place {
+        Place::Schema => SCHEMA_BYTES,
+        Place::Script(_) => SCRIPT_BYTES,
+        Place::Moves => MOVES_BYTES,
+    }
+}
+
+fn unread(alloc: Global, path: &str, error: &io::Error) -> Fault
+    ensures { IsUnread path.now result }
+{
+    if error.kind() == io::ErrorKind::OutOfMemory {
+        return Fault::Memory;
+    }
+    match String::from_str(alloc, path) {
+        Ok(path) => Fault::Unreadable { path },
+        Err(_) => Fault::Memory,
+    }
+}
+
+impl<'a, F: FileReader> Source for Files<'a, F> {
+    ghost count = { λ s. length s.paths.now.scripts.now };
+
+    ghost has_moves = { λ s. is_some s.paths.now.moves };
+
+    ghost holds = { λ s place text. FileHolds (F.has s.reader.now) s.paths.now.schema.now (map (λ path. path.now) s.paths.now.scripts.now) (option_map (λ path. path.now) s.paths.now.moves) place text };
+
+    ghost fails = { λ s place fault. FileFails (F.lacks s.reader.now) s.paths.now.schema.now (map (λ path. path.now) s.paths.now.scripts.now) (option_map (λ path. path.now) s.paths.now.moves) place fault };
+
+    fn count(&self) -> usize {
+        self.paths.scripts.len()
+    }
+
+    fn has_moves(&self) -> bool {
+        self.paths.moves.is_some()
+    }
+
+    fn read(&self, alloc: Global, place: Place) -> Result<Vec<u8>, Fault> {
+        let path = self.paths.path(place);
+        match self.reader.read(path, most_of(place)) {
+            Ok(text) => Ok(text),
+            Err(error) => Err(unread(alloc, path, &error)),
+        }
+    }
 }

@@ -1,29 +1,35 @@
 //! The program: reads the command's words and the files that they name, and prints what comes of them.
 #![tactic(auto)]
 
+mod at_hand;
 mod capacity;
 mod check;
 mod command;
 mod explain;
 mod fault;
 mod files;
+mod place;
 mod reading;
 mod reason;
 mod replay;
+mod source;
+mod texts;
 mod threads;
 
+use check::check;
 use clap::error::ErrorKind;
 use command::{Call, call_of};
 use explain::{Topic, explained};
 use fault::{Fault, status_of};
-use files::{check_files, read_texts, replay_files};
-use reason::{Files, reason};
+use files::{Files, Paths};
+use reason::reason;
+use replay::replay;
 use std::env;
 use std::io::{self, Write};
 use std::process::ExitCode;
 use std::sync::Wait;
 use std::thread::Threads;
-use threads::threads_text;
+use threads::run_on_threads;
 
 fn told(rt: &HostRuntime, fault: &Fault) -> ExitCode {
     let _ = eprintln!(rt; "{fault}");
@@ -43,58 +49,56 @@ fn not_written(rt: &HostRuntime) -> ExitCode {
     ExitCode::FAILURE
 }
 
-// The fault, and where it is asked for a second line with where and why.
-fn told_of(rt: &HostRuntime, fault: &Fault, files: &Files, explains: bool) -> ExitCode {
+// The text that a command prints, or its fault, and where it is asked for a second line with where and why.
+fn print_or_tell(
+    rt: &HostRuntime,
+    given: Result<Vec<u8>, Fault>,
+    paths: &Paths,
+    explains: bool,
+) -> ExitCode {
+    match given {
+        Ok(text) => print_text(rt, text.as_slice()),
+        Err(fault) => told_of(rt, &fault, paths, explains),
+    }
+}
+
+fn told_of(rt: &HostRuntime, fault: &Fault, paths: &Paths, explains: bool) -> ExitCode {
     let status = told(rt, fault);
     if explains {
-        if let Ok(Some(line)) = reason(rt, files, fault) {
+        if let Ok(Some(line)) = reason(rt, paths, fault) {
             let _ = eprintln!(rt; "{line}");
         }
     }
     status
 }
 
-fn print_check(rt: &HostRuntime, files: &Files, explains: bool) -> ExitCode {
-    match check_files(rt, files.schema, files.scripts) {
-        Ok(text) => print_text(rt, text.as_slice()),
-        Err(fault) => told_of(rt, &fault, files, explains),
-    }
+fn print_check(rt: &HostRuntime, paths: &Paths, explains: bool) -> ExitCode {
+    let files = Files { reader: rt, paths };
+    print_or_tell(rt, check(rt.alloc(), &files), paths, explains)
 }
 
-fn print_replay(
-    rt: &HostRuntime,
-    files: &Files,
-    moves: Option<&str>,
-    capacity: u16,
-    explains: bool,
-) -> ExitCode {
-    match replay_files(rt, files.schema, files.scripts, moves, capacity) {
-        Ok(text) => print_text(rt, text.as_slice()),
-        Err(fault) => told_of(rt, &fault, files, explains),
-    }
-}
-
-// What scripts in files come to on threads, or the first fault.
-fn run_threads<R: Threads + Wait + Sync>(
-    rt: &HostRuntime,
-    threads: &R,
-    files: &Files,
-    capacity: u16,
-) -> Result<Vec<u8>, Fault> {
-    let (schema, scripts) = read_texts(rt, files.schema, files.scripts)?;
-    Ok(threads_text(threads, rt.alloc(), schema, capacity, scripts.as_slice())?)
+fn print_replay(rt: &HostRuntime, paths: &Paths, capacity: u16, explains: bool) -> ExitCode {
+    let files = Files { reader: rt, paths };
+    print_or_tell(rt, replay(rt.alloc(), &files, capacity), paths, explains)
 }
 
 fn print_threads<R: Threads + Wait + Sync>(
     rt: &HostRuntime,
     threads: &R,
-    files: &Files,
+    paths: &Paths,
     capacity: u16,
     explains: bool,
 ) -> ExitCode {
-    match run_threads(rt, threads, files, capacity) {
-        Ok(text) => print_text(rt, text.as_slice()),
-        Err(fault) => told_of(rt, &fault, files, explains),
+    let files = Files { reader: rt, paths };
+    let given = run_on_threads(threads, rt.alloc(), &files, capacity);
+    print_or_tell(rt, given, paths, explains)
+}
+
+fn paths_of<'a>(schema: &'a str, scripts: &'a [&'a str], moves: Option<&'a str>) -> Paths<'a> {
+    Paths {
+        schema,
+        scripts,
+        moves,
     }
 }
 
@@ -104,14 +108,7 @@ fn carry_out<R: Threads + Wait + Sync>(rt: &HostRuntime, threads: &R, call: &Cal
             explains,
             schema,
             scripts,
-        } => {
-            let files = Files {
-                schema: *schema,
-                scripts: scripts.as_slice(),
-                moves: "",
-            };
-            print_check(rt, &files, *explains)
-        }
+        } => print_check(rt, &paths_of(*schema, scripts.as_slice(), None), *explains),
         Call::Replay {
             explains,
             capacity,
@@ -119,12 +116,8 @@ fn carry_out<R: Threads + Wait + Sync>(rt: &HostRuntime, threads: &R, call: &Cal
             schema,
             scripts,
         } => {
-            let files = Files {
-                schema: *schema,
-                scripts: scripts.as_slice(),
-                moves: moves.unwrap_or(""),
-            };
-            print_replay(rt, &files, *moves, *capacity, *explains)
+            let paths = paths_of(*schema, scripts.as_slice(), *moves);
+            print_replay(rt, &paths, *capacity, *explains)
         }
         Call::Threads {
             explains,
@@ -132,12 +125,8 @@ fn carry_out<R: Threads + Wait + Sync>(rt: &HostRuntime, threads: &R, call: &Cal
             schema,
             scripts,
         } => {
-            let files = Files {
-                schema: *schema,
-                scripts: scripts.as_slice(),
-                moves: "",
-            };
-            print_threads(rt, threads, &files, *capacity, *explains)
+            let paths = paths_of(*schema, scripts.as_slice(), None);
+            print_threads(rt, threads, &paths, *capacity, *explains)
         }
         Call::Explain(topic) => print_topic(rt, topic),
     }

@@ -2,17 +2,10 @@
 
 use crate::explain::{Kind, advice_for, line_of, meaning_of, said_of_schema_word, said_of_word};
 use crate::fault::Fault;
-use crate::files::{SCRIPT_BYTES, STANDARD_INPUT, read_bytes, read_schema};
+use crate::files::{FileReader, Files, Paths, SCRIPT_BYTES, STANDARD_INPUT};
+use crate::texts::read_schema;
 use std::alloc::AllocError;
 use std::io;
-
-/// The files that a command names.
-#[derive(Debug, Drop)]
-pub struct Files<'a> {
-    pub schema: &'a str,
-    pub scripts: &'a [&'a str],
-    pub moves: &'a str,
-}
 
 /// The first word of a text, as far as it is letters.
 fn first_word(text: &[u8]) -> &[u8] {
@@ -64,7 +57,7 @@ fn reason_of(kind: io::ErrorKind) -> &'static str {
 }
 
 fn unread_line(rt: &HostRuntime, path: &str) -> Result<String, AllocError> {
-    let reason = match read_bytes(rt, path, SCRIPT_BYTES) {
+    let reason = match rt.read(path, SCRIPT_BYTES) {
         Ok(_) => "the system could not read it",
         Err(error) => reason_of(error.kind()),
     };
@@ -76,7 +69,7 @@ fn mistaken_file(rt: &HostRuntime, kind: Kind, path: &str) -> &'static str {
     if path == STANDARD_INPUT {
         return "";
     }
-    match read_bytes(rt, path, SCRIPT_BYTES) {
+    match rt.read(path, SCRIPT_BYTES) {
         Ok(text) => mistaken(kind, text.as_slice()),
         Err(_) => "",
     }
@@ -109,20 +102,18 @@ fn push_place(
 /// What is said of the word of a script that is at fault; nothing where no single word is, or a file cannot be read again.
 fn word_line(
     rt: &HostRuntime,
-    schema: &str,
+    paths: &Paths,
     script: &str,
     line: u64,
     number: u8,
     meaning: &[u8],
 ) -> Result<Vec<u8>, AllocError> {
     let alloc = rt.alloc();
-    if schema == STANDARD_INPUT || script == STANDARD_INPUT {
+    if paths.schema == STANDARD_INPUT || script == STANDARD_INPUT {
         return Ok(Vec::new(alloc));
     }
-    if let (Ok(known), Ok(text)) = (
-        read_schema(rt, schema),
-        read_bytes(rt, script, SCRIPT_BYTES),
-    ) {
+    let files = Files { reader: rt, paths };
+    if let (Ok(known), Ok(text)) = (read_schema(alloc, &files), rt.read(script, SCRIPT_BYTES)) {
         said_of_word(
             alloc,
             &known,
@@ -138,13 +129,13 @@ fn word_line(
 /// Puts what there is to say of a fault of the script with this number, from 1, behind a text.
 fn push_script(
     rt: &HostRuntime,
-    files: &Files,
+    paths: &Paths,
     out: &mut Vec<u8>,
     script: usize,
     line: u64,
     number: u8,
 ) -> Result<(), AllocError> {
-    let path = files
+    let path = paths
         .scripts
         .get(script.wrapping_sub(1))
         .copied()
@@ -152,7 +143,7 @@ fn push_script(
     let place = format!(in rt.alloc(); "{path}:{line}: ")?;
     let meaning = meaning_of(Kind::Script, number);
     let other = mistaken_file(rt, Kind::Script, path);
-    let word = word_line(rt, files.schema, path, line, number, meaning)?;
+    let word = word_line(rt, paths, path, line, number, meaning)?;
     push_place(out, place.as_str(), word.as_slice(), meaning, other)
 }
 
@@ -167,7 +158,7 @@ fn schema_word_line(
     if path == STANDARD_INPUT {
         return Ok(Vec::new(alloc));
     }
-    match read_bytes(rt, path, SCRIPT_BYTES) {
+    match rt.read(path, SCRIPT_BYTES) {
         Ok(text) => {
             let advice = advice_for(Kind::Schema, number);
             said_of_schema_word(alloc, text.as_slice(), number, meaning, advice)
@@ -194,22 +185,22 @@ fn push_schema(
 /// The second line of a fault, where there is one.
 pub fn reason(
     rt: &HostRuntime,
-    files: &Files,
+    paths: &Paths,
     fault: &Fault,
 ) -> Result<Option<String>, AllocError> {
     let alloc = rt.alloc();
     let mut out = Vec::new(alloc);
     match fault {
         Fault::Schema { line, cause } => {
-            push_schema(rt, files.schema, &mut out, *line, cause.number())?;
+            push_schema(rt, paths.schema, &mut out, *line, cause.number())?;
         }
         Fault::Script {
             number,
             line,
             cause,
-        } => push_script(rt, files, &mut out, *number, *line, cause.number())?,
+        } => push_script(rt, paths, &mut out, *number, *line, cause.number())?,
         Fault::Moves { word, cause } => {
-            let path = files.moves;
+            let path = paths.moves.unwrap_or("");
             let place = format!(in alloc; "{path}: word {word}: ")?;
             push_line(
                 &mut out,

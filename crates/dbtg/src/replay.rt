@@ -1,14 +1,16 @@
 //! Running scripts, and the text of what comes of it.
-ghost use Rattle.std.specs.Prelude.{◌≡◌, ◌++◌, ◌≤◌, ◌⊎◌, None, Some, IfErr, IfOk, OnOk, true, false, length, map, option_map};
+ghost use Rattle.std.specs.Prelude.{◌≡◌, ◌++◌, ◌≤◌, None, Some, IfErr, IfOk, OnOk, true, false, length, option_map};
 ghost use Rattle.dbtg_schema.specs.Sound.{IsSound};
-ghost use Rattle.dbtg_script.specs.Statements.{script};
 ghost use Rattle.dbtg_step.specs.Laws.{scripts_fit};
-ghost use Rattle.dbtg.specs.Refusals.{AcceptsMoves, AllAccepted, RefusesReplay, RefusesScripts, RefusesSomeMoves, is_count};
-ghost use Rattle.dbtg.specs.Replaying.{IsPrintedRun, IsReplay, given_text, moves_in};
+ghost use Rattle.dbtg.specs.Refusals.{RefusesReplay, is_count};
+ghost use Rattle.dbtg.specs.Replaying.{IsPrintedRun, IsReplay, given_text};
+ghost use Rattle.dbtg.specs.Sources.{ReadSchema, ReplaysHeld, ToldOfRun};
 ghost use Rattle.dbtg.specs.declared.fault.Fault.TheVariants.{ScriptCount};
 
+use crate::at_hand::AtHand;
 use crate::fault::Fault;
-use crate::reading::{moves_of, schema_of, take_script};
+use crate::source::Source;
+use crate::texts::{read_moves, read_schema, read_scripts};
 use dbtg_schema::{Row, Schema};
 use dbtg_script::{moves_text, push_run};
 use dbtg_step::{Run, run, run_serial};
@@ -84,60 +86,54 @@ pub fn moved_text(
     Ok(out)
 }
 
-fn scripts_of(
+/// What is printed of the run of the scripts and the moves, over a schema that was read.
+fn replay_known<S: Source>(
     alloc: Global,
-    schema: &Schema,
-    texts: &[Row<u8>],
-) -> Result<Row<Row<Statement>>, Fault>
-    ensures accepted { OnOk result (AllAccepted schema.now texts.now) }
-    ensures scripts { IfOk result (λ scripts. scripts ≡ map (script schema.now) texts.now) }
-    ensures fitting { IsSound schema.now → IfOk result (λ scripts. scripts_fit schema.now scripts ≡ true) }
-    ensures refused { IfErr result (λ fault. RefusesScripts fault schema.now 1 texts.now) }
-{
-    let mut scripts = Row::of(Vec::new(alloc));
-    for (i, text) in texts.iter().enumerate() {
-        take_script(alloc, &mut scripts, schema, i + 1, text.as_slice())?;
-    }
-    Ok(scripts)
-}
-
-/// What is printed of the run of these scripts and moves, or their first fault.
-fn replay_scripts(
-    alloc: Global,
-    schema: &Schema,
-    scripts: &[Row<u8>],
-    moves: Option<&[u8]>,
+    source: &S,
+    known: &Schema,
     capacity: u16,
 ) -> Result<Vec<u8>, Fault>
-    requires units { length scripts.now ≤ 255 }
-    requires sound { IsSound schema.now }
-    ensures scripts { OnOk result (AllAccepted schema.now scripts.now) }
-    ensures moves { OnOk result (AcceptsMoves (option_map (λ m. m.now) moves.entry)) }
-    ensures run { IfOk result (λ out. IsPrintedRun schema.now capacity (map (script schema.now) scripts.now) (option_map moves_in (option_map (λ m. m.now) moves.entry)) out.items) }
-    ensures refused { IfErr result (λ fault. RefusesScripts fault schema.now 1 scripts.now ⊎ (AllAccepted schema.now scripts.now × RefusesSomeMoves fault (option_map (λ m. m.now) moves.entry))) }
+    requires counted { is_count (S.count source.now) ≡ true }
+    requires read { ReadSchema (S.holds source.now) known.now }
+    requires sound { IsSound known.now }
+    ensures done { IfOk result (λ out. ReplaysHeld (S.holds source.now) (S.count source.now) (S.has_moves source.now) capacity out.items) }
+    ensures refused { IfErr result (λ fault. ToldOfRun (S.holds source.now) (S.fails source.now) fault (S.count source.now) (S.has_moves source.now)) }
 {
-    let scripts = scripts_of(alloc, schema, scripts)?;
-    match moves {
-        None => Ok(serial_text(alloc, schema, capacity, scripts)?),
-        Some(text) => {
-            let moves = moves_of(alloc, text)?;
-            Ok(moved_text(alloc, schema, capacity, scripts, moves.as_slice())?)
-        }
+    let scripts = read_scripts(alloc, source, known)?;
+    if source.has_moves() {
+        let moves = read_moves(alloc, source)?;
+        Ok(moved_text(alloc, known, capacity, scripts, moves.as_slice())?)
+    } else {
+        Ok(serial_text(alloc, known, capacity, scripts)?)
     }
 }
 
-/// What `replay` prints of a schema, scripts and moves, or their first fault. Without moves one script runs after the other.
-pub fn replay_bytes(
+/// What `replay` prints of the schema, the scripts and the moves that a source gives, or the first fault. Without moves one script
+/// runs after the other.
+pub fn replay<S: Source>(alloc: Global, source: &S, capacity: u16) -> Result<Vec<u8>, Fault>
+    ensures done { IfOk result (λ out. ReplaysHeld (S.holds source.now) (S.count source.now) (S.has_moves source.now) capacity out.items) }
+    ensures refused { IfErr result (λ fault. ToldOfRun (S.holds source.now) (S.fails source.now) fault (S.count source.now) (S.has_moves source.now)) }
+{
+    check_count(source.count())?;
+    let known = read_schema(alloc, source)?;
+    replay_known(alloc, source, &known, capacity)
+}
+
+/// What `replay` prints of a schema, scripts and moves at hand, or their first fault.
+pub fn replay_bytes<'a>(
     alloc: Global,
-    schema: &[u8],
-    scripts: &[Row<u8>],
-    moves: Option<&[u8]>,
+    schema: &'a [u8],
+    scripts: &'a [Row<u8>],
+    moves: Option<&'a [u8]>,
     capacity: u16,
 ) -> Result<Vec<u8>, Fault>
     ensures done { IfOk result (λ out. IsReplay schema.now scripts.now (option_map (λ m. m.now) moves.entry) capacity out.items) }
     ensures refused { IfErr result (λ fault. RefusesReplay fault schema.now scripts.now (option_map (λ m. m.now) moves.entry)) }
 {
-    check_count(scripts.len())?;
-    let schema = schema_of(alloc, schema)?;
-    replay_scripts(alloc, &schema, scripts, moves, capacity)
+    let texts = AtHand {
+        schema,
+        scripts,
+        moves,
+    };
+    replay(alloc, &texts, capacity)
 }

@@ -1,6 +1,6 @@
 //! What a DELETE needs next.
-ghost use Rattle.std.specs.Prelude.{◌≡◌, [], ◌∷◌, None, filter, map, if◌then◌else◌, IfOk};
-ghost use Rattle.std.specs.List.{find, flat_map};
+ghost use Rattle.std.specs.Prelude.{◌≡◌, ◌==◌, not, [], ◌∷◌, None, filter, map, if◌then◌else◌, IfOk, OnErr};
+ghost use Rattle.std.specs.List.{find, flat_map, list_any};
 ghost use Rattle.dbtg_schema.specs.Structure.{owns, set_numbers};
 ghost use Rattle.dbtg_unit.specs.Base.{Database};
 ghost use Rattle.dbtg_unit.specs.CellNames.{slot_name};
@@ -9,7 +9,7 @@ ghost use Rattle.dbtg_unit.specs.Effect.{is_plain};
 ghost use Rattle.dbtg_unit.specs.Erasing.{own_rings};
 ghost use Rattle.dbtg_unit.specs.InHand.{owner_in};
 ghost use Rattle.dbtg_unit.specs.Local.{Agrees};
-ghost use Rattle.dbtg_unit.specs.Needs.{need, ring_names};
+ghost use Rattle.dbtg_unit.specs.Needs.{areas_in_order, need, ring_names};
 ghost use Rattle.dbtg_erase.specs.NextCell.{first_missing, is_missing, least_name, nearer, need_of, next_cell_in, next_cell_of, next_of_gone, next_of_passed, outer_names, ring_of, stops_at};
 ghost use Rattle.dbtg_erase.specs.WorkList.{cells_of_gone, list_in, members_in_hand};
 
@@ -336,7 +336,7 @@ fn need_of(name: Option<CellName>) -> Need
 }
 
 /// What a DELETE needs next, on every database of which these cells may be in hand: its areas, ascending; then its cells in
-/// the order of taking, each record that goes in turn, first in, first out.
+/// the order of taking, each record that goes in turn, first in, first out. Memory is refused only once it has its areas.
 pub fn next_need(
     alloc: Global,
     schema: &Schema,
@@ -345,7 +345,8 @@ pub fn next_need(
     option: Erase,
     held: &Held,
 ) -> Result<Need, AllocError>
-    ensures { IfOk result (λ next. (db : Database) → Agrees schema.now capacity db held.now unit.now → next ≡ need schema.now capacity db unit.now held.now (Delete option)) }
+    ensures need { IfOk result (λ next. (db : Database) → Agrees schema.now capacity db held.now unit.now → next ≡ need schema.now capacity db unit.now held.now (Delete option)) }
+    ensures refused { OnErr result (find (λ a. not (list_any (λ b. b == a) held.now.areas)) (areas_in_order schema.now unit.now (Delete option)) ≡ None) }
 {
     let statement = Statement::Delete(option);
     match refused_at_once(schema, capacity, unit, &statement) {

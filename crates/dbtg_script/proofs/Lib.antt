@@ -4,8 +4,12 @@ pub mod Firsts
 pub mod Steps
 pub mod LineSteps
 pub mod ScriptSteps
+pub mod KnownLines
+pub mod Suppressed
 pub mod MoveSteps
 pub mod KeyText
+pub mod WordRuns
+pub mod ReadBack
 pub mod UnitText
 pub mod Accepted
 pub mod Derivations

@@ -1,14 +1,13 @@
 -- A run of bytes without a gap is one word; one word of moves further.
-use Rattle.std.proofs.Common.{◌≡◌, ℕ, zero, suc, ◌+◌, ◌<◌, ◌≤◌, true, false, List, [], ◌∷◌, ◌++◌, length, get_or, take, drop, Some, None, refl, sym, ap, ◌∙◌, arith, length-append}
+use Rattle.std.proofs.Common.{◌≡◌, ℕ, zero, suc, ◌+◌, ◌<◌, ◌≤◌, true, false, List, [], ◌∷◌, ◌++◌, length, get_or, take, drop, Option, Some, None, refl, sym, ap, ◌∙◌, arith, length-append}
 use Rattle.std.specs.Prelude.{nat_lt, replicate}
 use Rattle.std.proofs.lemmas.List.{length-replicate}
 use Rattle.std.proofs.lemmas.Bool.{false≢true}
 use Rattle.std.proofs.lemmas.Bool.Decides.{nat_tests}
-use Rattle.dbtg_unit.specs.declared.moves.Move.{Move}
 use Rattle.dbtg_script.specs.declared.moves.MovesCause.TheVariants.{NotAMove, TooManyMoves}
-use Rattle.dbtg_script.specs.Moves.{is_gap, onto_word, words, spelled_move, refused_word}
+use Rattle.dbtg_script.specs.Moves.{is_gap, onto_word, words, refused_word}
 
-letter_word : (b : ℕ) (bs : List ℕ) → is_gap b ≡ false → words (b ∷ bs) ≡ onto_word b bs (words bs)
+pub letter_word : (b : ℕ) (bs : List ℕ) → is_gap b ≡ false → words (b ∷ bs) ≡ onto_word b bs (words bs)
 unfolding words
 letter_word b bs h = rw h refl
 
@@ -16,12 +15,12 @@ onto_last : (b : ℕ) (ws : List (List ℕ)) → onto_word b [] ws ≡ (b ∷ []
 unfolding onto_word
 onto_last b ws = refl
 
-onto_new : (b c : ℕ) (cs : List ℕ) (ws : List (List ℕ)) → is_gap c ≡ true → onto_word b (c ∷ cs) ws ≡ (b ∷ []) ∷ ws
+pub onto_new : (b c : ℕ) (cs : List ℕ) (ws : List (List ℕ)) → is_gap c ≡ true → onto_word b (c ∷ cs) ws ≡ (b ∷ []) ∷ ws
 unfolding onto_word
 onto_new b c cs [] h = refl
 onto_new b c cs (w ∷ ws) h = rw h refl
 
-onto_more : (b c : ℕ) (cs w : List ℕ) (ws : List (List ℕ)) → is_gap c ≡ false → onto_word b (c ∷ cs) (w ∷ ws) ≡ (b ∷ w) ∷ ws
+pub onto_more : (b c : ℕ) (cs w : List ℕ) (ws : List (List ℕ)) → is_gap c ≡ false → onto_word b (c ∷ cs) (w ∷ ws) ≡ (b ∷ w) ∷ ws
 unfolding onto_word
 onto_more b c cs w ws h = rw h refl
 
@@ -51,25 +50,28 @@ unfolding words
 none_left [] h = refl
 none_left (b ∷ bs) h = absurd (omega arith)
 
--- a word that is no move
-pub no_move : (total number : ℕ) (w : List ℕ) (left : List (List ℕ)) → spelled_move w ≡ None → refused_word total number (w ∷ left) ≡ Some (number, NotAMove)
+-- a word that says nothing
+pub no_move : {A : Type 0} (total number : ℕ) (s : Option (A × ℕ)) (left : List (Option (A × ℕ))) → s ≡ None → refused_word total number (s ∷ left) ≡ Some (number, NotAMove)
 unfolding refused_word
-no_move total number w left h = rw h refl
+no_move total number s left h = rw h refl
 
 -- a word with which the total passes the limit
-pub too_many : (total number : ℕ) (w : List ℕ) (left : List (List ℕ)) (m : Move) (k : ℕ) → spelled_move w ≡ Some (m, k) → 1000000 < total + k → refused_word total number (w ∷ left) ≡ Some (number, TooManyMoves)
+pub too_many : {A : Type 0} (total number : ℕ) (s : Option (A × ℕ)) (left : List (Option (A × ℕ))) (m : A) (k : ℕ) → s ≡ Some (m, k) → 1000000 < total + k → refused_word total number (s ∷ left) ≡ Some (number, TooManyMoves)
 unfolding refused_word
-too_many total number w left m k h more = let e : nat_lt 1000000 (total + k) ≡ true = grind (arith, nat_tests) in rw (h, e) refl
+too_many total number s left m k h more = let e : nat_lt 1000000 (total + k) ≡ true = grind (arith, nat_tests) in rw (h, e) refl
 
--- a word with its moves
-pub moves_on : (ms : List Move) (number : ℕ) (w : List ℕ) (left : List (List ℕ)) (m : Move) (k : ℕ) → spelled_move w ≡ Some (m, k) → length ms + k ≤ 1000000
-    → refused_word (length ms) number (w ∷ left) ≡ refused_word (length (ms ++ replicate k m)) (number + 1) left
+-- a word with its entries
+pub word_fits : {A : Type 0} (total number : ℕ) (s : Option (A × ℕ)) (left : List (Option (A × ℕ))) (m : A) (k : ℕ) → s ≡ Some (m, k) → total + k ≤ 1000000
+    → refused_word total number (s ∷ left) ≡ refused_word (total + k) (number + 1) left
 unfolding refused_word
-moves_on ms number w left m k h few =
-    let e : nat_lt 1000000 (length ms + k) ≡ false = grind (arith, nat_tests) in
+word_fits total number s left m k h few = let e : nat_lt 1000000 (total + k) ≡ false = grind (arith, nat_tests) in rw (h, e) refl
+
+pub moves_on : {A : Type 0} (ms : List A) (number : ℕ) (s : Option (A × ℕ)) (left : List (Option (A × ℕ))) (m : A) (k : ℕ) → s ≡ Some (m, k) → length ms + k ≤ 1000000
+    → refused_word (length ms) number (s ∷ left) ≡ refused_word (length (ms ++ replicate k m)) (number + 1) left
+moves_on ms number s left m k h few =
     let n : length (ms ++ replicate k m) ≡ length ms + k = length-append ms (replicate k m) ∙ ap (λ (x : ℕ). length ms + x) (length-replicate k m) in
-    rw (h, e, n) refl
+    rw n (word_fits (length ms) number s left m k h few)
 
-pub no_words : (total number : ℕ) (ws : List (List ℕ)) → ws ≡ [] → refused_word total number ws ≡ None
+pub no_words : {A : Type 0} (total number : ℕ) (ss : List (Option (A × ℕ))) → ss ≡ [] → refused_word total number ss ≡ None
 unfolding refused_word
-no_words total number ws h = rw h refl
+no_words total number ss h = rw h refl

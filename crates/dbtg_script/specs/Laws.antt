@@ -1,5 +1,5 @@
 -- Laws of scripts and printed texts.
-use Rattle.std.specs.Prelude.{◌≡◌, ℕ, ◌≤◌, ◌<◌, ◌^◌, Bool, true, false, ◌&&◌, nat_lt, List, Some, None}
+use Rattle.std.specs.Prelude.{◌≡◌, ℕ, ◌≤◌, ◌<◌, ◌^◌, Bool, true, false, ◌&&◌, nat_le, nat_lt, List, length, Some, None}
 use Rattle.std.specs.List.{list_all}
 use Rattle.dbtg_schema.specs.Forms.{labels, Derives}
 use Rattle.dbtg_schema.specs.Lists.{Lists}
@@ -12,6 +12,11 @@ use Rattle.dbtg_cells.specs.declared.key.Owner.TheVariants.{System, Rec}
 use Rattle.dbtg_unit.specs.declared.unit.Unit as unit
 use Rattle.dbtg_unit.specs.Belongs.{IsUnitOf}
 use Rattle.dbtg_unit.specs.Fits.{if_named}
+use Rattle.dbtg_unit.specs.declared.moves.Move.{Move}
+use Rattle.dbtg_unit.specs.declared.moves.Move.TheVariants.{Step, Quit}
+use Rattle.dbtg_script.specs.Moves.{moves_of, refusal, words}
+use Rattle.dbtg_script.specs.Turns.{turns_of, turns_refusal}
+use Rattle.dbtg_script.specs.WordTexts.{moves_words_text, turns_text}
 use Rattle.dbtg_script.specs.Spelling.{has_byte}
 use Rattle.dbtg_script.specs.Lookups.{type_named}
 use Rattle.dbtg_script.specs.Statements.{key_of}
@@ -60,3 +65,23 @@ abbrev pub UnitsPrintDifferently : Type 0
 UnitsPrintDifferently =
     (schema : Lists) → IsSound schema → IsNamed schema → (u v : unit.Unit) → IsUnitOf schema u → IsUnitOf schema v → IsInRange u → IsInRange v
     → unit_text schema u ≡ unit_text schema v → (u.number ≡ v.number) × (u.currency ≡ v.currency) × (u.kept ≡ v.kept)
+
+-- a unit that a word of moves can name
+abbrev pub is_unit_number : ℕ → Bool
+is_unit_number u = nat_le 1 u && nat_le u 99
+
+abbrev pub has_unit_number : Move → Bool
+has_unit_number (Step u) = is_unit_number u
+has_unit_number (Quit u) = is_unit_number u
+
+-- the text of moves has no fault, and says these moves
+abbrev pub PrintedMovesAreReadBack : Type 0
+PrintedMovesAreReadBack =
+    (ms : List Move) → list_all has_unit_number ms ≡ true → length ms ≤ 1000000
+    → (refusal (moves_words_text ms) ≡ None) × (moves_of (words (moves_words_text ms)) ≡ ms)
+
+-- the text of turns has no fault, and says these turns
+abbrev pub PrintedTurnsAreReadBack : Type 0
+PrintedTurnsAreReadBack =
+    (us : List ℕ) → list_all is_unit_number us ≡ true → length us ≤ 1000000
+    → (turns_refusal (turns_text us) ≡ None) × (turns_of (words (turns_text us)) ≡ us)

@@ -11,6 +11,9 @@ pub mod Automaton
 pub mod Views
 pub mod Reading
 pub mod Statements
+pub mod Known
 pub mod Texts
 pub mod Moves
+pub mod Turns
+pub mod WordTexts
 pub mod Laws

@@ -1,5 +1,5 @@
--- The moves of a moves file.
-use Rattle.std.specs.Prelude.{◌≡◌, ℕ, ◌+◌, Bool, true, false, not, ◌&&◌, ◌||◌, ◌==◌, nat_le, nat_lt, List, [], ◌∷◌, ◌++◌, Option, Some, None, if◌then◌else◌, replicate}
+-- The words of a moves file, and of a turns file; the moves of a moves file.
+use Rattle.std.specs.Prelude.{◌≡◌, ℕ, ◌+◌, Bool, true, false, not, ◌&&◌, ◌||◌, ◌==◌, nat_le, nat_lt, List, [], ◌∷◌, ◌++◌, map, Option, Some, None, if◌then◌else◌, replicate}
 use Rattle.dbtg_unit.specs.declared.moves.Move.{Move}
 use Rattle.dbtg_unit.specs.declared.moves.Move.TheVariants.{Step, Quit}
 use Rattle.dbtg_script.specs.declared.moves.MovesCause.{MovesCause}
@@ -30,58 +30,69 @@ begins_with c (b ∷ bs) = b == c
 abbrev pub plain_number : ℕ → List ℕ → Option ℕ
 plain_number most t = if is_number t && not (begins_with 48 t) && nat_le (number t) most then Some (number t) else None
 
--- a move, and how often it is made
-abbrev pub times : Option ℕ → ℕ → Option (Move × ℕ)
+-- an entry that a word says, and how often: here a unit
+abbrev pub times : Option ℕ → ℕ → Option (ℕ × ℕ)
 times None k = None
-times (Some u) k = Some (Step u, k)
+times (Some u) k = Some (u, k)
 
-abbrev pub steps_of : List ℕ → Option ℕ → Option (Move × ℕ)
-steps_of t None = None
-steps_of t (Some k) = times (plain_number 99 t) k
+abbrev pub counted : List ℕ → Option ℕ → Option (ℕ × ℕ)
+counted t None = None
+counted t (Some k) = times (plain_number 99 t) k
+
+-- u*k or u: a unit, and how many turns it has
+abbrev pub spelled_turn : List ℕ → Option (ℕ × ℕ)
+spelled_turn t =
+    if has_byte 42 t then counted (in_front 42 t) (plain_number 1000000 (behind 42 t))
+    else times (plain_number 99 t) 1
 
 abbrev pub quit_of : Option ℕ → Option (Move × ℕ)
 quit_of None = None
 quit_of (Some u) = Some (Quit u, 1)
 
--- Qu, u*k or u
-abbrev pub spelled_move : List ℕ → Option (Move × ℕ)
-spelled_move t =
-    if begins_with 81 t then quit_of (plain_number 99 (behind 81 t))
-    else (if has_byte 42 t then steps_of (in_front 42 t) (plain_number 1000000 (behind 42 t))
-    else times (plain_number 99 t) 1)
+abbrev pub steps_of : Option (ℕ × ℕ) → Option (Move × ℕ)
+steps_of None = None
+steps_of (Some r) = Some (Step r.0, r.1)
 
-abbrev pub repeated : Option (Move × ℕ) → List Move
+-- Qu, u*k or u: a move, and how often it is made
+abbrev pub spelled_move : List ℕ → Option (Move × ℕ)
+spelled_move t = if begins_with 81 t then quit_of (plain_number 99 (behind 81 t)) else steps_of (spelled_turn t)
+
+abbrev pub repeated : {A : Type 0} → Option (A × ℕ) → List A
 repeated None = []
 repeated (Some m) = replicate m.1 m.0
 
+-- all that words say, one behind the other
+abbrev pub said : {A : Type 0} → List (Option (A × ℕ)) → List A
+said [] = []
+said (s ∷ ss) = repeated s ++ said ss
+
 -- the moves that words say
 abbrev pub moves_of : List (List ℕ) → List Move
-moves_of [] = []
-moves_of (w ∷ ws) = repeated (spelled_move w) ++ moves_of ws
+moves_of ws = said (map spelled_move ws)
 
--- more than 1,000,000 moves behind so many?
-abbrev pub passes : ℕ → Option (Move × ℕ) → Bool
+-- more than 1,000,000 entries behind so many?
+abbrev pub passes : {A : Type 0} → ℕ → Option (A × ℕ) → Bool
 passes total None = false
 passes total (Some m) = nat_lt 1000000 (total + m.1)
 
-abbrev pub total_after : ℕ → Option (Move × ℕ) → ℕ
+abbrev pub total_after : {A : Type 0} → ℕ → Option (A × ℕ) → ℕ
 total_after total None = total
 total_after total (Some m) = total + m.1
 
-abbrev pub is_move : Option (Move × ℕ) → Bool
-is_move None = false
-is_move (Some m) = true
+abbrev pub says_something : {A : Type 0} → Option (A × ℕ) → Bool
+says_something None = false
+says_something (Some m) = true
 
--- the first fault of words, of which the first has this number, behind so many moves
-unfoldable pub refused_word : ℕ → ℕ → List (List ℕ) → Option (ℕ × MovesCause)
+-- the first fault of what words say, of which the first has this number, behind so many entries
+unfoldable pub refused_word : {A : Type 0} → ℕ → ℕ → List (Option (A × ℕ)) → Option (ℕ × MovesCause)
 refused_word total number [] = None
-refused_word total number (w ∷ ws) =
-    if not (is_move (spelled_move w)) then Some (number, NotAMove)
-    else (if passes total (spelled_move w) then Some (number, TooManyMoves)
-    else refused_word (total_after total (spelled_move w)) (number + 1) ws)
+refused_word total number (s ∷ ss) =
+    if not (says_something s) then Some (number, NotAMove)
+    else (if passes total s then Some (number, TooManyMoves)
+    else refused_word (total_after total s) (number + 1) ss)
 
 abbrev pub refusal : List ℕ → Option (ℕ × MovesCause)
-refusal text = refused_word 0 1 (words text)
+refusal text = refused_word 0 1 (map spelled_move (words text))
 
 -- the moves are refused with this fault, unless memory ran out
 abbrev pub Refuses : MovesFault → Option (ℕ × MovesCause) → Type 0

@@ -1,6 +1,6 @@
 //! Laws of scripts and printed texts, as contracts of functions that do nothing.
 
-ghost use Rattle.dbtg_script.specs.Laws.{LineWithoutFaultsIsDerived, PrintedKeyIsReadBack, UnitsPrintDifferently};
+ghost use Rattle.dbtg_script.specs.Laws.{LineWithoutFaultsIsDerived, PrintedKeyIsReadBack, PrintedMovesAreReadBack, PrintedTurnsAreReadBack, UnitsPrintDifferently};
 
 /// What is read from a printed key is that key.
 pub fn a_printed_key_is_read_back()
@@ -15,4 +15,14 @@ pub fn a_line_without_faults_is_derived()
 /// Two units of a schema with different numbers, currencies or kept lists print differently; their modes are not printed.
 pub fn different_units_print_differently()
     ensures { UnitsPrintDifferently }
+{}
+
+/// The text of at most 1,000,000 moves of units from 1 to 99 has no fault, and what is read from it is these moves.
+pub fn a_printed_moves_text_is_read_back()
+    ensures { PrintedMovesAreReadBack }
+{}
+
+/// The text of at most 1,000,000 turns of units from 1 to 99 has no fault, and what is read from it is these turns.
+pub fn a_printed_turns_text_is_read_back()
+    ensures { PrintedTurnsAreReadBack }
 {}

@@ -6,6 +6,7 @@ mod checks;
 mod fault;
 mod image;
 mod keyword;
+mod known;
 mod laws;
 mod line;
 mod lookups;
@@ -19,15 +20,21 @@ mod spelling;
 mod statement;
 mod texts;
 mod token;
+mod turns;
 mod values;
+mod word_texts;
 
 pub use fault::{Cause, ScriptFault};
 pub use image::{image_text, moves_text};
 pub use laws::{
-    a_line_without_faults_is_derived, a_printed_key_is_read_back, different_units_print_differently,
+    a_line_without_faults_is_derived, a_printed_key_is_read_back,
+    a_printed_moves_text_is_read_back, a_printed_turns_text_is_read_back,
+    different_units_print_differently,
 };
 pub use moves::{MovesCause, MovesFault, read_moves};
 pub use reader::read_script;
 pub use sizes::{push_run, push_schema_line, push_script_line};
 pub use spelling::{is_number, number};
 pub use texts::{answers_text, units_text};
+pub use turns::{TurnsFault, read_turns};
+pub use word_texts::{moves_words_text, turns_text};

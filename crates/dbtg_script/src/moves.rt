@@ -1,8 +1,8 @@
 //! Reading moves: words that say which unit steps or quits.
 
-ghost use Rattle.dbtg_script.specs.Moves.{Refuses, begins_with, cause_number, is_gap, moves_of, plain_number, quit_of, refusal, refused_word, repeated, spelled_move, steps_of, times, words};
+ghost use Rattle.dbtg_script.specs.Moves.{Refuses, begins_with, cause_number, counted, is_gap, moves_of, plain_number, quit_of, refusal, refused_word, repeated, spelled_move, spelled_turn, steps_of, times, words};
 ghost use Rattle.dbtg_script.specs.declared.moves.MovesFault.TheVariants.{Memory};
-ghost use Rattle.std.specs.Prelude.{◌≡◌, ◌+◌, ◌++◌, ◌<◌, ◌≤◌, ◌∷◌, ℕ, List, [], IfErr, IfOk, IfSome, MatchOption, None, OnOk, OnSome, false, length, replicate, slice_index, true};
+ghost use Rattle.std.specs.Prelude.{◌≡◌, ◌+◌, ◌++◌, ◌<◌, ◌≤◌, ◌∷◌, ℕ, List, [], IfErr, IfOk, IfSome, Option, MatchOption, None, OnOk, OnSome, false, length, replicate, slice_index, true};
 
 use crate::spelling::{behind, has_byte, in_front, is_number, number};
 use dbtg_unit::Move;
@@ -12,7 +12,7 @@ use thiserror::Error;
 /// What is wrong with moves, by the number with which it is printed.
 #[derive(Clone, Copy, Debug, PartialEq, Eq)]
 pub enum MovesCause {
-    /// 1: a word of another shape, or with a number out of range
+    /// 1: a word of another shape, or with a number out of range; in a text of turns a quit too
     NotAMove,
     /// 2: the word with which the total passes 1,000,000
     TooManyMoves,
@@ -57,10 +57,10 @@ impl From<AllocError> for MovesFault {
     }
 }
 
-/// What is left of a text of moves.
+/// What is left of a text of moves, or of turns.
 #[derive(Clone, Copy)]
-struct Words<'a> {
-    rest: &'a [u8],
+pub struct Words<'a> {
+    pub rest: &'a [u8],
 }
 
 fn is_gap(b: u8) -> bool
@@ -83,7 +83,7 @@ fn run_len(bytes: &[u8]) -> usize
 
 impl<'a> Words<'a> {
     /// The next word.
-    fn next(&mut self) -> Option<&'a [u8]>
+    pub fn next(&mut self) -> Option<&'a [u8]>
         ensures found { MatchOption result (words self.old.rest.now ≡ [])
             (λ w. words self.old.rest.now ≡ w.now ∷ words self.new.rest.now) }
         ensures shorter { OnSome result (length self.new.rest.now < length self.old.rest.now) }
@@ -127,24 +127,36 @@ fn plain_number(text: &[u8], most: u64) -> Option<u64>
     if n <= most { Some(n) } else { None }
 }
 
-fn times(text: &[u8], count: u64) -> Option<(Move, u64)>
+fn times(text: &[u8], count: u64) -> Option<(u8, u64)>
     requires { count ≤ 1000000 }
     ensures value { result ≡ times (plain_number 99 text.now) count }
-    ensures bound { IfSome result (λ m. m.1 ≤ 1000000) }
+    ensures bound { IfSome result (λ r. r.1 ≤ 1000000) }
 {
     match plain_number(text, 99) {
-        Some(unit) => Some((Move::Step(unit as u8), count)),
+        Some(unit) => Some((unit as u8, count)),
         None => None,
     }
 }
 
-fn steps_of(text: &[u8], count: &[u8]) -> Option<(Move, u64)>
-    ensures value { result ≡ steps_of text.now (plain_number 1000000 count.now) }
-    ensures bound { IfSome result (λ m. m.1 ≤ 1000000) }
+fn counted(text: &[u8], count: &[u8]) -> Option<(u8, u64)>
+    ensures value { result ≡ counted text.now (plain_number 1000000 count.now) }
+    ensures bound { IfSome result (λ r. r.1 ≤ 1000000) }
 {
     match plain_number(count, 1_000_000) {
         Some(count) => times(text, count),
         None => None,
+    }
+}
+
+/// The unit that a word says, and how often it has a turn.
+pub fn spelled_turn(text: &[u8]) -> Option<(u8, u64)>
+    ensures value { result ≡ spelled_turn text.now }
+    ensures bound { IfSome result (λ r. r.1 ≤ 1000000) }
+{
+    if has_byte(text, b'*') {
+        counted(in_front(text, b'*'), behind(text, b'*'))
+    } else {
+        times(text, 1)
     }
 }
 
@@ -158,6 +170,16 @@ fn quit_of(text: &[u8]) -> Option<(Move, u64)>
     }
 }
 
+fn steps_of(text: &[u8]) -> Option<(Move, u64)>
+    ensures value { result ≡ steps_of (spelled_turn text.now) }
+    ensures bound { IfSome result (λ m. m.1 ≤ 1000000) }
+{
+    match spelled_turn(text) {
+        Some((unit, count)) => Some((Move::Step(unit), count)),
+        None => None,
+    }
+}
+
 /// The move that a word says, and how often it is made.
 fn spelled_move(text: &[u8]) -> Option<(Move, u64)>
     ensures value { result ≡ spelled_move text.now }
@@ -165,41 +187,44 @@ fn spelled_move(text: &[u8]) -> Option<(Move, u64)>
 {
     if begins_with(text, b'Q') {
         quit_of(behind(text, b'Q'))
-    } else if has_byte(text, b'*') {
-        steps_of(in_front(text, b'*'), behind(text, b'*'))
     } else {
-        times(text, 1)
+        steps_of(text)
     }
 }
 
-fn push_times(moves: &mut Vec<Move>, one: Move, count: u64) -> Result<(), AllocError>
-    ensures { OnOk result (moves.new.items ≡ moves.old.items ++ replicate count one) }
+fn push_times<T: Copy>(entries: &mut Vec<T>, one: T, count: u64) -> Result<(), AllocError>
+    ensures { OnOk result (entries.new.items ≡ entries.old.items ++ replicate count one) }
 {
     for _ in 0..count {
-        moves.push(one)?;
+        entries.push(one)?;
     }
     Ok(())
 }
 
-/// Takes a word: its moves go behind those before it.
-fn take_word(moves: &mut Vec<Move>, number: u64, text: &[u8]) -> Result<(), MovesFault>
-    ensures taken { OnOk result (moves.new.items ≡ moves.old.items ++ repeated (spelled_move text.now)) }
-    ensures reached { (left : List (List ℕ)) → OnOk result (refused_word (length moves.old.items) number (text.now ∷ left) ≡ refused_word (length moves.new.items) (number + 1) left) }
-    ensures refused { (left : List (List ℕ)) → IfErr result (λ e. Refuses e (refused_word (length moves.old.items) number (text.now ∷ left))) }
+/// Takes what a word says: its entries go behind those before it.
+pub fn take_word<T: Copy>(
+    entries: &mut Vec<T>,
+    number: u64,
+    said: Option<(T, u64)>,
+) -> Result<(), MovesFault>
+    requires { IfSome said (λ m. m.1 ≤ 1000000) }
+    ensures taken { OnOk result (entries.new.items ≡ entries.old.items ++ repeated said) }
+    ensures reached { (left : List (Option (T × ℕ))) → OnOk result (refused_word (length entries.old.items) number (said ∷ left) ≡ refused_word (length entries.new.items) (number + 1) left) }
+    ensures refused { (left : List (Option (T × ℕ))) → IfErr result (λ e. Refuses e (refused_word (length entries.old.items) number (said ∷ left))) }
 {
-    match spelled_move(text) {
+    match said {
         None => Err(MovesFault::Refused {
             word: number,
             cause: MovesCause::NotAMove,
         }),
-        Some((one, count)) => {
-            if 1_000_000 < moves.len() as u64 + count {
+        Some(found) => {
+            if 1_000_000 < entries.len() as u64 + found.1 {
                 return Err(MovesFault::Refused {
                     word: number,
                     cause: MovesCause::TooManyMoves,
                 });
             }
-            push_times(moves, one, count)?;
+            push_times(entries, found.0, found.1)?;
             Ok(())
         }
     }
@@ -216,7 +241,7 @@ pub fn read_moves(alloc: Global, text: &[u8]) -> Result<Vec<Move>, MovesFault>
     let mut number: u64 = 1;
     let mut left = Words { rest: text };
     while let Some(word) = left.next() {
-        take_word(&mut moves, number, word)?;
+        take_word(&mut moves, number, spelled_move(word))?;
         number += 1;
     }
     Ok(moves)

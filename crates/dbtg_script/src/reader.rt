@@ -3,13 +3,15 @@
 ghost use Rattle.dbtg_schema.specs.Forms.{labels};
 ghost use Rattle.dbtg_script.specs.Automaton.{rest_of};
 ghost use Rattle.dbtg_schema.specs.Lookups.{first};
+ghost use Rattle.dbtg_schema.specs.Lists.{Lists};
+ghost use Rattle.dbtg_script.specs.Known.{IsKnown, Says};
 ghost use Rattle.dbtg_script.specs.Reading.{Refuses, RefusesScript, at_line, verdict};
 ghost use Rattle.dbtg_script.specs.StatementFaults.{line_faults, refusal, statement_faults};
 ghost use Rattle.dbtg_script.specs.Statements.{line_statement, prepend, script, statement_of};
 ghost use Rattle.dbtg_script.specs.StatementGrammar.{fits, statement};
 ghost use Rattle.dbtg_script.specs.Tokens.{Token as SeenToken, tokens, view};
 ghost use Rattle.dbtg_script.specs.Views.{views};
-ghost use Rattle.std.specs.Prelude.{◌≡◌, ◌∷◌, ◌++◌, ℕ, List, [], None, IfErr, IfOk, MatchResult, OnOk, false, true, length};
+ghost use Rattle.std.specs.Prelude.{◌≡◌, ◌∷◌, ◌++◌, ℕ, List, [], None, IfErr, IfOk, IfSome, MatchResult, OnOk, false, true, length};
 ghost use Rattle.std.specs.List.{list_all};
 ghost use Rattle.dbtg_schema.specs.Sound.{IsSound};
 ghost use Rattle.dbtg_unit.specs.Fits.{fits as statement_fits};
@@ -17,13 +19,14 @@ ghost use Rattle.dbtg_unit.specs.Fits.{fits as statement_fits};
 use crate::automaton::{State, follow};
 use crate::checks::{at_other, end_fault, said};
 use crate::fault::{Cause, LineFault, ScriptFault};
+use crate::known::Known;
 use crate::line::{Lines, ends_in_text, is_allowed, is_statement, trimmed};
 use crate::queries::Labelled;
 use crate::statement::statement_of;
 use crate::token::{Token, Tokens};
 use dbtg_schema::Schema;
 use dbtg_unit::Statement;
-use std::alloc::Global;
+use std::alloc::{AllocError, Global};
 
 /// Takes the next word: the state behind it, or the fault that the word is.
 fn take<'a>(
@@ -125,13 +128,39 @@ fn read_line(
     Ok(Some(read_statement(alloc, schema, line)?))
 }
 
-/// Takes a line: its statement goes behind those before it.
-fn take_line(
+/// The statement of a line, if the line was read before and there is room for one more.
+fn said_again(
+    alloc: Global,
+    known: &Known,
+    statements: &[Statement],
+    line: &[u8],
+) -> Result<Option<Statement>, AllocError>
+    ensures { (schema : Lists) → IsKnown schema statements.now known.now.places → IfOk result (λ found. IfSome found (λ s. Says schema (length statements.now) line.now s)) }
+{
+    if 65535 <= statements.len() {
+        return Ok(None);
+    }
+    match known.find(line) {
+        None => Ok(None),
+        Some(at) => {
+            match statements.get(at) {
+                None => Ok(None),
+                Some(statement) => Ok(Some(statement.copy(alloc)?)),
+            }
+        }
+    }
+}
+
+/// Takes a line that is read anew: its statement goes behind those before it, and the line is kept.
+fn take_new_line<'a>(
     alloc: Global,
     schema: &Schema,
+    known: &mut Known<'a>,
     statements: &mut Vec<Statement>,
-    line: &[u8],
+    line: &'a [u8],
 ) -> Result<(), LineFault>
+    requires { IsKnown schema.now statements.old.items known.old.places }
+    ensures known { OnOk result (IsKnown schema.now statements.new.items known.new.places) }
     ensures accepted { OnOk result (first (line_faults schema.now (length statements.old.items) line.now) ≡ None) }
     ensures taken { OnOk result (statements.new.items ≡ statements.old.items ++ prepend (line_statement schema.now line.now) []) }
     ensures refused { IfErr result (λ e. Refuses e (first (line_faults schema.now (length statements.old.items) line.now))) }
@@ -140,7 +169,31 @@ fn take_line(
         Err(fault) => Err(fault),
         Ok(None) => Ok(()),
         Ok(Some(statement)) => {
+            known.note(line, statements.len());
             statements.push(statement)?;
+            Ok(())
+        }
+    }
+}
+
+/// Takes a line: its statement goes behind those before it.
+fn take_line<'a>(
+    alloc: Global,
+    schema: &Schema,
+    known: &mut Known<'a>,
+    statements: &mut Vec<Statement>,
+    line: &'a [u8],
+) -> Result<(), LineFault>
+    requires { IsKnown schema.now statements.old.items known.old.places }
+    ensures known { OnOk result (IsKnown schema.now statements.new.items known.new.places) }
+    ensures accepted { OnOk result (first (line_faults schema.now (length statements.old.items) line.now) ≡ None) }
+    ensures taken { OnOk result (statements.new.items ≡ statements.old.items ++ prepend (line_statement schema.now line.now) []) }
+    ensures refused { IfErr result (λ e. Refuses e (first (line_faults schema.now (length statements.old.items) line.now))) }
+{
+    match said_again(alloc, known, statements, line)? {
+        None => take_new_line(alloc, schema, known, statements, line),
+        Some(again) => {
+            statements.push(again)?;
             Ok(())
         }
     }
@@ -177,10 +230,11 @@ pub fn read_script(
         });
     }
     let mut statements = Vec::new(alloc);
+    let mut known = Known::none();
     let mut number: u64 = 1;
     let mut left = Lines { rest: text };
     while let Some(line) = left.next() {
-        if let Err(fault) = take_line(alloc, schema, &mut statements, trimmed(line)) {
+        if let Err(fault) = take_line(alloc, schema, &mut known, &mut statements, trimmed(line)) {
             return Err(at_line(number, fault));
         }
         number += 1;

@@ -84,6 +84,17 @@ fn set_bits(words: &[Labelled], sets: &[SetType]) -> u32
     }
 }
 
+/// The bits of the sets; none is looked at where no word suppresses one.
+fn suppressed_sets(schema: &Schema, words: &[Labelled]) -> u16
+    ensures { result ≡ set_bits (views words.now) schema.now.sets }
+{
+    if has(words, Role::SuppressAll) | has(words, Role::SuppressSet) {
+        set_bits(words, schema.sets()) as u16
+    } else {
+        0
+    }
+}
+
 fn suppress_of(schema: &Schema, words: &[Labelled]) -> Suppress
     ensures { result ≡ suppress_of schema.now (views words.now) }
 {
@@ -91,7 +102,7 @@ fn suppress_of(schema: &Schema, words: &[Labelled]) -> Suppress
     Suppress {
         types: all | has(words, Role::SuppressTypes),
         areas: all | has(words, Role::SuppressAreas),
-        sets: set_bits(words, schema.sets()) as u16,
+        sets: suppressed_sets(schema, words),
     }
 }
 

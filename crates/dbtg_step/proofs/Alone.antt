@@ -1,10 +1,13 @@
 -- A step of a unit changes that unit alone, and draws at most the ticket of its next statement.
-use Rattle.std.proofs.Common.{ℕ, ◌≡◌, Bool, true, false, List, [], ◌∷◌, ◌++◌, Option, Some, None, ◌⊎◌, inl, inr, refl, sym, ◌∙◌, subst}
+use Rattle.std.proofs.Common.{ℕ, suc, ◌≡◌, Bool, true, false, List, [], ◌∷◌, ◌++◌, Option, Some, None, ◌⊎◌, inl, inr, length, refl, sym, ap, subst, arith}
+use Rattle.std.proofs.lemmas.Option.{same_Some}
 use Rattle.dbtg_step.specs.SequentialDatabase.{HeldCell, NextNeed, NeedsArea, NeedsCell, StaleGuesses, NeedsNothing, SequentialDatabase, unit_at, with_unit_at}
-use Rattle.dbtg_step.specs.Machine.{Location, Home, HeldBy, Progress, UnitState, HistoryEntry, State, SequentialState}
+use Rattle.dbtg_step.specs.Machine.{Location, Home, HeldBy, Progress, UnitState, HistoryEntry, State, SequentialState, unless_over}
 use Rattle.dbtg_step.specs.Step.{updated, with_progress, with_ticket, after_ticket, takes_area, takes_cell, follows_need, before_ticket, in_statement, step_of_unit, step_if_unit, step, Transition, MovedTo, IsBlocked, IsIdle, IfMoved, any_other, conflicts}
-use Rattle.dbtg_step.specs.Audit.{IsMaking}
-use Rattle.dbtg_step.proofs.UnitLists.{set_at, set_elsewhere}
+
+-- in mid-statement without a ticket
+abbrev pub Unticketed : (D : SequentialDatabase) → Option (Progress D) → Type 0
+Unticketed D p = (w : Progress D) × (p ≡ Some w) × (w.ticket ≡ None)
 
 module _ (D : SequentialDatabase) (opening : SequentialState D) (s : State D) (u : ℕ) (state : UnitState D) where
   -- the next statement drew its ticket
@@ -24,88 +27,91 @@ module _ (D : SequentialDatabase) (opening : SequentialState D) (s : State D) (u
     pub units : t.units ≡ with_unit_at s.units u new
     pub drawn : ((t.history ≡ s.history) × (new.remaining ≡ state.remaining)) ⊎ DrawsNext new t
 
-  updated_alone : (location : D.Cell → Location D.Value) (g : D.Guesses) (p : Option (Progress D)) → StepsAlone (updated D s u state location g p)
+  -- by one step, which draws only in mid-statement without a ticket; and who is so after it drew nothing, and was so before it or between statements
+  pub record OneStep (t : State D) : Type 0 where
+    pub alone : StepsAlone t
+    pub drew : DrawsNext alone.new t → Unticketed D state.progress
+    pub undrawn : Unticketed D alone.new.progress → (alone.new.remaining ≡ state.remaining) × ((state.progress ≡ None) ⊎ Unticketed D state.progress)
+
+  updated_alone : (location : D.Cell → Location D.Value) (g : D.Guesses) (p : Option (Progress D)) → (Unticketed D p → (state.progress ≡ None) ⊎ Unticketed D state.progress) → OneStep (updated D s u state location g p)
   unfolding updated
-  updated_alone location g p = record { new = with_progress D state g p; units = refl; drawn = inl (refl, refl) }
+  updated_alone location g p f = record {
+    alone = record { new = with_progress D state g p; units = refl; drawn = inl (refl, refl) };
+    drew = λ d. (let more = ap length d.before in let same = ap length d.after in absurd (omega (arith, more, same)));
+    undrawn = λ q. (refl, f q);
+  }
 
-  ticket_alone : (w : Progress D) (x : D.Statement) (xs : List D.Statement) → state.remaining ≡ x ∷ xs → StepsAlone (with_ticket D opening s u state w x xs)
-  unfolding with_ticket
-  ticket_alone w x xs e = record { new = _; units = refl; drawn = inr (record { x = x; xs = xs; before = e; after = refl; entry = _; history = refl; unit = refl; statement = refl }) }
+  -- with a ticket
+  ticketed : (v : Progress D) (t : ℕ) → v.ticket ≡ Some t → Unticketed D (Some v) → ⊥
+  ticketed v t has q = let k : v.ticket ≡ q.0.ticket = ap (λ (y : Progress D). y.ticket) (same_Some v q.0 q.1) in let none = q.2 in absurd (cc (has, k, none))
 
-  after_ticket_alone : (w : Progress D) (b : Bool) (cells : List (HeldCell D.Cell D.Value)) (areas : List ℕ) → StepsAlone (after_ticket D s u state w b cells areas)
+  over_ticketed : (v : Progress D) (areas : List ℕ) (cells : List (HeldCell D.Cell D.Value)) (t : ℕ) → v.ticket ≡ Some t → Unticketed D (unless_over D v areas cells) → ⊥
+  unfolding unless_over
+  over_ticketed v [] [] t has q = let e = q.1 in absurd (cc (e))
+  over_ticketed v [] (h ∷ hs) t has q = ticketed v t has q
+  over_ticketed v (a ∷ areas) cells t has q = ticketed v t has q
+
+  after_ticket_alone : (w : Progress D) (t : ℕ) → w.ticket ≡ Some t → (b : Bool) (cells : List (HeldCell D.Cell D.Value)) (areas : List ℕ) → OneStep (after_ticket D s u state w b cells areas)
   unfolding after_ticket
-  after_ticket_alone w true cells areas = updated_alone _ _ _
-  after_ticket_alone w false (h ∷ hs) areas = updated_alone _ _ _
-  after_ticket_alone w false [] (a ∷ areas) = updated_alone _ _ _
-  after_ticket_alone w false [] [] = updated_alone _ _ _
+  after_ticket_alone w t has true cells areas = updated_alone _ _ _ (λ q. absurd (ticketed (record w { linked = suc w.linked }) t has q))
+  after_ticket_alone w t has false (h ∷ hs) areas = updated_alone _ _ _ (λ q. absurd (over_ticketed (record w { cells = hs }) areas hs t has q))
+  after_ticket_alone w t has false [] (a ∷ areas) = updated_alone _ _ _ (λ q. absurd (over_ticketed (record w { areas = areas }) areas [] t has q))
+  after_ticket_alone w t has false [] [] = updated_alone _ _ _ (λ q. (let e = q.1 in absurd (cc (e))))
 
-  follows_need_alone : (w : Progress D) (x : D.Statement) (xs : List D.Statement) → state.remaining ≡ x ∷ xs → (n : NextNeed D.Cell D.Guesses) → IfMoved D (follows_need D opening s u state w x xs n) StepsAlone
-  unfolding follows_need takes_area takes_cell IfMoved
-  follows_need_alone w x xs e (NeedsArea a) = go (any_other (conflicts D w.exclusive a) u s.units)
-    where
-      go : (b : Bool) → IfMoved D (takes_area D s u state w a b) StepsAlone
-      go true = tt
-      go false = updated_alone _ _ _
-  follows_need_alone w x xs e (NeedsCell c) = go (s.location c)
-    where
-      go : (p : Location D.Value) → IfMoved D (takes_cell D s u state w c p) StepsAlone
-      go (HeldBy v) = tt
-      go (Home v) = updated_alone _ _ _
-  follows_need_alone w x xs e (StaleGuesses g) = updated_alone _ _ _
-  follows_need_alone w x xs e NeedsNothing = ticket_alone w x xs e
+  module _ (w : Progress D) (is : state.progress ≡ Some w) (none : w.ticket ≡ None) (x : D.Statement) (xs : List D.Statement) (r : state.remaining ≡ x ∷ xs) where
+    so_before : {p : Option (Progress D)} → Unticketed D p → (state.progress ≡ None) ⊎ Unticketed D state.progress
+    so_before q = inr (w, is, none)
 
-  before_ticket_alone : (w : Progress D) (x : D.Statement) (xs : List D.Statement) → state.remaining ≡ x ∷ xs → (b : Bool) (cells : List (HeldCell D.Cell D.Value)) → IfMoved D (before_ticket D opening s u state w x xs b cells) StepsAlone
-  unfolding before_ticket IfMoved
-  before_ticket_alone w x xs e true (h ∷ hs) = updated_alone _ _ _
-  before_ticket_alone w x xs e true [] = follows_need_alone w x xs e _
-  before_ticket_alone w x xs e false cells = follows_need_alone w x xs e _
+    ticket_alone : OneStep (with_ticket D opening s u state w x xs)
+    unfolding with_ticket
+    ticket_alone = record {
+      alone = record { new = _; units = refl; drawn = inr (record { x = x; xs = xs; before = r; after = refl; entry = _; history = refl; unit = refl; statement = refl }) };
+      drew = λ d. (w, is, none);
+      undrawn = λ q. absurd (over_ticketed _ w.areas _ s.counter refl q);
+    }
 
-  in_statement_alone : (w : Progress D) (t : Option ℕ) (xs : List D.Statement) → state.remaining ≡ xs → IfMoved D (in_statement D opening s u state w t xs) StepsAlone
+    follows_need_alone : (n : NextNeed D.Cell D.Guesses) → IfMoved D (follows_need D opening s u state w x xs n) OneStep
+    unfolding follows_need takes_area takes_cell IfMoved
+    follows_need_alone (NeedsArea a) = go (any_other (conflicts D w.exclusive a) u s.units)
+      where
+        go : (b : Bool) → IfMoved D (takes_area D s u state w a b) OneStep
+        go true = tt
+        go false = updated_alone _ _ _ so_before
+    follows_need_alone (NeedsCell c) = go (s.location c)
+      where
+        go : (p : Location D.Value) → IfMoved D (takes_cell D s u state w c p) OneStep
+        go (HeldBy v) = tt
+        go (Home v) = updated_alone _ _ _ so_before
+    follows_need_alone (StaleGuesses g) = updated_alone _ _ _ so_before
+    follows_need_alone NeedsNothing = ticket_alone
+
+    before_ticket_alone : (b : Bool) (cells : List (HeldCell D.Cell D.Value)) → IfMoved D (before_ticket D opening s u state w x xs b cells) OneStep
+    unfolding before_ticket IfMoved
+    before_ticket_alone true (h ∷ hs) = updated_alone _ _ _ so_before
+    before_ticket_alone true [] = follows_need_alone _
+    before_ticket_alone false cells = follows_need_alone _
+
+  in_statement_alone : (w : Progress D) → state.progress ≡ Some w → (t : Option ℕ) → w.ticket ≡ t → (xs : List D.Statement) → state.remaining ≡ xs → IfMoved D (in_statement D opening s u state w t xs) OneStep
   unfolding in_statement IfMoved
-  in_statement_alone w (Some t) xs e = after_ticket_alone w _ _ _
-  in_statement_alone w None (x ∷ xs) e = before_ticket_alone w x xs e _ _
-  in_statement_alone w None [] e = tt
+  in_statement_alone w is (Some t) has xs r = after_ticket_alone w t has _ _ _
+  in_statement_alone w is None has (x ∷ xs) r = before_ticket_alone w is has x xs r _ _
+  in_statement_alone w is None has [] r = tt
 
-  step_of_unit_alone : (p : Option (Progress D)) (xs : List D.Statement) → state.remaining ≡ xs → IfMoved D (step_of_unit D opening s u state p xs) StepsAlone
+  step_of_unit_alone : (p : Option (Progress D)) → state.progress ≡ p → (xs : List D.Statement) → state.remaining ≡ xs → IfMoved D (step_of_unit D opening s u state p xs) OneStep
   unfolding step_of_unit IfMoved
-  step_of_unit_alone (Some w) xs e = in_statement_alone w _ xs e
-  step_of_unit_alone None (x ∷ xs) e = updated_alone _ _ _
-  step_of_unit_alone None [] e = tt
+  step_of_unit_alone (Some w) is xs r = in_statement_alone w is _ refl xs r
+  step_of_unit_alone None is (x ∷ xs) r = updated_alone _ _ _ (λ q. inl is)
+  step_of_unit_alone None is [] r = tt
+
+  pub one_step : unit_at s.units u ≡ Some state → IfMoved D (step D opening s u) OneStep
+  unfolding step step_if_unit IfMoved
+  one_step at = subst (λ o. IfMoved D (step_if_unit D opening s u o) OneStep) (sym at) (step_of_unit_alone state.progress refl state.remaining refl)
+
+  stays_so : (r : Transition D) → IfMoved D r OneStep → IfMoved D r StepsAlone
+  unfolding IfMoved
+  stays_so (MovedTo t) one = one.alone
+  stays_so IsBlocked one = tt
+  stays_so IsIdle one = tt
 
   pub step_alone : unit_at s.units u ≡ Some state → IfMoved D (step D opening s u) StepsAlone
-  unfolding step step_if_unit IfMoved
-  step_alone at = subst (λ o. IfMoved D (step_if_unit D opening s u o) StepsAlone) (sym at) (step_of_unit_alone state.progress state.remaining refl)
-
-module _ (D : SequentialDatabase) (opening : SequentialState D) (u : ℕ) (x : D.Statement) (past : List (HistoryEntry D)) (s : State D) (m : IsMaking D u x past s) where
-  goes_on : (t : State D) → StepsAlone D opening s u m.state t → IsMaking D u x past t
-  goes_on t a =
-      record {
-        state = a.new;
-        found = subst (λ us. unit_at us u ≡ Some a.new) (sym a.units) (set_at s.units u m.state a.new m.found);
-        drawn = elim a.drawn [
-          | inl p ↦ elim m.drawn [
-            | inl q ↦ inl (p.0 ∙ q.0, p.1 ∙ q.1)
-            | inr d ↦ inr (record { entry = d.entry; history_is = p.0 ∙ d.history_is; unit = d.unit; statement = d.statement; ended = p.1 ∙ d.ended })
-          ]
-          | inr n ↦ elim m.drawn [
-            | inl q ↦
-                let e : n.x ∷ n.xs ≡ x ∷ [] = sym n.before ∙ q.1 in
-                let first : n.x ≡ x = cc (e) in
-                let rest : n.xs ≡ [] = cc (e) in
-                inr (record { entry = n.entry; history_is = n.history ∙ (λ i. q.0 i ++ n.entry ∷ []); unit = n.unit; statement = n.statement ∙ first; ended = n.after ∙ rest })
-            | inr d ↦ let e = sym n.before ∙ d.ended in absurd (cc (e))
-          ]
-        ];
-        others = λ w other n e. m.others w other n (sym (set_elsewhere s.units u w a.new n) ∙ subst (λ us. unit_at us w ≡ Some other) a.units e);
-      }
-
-  moved_on : (r : Transition D) → IfMoved D r (StepsAlone D opening s u m.state) → IfMoved D r (IsMaking D u x past)
-  unfolding IfMoved
-  moved_on (MovedTo t) a = goes_on t a
-  moved_on IsBlocked a = tt
-  moved_on IsIdle a = tt
-
-  -- a unit that makes a statement goes on with it
-  pub making_goes_on : (t : State D) → step D opening s u ≡ MovedTo t → IsMaking D u x past t
-  unfolding IfMoved
-  making_goes_on t e = subst (λ r. IfMoved D r (IsMaking D u x past)) e (moved_on _ (step_alone D opening s u m.state m.found))
+  step_alone at = stays_so (step D opening s u) (one_step at)

@@ -43,7 +43,7 @@ use Rattle.dbtg_step.specs.Network.{network}
 use Rattle.dbtg_step.specs.Parts.{held_cells_of, held_of, location_at, note_of, progress_of, stage_while_held, state_from, unit_state_of}
 use Rattle.dbtg_step.specs.Events.{IsDrawn, IsStepped, IsUnmade, IsWell, NeedsNext, RunnerFits, RunnersFit, StandsNeeding, opening_for}
 use Rattle.dbtg_step.proofs.EventsShown.{over_is_empty, there_is, unit_written, while_held_is, written_fit}
-use Rattle.dbtg_step.proofs.FollowsShown.{follows, refused_is}
+use Rattle.dbtg_step.proofs.FollowsShown.{follows, refused_is, wants}
 use Rattle.dbtg_step.proofs.Headlines.{replays_same}
 use Rattle.dbtg_step.proofs.NeedsShown.{agrees_now, database_now, statement_fits, unit_in}
 use Rattle.dbtg_step.proofs.PlacesOfCells.{length_written}
@@ -145,7 +145,7 @@ module _ (schema : Lists) (capacity : ℕ) (db : Database) (bound : ℕ) (upto :
   shown_version (Ring s o) stored e = absurd (cc (e))
   shown_version (Slot t n) stored e = of_record (key_at db t n) (db.records (key_at db t n)) refl stored e
 
-  versions_next : (cells : List (CellName × Cell)) → AllAgree schema capacity db cells → bound + 1 < 2 ^ 64 → HaveNextVersions cells
+  pub versions_next : (cells : List (CellName × Cell)) → AllAgree schema capacity db cells → bound + 1 < 2 ^ 64 → HaveNextVersions cells
   versions_next [] a l c stored e = absurd (cc (e))
   versions_next (x ∷ xs) a l c stored e = by (name_eq c x.0) e (versions_next xs a.1 l c stored)
     where
@@ -188,6 +188,7 @@ module _ (schema : Lists) (capacity u : ℕ) (old : Parts) (r : Runner) (well : 
       }
 
   pub unmade_is : (new : Parts) (n : Runner) → new.table.items ≡ old.table.items → new.history.items ≡ old.history.items → new.runners.items ≡ slice_set old.runners.items (u - 1) n → IsUnmade r n → IsStepped schema capacity u NoMemory old new
+  unfolding follows_need
   unmade_is new n t h runners m =
       let cells : held_cells_of n.held.cells ≡ held_cells_of r.held.cells = ap reverse (of_values schema capacity db n.held.cells ∙ ap (map (to_held schema capacity db)) m.shows.cells ∙ sym (of_values schema capacity db r.held.cells)) in
       let state : unit_state_of schema capacity (record r { held = n.held }) ≡ unit_state_of schema capacity r = λ i. record {
@@ -197,7 +198,7 @@ module _ (schema : Lists) (capacity u : ℕ) (old : Parts) (r : Runner) (well : 
         remaining = drop r.next r.script;
         progress = progress_shows schema capacity r.held n.held m.shows.areas cells r.stage i;
       } in
-      refused_is schema capacity u old r well numbered at w s new n t h runners (ap (unit_state_of schema capacity) m.rest ∙ state)
+      refused_is schema capacity u old r well numbered at w s (wants schema capacity u old r well numbered at w s _ (follows schema capacity u old r well numbered at w s Ready needs)) new n t h runners (ap (unit_state_of schema capacity) m.rest ∙ state)
       (subst (RunnerFits schema) (sym m.rest) (record { settled = λ q. absurd (cc (q, s.before.stage)); guesses = ap length m.shows.guesses ∙ (well.runners (u - 1) r at).guesses }))
 
   pub drawn_is : (new : Parts) (n : Runner) → new.table.items ≡ old.table.items → new.runners.items ≡ slice_set old.runners.items (u - 1) n → ((x : Statement) (d : Database) → slice_get r.script r.next ≡ Some x → Agrees schema capacity d r.held r.unit → IsDrawn schema capacity d x u w old.history.items new.history.items r n) → IsStepped schema capacity u Moved old new

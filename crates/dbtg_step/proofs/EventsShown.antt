@@ -20,9 +20,9 @@ use Rattle.dbtg_step.specs.Machine.{Location, Home, HeldBy, Progress, UnitState,
 use Rattle.dbtg_step.specs.Step.{IsIdle, MovedTo, after_ticket, is_nonempty, step, updated, with_progress}
 use Rattle.dbtg_step.specs.Network.{is_delete, network}
 use Rattle.dbtg_step.specs.Parts.{held_cells_of, held_of, location_at, progress_of, stage_of, stage_while_held, state_from, state_of, unit_state_of}
-use Rattle.dbtg_step.specs.Events.{IsCellGiven, IsStepped, IsWell, RunnerFits, RunnersFit, StandsBetween, StandsOver, StandsTicketed, StandsTurning, opening_for}
+use Rattle.dbtg_step.specs.Events.{HasStatement, IsCellGiven, IsStepped, IsWell, RunnerFits, RunnersFit, StandsBetween, StandsOver, StandsTicketed, StandsTurning, opening_for}
 use Rattle.dbtg_step.proofs.PlacesOfCells.{area_behind, held_behind, length_home, length_written, updated_is, written_home_is}
-use Rattle.dbtg_step.proofs.StepCases.{step_after_ticket, step_begins, step_no_statement, step_no_unit, step_over, step_turns_back}
+use Rattle.dbtg_step.proofs.StepCases.{step_after_ticket, step_begins, step_no_unit, step_over, step_turns_back}
 use Rattle.dbtg_step.proofs.UnitLists.{map_found}
 
 -- LISTS
@@ -58,6 +58,12 @@ drop_past [] zero l = refl
 drop_past [] (suc i) l = refl
 drop_past (x ∷ xs) zero l = absurd (omega arith)
 drop_past (x ∷ xs) (suc i) l = drop_past xs i (omega arith)
+
+left_of_drop : {X : Type 0} (xs : List X) (i : ℕ) (y : X) (ys : List X) → drop i xs ≡ y ∷ ys → i < length xs
+left_of_drop [] zero y ys e = absurd (cc (e))
+left_of_drop [] (suc i) y ys e = absurd (cc (e))
+left_of_drop (x ∷ xs) zero y ys e = omega arith
+left_of_drop (x ∷ xs) (suc i) y ys e = let l = left_of_drop xs i y ys e in omega (arith, l)
 
 none_past : {X : Type 0} (xs : List X) (i : ℕ) → length xs ≤ i → slice_get xs i ≡ None
 none_past [] i l = refl
@@ -286,11 +292,8 @@ module _ (schema : Lists) (capacity u : ℕ) (old : Parts) (well : IsWell schema
   no_unit_idle h = stays_idle (step_no_unit (network schema capacity) (opening_for schema capacity old) (state_of schema capacity old) u (no_unit (map (unit_state_of schema capacity) old.runners.items) u (elim h [ inl e ↦ inl e | inr l ↦ inr (let m = length-map old.runners.items (unit_state_of schema capacity) in omega (arith, m, l)) ])))
 
   pub over_idle : (r : Runner) → 0 < u → slice_get old.runners.items (u - 1) ≡ Some r → StandsOver r → IsStepped schema capacity u Idle old old
-  over_idle r numbered at s = by r.stage refl
-    where
-      none_left : drop r.next r.script ≡ []
-      none_left = drop_past r.script r.next s.none_left
+  over_idle r numbered at s = stays_idle (step_over (network schema capacity) (opening_for schema capacity old) (state_of schema capacity old) u (unit_state_of schema capacity r) (found schema capacity u old r well numbered at) (ap (progress_of schema capacity r.held) s.stage) (drop_past r.script r.next s.none_left))
 
-      by : (o : Option Stage) → r.stage ≡ o → IsStepped schema capacity u Idle old old
-      by None e = stays_idle (step_over (network schema capacity) (opening_for schema capacity old) (state_of schema capacity old) u (unit_state_of schema capacity r) (found schema capacity u old r well numbered at) (ap (progress_of schema capacity r.held) e) none_left)
-      by (Some w) e = stays_idle (step_no_statement (network schema capacity) (opening_for schema capacity old) (state_of schema capacity old) u (unit_state_of schema capacity r) (found schema capacity u old r well numbered at) (stage_of schema capacity r.held w) (ap (progress_of schema capacity r.held) e) (s.unticketed w e) none_left)
+  -- a statement that a unit makes is one of its script
+  pub has_statement : (r : Runner) → 0 < u → slice_get old.runners.items (u - 1) ≡ Some r → HasStatement r
+  has_statement r numbered at w e t = let m = well.in_turn.each u (unit_state_of schema capacity r) (stage_of schema capacity r.held w) (found schema capacity u old r well numbered at) (ap (progress_of schema capacity r.held) e) t in left_of_drop r.script r.next m.x m.xs m.remaining

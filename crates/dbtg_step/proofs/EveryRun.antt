@@ -30,7 +30,7 @@ module _ (D : SequentialDatabase) (laws : IsSequentialDatabase D) (opening : Seq
   run_in_turn s [] l o = o
   run_in_turn s (m ∷ ms) l o = run_in_turn (state_after D s (transition D opening s m)) ms (move_keeps D laws opening s m l) (move_in_turn s m l o)
 
-  start_in_turn : (s : State D) → IsOpening D opening s → AllInTurn D below s
+  pub start_in_turn : (s : State D) → IsOpening D opening s → AllInTurn D below s
   start_in_turn s b = record { each = λ u state w at is t. let i = b.idle u state at in let e = i.0 in absurd (cc (e, is)) }
 
   pub every_run_never_stuck : (s : State D) (ms : List (Move)) → (b : IsOpening D opening s) → (u : ℕ) (state : UnitState D) (w : Progress D) → unit_at (run D opening s ms).units u ≡ Some state → state.progress ≡ Some w →

@@ -21,11 +21,11 @@ use Rattle.dbtg_step.specs.declared.parts.Runner.{Runner}
 use Rattle.dbtg_step.specs.declared.parts.Stage.{Stage}
 use Rattle.dbtg_unit.specs.declared.moves.Stepped.{Stepped}
 use Rattle.dbtg_unit.specs.declared.moves.Stepped.TheVariants.{Moved, Blocked, Idle, NoMemory}
-use Rattle.dbtg_step.specs.Machine.{HeldBy, held_areas, holds_exclusively, relocated, ticket_of}
-use Rattle.dbtg_step.specs.Step.{any_but, any_other, conflicts, follows_need, is_nonempty, step, takes_area, takes_cell, IsBlocked}
+use Rattle.dbtg_step.specs.Machine.{HeldBy, State, held_areas, holds_exclusively, relocated}
+use Rattle.dbtg_step.specs.Step.{any_but, any_other, conflicts, follows_need, is_nonempty, step, takes_area, takes_cell, IsBlocked, MovedTo}
 use Rattle.dbtg_step.specs.Network.{network, next_need_of}
 use Rattle.dbtg_step.specs.Parts.{held_cells_of, held_of, location_at, location_of, note_of, progress_of, stage_of, state_from, state_of, unit_state_of}
-use Rattle.dbtg_step.specs.Events.{holds_against, IsBeforeTicket, IsStepped, IsTaken, IsWell, NeedsNext, RunnerFits, RunnersFit, StandsNeeding, opening_for, stage_holds_against}
+use Rattle.dbtg_step.specs.Events.{holds_against, IsStepped, IsTaken, IsWell, NeedsNext, RunnerFits, RunnersFit, StandsNeeding, WantsMemory, opening_for, stage_holds_against}
 use Rattle.dbtg_step.proofs.EventsShown.{drop_found, found, length_held, moved_is, nonempty_length, staged_fits, there_is, unit_there, unit_written, written_fit}
 use Rattle.dbtg_step.proofs.NeedsShown.{any_reverse}
 use Rattle.dbtg_step.proofs.PlacesOfCells.{area_behind, held_behind, length_written, location_placed, written_is}
@@ -104,25 +104,32 @@ module _ (schema : Lists) (capacity u : ℕ) (old : Parts) (r : Runner) (well : 
       step_follows (network schema capacity) (opening_for schema capacity old) (state_of schema capacity old) u (unit_state_of schema capacity r) (found schema capacity u old r well numbered at) (stage_of schema capacity r.held w) (ap (progress_of schema capacity r.held) s.before.stage) statement.0 (drop (suc r.next) r.script) s.before.ticket (drop_found r.script r.next statement.0 statement.1)
       (λ t. ap held_cells_of (s.turned t)) (next_need_of r.held.guesses n) (needs r statement.0 at statement.1).is
 
-  pub before_ticket : IsBeforeTicket (state_of schema capacity old) u
-  unfolding ticket_of
-  before_ticket = record {
-    state = unit_state_of schema capacity r;
-    found = found schema capacity u old r well numbered at;
-    ticket = ap (λ o. ticket_of (network schema capacity) (progress_of schema capacity r.held o)) s.before.stage ∙ s.before.ticket;
-    left = let e = ap length (drop_found r.script r.next statement.0 statement.1) in omega (arith, e);
+  -- where the step is an event, memory may be refused in its place
+  pub wants : (after : State (network schema capacity)) → step (network schema capacity) (opening_for schema capacity old) (state_of schema capacity old) u ≡ MovedTo after → WantsMemory (opening_for schema capacity old) (state_of schema capacity old) u
+  wants after e = record {
+    before = record {
+      state = unit_state_of schema capacity r;
+      found = found schema capacity u old r well numbered at;
+      w = stage_of schema capacity r.held w;
+      progress = ap (progress_of schema capacity r.held) s.before.stage;
+      ticket = s.before.ticket;
+      turned = λ t. ap held_cells_of (s.turned t);
+      left = (let l = ap length (drop_found r.script r.next statement.0 statement.1) in omega (arith, l));
+    };
+    after = after;
+    event = e;
   }
 
   pub blocked_is : (new : Parts) → step (network schema capacity) (opening_for schema capacity old) (state_of schema capacity old) u ≡ IsBlocked → new.table.items ≡ old.table.items → new.history.items ≡ old.history.items → new.runners.items ≡ old.runners.items → IsStepped schema capacity u Blocked old new
   blocked_is new e t h n = record { tells = (e, λ i. state_from schema capacity (t i) (h i) (n i)); table = ap length t; count = ap length n; runners = subst (RunnersFit schema) (sym n) well.runners }
 
-  pub refused_is : (new : Parts) (n : Runner) → new.table.items ≡ old.table.items → new.history.items ≡ old.history.items → new.runners.items ≡ slice_set old.runners.items (u - 1) n → unit_state_of schema capacity n ≡ unit_state_of schema capacity r → RunnerFits schema n → IsStepped schema capacity u NoMemory old new
+  pub refused_is : WantsMemory (opening_for schema capacity old) (state_of schema capacity old) u → (new : Parts) (n : Runner) → new.table.items ≡ old.table.items → new.history.items ≡ old.history.items → new.runners.items ≡ slice_set old.runners.items (u - 1) n → unit_state_of schema capacity n ≡ unit_state_of schema capacity r → RunnerFits schema n → IsStepped schema capacity u NoMemory old new
   unfolding state_from
-  refused_is new n t h runners e f =
+  refused_is wanting new n t h runners e f =
       let units : map (unit_state_of schema capacity) new.runners.items ≡ map (unit_state_of schema capacity) old.runners.items =
       ap (map (unit_state_of schema capacity)) (runners ∙ unit_written old.runners.items u n numbered) ∙ map_set_same (unit_state_of schema capacity) old.runners.items u r n (unit_there old.runners.items u r numbered at) e in
       record {
-        tells = (before_ticket, λ i. record { location = location_at schema capacity (t i); history = map note_of (h i); counter = length (h i); units = units i });
+        tells = (wanting, λ i. record { location = location_at schema capacity (t i); history = map note_of (h i); counter = length (h i); units = units i });
         table = ap length t;
         count = ap length runners ∙ length_written old.runners.items (u - 1) n;
         runners = subst (RunnersFit schema) (sym runners) (written_fit schema old.runners.items (u - 1) n well.runners f);
@@ -153,10 +160,11 @@ module _ (schema : Lists) (capacity u : ℕ) (old : Parts) (r : Runner) (well : 
         (ap (unit_state_of schema capacity) (all ∙ staged) ∙ (λ i. record { unit = r.unit; guesses = r.held.guesses; script = r.script; remaining = drop r.next r.script; progress = Some (record (stage_of schema capacity r.held w) { areas = area_behind r.held.areas a i }) }))
         (subst (RunnerFits schema) (sym (all ∙ staged)) (staged_fits schema r (record r.held { areas = r.held.areas ++ a ∷ [] }) w (well.runners (u - 1) r at) refl))
 
-    pub area_refused : (new : Parts) (n : Runner) (mid : Hands) → new.table.items ≡ old.table.items → new.history.items ≡ old.history.items → new.runners.items ≡ slice_set old.runners.items (u - 1) n → mid ≡ r.held → n ≡ record r { held = mid } → IsStepped schema capacity u NoMemory old new
-    area_refused new n mid t h runners m is =
+    pub area_refused : (new : Parts) (n : Runner) (mid : Hands) → list_any (holds_against w.exclusive a) (take (u - 1) old.runners.items) || list_any (holds_against w.exclusive a) (drop u old.runners.items) ≡ false → new.table.items ≡ old.table.items → new.history.items ≡ old.history.items → new.runners.items ≡ slice_set old.runners.items (u - 1) n → mid ≡ r.held → n ≡ record r { held = mid } → IsStepped schema capacity u NoMemory old new
+    unfolding takes_area
+    area_refused new n mid e t h runners m is =
         let same : n ≡ r = is ∙ ap (λ (x : Hands). record r { held = x }) m in
-        refused_is new n t h runners (ap (unit_state_of schema capacity) same) (subst (RunnerFits schema) (sym same) (well.runners (u - 1) r at))
+        refused_is (wants _ (area_step false e)) new n t h runners (ap (unit_state_of schema capacity) same) (subst (RunnerFits schema) (sym same) (well.runners (u - 1) r at))
 
   -- a cell
   module _ (c : CellName) (needs : NeedsNext schema capacity old u w (Take c)) (number : ℕ) (is_number : cell_number schema capacity c ≡ Some number) where
@@ -183,8 +191,8 @@ module _ (schema : Lists) (capacity u : ℕ) (old : Parts) (r : Runner) (well : 
         let same : n ≡ r = is ∙ ap (λ (x : Hands). record r { held = x }) m.0.held in
         blocked_is new (cell_step (WithUnit m.1.0) m.1.1) m.0.after_is h (runners ∙ ap (slice_set old.runners.items (u - 1)) same ∙ set_there old.runners.items (u - 1) r at)
     cell_followed new n mid NoMemory m h runners is =
-        let same : n ≡ r = is ∙ ap (λ (x : Hands). record r { held = x }) m.held in
-        refused_is new n m.after_is h runners (ap (unit_state_of schema capacity) same) (subst (RunnerFits schema) (sym same) (well.runners (u - 1) r at))
+        let same : n ≡ r = is ∙ ap (λ (x : Hands). record r { held = x }) m.0.held in
+        refused_is (wants _ (cell_step (AtHome m.1.0) m.1.1)) new n m.0.after_is h runners (ap (unit_state_of schema capacity) same) (subst (RunnerFits schema) (sym same) (well.runners (u - 1) r at))
     cell_followed new n mid Idle m h runners is = absurd m
 
   -- a turn back

@@ -92,9 +92,9 @@ module _ (D : SequentialDatabase) (P : D.Guesses → Type 0) (keeps : KeepsGuess
   step_if_unit_keeps None at = tt
   step_if_unit_keeps (Some state) at = step_of_unit_keeps state at (all.each u state at) state.progress state.remaining refl
 
-  step_keeps : IfMoved D (step D opening s u) (AllGuesses D P)
+  pub step_keeps_guesses : IfMoved D (step D opening s u) (AllGuesses D P)
   unfolding step
-  step_keeps = step_if_unit_keeps (unit_at s.units u) refl
+  step_keeps_guesses = step_if_unit_keeps (unit_at s.units u) refl
 
   quit_unless_ticket_keeps : (state : UnitState D) (w : Progress D) → P state.guesses → (t : Option ℕ) → IfMoved D (quit_unless_ticket D s u state w t) (AllGuesses D P)
   unfolding quit_unless_ticket IfMoved
@@ -111,9 +111,9 @@ module _ (D : SequentialDatabase) (P : D.Guesses → Type 0) (keeps : KeepsGuess
   quit_if_unit_keeps None at = tt
   quit_if_unit_keeps (Some state) at = quit_of_unit_keeps state (all.each u state at) state.progress
 
-  quit_keeps : IfMoved D (quit D s u) (AllGuesses D P)
+  pub quit_keeps_guesses : IfMoved D (quit D s u) (AllGuesses D P)
   unfolding quit
-  quit_keeps = quit_if_unit_keeps (unit_at s.units u) refl
+  quit_keeps_guesses = quit_if_unit_keeps (unit_at s.units u) refl
 
 module _ (D : SequentialDatabase) (laws : IsSequentialDatabase D) (P : D.Guesses → Type 0) (keeps : KeepsGuesses D P) (opening : SequentialState D) where
   after_keeps : (s : State D) (r : Transition D) → AllGuesses D P s → IfMoved D r (AllGuesses D P) → AllGuesses D P (state_after D s r)
@@ -124,8 +124,8 @@ module _ (D : SequentialDatabase) (laws : IsSequentialDatabase D) (P : D.Guesses
 
   move_keeps_guesses : (s : State D) (m : Move) → Lawful D opening s → AllGuesses D P s → AllGuesses D P (state_after D s (transition D opening s m))
   unfolding transition
-  move_keeps_guesses s (Step u) l all = after_keeps s _ all (step_keeps D P keeps opening s l all u)
-  move_keeps_guesses s (Quit u) l all = after_keeps s _ all (quit_keeps D P keeps opening s l all u)
+  move_keeps_guesses s (Step u) l all = after_keeps s _ all (step_keeps_guesses D P keeps opening s l all u)
+  move_keeps_guesses s (Quit u) l all = after_keeps s _ all (quit_keeps_guesses D P keeps opening s l all u)
 
   -- after every list of moves
   pub run_keeps_guesses : (s : State D) (ms : List Move) → Lawful D opening s → AllGuesses D P s → AllGuesses D P (run D opening s ms)

@@ -21,8 +21,6 @@ pub mod Histories
 pub mod NetworkNeeds
 pub mod NameOrder
 pub mod Headlines
-pub mod Serials
-pub mod SerialShown
 pub mod FoundKeys
 pub mod AreasOfCells
 pub mod AreasOfDelete
@@ -43,6 +41,8 @@ pub mod PlacesOfCells
 pub mod EventsShown
 pub mod NeedsShown
 pub mod FollowsShown
+pub mod NeedsRefused
+pub mod NeedsOrdered
 pub mod Makings
 pub mod DrawnShown
 pub mod QuitShown
@@ -53,4 +53,9 @@ pub mod CellsFound
 pub mod RunsShown
 pub mod Alone
 pub mod Audits
+pub mod Wholes
+pub mod SerialShown
 pub mod Work
+pub mod Serials
+pub mod SerialLaw
+pub mod TurnsTaken

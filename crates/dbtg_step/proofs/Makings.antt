@@ -103,7 +103,7 @@ once_shown (c ∷ cs) = λ i. others cs i && once_shown cs i
 -- WHAT IS MADE
 
 module _ (schema : Lists) (capacity : ℕ) where
-  agree_shown : (db : Database) (cs ms : List (CellName × Cell)) → values_of ms ≡ values_of cs → AllAgree schema capacity db cs → AllAgree schema capacity db ms
+  pub agree_shown : (db : Database) (cs ms : List (CellName × Cell)) → values_of ms ≡ values_of cs → AllAgree schema capacity db cs → AllAgree schema capacity db ms
   agree_shown db [] [] e a = tt
   agree_shown db [] (m ∷ ms) e a = absurd (cc (e))
   agree_shown db (c ∷ cs) [] e a = absurd (cc (e))

@@ -3,6 +3,7 @@ use Rattle.std.proofs.Common.{ℕ, zero, suc, ◌≡◌, ◌≢◌, ◌<◌, ◌
 use Rattle.std.specs.Prelude.{is_some, option_map, unwrap_or, if◌then◌else◌, IfOk, Result, Ok, Err}
 use Rattle.std.specs.List.{list_all, list_any, find}
 use Rattle.std.proofs.lemmas.Bool.{and_from}
+use Rattle.std.proofs.lemmas.Option.{slice_get_within}
 use Rattle.dbtg_unit.specs.Legal.{pairwise}
 use Rattle.dbtg_unit.proofs.ReadingCells.{same_name}
 use Rattle.dbtg_step.specs.Lawful.{AreDistinct}
@@ -33,6 +34,7 @@ use Rattle.dbtg_unit.specs.Needs.{areas_in_order, cells_of, guessed_sets, is_sta
 use Rattle.dbtg_schema.specs.Lookups.{at, some_and}
 use Rattle.dbtg_schema.specs.Structure.{set_numbers}
 use Rattle.dbtg_step.specs.declared.parts.Parts.{Parts}
+use Rattle.dbtg_step.specs.declared.parts.Place.TheVariants.{HeldBy as WithUnit}
 use Rattle.dbtg_step.specs.declared.parts.Runner.{Runner}
 use Rattle.dbtg_step.specs.declared.parts.Stage.{Stage}
 use Rattle.dbtg_step.specs.SequentialDatabase.{HeldCell, In, unit_at}
@@ -40,8 +42,9 @@ use Rattle.dbtg_step.specs.Machine.{held_cells, replay}
 use Rattle.dbtg_step.specs.Step.{next_need}
 use Rattle.dbtg_step.specs.Network.{holding, network, next_need_of}
 use Rattle.dbtg_step.specs.Parts.{held_cells_of, held_of, progress_of, state_from, state_of, unit_state_of}
-use Rattle.dbtg_step.specs.Events.{IsNext, IsWell, NeedsNext, owners_fit, opening_for}
+use Rattle.dbtg_step.specs.Events.{HasPlace, HavePlaces, IsNext, IsWell, NeedsNext, owners_fit, opening_for}
 use Rattle.dbtg_step.proofs.EventsShown.{found, slice_in}
+use Rattle.dbtg_step.proofs.PlacesOfCells.{held_is_placed}
 use Rattle.dbtg_step.proofs.UnitFacts.{unit_found}
 
 -- LISTS IN REVERSE
@@ -66,21 +69,21 @@ pub any_mapped : {X Y : Type 0} (p : Y → Bool) (f : X → Y) (xs : List X) →
 any_mapped p f [] = refl
 any_mapped p f (x ∷ xs) = ap (λ b. p (f x) || b) (any_mapped p f xs)
 
-in_front_of : {X : Type 0} (x : X) (xs ys : List X) → In x xs → In x (xs ++ ys)
+pub in_front_of : {X : Type 0} (x : X) (xs ys : List X) → In x xs → In x (xs ++ ys)
 in_front_of x [] ys i = absurd i
 in_front_of x (y ∷ xs) ys (inl e) = inl e
 in_front_of x (y ∷ xs) ys (inr i) = inr (in_front_of x xs ys i)
 
-in_back : {X : Type 0} (x : X) (xs : List X) → In x (xs ++ x ∷ [])
+pub in_back : {X : Type 0} (x : X) (xs : List X) → In x (xs ++ x ∷ [])
 in_back x [] = inl refl
 in_back x (y ∷ xs) = inr (in_back x xs)
 
-in_reverse : {X : Type 0} (x : X) (xs : List X) → In x xs → In x (reverse xs)
+pub in_reverse : {X : Type 0} (x : X) (xs : List X) → In x xs → In x (reverse xs)
 in_reverse x [] i = absurd i
 in_reverse {X} x (y ∷ xs) (inl e) = subst (λ (z : List X). In x z) (sym (reverse-append (y ∷ []) xs)) (subst (λ (z : X). In x (reverse xs ++ z ∷ [])) e (in_back x (reverse xs)))
 in_reverse {X} x (y ∷ xs) (inr i) = subst (λ (z : List X). In x z) (sym (reverse-append (y ∷ []) xs)) (in_front_of x (reverse xs) (y ∷ []) (in_reverse x xs i))
 
-in_mapped : {X Y : Type 0} (f : X → Y) (x : X) (xs : List X) → In x xs → In (f x) (map f xs)
+pub in_mapped : {X Y : Type 0} (f : X → Y) (x : X) (xs : List X) → In x xs → In (f x) (map f xs)
 in_mapped f x [] i = absurd i
 in_mapped f x (y ∷ xs) (inl e) = inl (ap f e)
 in_mapped f x (y ∷ xs) (inr i) = inr (in_mapped f x xs i)
@@ -164,7 +167,7 @@ module _ (schema : Lists) (capacity : ℕ) where
 
 -- THE UNIT IN A LAWFUL STATE
 
-agree_each : (schema : Lists) (capacity : ℕ) (db : Database) (cells : List (CellName × Cell)) → ((e : CellName × Cell) → In e cells → shown e.1 ≡ cell schema capacity db e.0) → AllAgree schema capacity db cells
+pub agree_each : (schema : Lists) (capacity : ℕ) (db : Database) (cells : List (CellName × Cell)) → ((e : CellName × Cell) → In e cells → shown e.1 ≡ cell schema capacity db e.0) → AllAgree schema capacity db cells
 agree_each schema capacity db [] h = tt
 agree_each schema capacity db (e ∷ es) h = (h e (inl refl), agree_each schema capacity db es (λ f i. h f (inr i)))
 
@@ -206,6 +209,19 @@ module _ (schema : Lists) (capacity u : ℕ) (parts : Parts) (r : Runner) (well 
       by : (o : Option Stage) → r.stage ≡ o → pairwise (λ (e f : CellName × Cell). not (name_eq e.0 f.0)) r.held.cells ≡ true
       by None e = ap (pairwise (λ (e f : CellName × Cell). not (name_eq e.0 f.0))) ((well.runners (u - 1) r there).settled e).1
       by (Some w) e = once_of_distinct schema capacity r.held.cells (subst (λ o. AreDistinct (network schema capacity) (held_cells (network schema capacity) (progress_of schema capacity r.held o))) e (well.lawful.each u (unit_state_of schema capacity r) (found schema capacity u parts r well numbered there)).holding.distinct)
+
+  -- the table has a place for each cell in hand
+  pub have_places : HavePlaces schema capacity r.held.cells parts.table.items
+  unfolding held_cells state_from
+  have_places f i = by r.stage refl
+    where
+      by : (o : Option Stage) → r.stage ≡ o → HasPlace schema capacity f.0 parts.table.items
+      by None e = absurd (subst (In f) ((well.runners (u - 1) r there).settled e).1 i)
+      by (Some w) e =
+          let held = (well.lawful.each u (unit_state_of schema capacity r) (found schema capacity u parts r well numbered there)).holding.held (held_of f)
+          (subst (λ o. In (held_of f) (held_cells (network schema capacity) (progress_of schema capacity r.held o))) (sym e) (in_reverse (held_of f) (map held_of r.held.cells) (in_mapped held_of f r.held.cells i))) in
+          let placed = held_is_placed schema capacity parts.table.items f.0 u held in
+          record { number = placed.number; is = placed.is; within = slice_get_within parts.table.items placed.number (WithUnit u) placed.there }
 
   pub statement_fits : (x : Statement) → slice_get r.script r.next ≡ Some x → fits schema x ≡ true
   unfolding state_from

@@ -1,23 +1,26 @@
 -- The core before its first step is the machine before its scripts.
 use Rattle.std.proofs.Common.{ℕ, zero, suc, ◌≡◌, ◌+◌, Bool, true, false, ◌&&◌, List, [], ◌∷◌, ◌++◌, Option, Some, None, map, length, replicate, slice_get, refl, sym, ap, ◌∙◌, subst, arith, append_assoc}
 use Rattle.std.specs.Prelude.{is_some, option_map, if◌then◌else◌}
-use Rattle.std.specs.List.{flat_map, range_with_len}
-use Rattle.std.proofs.lemmas.List.{length-append, length-map, map-append}
-use Rattle.std.proofs.lemmas.List.FromFn.{map-range_with_len_more}
+use Rattle.std.specs.List.{range_with_len}
+use Rattle.std.proofs.lemmas.List.{length-append, length-map}
 use Rattle.std.proofs.lemmas.Option.{slice_get-map}
 use Rattle.dbtg_schema.specs.Lists.{Lists}
 use Rattle.dbtg_schema.specs.Sound.{IsSound}
 use Rattle.dbtg_schema.specs.Structure.{is_system}
+use Rattle.dbtg_cells.specs.declared.cell.Cell.{Cell}
 use Rattle.dbtg_cells.specs.declared.extent.Number.{Number}
 use Rattle.dbtg_cells.specs.declared.key.Owner.{Owner}
 use Rattle.dbtg_cells.specs.declared.key.Owner.TheVariants.{System, Rec}
 use Rattle.dbtg_cells.specs.declared.name.CellName.{CellName}
 use Rattle.dbtg_cells.specs.declared.name.CellName.TheVariants.{Usage, Extent, Ring, Slot}
+use Rattle.dbtg_cells.specs.Cells.{shown}
 use Rattle.dbtg_cells.specs.Shown.{CellValue, UsageValue, ExtentValue, RingValue, SlotValue}
+use Rattle.dbtg_cells.specs.Names.{name_lt}
 use Rattle.dbtg_cells.specs.CellNumbers.{cell_count, cell_number, cells_in_order}
 use Rattle.dbtg_unit.specs.declared.statement.Statement.{Statement}
 use Rattle.dbtg_unit.specs.Base.{opening}
 use Rattle.dbtg_unit.specs.Cells.{cell, number_of, ring_of}
+use Rattle.dbtg_unit.specs.Local.{AllAgree}
 use Rattle.dbtg_step.specs.declared.parts.Parts.{Parts}
 use Rattle.dbtg_step.specs.declared.parts.Place.{Place}
 use Rattle.dbtg_step.specs.declared.parts.Runner.{Runner}
@@ -26,11 +29,16 @@ use Rattle.dbtg_step.specs.Network.{network}
 use Rattle.dbtg_step.specs.Headline.{machine_of, opening_of, units_from}
 use Rattle.dbtg_step.specs.Laws.{scripts_fit}
 use Rattle.dbtg_step.specs.Lawful.{Lawful}
+use Rattle.dbtg_step.specs.NeverStuck.{AllInTurn}
 use Rattle.dbtg_step.specs.Parts.{core_of, found_location, location_at, location_in, location_of, note_of, state_from, state_of, unit_state_of}
-use Rattle.dbtg_step.specs.Events.{IsWell, RunnerFits, RunnersFit}
-use Rattle.dbtg_step.specs.Openings.{homes_of, locations_of, opening_runner, runners_from}
+use Rattle.dbtg_step.specs.Events.{HaveRings, IsWell, RunnerFits, RunnersFit}
+use Rattle.dbtg_step.specs.Openings.{homes_of, homes_shown, locations_of, opening_runner, runners_from}
 use Rattle.dbtg_step.proofs.Headlines.{machine_is_opening}
-use Rattle.dbtg_step.proofs.NetworkFacts.{network_is_sequential}
+use Rattle.dbtg_step.proofs.EveryRun.{start_in_turn}
+use Rattle.dbtg_step.proofs.GuessesKept.{AllGuesses}
+use Rattle.dbtg_step.proofs.NameOrder.{names_are_ordered}
+use Rattle.dbtg_step.proofs.NeededCellsExist.{opening_has_rings}
+use Rattle.dbtg_step.proofs.NetworkFacts.{needs_in_order, network_is_sequential}
 use Rattle.dbtg_step.proofs.Opening.{opening_is_lawful}
 use Rattle.dbtg_step.proofs.PlacesOfCells.{stands_at}
 use Rattle.dbtg_unit.proofs.LegalHistory.{opening_is_legal}
@@ -88,51 +96,22 @@ module _ (schema : Lists) (capacity : ℕ) where
   unfolding cell
   slot_opens t n = refl
 
-  -- ONE CELL MORE, ONE PART MORE
+  -- THE CELLS
 
-  pub home_more : (before locs after : List (Location CellValue)) (names : ℕ → CellName) (a i : ℕ) (c : CellName) → locs ≡ before ++ homes_of schema capacity (map names (range_with_len a i)) → after ≡ locs ++ homes_of schema capacity (c ∷ []) → c ≡ names (a + i) →
-      after ≡ before ++ homes_of schema capacity (map names (range_with_len a (i + 1)))
-  home_more before locs after names a i c e f q =
-      f ∙ ap (λ l. l ++ homes_of schema capacity (c ∷ [])) e
-      ∙ append_assoc before (homes_of schema capacity (map names (range_with_len a i))) (homes_of schema capacity (c ∷ []))
-      ∙ ap (λ l. before ++ l) (sym (map-append (λ d. Home (cell schema capacity (opening schema) d)) (map names (range_with_len a i)) (c ∷ []))
-      ∙ ap (homes_of schema capacity) (ap (λ d. map names (range_with_len a i) ++ d ∷ []) q ∙ sym (map-range_with_len_more names a i (a + i) refl)))
+  -- one cell more is made
+  pub home_made : (homes : List (Location CellValue)) (x : Cell) (c : CellName) (left all : List CellName) → shown x ≡ cell schema capacity (opening schema) c → homes ++ homes_of schema capacity (c ∷ left) ≡ homes_of schema capacity all
+      → (homes ++ homes_shown (x ∷ [])) ++ homes_of schema capacity left ≡ homes_of schema capacity all
+  home_made homes x c left all e h = append_assoc homes (homes_shown (x ∷ [])) (homes_of schema capacity left) ∙ (λ i. homes ++ Home (e i) ∷ homes_of schema capacity left) ∙ h
 
-  parts_more : (f : ℕ → List CellName) (a i : ℕ) → flat_map f (range_with_len a (i + 1)) ≡ flat_map f (range_with_len a i) ++ f (a + i)
-  parts_more f a zero = empty_end (f a) ∙ ap f (let e : a ≡ a + 0 = omega arith in e)
-    where
-      empty_end : (xs : List CellName) → xs ++ [] ≡ xs
-      empty_end [] = refl
-      empty_end (x ∷ xs) = ap (λ ys. x ∷ ys) (empty_end xs)
-  parts_more f a (suc i) =
-      let more : suc i + 1 ≡ suc (i + 1) = omega arith in
-      let place : (a + 1) + i ≡ a + suc i = omega arith in
-      ap (λ m. flat_map f (range_with_len a m)) more
-      ∙ ap (λ l. f a ++ l) (parts_more f (a + 1) i ∙ ap (λ m. flat_map f (range_with_len (a + 1) i) ++ f m) place)
-      ∙ sym (append_assoc (f a) (flat_map f (range_with_len (a + 1) i)) (f (a + suc i)))
+  -- one cell more is in hand
+  pub agree_more : (cells : List (CellName × Cell)) (c : CellName) (x : Cell) → shown x ≡ cell schema capacity (opening schema) c → AllAgree schema capacity (opening schema) cells → AllAgree schema capacity (opening schema) (cells ++ (c, x) ∷ [])
+  agree_more [] c x e a = (e, tt)
+  agree_more (d ∷ cells) c x e a = (a.0, agree_more cells c x e a.1)
 
-  pub part_more : (before locs after : List (Location CellValue)) (f : ℕ → List CellName) (i : ℕ) → locs ≡ before ++ homes_of schema capacity (flat_map f (range_with_len 0 i)) → after ≡ locs ++ homes_of schema capacity (f i) →
-      after ≡ before ++ homes_of schema capacity (flat_map f (range_with_len 0 (i + 1)))
-  part_more before locs after f i e g =
-      let place : 0 + i ≡ i = omega arith in
-      g ∙ ap (λ l. l ++ homes_of schema capacity (f i)) e
-      ∙ append_assoc before (homes_of schema capacity (flat_map f (range_with_len 0 i))) (homes_of schema capacity (f i))
-      ∙ ap (λ l. before ++ l) (sym (map-append (λ d. Home (cell schema capacity (opening schema) d)) (flat_map f (range_with_len 0 i)) (f i))
-      ∙ ap (homes_of schema capacity) (sym (parts_more f 0 i ∙ ap (λ m. flat_map f (range_with_len 0 i) ++ f m) place)))
-
-  pub nothing_more : (locs : List (Location CellValue)) → locs ≡ locs ++ homes_of schema capacity []
-  nothing_more [] = refl
-  nothing_more (x ∷ xs) = ap (λ ys. x ∷ ys) (nothing_more xs)
-
-  -- the four kinds one after another
-  pub all_homes : (usages extents rings slots : List CellName) (a b c d : List (Location CellValue)) → a ≡ [] ++ homes_of schema capacity usages → b ≡ a ++ homes_of schema capacity extents → c ≡ b ++ homes_of schema capacity rings → d ≡ c ++ homes_of schema capacity slots →
-      d ≡ homes_of schema capacity (usages ++ (extents ++ (rings ++ slots)))
-  all_homes usages extents rings slots a b c d e f g h =
-      let at = λ (c : CellName). Home (cell schema capacity (opening schema) c) in
-      let two : b ≡ homes_of schema capacity (usages ++ extents) = f ∙ ap (λ l. l ++ homes_of schema capacity extents) e ∙ sym (map-append at usages extents) in
-      let three : c ≡ homes_of schema capacity ((usages ++ extents) ++ rings) = g ∙ ap (λ l. l ++ homes_of schema capacity rings) two ∙ sym (map-append at (usages ++ extents) rings) in
-      h ∙ ap (λ l. l ++ homes_of schema capacity slots) three ∙ sym (map-append at ((usages ++ extents) ++ rings) slots)
-      ∙ ap (homes_of schema capacity) (append_assoc (usages ++ extents) rings slots ∙ append_assoc usages extents (rings ++ slots))
+  -- the four kinds of names one after another
+  pub all_names : (usages extents rings slots a b c d : List CellName) → a ≡ [] ++ usages → b ≡ a ++ extents → c ≡ b ++ rings → d ≡ c ++ slots → d ≡ usages ++ (extents ++ (rings ++ slots))
+  all_names usages extents rings slots a b c d e f g h =
+      h ∙ (λ i. (g ∙ (λ j. (f ∙ (λ k. e k ++ extents)) j ++ rings)) i ++ slots) ∙ append_assoc (usages ++ extents) rings slots ∙ append_assoc usages extents (rings ++ slots)
 
   -- THE OPENING STATE
 
@@ -185,12 +164,17 @@ module _ (schema : Lists) (capacity : ℕ) where
     pub opens_well : IsSound schema → scripts_fit schema scripts ≡ true → IsWell schema capacity parts
     opens_well sound fit =
         let facts = network_is_sequential schema capacity sound in
-        let lawful = opening_is_lawful (network schema capacity) facts (opening_of schema capacity (length scripts)) (machine_of schema capacity scripts) (machine_is_opening schema capacity scripts (opening_is_legal schema capacity (length scripts)) fit) in
+        let is_opening = machine_is_opening schema capacity scripts (opening_is_legal schema capacity (length scripts)) fit in
+        let lawful = opening_is_lawful (network schema capacity) facts (opening_of schema capacity (length scripts)) (machine_of schema capacity scripts) is_opening in
+        let in_turn = start_in_turn (network schema capacity) facts (opening_of schema capacity (length scripts)) name_lt names_are_ordered (needs_in_order schema capacity sound) (machine_of schema capacity scripts) is_opening in
+        let guessed = subst (AllGuesses (network schema capacity) (HaveRings schema capacity)) (sym opens_state) (opening_has_rings schema capacity scripts) in
         record {
           sound = sound;
           table = table_count parts.table.items table;
           runners = subst (RunnersFit schema) (sym runners) (runners_fit 1 scripts);
           lawful = subst (λ n. Lawful (network schema capacity) (opening_of schema capacity n) (state_of schema capacity parts)) (sym count) (subst (Lawful (network schema capacity) (opening_of schema capacity (length scripts))) (sym opens_state) lawful);
+          in_turn = subst (AllInTurn (network schema capacity) name_lt) (sym opens_state) in_turn;
+          guesses = guessed.each;
         }
 
 -- one unit more stands before its script

@@ -6,6 +6,7 @@ use Rattle.dbtg_schema.specs.Lists.{Lists}
 use Rattle.dbtg_cells.specs.declared.cell.Cell.{Cell}
 use Rattle.dbtg_cells.specs.declared.name.CellName.{CellName}
 use Rattle.dbtg_cells.specs.Cells.{shown}
+use Rattle.dbtg_cells.specs.Names.{name_lt}
 use Rattle.dbtg_cells.specs.Shown.{CellValue}
 use Rattle.dbtg_unit.specs.declared.unit.Entry.{Entry}
 use Rattle.dbtg_unit.specs.Hands.{Hands}
@@ -19,14 +20,22 @@ use Rattle.dbtg_step.specs.SequentialDatabase.{HeldCell, In, unit_at}
 use Rattle.dbtg_step.specs.Machine.{Location, Home, HeldBy, UnitState, all_home, held_cells}
 use Rattle.dbtg_step.specs.Step.{IfMoved, IsIdle, MovedTo, quit, quit_if_unit, quit_of_unit, quit_unless_ticket}
 use Rattle.dbtg_step.specs.Lawful.{AreDistinct, Lawful}
+use Rattle.dbtg_step.specs.NeverStuck.{AllInTurn}
 use Rattle.dbtg_step.specs.Network.{network}
 use Rattle.dbtg_step.specs.Headline.{opening_of}
 use Rattle.dbtg_step.specs.Parts.{core_of, held_cells_of, held_of, location_at, progress_of, stage_of, state_from, state_of, unit_state_of, with_state, written_home, written_homes}
-use Rattle.dbtg_step.specs.Events.{IsQuit, IsStepped, IsWell, RunnerFits, RunnersFit, StandsUnticketed, opening_for}
-use Rattle.dbtg_step.specs.CoreSteps.{IsQuitStep, IsStep}
+use Rattle.dbtg_step.specs.Events.{HavePlaces, HaveRings, IsQuit, IsStepped, IsWell, RunnerFits, RunnersFit, StandsUnticketed, opening_for}
+use Rattle.dbtg_step.specs.CoreSteps.{IsNeverStuck, IsQuitStep, IsStep}
 use Rattle.dbtg_step.proofs.EventsShown.{found, no_unit, unit_written, written_fit}
 use Rattle.dbtg_step.proofs.Keeps.{quit_keeps, step_keeps}
-use Rattle.dbtg_step.proofs.NetworkFacts.{network_is_sequential}
+use Rattle.dbtg_step.proofs.GuessesKept.{AllGuesses, quit_keeps_guesses, step_keeps_guesses}
+use Rattle.dbtg_step.proofs.NameOrder.{names_are_ordered}
+use Rattle.dbtg_step.proofs.NeededCellsExist.{statements_keep_rings}
+use Rattle.dbtg_step.proofs.NeedsShown.{in_front_of}
+use Rattle.dbtg_step.proofs.NetworkFacts.{needs_in_order, network_is_sequential}
+use Rattle.dbtg_step.proofs.Ordered.{ordered}
+use Rattle.dbtg_step.proofs.Turns.{quit_in_turn, step_in_turn}
+use Rattle.dbtg_step.proofs.Waiting.{never_stuck}
 use Rattle.dbtg_step.proofs.NetworkNeeds.{network_names_cells}
 use Rattle.dbtg_step.proofs.PlacesOfCells.{length_home, length_written, updated_is, written_home_is}
 use Rattle.dbtg_step.proofs.UnitLists.{relocated_elsewhere}
@@ -51,6 +60,12 @@ module _ (schema : Lists) (capacity : ℕ) where
       homes_are u es (written_home schema capacity e.0 e.1 table) d.1
       (λ g i. ap (λ (l : CellName → Location CellValue). l g.name) first ∙ relocated_elsewhere (network schema capacity) (network_names_cells schema capacity) (location_at schema capacity table) e.0 g.name (Home (shown e.1)) (d.0 g i) ∙ h g (inr i))
       ∙ ap (λ l. all_home (network schema capacity) l (map held_of es)) first
+
+-- and the table has a place for each of the others
+pub places_left : (schema : Lists) (capacity : ℕ) (old new : List (CellName × Cell)) (e : CellName × Cell) (table after : List Place) → old ≡ new ++ e ∷ [] → after ≡ written_home schema capacity e.0 e.1 table → HavePlaces schema capacity old table → HavePlaces schema capacity new after
+places_left schema capacity old new e table after q h places f i =
+    let p = places f (subst (In f) (sym q) (in_front_of f new (e ∷ []) i)) in
+    record { number = p.number; is = p.is; within = subst (λ n. p.number < n) (sym (ap length h ∙ length_home schema capacity table e.0 e.1)) p.within }
 
 map_reversed : (es : List (CellName × Cell)) → map held_of (reverse es) ≡ held_cells_of es
 map_reversed [] = refl
@@ -122,17 +137,25 @@ module _ (schema : Lists) (capacity u : ℕ) (old : Parts) (well : IsWell schema
 
 -- WHAT THE CORE KEEPS
 
+guessed : (schema : Lists) (capacity : ℕ) (parts : Parts) → IsWell schema capacity parts → AllGuesses (network schema capacity) (HaveRings schema capacity) (state_of schema capacity parts)
+guessed schema capacity parts well = record { each = well.guesses }
+
 module _ (schema : Lists) (capacity u : ℕ) (old new : Parts) (well : IsWell schema capacity old) (count : length new.runners.items ≡ length old.runners.items) (table : length new.table.items ≡ length old.table.items) (runners : RunnersFit schema new.runners.items) where
-  kept : Lawful (network schema capacity) (opening_for schema capacity old) (state_of schema capacity new) → IsWell schema capacity new
-  kept l = record {
+  kept : Lawful (network schema capacity) (opening_for schema capacity old) (state_of schema capacity new) → AllInTurn (network schema capacity) name_lt (state_of schema capacity new) → AllGuesses (network schema capacity) (HaveRings schema capacity) (state_of schema capacity new) → IsWell schema capacity new
+  kept l o g = record {
     sound = well.sound;
     table = table ∙ well.table;
     runners = runners;
     lawful = subst (λ m. Lawful (network schema capacity) (opening_of schema capacity m) (state_of schema capacity new)) (sym count) l;
+    in_turn = o;
+    guesses = g.each;
   }
 
   stayed : state_of schema capacity new ≡ state_of schema capacity old → IsWell schema capacity new
-  stayed e = kept (subst (Lawful (network schema capacity) (opening_for schema capacity old)) (sym e) well.lawful)
+  stayed e =
+      kept (subst (Lawful (network schema capacity) (opening_for schema capacity old)) (sym e) well.lawful)
+      (subst (AllInTurn (network schema capacity) name_lt) (sym e) well.in_turn)
+      (subst (AllGuesses (network schema capacity) (HaveRings schema capacity)) (sym e) (guessed schema capacity old well))
 
   moved_on : core_of schema capacity new ≡ with_state (core_of schema capacity old) (state_of schema capacity new)
   moved_on = λ i. record { schema = schema; capacity = capacity; opening = opening_of schema capacity (count i); state = state_of schema capacity new }
@@ -143,7 +166,11 @@ module _ (schema : Lists) (capacity u : ℕ) (old new : Parts) (well : IsWell sc
 module _ (schema : Lists) (capacity u : ℕ) (old new : Parts) (well : IsWell schema capacity old) where
   pub stepped_well : (result : Stepped) → IsStepped schema capacity u result old new → IsWell schema capacity new
   unfolding IfMoved
-  stepped_well Moved s = kept schema capacity u old new well s.count s.table s.runners (subst (λ t. IfMoved (network schema capacity) t (Lawful (network schema capacity) (opening_for schema capacity old))) s.tells (step_keeps (network schema capacity) (network_is_sequential schema capacity well.sound) (opening_for schema capacity old) (state_of schema capacity old) well.lawful u))
+  stepped_well Moved s =
+      kept schema capacity u old new well s.count s.table s.runners
+      (subst (λ t. IfMoved (network schema capacity) t (Lawful (network schema capacity) (opening_for schema capacity old))) s.tells (step_keeps (network schema capacity) (network_is_sequential schema capacity well.sound) (opening_for schema capacity old) (state_of schema capacity old) well.lawful u))
+      (subst (λ t. IfMoved (network schema capacity) t (AllInTurn (network schema capacity) name_lt)) s.tells (step_in_turn (network schema capacity) name_lt (needs_in_order schema capacity well.sound) (opening_for schema capacity old) (state_of schema capacity old) well.lawful well.in_turn u))
+      (subst (λ t. IfMoved (network schema capacity) t (AllGuesses (network schema capacity) (HaveRings schema capacity))) s.tells (step_keeps_guesses (network schema capacity) (HaveRings schema capacity) (statements_keep_rings schema capacity well.sound) (opening_for schema capacity old) (state_of schema capacity old) well.lawful (guessed schema capacity old well) u))
   stepped_well Blocked s = stayed schema capacity u old new well s.count s.table s.runners s.tells.1
   stepped_well Idle s = stayed schema capacity u old new well s.count s.table s.runners s.tells.1
   stepped_well NoMemory s = stayed schema capacity u old new well s.count s.table s.runners s.tells.1
@@ -156,7 +183,11 @@ module _ (schema : Lists) (capacity u : ℕ) (old new : Parts) (well : IsWell sc
 
   pub quit_well : (result : Stepped) → IsQuit schema capacity u result old new → IsWell schema capacity new
   unfolding IfMoved
-  quit_well Moved s = kept schema capacity u old new well s.count s.table s.runners (subst (λ t. IfMoved (network schema capacity) t (Lawful (network schema capacity) (opening_for schema capacity old))) s.tells (quit_keeps (network schema capacity) (network_is_sequential schema capacity well.sound) (opening_for schema capacity old) (state_of schema capacity old) well.lawful u))
+  quit_well Moved s =
+      kept schema capacity u old new well s.count s.table s.runners
+      (subst (λ t. IfMoved (network schema capacity) t (Lawful (network schema capacity) (opening_for schema capacity old))) s.tells (quit_keeps (network schema capacity) (network_is_sequential schema capacity well.sound) (opening_for schema capacity old) (state_of schema capacity old) well.lawful u))
+      (subst (λ t. IfMoved (network schema capacity) t (AllInTurn (network schema capacity) name_lt)) s.tells (quit_in_turn (network schema capacity) name_lt (needs_in_order schema capacity well.sound) (opening_for schema capacity old) (state_of schema capacity old) well.lawful well.in_turn u))
+      (subst (λ t. IfMoved (network schema capacity) t (AllGuesses (network schema capacity) (HaveRings schema capacity))) s.tells (quit_keeps_guesses (network schema capacity) (HaveRings schema capacity) (statements_keep_rings schema capacity well.sound) (opening_for schema capacity old) (state_of schema capacity old) well.lawful (guessed schema capacity old well) u))
   quit_well Blocked s = absurd s.tells
   quit_well Idle s = stayed schema capacity u old new well s.count s.table s.runners s.tells.1
   quit_well NoMemory s = absurd s.tells
@@ -166,6 +197,13 @@ module _ (schema : Lists) (capacity u : ℕ) (old new : Parts) (well : IsWell sc
   core_quit Blocked s = absurd s.tells
   core_quit Idle s = (s.tells.0, same_core schema capacity u old new well s.count s.table s.runners s.tells.1)
   core_quit NoMemory s = absurd s.tells
+
+-- a core never gets stuck
+pub never_stuck_well : (schema : Lists) (capacity : ℕ) (parts : Parts) → IsWell schema capacity parts → IsNeverStuck (core_of schema capacity parts)
+never_stuck_well schema capacity parts well =
+    let facts = network_is_sequential schema capacity well.sound in
+    let order = ordered (network schema capacity) facts name_lt (needs_in_order schema capacity well.sound) (opening_for schema capacity parts) (state_of schema capacity parts) well.lawful well.in_turn in
+    never_stuck (network schema capacity) facts (opening_for schema capacity parts) name_lt names_are_ordered (state_of schema capacity parts) well.lawful order
 
 -- the units that the core shows
 pub unit_shown : (schema : Lists) (capacity u : ℕ) (table : List Place) (history : List Entry) (runners : List Runner) → option_map (λ (x : Runner). x.unit) (unit_at runners u) ≡ option_map (λ (x : UnitState (network schema capacity)). x.unit) (unit_at (state_from schema capacity table history runners).units u)

@@ -25,3 +25,14 @@ flat_pushed f a n j at before old new e g =
 pub map_pushed : {X : Type 0} (f : ℕ → X) (a n j : ℕ) → a + n ≡ j → (x : X) (old new : List X) → old ≡ map f (range_with_len a n) → new ≡ old ++ x ∷ [] → x ≡ f j → new ≡ map f (range_with_len a (n + 1))
 map_pushed f a n j at x old new e g is =
     g ∙ (λ i. e i ++ is i ∷ []) ∙ sym (ap (map f) (range_push a n j at) ∙ map-append f (range_with_len a n) (j ∷ []))
+
+-- one more element, behind what was there
+pub map_pushed_behind : {X : Type 0} (f : ℕ → X) (a n j : ℕ) → a + n ≡ j → (x : X) (before old new : List X) → old ≡ before ++ map f (range_with_len a n) → new ≡ old ++ x ∷ [] → x ≡ f j → new ≡ before ++ map f (range_with_len a (n + 1))
+map_pushed_behind f a n j at x before old new e g is =
+    g ∙ (λ i. e i ++ is i ∷ []) ∙ append_assoc before (map f (range_with_len a n)) (f j ∷ [])
+    ∙ ap (λ xs. before ++ xs) (sym (ap (map f) (range_push a n j at) ∙ map-append f (range_with_len a n) (j ∷ [])))
+
+-- one more number
+pub range_pushed_behind : (n j : ℕ) → n ≡ j → (before old new : List ℕ) → old ≡ before ++ range_with_len 0 n → new ≡ old ++ j ∷ [] → new ≡ before ++ range_with_len 0 (n + 1)
+range_pushed_behind n j at before old new e g =
+    g ∙ ap (λ xs. xs ++ j ∷ []) e ∙ append_assoc before (range_with_len 0 n) (j ∷ []) ∙ ap (λ xs. before ++ xs) (sym (range_push 0 n j (omega (arith, at))))

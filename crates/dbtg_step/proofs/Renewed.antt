@@ -1,8 +1,8 @@
 -- A unit's script and guesses are free, and a ticket may be forgotten: what a lawful state keeps where they change.
-use Rattle.std.proofs.Common.{ℕ, zero, suc, ◌≡◌, ◌≢◌, Bool, false, List, [], ◌∷◌, ◌++◌, length, Option, Some, None, ◌⊎◌, inl, inr, refl, sym, ap, ◌∙◌, subst, length-set}
+use Rattle.std.proofs.Common.{ℕ, zero, suc, ◌≡◌, ◌≢◌, Bool, false, List, [], ◌∷◌, ◌++◌, length, Some, None, ◌⊎◌, inl, inr, refl, sym, ap, ◌∙◌, subst, length-set}
 use Rattle.std.proofs.lemmas.Bool.Decides.{eqb_tells}
 use Rattle.dbtg_step.specs.SequentialDatabase.{HeldCell, SequentialDatabase, IsSequentialDatabase, In, NeedsNothing, unit_at, with_unit_at}
-use Rattle.dbtg_step.specs.Machine.{Location, HeldBy, Progress, UnitState, HistoryEntry, State, SequentialState, replay, statements_of, held_cells, held_areas, holds_exclusively, ticket_of, unless_over}
+use Rattle.dbtg_step.specs.Machine.{HeldBy, Progress, UnitState, State, SequentialState, replay, statements_of, held_cells, held_areas, holds_exclusively, ticket_of, unless_over}
 use Rattle.dbtg_step.specs.Step.{updated, with_ticket, due_cells, next_need}
 use Rattle.dbtg_step.specs.Lawful.{Holding, UnitLawful, AreasShared, HoldsCell, IsHolder, Lawful, AreDistinct}
 use Rattle.dbtg_step.proofs.UnitLists.{set_found, set_at, set_elsewhere, map_set_same}

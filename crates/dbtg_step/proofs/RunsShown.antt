@@ -25,12 +25,9 @@ use Rattle.dbtg_step.specs.Headline.{IsSequential, RunIs, entry_of, machine_afte
 use Rattle.dbtg_step.specs.Parts.{CoreParts, CoreState, machine, note_of, state_from, unit_state_of, with_state}
 use Rattle.dbtg_step.specs.CoreSteps.{IsQuitStep, IsStep, after_move, result_of_move, transition_of}
 use Rattle.dbtg_step.specs.Runs.{IsHandedOut, after_moves, results_of_moves}
-use Rattle.dbtg_step.specs.SerialSteps.{serial_from}
-use Rattle.dbtg_step.specs.Serial.{SerialRunIs, machine_after_scripts, serial_limit}
 use Rattle.dbtg_step.specs.Laws.{scripts_fit}
 use Rattle.dbtg_step.proofs.Headlines.{run_is_sequential}
 use Rattle.dbtg_step.proofs.NetworkFacts.{network_is_sequential}
-use Rattle.dbtg_step.proofs.Serials.{serial_reached}
 
 -- ONE MOVE
 
@@ -154,20 +151,3 @@ run_handed schema capacity scripts moves opened moved stepped given sound fit fi
       history_is = history_handed schema capacity scripts moved _ last law stepped given handed;
       sequential = handed_sequential schema capacity scripts moved _ last law stepped given handed;
     }
-
--- and a serial run, which is a run of some moves
-pub serial_handed : (schema : Lists) (capacity : ℕ) (scripts : List (List Statement)) (opened moved : CoreParts) (stepped : List Stepped) (given : Run) → IsSound schema → scripts_fit schema scripts ≡ true
-    → machine opened ≡ record { schema = schema; capacity = capacity; opening = opening_of schema capacity (length scripts); state = machine_of schema capacity scripts }
-    → machine moved ≡ serial_from (machine opened) (length scripts) 1 serial_limit → stepped ≡ [] → IsHandedOut moved stepped given → SerialRunIs schema capacity scripts given
-unfolding machine_after machine_after_scripts
-serial_handed schema capacity scripts opened moved stepped given sound fit first then empty handed =
-    let reached = serial_reached (network schema capacity) (opening_of schema capacity (length scripts)) (length scripts) 1 serial_limit (machine_of schema capacity scripts) in
-    let law = run_is_sequential schema capacity scripts (opening_is_legal schema capacity (length scripts)) fit (network_is_sequential schema capacity sound) reached.0 in
-    let last = then ∙ ap (λ c. serial_from c (length scripts) 1 serial_limit) first in
-    let law = subst (λ s. IsSequential schema capacity scripts (map entry_of s.history) (image_of schema capacity (replay (network schema capacity) (opening_of schema capacity (length scripts)) s.history).database) (map (λ (x : UnitState (network schema capacity)). x.unit) s.units)) (sym reached.1) law in (
-      handed.results_are ∙ empty,
-      record {
-        history_is = history_handed schema capacity scripts moved _ last law stepped given handed;
-        sequential = handed_sequential schema capacity scripts moved _ last law stepped given handed;
-      },
-    )

@@ -1,126 +1,110 @@
--- A step more, and a unit more, of a serial run.
-use Rattle.std.proofs.Common.{ℕ, zero, suc, ◌≡◌, ◌≤◌, ◌+◌, ◌-◌, refl, sym, ap, subst, ◌∙◌, arith}
-use Rattle.dbtg_unit.specs.declared.moves.Stepped.TheVariants.{Moved, Blocked, Idle, NoMemory}
-use Rattle.dbtg_step.specs.SequentialDatabase.{SequentialDatabase}
-use Rattle.dbtg_step.specs.Machine.{State, SequentialState}
-use Rattle.dbtg_step.specs.Network.{network}
-use Rattle.dbtg_step.specs.Step.{IsBlocked, IsIdle, Transition}
-use Rattle.dbtg_step.specs.Serial.{serial, until_idle}
-use Rattle.dbtg_step.specs.CoreSteps.{IsStep}
-use Rattle.dbtg_step.specs.Events.{IsBeforeTicket}
-use Rattle.dbtg_step.specs.Parts.{CoreState, with_state}
-use Rattle.dbtg_step.specs.SerialSteps.{IsCutOff, IsIdleAfter, IsUnitCutOff, idle_from, serial_from}
+-- Scripts that are made whole, one after another, are a serial run.
+use Rattle.std.proofs.Common.{ℕ, zero, suc, ◌+◌, ◌<◌, ◌≡◌, Bool, true, false, cond, eqb, eq-eqb, ne_eqb, List, [], ◌∷◌, ◌++◌, length, map, Some, slice_get, refl, sym, ap, ◌∙◌, subst, arith, append_assoc, append-nil}
+use Rattle.std.specs.Prelude.{filter}
+use Rattle.std.proofs.lemmas.List.{map-append}
+use Rattle.std.proofs.lemmas.Option.{same_Some}
+use Rattle.std.proofs.lemmas.List.Elements.{filter-append}
+use Rattle.dbtg_schema.specs.Lists.{Lists}
+use Rattle.dbtg_unit.specs.declared.statement.Statement.{Statement}
+use Rattle.dbtg_unit.specs.declared.unit.Entry.{Entry}
+use Rattle.dbtg_unit.specs.Image.{image_of}
+use Rattle.dbtg_unit.specs.Replay.{AnswersHold, TicketsInOrder, entries_of, opening_state, replay}
+use Rattle.dbtg_unit.specs.Replaying.{statements_of}
+use Rattle.dbtg_step.specs.declared.results.Run.{Run}
+use Rattle.dbtg_step.specs.SequentialDatabase.{unit_at}
+use Rattle.dbtg_step.specs.Serial.{SerialRunIs, in_turn_from}
+use Rattle.dbtg_step.specs.Whole.{HasMade, HasMadeAll, IsMadeRun, Making}
+use Rattle.dbtg_step.proofs.Wholes.{making}
 
-module _ (D : SequentialDatabase) (opening : SequentialState D) where
-  -- a unit that is blocked stays so until no step is left
-  blocked_stays : (u n : ℕ) (s : State D) → until_idle D opening u n s IsBlocked ≡ (s, zero)
-  unfolding until_idle
-  blocked_stays u zero s = refl
-  blocked_stays u (suc n) s = blocked_stays u n s
+-- ONE STATEMENT MORE, ONE SCRIPT MORE
 
-  idle_stays : (u n : ℕ) (s : State D) → until_idle D opening u n s IsIdle ≡ (s, n)
-  unfolding until_idle
-  idle_stays u zero s = refl
-  idle_stays u (suc n) s = refl
+pub made_more : (mid new : Making) (u : ℕ) (x : Statement) (left : List Statement) (all : List (ℕ × Statement)) → HasMade mid u x new → statements_of mid.history ++ map (λ y. (u, y)) (x ∷ left) ≡ all
+    → statements_of new.history ++ map (λ y. (u, y)) left ≡ all
+made_more mid new u x left all m h =
+    ap (λ (k : Making). statements_of k.history ++ map (λ y. (u, y)) left) m.new_is
+    ∙ ap (λ ys. ys ++ map (λ y. (u, y)) left) (map-append (λ (e : Entry). (e.unit, e.statement)) mid.history _)
+    ∙ append_assoc (statements_of mid.history) ((u, x) ∷ []) (map (λ y. (u, y)) left) ∙ h
 
-  -- without steps nothing is changed
-  no_steps : (m u : ℕ) (s : State D) → serial D opening m u zero s ≡ s
-  unfolding serial until_idle
-  no_steps zero u s = refl
-  no_steps (suc m) u s = no_steps m (suc u) s
+pub same_but_history : (old mid new : Making) (u : ℕ) (x : Statement) → mid ≡ record old { history = mid.history } → HasMade mid u x new → new ≡ record old { history = new.history }
+same_but_history old mid new u x e m =
+    let history = ap (λ (k : Making). k.history) m.new_is in
+    m.new_is ∙ (λ i. record { schema = (e i).schema; capacity = (e i).capacity; units = (e i).units; history = sym history i })
 
--- unit u goes on from c with the steps left as from c0 with the limit, also where both are less by as many
-abbrev pub IsSameFrom : CoreState → CoreState → ℕ → ℕ → ℕ → Type 0
-IsSameFrom c0 c u limit left = (k n less : ℕ) → k + less ≡ limit → n + less ≡ left → idle_from c0 u k ≡ idle_from c u n
+pub scripts_more : (mid new : Making) (u : ℕ) (script : List Statement) (left : List (List Statement)) (all : List (ℕ × Statement)) → HasMadeAll mid (map (λ y. (u, y)) script) new
+    → statements_of mid.history ++ in_turn_from u (script ∷ left) ≡ all → statements_of new.history ++ in_turn_from (suc u) left ≡ all
+scripts_more mid new u script left all m h =
+    ap (λ ys. ys ++ in_turn_from (suc u) left) m.statements_are
+    ∙ append_assoc (statements_of mid.history) (map (λ y. (u, y)) script) (in_turn_from (suc u) left) ∙ h
 
-module _ (c : CoreState) (u : ℕ) where
-  -- the machine and the steps left, where the next step comes to this
-  abbrev idle_with : ℕ → Transition (network c.schema c.capacity) → CoreState × ℕ
-  idle_with n r = let reached = until_idle (network c.schema c.capacity) c.opening u n c.state r in (with_state c reached.0, reached.1)
+-- THE BEGINNING OF EACH SCRIPT
 
-  -- an event takes one of the steps
-  event_taken : (d : CoreState) (n : ℕ) → IsStep c u Moved d → idle_from c u (suc n) ≡ idle_from d u n
-  unfolding until_idle
-  event_taken d n s = ap (idle_with (suc n)) s.1 ∙ ap (λ x. idle_from x u n) (sym s.2)
+abbrev of_unit : ℕ → List (ℕ × Statement) → List Statement
+of_unit u ps = map (λ (p : ℕ × Statement). p.1) (filter (λ (p : ℕ × Statement). eqb p.0 u) ps)
 
-  -- where the unit is blocked no step is left
-  blocked_ends : (d : CoreState) (n : ℕ) → IsStep c u Blocked d → idle_from c u n ≡ (d, 0)
-  blocked_ends d n s = ap (idle_with n) s.0 ∙ ap (λ p. (with_state c p.0, p.1)) (blocked_stays (network c.schema c.capacity) c.opening u n c.state) ∙ ap (λ x. (x, 0)) (sym s.1)
+entries_made : (u : ℕ) (es : List Entry) → map (λ (e : Entry). e.statement) (entries_of u es) ≡ of_unit u (statements_of es)
+entries_made u [] = refl
+entries_made u (e ∷ es) = by (eqb e.unit u) (entries_made u es)
+  where
+    by : (b : Bool) → map (λ (e : Entry). e.statement) (entries_of u es) ≡ of_unit u (statements_of es) →
+        map (λ (e : Entry). e.statement) (cond b (e ∷ entries_of u es) (entries_of u es)) ≡ map (λ (p : ℕ × Statement). p.1) (cond b ((e.unit, e.statement) ∷ filter (λ (p : ℕ × Statement). eqb p.0 u) (statements_of es)) (filter (λ (p : ℕ × Statement). eqb p.0 u) (statements_of es)))
+    by true h = ap (λ xs. e.statement ∷ xs) h
+    by false h = h
 
-  -- where it is idle all the steps are left
-  idle_ends : (d : CoreState) (n : ℕ) → IsStep c u Idle d → idle_from c u n ≡ (d, n)
-  idle_ends d n s = ap (idle_with n) s.0 ∙ ap (λ p. (with_state c p.0, p.1)) (idle_stays (network c.schema c.capacity) c.opening u n c.state) ∙ ap (λ x. (x, n)) (sym s.1)
+both : (u : ℕ) (ps qs : List (ℕ × Statement)) → of_unit u (ps ++ qs) ≡ of_unit u ps ++ of_unit u qs
+both u ps qs = ap (map (λ (p : ℕ × Statement). p.1)) (filter-append (λ (p : ℕ × Statement). eqb p.0 u) ps qs) ∙ map-append (λ (p : ℕ × Statement). p.1) _ _
 
-  none_left : (n : ℕ) → n ≡ 0 → idle_from c u n ≡ (c, n)
-  unfolding until_idle
-  none_left n e = ap (idle_from c u) e ∙ ap (λ k. (c, k)) (sym e)
+own : (u : ℕ) (xs : List Statement) → of_unit u (map (λ x. (u, x)) xs) ≡ xs
+own u [] = refl
+own u (x ∷ xs) = ap (λ b. map (λ (p : ℕ × Statement). p.1) (cond b ((u, x) ∷ filter (λ (p : ℕ × Statement). eqb p.0 u) (map (λ x. (u, x)) xs)) (filter (λ (p : ℕ × Statement). eqb p.0 u) (map (λ x. (u, x)) xs)))) (eq-eqb u u refl) ∙ ap (λ ys. x ∷ ys) (own u xs)
 
-module _ (c0 c d : CoreState) (u limit left : ℕ) (within : left ≤ limit) (same : IsSameFrom c0 c u limit left) where
-  -- an event of the unit keeps this
-  pub unit_moved : (after : ℕ) → left ≡ suc after → IsStep c u Moved d → IsSameFrom c0 d u limit after
-  unit_moved after e s k n less f g =
-      let one : suc n + less ≡ left = omega arith in
-      same k (suc n) less f one ∙ event_taken c u d n s
+other : (u w : ℕ) → (w ≡ u → ⊥) → (xs : List Statement) → of_unit u (map (λ x. (w, x)) xs) ≡ []
+other u w n [] = refl
+other u w n (x ∷ xs) = ap (λ b. map (λ (p : ℕ × Statement). p.1) (cond b ((w, x) ∷ filter (λ (p : ℕ × Statement). eqb p.0 u) (map (λ x. (w, x)) xs)) (filter (λ (p : ℕ × Statement). eqb p.0 u) (map (λ x. (w, x)) xs)))) (ne_eqb w u n) ∙ other u w n xs
 
-  pub unit_blocked : IsStep c u Blocked d → IsSameFrom c0 d u limit 0
-  unit_blocked s k n less f g =
-      let none : n ≡ 0 = omega arith in
-      let all : k + 0 ≡ limit = omega arith in
-      let whole : left + 0 ≡ left = omega arith in
-      same k left 0 all whole ∙ blocked_ends c u d left s ∙ ap (λ m. (d, m)) (sym none) ∙ sym (none_left d u n none)
+later : (u w : ℕ) (scripts : List (List Statement)) → u < w → of_unit u (in_turn_from w scripts) ≡ []
+later u w [] l = refl
+later u w (script ∷ scripts) l =
+    both u (map (λ x. (w, x)) script) (in_turn_from (suc w) scripts)
+    ∙ (λ i. other u w (λ e. absurd (omega (arith, l, e))) script i ++ later u (suc w) scripts (omega (arith, l)) i)
 
-  pub unit_idle : IsStep c u Idle d → IsIdleAfter c0 u limit d left
-  unit_idle s = record { within = within; fewer = λ k n less f g. same k n less f g ∙ idle_ends c u d n s }
+pub script_of : (w k : ℕ) (scripts : List (List Statement)) (script : List Statement) → slice_get scripts k ≡ Some script → of_unit (w + k) (in_turn_from w scripts) ≡ script
+script_of w k [] script e = absurd (cc (e))
+script_of w zero (s ∷ scripts) script e =
+    let same : s ≡ script = same_Some s script e in
+    let here : w + 0 ≡ w = omega arith in
+    ap (λ u. of_unit u (in_turn_from w (s ∷ scripts))) here
+    ∙ both w (map (λ x. (w, x)) s) (in_turn_from (suc w) scripts)
+    ∙ (λ i. own w s i ++ later w (suc w) scripts (omega arith) i) ∙ append-nil s ∙ same
+script_of w (suc k) (s ∷ scripts) script e =
+    let next : w + suc k ≡ suc w + k = omega arith in
+    both (w + suc k) (map (λ x. (w, x)) s) (in_turn_from (suc w) scripts)
+    ∙ ap (λ ys. ys ++ of_unit (w + suc k) (in_turn_from (suc w) scripts)) (other (w + suc k) w (λ q. absurd (omega (arith, q))) s)
+    ∙ ap (λ u. of_unit u (in_turn_from (suc w) scripts)) next ∙ script_of (suc w) k scripts script e
 
-  pub unit_without_memory : IsStep c u NoMemory d → IsUnitCutOff c0 u limit d
-  unit_without_memory s = record {
-    steps = limit - left;
-    within = omega arith;
-    reached = same (limit - left) 0 left (omega arith) (omega arith) ∙ none_left c u 0 refl ∙ ap (λ x. (x, 0)) (sym s.1);
-    unticketed = subst (λ (x : CoreState). IsBeforeTicket x.state u) (sym s.1) s.0;
-  }
+-- in a history of these statements each unit makes its whole script
+pub makes_script : (scripts : List (List Statement)) (history : List Entry) → statements_of history ≡ in_turn_from 1 scripts → (u : ℕ) (script : List Statement) → unit_at scripts u ≡ Some script
+    → map (λ (e : Entry). e.statement) (entries_of u history) ≡ script
+unfolding unit_at
+makes_script scripts history made zero script e = absurd (cc (e))
+makes_script scripts history made (suc k) script e =
+    let number : suc k ≡ 1 + k = omega arith in
+    entries_made (suc k) history ∙ ap (of_unit (suc k)) made ∙ ap (λ u. of_unit u (in_turn_from 1 scripts)) number ∙ script_of 1 k scripts script e
 
--- the unit has made all the steps that there were
-pub unit_at_limit : (c0 c : CoreState) (u limit left : ℕ) → left ≡ 0 → IsSameFrom c0 c u limit left → IsIdleAfter c0 u limit c left
-unit_at_limit c0 c u limit left e same = record {
-  within = omega arith;
-  fewer = λ k n less f g. same k n less f g ∙ none_left c u n (omega (arith, e, g));
-}
+-- THE RUN
 
--- with no unit to come nothing is changed
-pub no_unit_left : (c : CoreState) (units u n : ℕ) → units ≡ 0 → serial_from c units u n ≡ c
-unfolding serial
-no_unit_left c units u n e = ap (λ k. serial_from c k u n) e
-
-module _ (c d : CoreState) (u m units next : ℕ) (e : units ≡ suc m) (f : next ≡ suc u) where
-  -- the next unit goes on with the steps that are left
-  pub unit_done : (n left : ℕ) → idle_from c u n ≡ (d, left) → serial_from c units u n ≡ serial_from d m next left
-  unfolding serial
-  unit_done n left g =
-      ap (λ k. serial_from c k u n) e ∙ ap (λ (p : CoreState × ℕ). serial_from p.0 m (suc u) p.1) g ∙ ap (λ v. serial_from d m v left) (sym f)
-
--- units from u on go on from c with the steps left as all of them from c0 with the limit, also where both are less by as many
-abbrev pub IsSerialFrom : CoreState → CoreState → ℕ → ℕ → ℕ → ℕ → ℕ → Type 0
-IsSerialFrom c0 c all units u limit left = (k n less : ℕ) → k + less ≡ limit → n + less ≡ left → serial_from c0 all 1 k ≡ serial_from c units u n
-
-module _ (c0 c d : CoreState) (all units u limit left : ℕ) (within : left ≤ limit) (same : IsSerialFrom c0 c all units u limit left) (m next : ℕ) (e : units ≡ suc m) (f : next ≡ suc u) where
-  -- the units go on behind a unit that is idle
-  pub units_go_on : (after : ℕ) → IsIdleAfter c u left d after → IsSerialFrom c0 d all m next limit after
-  units_go_on after i k n less g h =
-      let fewer : after ≤ left = i.within in
-      let before : n + (left - after) + less ≡ left = omega arith in
-      same k (n + (left - after)) less g before ∙ unit_done c d u m units next e f (n + (left - after)) n (i.fewer (n + (left - after)) n less before h)
-
-  pub units_cut_off : u ≤ all → IsUnitCutOff c u left d → IsCutOff c0 all limit d
-  units_cut_off among i =
-      let few : i.steps ≤ left = i.within in
-      let begun : limit - left + i.steps + (left - i.steps) ≡ limit = omega arith in
-      let gone : i.steps + (left - i.steps) ≡ left = omega arith in
+pub serial_made : (schema : Lists) (capacity : ℕ) (scripts : List (List Statement)) (m : Making) (given : Run) → HasMadeAll (making schema capacity (length scripts) []) (in_turn_from 1 scripts) m → IsMadeRun m given → SerialRunIs schema capacity scripts given
+serial_made schema capacity scripts m given all run =
+    let handed = subst (λ (k : Making). IsMadeRun k given) all.new_is run in
+    let made : statements_of given.history ≡ in_turn_from 1 scripts = ap statements_of handed.history_is ∙ all.statements_are in (
+      handed.results_are,
       record {
-        steps = limit - left + i.steps;
-        within = omega arith;
-        reached = sym (same (limit - left + i.steps) i.steps (left - i.steps) begun gone ∙ unit_done c d u m units next e f i.steps 0 i.reached ∙ ap (with_state d) (no_steps (network d.schema d.capacity) d.opening m next d.state));
-        unit = u;
-        among = among;
-        unticketed = i.unticketed;
-      }
+        in_turn = made;
+        sequential = record {
+          tickets = subst TicketsInOrder (sym handed.history_is) handed.history_of.tickets;
+          answers = subst (AnswersHold schema capacity (opening_state schema (length scripts))) (sym handed.history_is) handed.history_of.answers_hold;
+          image_is = handed.image_is ∙ ap (λ (es : List Entry). image_of schema capacity (replay schema capacity (opening_state schema (length scripts)) es).database) (sym handed.history_is);
+          units_are = handed.units_are ∙ ap (λ (es : List Entry). (replay schema capacity (opening_state schema (length scripts)) es).units) (sym handed.history_is);
+          scripts_begin = λ u script at. ([], append-nil _ ∙ makes_script scripts given.history made u script at);
+        };
+      },
+    )

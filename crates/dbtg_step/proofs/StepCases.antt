@@ -27,11 +27,6 @@ module _ (D : SequentialDatabase) (opening : SequentialState D) (s : State D) (u
       unfolding in_statement
       step_after_ticket t e = at_this ∙ ap (λ o. in_statement D opening s u state w o state.remaining) e
 
-      -- without a statement, which never comes to be
-      pub step_no_statement : w.ticket ≡ None → state.remaining ≡ [] → step D opening s u ≡ IsIdle
-      unfolding in_statement
-      step_no_statement e r = at_this ∙ (ap (λ o. in_statement D opening s u state w o state.remaining) e ∙ ap (λ xs. in_statement D opening s u state w None xs) r)
-
       module _ (x : D.Statement) (xs : List D.Statement) (no_ticket : w.ticket ≡ None) (remaining : state.remaining ≡ x ∷ xs) where
         before_ticket_here : step D opening s u ≡ before_ticket D opening s u state w x xs w.turning_back w.cells
         unfolding in_statement

@@ -1,5 +1,7 @@
 -- Lists of units, numbered from 1, where one is written; and the locations of cells.
 use Rattle.std.proofs.Common.{ℕ, zero, suc, ◌≡◌, ◌≢◌, Bool, true, false, cond, List, [], ◌∷◌, map, Some, slice_get, slice_set, ◌⊎◌, inl, inr, refl, sym, ap, ◌∙◌, subst, arith}
+use Rattle.std.specs.Prelude.{option_map}
+use Rattle.std.proofs.lemmas.Option.{slice_get-map}
 use Rattle.dbtg_step.specs.SequentialDatabase.{SequentialDatabase, NamesCells, unit_at, with_unit_at}
 use Rattle.dbtg_step.specs.Machine.{Location, relocated}
 
@@ -33,6 +35,16 @@ mapped_same : {X Y : Type 0} (f : X → Y) (xs : List X) (i : ℕ) (x y : X) →
 mapped_same f [] i x y e q = refl
 mapped_same f (x' ∷ xs) zero x y e q = let h : x' ≡ x = cc in ap (λ a. a ∷ map f xs) (q ∙ ap f (sym h))
 mapped_same f (x' ∷ xs) (suc i) x y e q = ap (λ ys. f x' ∷ ys) (mapped_same f xs i x y e q)
+
+set_again_at : {X : Type 0} (xs : List X) (i : ℕ) (y z : X) → slice_set (slice_set xs i y) i z ≡ slice_set xs i z
+set_again_at [] i y z = refl
+set_again_at (x ∷ xs) zero y z = refl
+set_again_at (x ∷ xs) (suc i) y z = ap (λ ys. x ∷ ys) (set_again_at xs i y z)
+
+set_same_at : {X : Type 0} (xs : List X) (i : ℕ) (x : X) → slice_get xs i ≡ Some x → slice_set xs i x ≡ xs
+set_same_at [] i x e = refl
+set_same_at (y ∷ xs) zero x e = let h : y ≡ x = cc in ap (λ a. a ∷ xs) (sym h)
+set_same_at (y ∷ xs) (suc i) x e = ap (λ ys. y ∷ ys) (set_same_at xs i x e)
 
 pub mapped_found : {X Y : Type 0} (f : X → Y) (xs : List X) (i : ℕ) (x : X) → slice_get xs i ≡ Some x → slice_get (map f xs) i ≡ Some (f x)
 mapped_found f [] i x e = cc
@@ -73,6 +85,22 @@ pub map_found : {X Y : Type 0} (f : X → Y) (xs : List X) (u : ℕ) (x : X) →
 unfolding unit_at
 map_found f xs zero x e = absurd (cc (e))
 map_found f xs (suc u) x e = mapped_found f xs u x e
+
+pub map_at : {X Y : Type 0} (f : X → Y) (xs : List X) (u : ℕ) → unit_at (map f xs) u ≡ option_map f (unit_at xs u)
+unfolding unit_at
+map_at f xs zero = refl
+map_at f xs (suc u) = slice_get-map f xs u
+
+-- who is written twice has what was written last
+pub set_again : {X : Type 0} (xs : List X) (u : ℕ) (y z : X) → with_unit_at (with_unit_at xs u y) u z ≡ with_unit_at xs u z
+unfolding with_unit_at
+set_again xs zero y z = refl
+set_again xs (suc u) y z = set_again_at xs u y z
+
+pub set_same : {X : Type 0} (xs : List X) (u : ℕ) (x : X) → unit_at xs u ≡ Some x → with_unit_at xs u x ≡ xs
+unfolding unit_at with_unit_at
+set_same xs zero x e = refl
+set_same xs (suc u) x e = set_same_at xs u x e
 
 -- LOCATIONS
 

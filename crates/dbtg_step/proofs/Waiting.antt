@@ -4,7 +4,7 @@ use Rattle.std.specs.List.{list_any}
 use Rattle.std.proofs.lemmas.Bool.Decides.{eqb_tells}
 use Rattle.dbtg_step.specs.SequentialDatabase.{HeldCell, NextNeed, NeedsArea, NeedsCell, StaleGuesses, NeedsNothing, SequentialDatabase, IsSequentialDatabase, In, unit_at}
 use Rattle.dbtg_step.specs.Machine.{Location, Home, HeldBy, Progress, UnitState, State, SequentialState, held_cells, held_areas, holds_exclusively}
-use Rattle.dbtg_step.specs.Step.{next_need, conflicts, any_but, any_other, takes_area, takes_cell, follows_need}
+use Rattle.dbtg_step.specs.Step.{MovedTo, next_need, conflicts, any_but, any_other, takes_area, takes_cell, follows_need, step}
 use Rattle.dbtg_step.specs.Lawful.{AreasShared, HoldsCell, Lawful}
 use Rattle.dbtg_step.specs.NeverStuck.{SomeUnitMoves, Wanted, AnArea, ACell, is_below, wanted_by_need, wanted_unless_turning, wanted_before_ticket, wanted_in_progress, wanted, UnitsInOrder, IsStrictOrder}
 use Rattle.dbtg_step.proofs.UnitLists.{map_found}
@@ -167,6 +167,27 @@ module _ (D : SequentialDatabase) (laws : IsSequentialDatabase D) (opening : Seq
             let e = share (D.area b.c) begun.1 (subst (λ c. In (D.area c) (held_areas D h.state.progress)) h.holds.name a) in
             let q = e.0 in cc (q, x)
       ]
+
+  -- a step that is an event
+  pub record Moves (u : ℕ) : Type 0 where
+    pub after : State D
+    pub event : step D opening s u ≡ MovedTo after
+
+  -- a unit that holds its areas exclusively, and needs none more, goes on
+  pub exclusive_moves : (u : ℕ) (state : UnitState D) (w : Progress D) → unit_at s.units u ≡ Some state → state.progress ≡ Some w → (x : D.Statement) (xs : List D.Statement) → w.ticket ≡ None → state.remaining ≡ x ∷ xs → (w.turning_back ≡ true → w.cells ≡ []) →
+      w.exclusive ≡ true → (n : NextNeed D.Cell D.Guesses) → next_need D opening s state w x ≡ n → ((a : ℕ) → n ≡ NeedsArea a → ⊥) → Moves u
+  unfolding next_need follows_need takes_cell wanted_by_need
+  exclusive_moves u state w at is x xs q r f alone (NeedsArea a) e none = absurd (none a refl)
+  exclusive_moves u state w at is x xs q r f alone (StaleGuesses g) e none = record { after = _; event = step_follows D opening s u state at w is x xs q r f _ e }
+  exclusive_moves u state w at is x xs q r f alone NeedsNothing e none = record { after = _; event = step_follows D opening s u state at w is x xs q r f _ e }
+  exclusive_moves u state w at is x xs q r f alone (NeedsCell c) e none = go (s.location c) refl
+    where
+      wanted_c : wanted D below opening s state ≡ Some (ACell c)
+      wanted_c = wanted_here u state w at is x xs q r ∙ (wanted_turned u state w at is x w.turning_back w.cells f ∙ ap (wanted_by_need D below) e)
+
+      go : (p : Location D.Value) → s.location c ≡ p → Moves u
+      go (HeldBy v) p = absurd (not_exclusive u state w at is (record { c = c; wanted_is = wanted_c; who = v; location = p }) alone)
+      go (Home v) p = record { after = _; event = step_follows D opening s u state at w is x xs q r f _ e ∙ follows_cell D opening s u state at w is x xs q r c (Home v) p }
 
   -- the holder of a cell that is waited for
   past_cell : (c : D.Cell) (v : ℕ) (state : UnitState D) (w : Progress D) → unit_at s.units v ≡ Some state → state.progress ≡ Some w → (h : HeldCell D.Cell D.Value) → In h w.cells → h.name ≡ c → SomeUnitMoves D opening s ⊎ Higher (Wanted D.Cell) (is_below D below) AllWanted (ACell c)

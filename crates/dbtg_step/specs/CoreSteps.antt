@@ -6,7 +6,8 @@ use Rattle.dbtg_unit.specs.declared.moves.Stepped.TheVariants.{Moved, Blocked, I
 use Rattle.dbtg_step.specs.Machine.{State}
 use Rattle.dbtg_step.specs.Network.{network}
 use Rattle.dbtg_step.specs.Step.{IsBlocked, IsIdle, MovedTo, Transition, quit, result_of, state_after, step, transition}
-use Rattle.dbtg_step.specs.Events.{IsBeforeTicket}
+use Rattle.dbtg_step.specs.NeverStuck.{IsNotStuck}
+use Rattle.dbtg_step.specs.Events.{WantsMemory}
 use Rattle.dbtg_step.specs.Parts.{CoreState, with_state}
 
 -- the machine's step of unit u
@@ -17,13 +18,13 @@ step_of c u = step (network c.schema c.capacity) c.opening c.state u
 abbrev pub quit_of : (c : CoreState) → ℕ → Transition (network c.schema c.capacity)
 quit_of c u = quit (network c.schema c.capacity) c.state u
 
--- Moved just where the machine moves, to its next state; Blocked and Idle just where it is; want of memory only where the
--- unit has something to do and no ticket. What isn't moved isn't changed
+-- Moved just where the machine moves, to its next state; Blocked and Idle just where it is; want of memory only in the place
+-- of an event, before a ticket. What isn't moved isn't changed
 abbrev pub IsStep : CoreState → ℕ → Stepped → CoreState → Type 0
 IsStep old u Moved new = (t : State (network old.schema old.capacity)) × (step_of old u ≡ MovedTo t) × (new ≡ with_state old t)
 IsStep old u Blocked new = (step_of old u ≡ IsBlocked) × (new ≡ old)
 IsStep old u Idle new = (step_of old u ≡ IsIdle) × (new ≡ old)
-IsStep old u NoMemory new = IsBeforeTicket old.state u × (new ≡ old)
+IsStep old u NoMemory new = WantsMemory old.opening old.state u × (new ≡ old)
 
 -- Moved just where the machine's quit is an event, else Idle
 abbrev pub IsQuitStep : CoreState → ℕ → Stepped → CoreState → Type 0
@@ -31,6 +32,10 @@ IsQuitStep old u Moved new = (t : State (network old.schema old.capacity)) × (q
 IsQuitStep old u Blocked new = ⊥
 IsQuitStep old u Idle new = (quit_of old u ≡ IsIdle) × (new ≡ old)
 IsQuitStep old u NoMemory new = ⊥
+
+-- where a unit is in mid-statement, some unit's next step is an event
+abbrev pub IsNeverStuck : CoreState → Type 0
+IsNeverStuck c = IsNotStuck (network c.schema c.capacity) c.opening c.state
 
 -- the machine's transition of a move
 abbrev pub transition_of : (c : CoreState) → Move → Transition (network c.schema c.capacity)

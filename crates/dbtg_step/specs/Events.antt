@@ -1,9 +1,12 @@
 -- What the events find, and what they leave.
-use Rattle.std.specs.List.{list_any}
+use Rattle.std.specs.List.{list_all, list_any}
 use Rattle.std.specs.Prelude.{ℕ, ◌≡◌, ◌≤◌, ◌<◌, ◌+◌, ◌-◌, ◌==◌, ◌&&◌, ◌||◌, Bool, true, false, List, [], ◌∷◌, ◌++◌, Option, Some, None, length, map, slice_get, slice_set, ⊤}
 use Rattle.dbtg_schema.specs.Lists.{Lists}
+use Rattle.dbtg_schema.specs.Lookups.{at}
 use Rattle.dbtg_schema.specs.Sound.{IsSound}
-use Rattle.dbtg_cells.specs.CellNumbers.{cell_count}
+use Rattle.dbtg_cells.specs.CellNumbers.{cell_count, cell_number, is_cell}
+use Rattle.dbtg_cells.specs.Names.{name_lt}
+use Rattle.dbtg_cells.specs.declared.key.Owner.{Owner}
 use Rattle.dbtg_cells.specs.declared.cell.Cell.{Cell}
 use Rattle.dbtg_cells.specs.declared.name.CellName.{CellName}
 use Rattle.dbtg_unit.specs.declared.held.Need.{Need}
@@ -19,7 +22,7 @@ use Rattle.dbtg_unit.specs.Guesses.{guesses_after}
 use Rattle.dbtg_unit.specs.Hands.{Hands}
 use Rattle.dbtg_unit.specs.Local.{Agrees}
 use Rattle.dbtg_unit.specs.Making.{ShowsTheSame}
-use Rattle.dbtg_unit.specs.Needs.{need}
+use Rattle.dbtg_unit.specs.Needs.{need, ring_names}
 use Rattle.dbtg_unit.specs.Prepared.{values_of}
 use Rattle.dbtg_step.specs.declared.parts.Parts.{Parts}
 use Rattle.dbtg_step.specs.declared.parts.Place.{Place}
@@ -30,20 +33,25 @@ use Rattle.dbtg_step.specs.declared.runner.Standing.{Standing}
 use Rattle.dbtg_step.specs.declared.runner.Standing.TheVariants.{Over, Between, TurningBack, Needing, Ticketed}
 use Rattle.dbtg_unit.specs.declared.moves.Stepped.{Stepped}
 use Rattle.dbtg_unit.specs.declared.moves.Stepped.TheVariants.{Moved, Blocked, Idle, NoMemory}
-use Rattle.dbtg_step.specs.SequentialDatabase.{unit_at}
-use Rattle.dbtg_step.specs.Machine.{UnitState, State, SequentialState, replay, ticket_of}
+use Rattle.dbtg_step.specs.SequentialDatabase.{In, unit_at}
+use Rattle.dbtg_step.specs.Machine.{Progress, UnitState, State, SequentialState, replay}
 use Rattle.dbtg_step.specs.Step.{next_need, quit, step, MovedTo, IsBlocked, IsIdle}
 use Rattle.dbtg_step.specs.Lawful.{Lawful}
+use Rattle.dbtg_step.specs.NeverStuck.{AllInTurn}
 use Rattle.dbtg_step.specs.Network.{network, next_need_of}
 use Rattle.dbtg_step.specs.Headline.{opening_of}
 use Rattle.dbtg_step.specs.Parts.{stage_of, stage_while_held, state_of, unit_state_of, written_home}
 
 -- WHERE A UNIT STANDS
 
--- between statements with none left; or in a statement without a ticket that the script has not, which never comes to be
+-- a statement without a ticket is one of the script
+abbrev pub HasStatement : Runner → Type 0
+HasStatement r = (w : Stage) → r.stage ≡ Some w → w.ticket ≡ None → r.next < length r.script
+
+-- between statements with none left
 pub record StandsOver (r : Runner) : Type 0 where
   pub none_left : length r.script ≤ r.next
-  pub unticketed : (w : Stage) → r.stage ≡ Some w → w.ticket ≡ None
+  pub stage : r.stage ≡ None
 
 pub record StandsBetween (r : Runner) : Type 0 where
   pub left : r.next < length r.script
@@ -90,6 +98,16 @@ stage_holds_against exclusive a areas (Some w) = list_any (λ b. b == a) areas &
 abbrev pub holds_against : Bool → ℕ → Runner → Bool
 holds_against exclusive a r = stage_holds_against exclusive a r.held.areas r.stage
 
+-- the table has a place for cell c
+pub record HasPlace (schema : Lists) (capacity : ℕ) (c : CellName) (table : List Place) : Type 0 where
+  pub number : ℕ
+  pub is : cell_number schema capacity c ≡ Some number
+  pub within : number < length table
+
+-- it has one for each of these cells
+abbrev pub HavePlaces : Lists → ℕ → List (CellName × Cell) → List Place → Type 0
+HavePlaces schema capacity cells table = (e : CellName × Cell) → In e cells → HasPlace schema capacity e.0 table
+
 -- WHAT AN EVENT LEAVES
 
 -- the newest cell went home
@@ -113,7 +131,7 @@ pub record IsLeftAlone (table after : List Place) (old new : Hands) : Type 0 whe
 abbrev pub IsTaken : ℕ → ℕ → CellName → List Place → List Place → Hands → Hands → Stepped → Type 0
 IsTaken u n c table after old new Moved = IsMovedOut u n c table after old new
 IsTaken u n c table after old new Blocked = IsLeftAlone table after old new × ((w : ℕ) × (slice_get table n ≡ Some (WithUnit w)))
-IsTaken u n c table after old new NoMemory = IsLeftAlone table after old new
+IsTaken u n c table after old new NoMemory = IsLeftAlone table after old new × ((x : Cell) × (slice_get table n ≡ Some (AtHome x)))
 IsTaken u n c table after old new Idle = ⊥
 
 -- what a statement makes on a database of the unit, of what it holds, and its answer
@@ -153,12 +171,18 @@ opening_for schema capacity parts = opening_of schema capacity (length parts.run
 abbrev pub database_of : (schema : Lists) (capacity : ℕ) → Parts → Database
 database_of schema capacity parts = (replay (network schema capacity) (opening_for schema capacity parts) (state_of schema capacity parts).history).database
 
--- the table has a place for each cell, and the state is lawful
+-- each guess is an owner that has a ring
+abbrev pub HaveRings : Lists → ℕ → List (Option Owner) → Type 0
+HaveRings schema capacity guesses = (s : ℕ) → list_all (is_cell schema capacity) (ring_names s (at guesses s)) ≡ true
+
+-- the table has a place for each cell, and the state is lawful; what each unit holds was taken in turn, with good guesses
 pub record IsWell (schema : Lists) (capacity : ℕ) (parts : Parts) : Type 0 where
   pub sound : IsSound schema
   pub table : length parts.table.items ≡ cell_count schema capacity
   pub runners : RunnersFit schema parts.runners.items
   pub lawful : Lawful (network schema capacity) (opening_for schema capacity parts) (state_of schema capacity parts)
+  pub in_turn : AllInTurn (network schema capacity) name_lt (state_of schema capacity parts)
+  pub guesses : (u : ℕ) (state : UnitState (network schema capacity)) → unit_at (state_of schema capacity parts).units u ≡ Some state → HaveRings schema capacity state.guesses
 
 -- owners against which guesses stand have an entry for each set
 abbrev pub owners_fit : Lists → Need → Type 0
@@ -178,19 +202,28 @@ NeedsNext schema capacity parts u w n =
 
 -- WHAT A STEP COMES TO
 
--- unit u has something to do, and no ticket
+-- unit u is in mid-statement without a ticket, and takes what it needs
 pub record IsBeforeTicket {schema : Lists} {capacity : ℕ} (s : State (network schema capacity)) (u : ℕ) : Type 0 where
   pub state : UnitState (network schema capacity)
   pub found : unit_at s.units u ≡ Some state
-  pub ticket : ticket_of (network schema capacity) state.progress ≡ None
+  pub w : Progress (network schema capacity)
+  pub progress : state.progress ≡ Some w
+  pub ticket : w.ticket ≡ None
+  pub turned : w.turning_back ≡ true → w.cells ≡ []
   pub left : 0 < length state.remaining
 
--- the machine's step; or, before a ticket, want of memory, which changes nothing
+-- where it wants memory, its step is an event
+pub record WantsMemory {schema : Lists} {capacity : ℕ} (opening : SequentialState (network schema capacity)) (s : State (network schema capacity)) (u : ℕ) : Type 0 where
+  pub before : IsBeforeTicket s u
+  pub after : State (network schema capacity)
+  pub event : step (network schema capacity) opening s u ≡ MovedTo after
+
+-- the machine's step; or, in the place of an event before a ticket, want of memory, which changes nothing
 abbrev pub Tells : (schema : Lists) (capacity : ℕ) → SequentialState (network schema capacity) → ℕ → Stepped → State (network schema capacity) → State (network schema capacity) → Type 0
 Tells schema capacity opening u Moved old new = step (network schema capacity) opening old u ≡ MovedTo new
 Tells schema capacity opening u Blocked old new = (step (network schema capacity) opening old u ≡ IsBlocked) × (new ≡ old)
 Tells schema capacity opening u Idle old new = (step (network schema capacity) opening old u ≡ IsIdle) × (new ≡ old)
-Tells schema capacity opening u NoMemory old new = IsBeforeTicket old u × (new ≡ old)
+Tells schema capacity opening u NoMemory old new = WantsMemory opening old u × (new ≡ old)
 
 -- the parts after a step of unit u
 pub record IsStepped (schema : Lists) (capacity : ℕ) (u : ℕ) (result : Stepped) (old new : Parts) : Type 0 where

@@ -21,6 +21,8 @@ use Rattle.dbtg_cells.specs.Numbers.{is_free, last_of, numbers_where}
 use Rattle.dbtg_unit.specs.Hands.{cell_of}
 use Rattle.dbtg_unit.specs.Image.{Image}
 use Rattle.dbtg_unit.specs.InHand.{numbers_of, users_of}
+use Rattle.dbtg_step.specs.declared.imaging.CellSource.{CellSource}
+use Rattle.dbtg_step.specs.declared.imaging.CellSource.TheVariants.{Parts as InParts, Hands as InHands}
 use Rattle.dbtg_step.specs.declared.parts.Parts.{Parts}
 use Rattle.dbtg_step.specs.declared.parts.Place.{Place}
 use Rattle.dbtg_step.specs.declared.parts.Place.TheVariants.{Home as AtHome, HeldBy as WithUnit}
@@ -37,6 +39,11 @@ cell_in runners c (WithUnit u) = option_and_then (λ r. cell_of c r.held.cells) 
 -- the cell of this name, where it is
 abbrev pub found_cell : Lists → ℕ → Parts → CellName → Option Cell
 found_cell schema capacity parts c = option_and_then (λ n. option_and_then (cell_in parts.runners.items c) (slice_get parts.table.items n)) (cell_number schema capacity c)
+
+-- the cell of this name, in a core or in these hands
+abbrev pub found_in : Lists → ℕ → CellSource → CellName → Option Cell
+found_in schema capacity (InParts parts) c = found_cell schema capacity parts.now c
+found_in schema capacity (InHands held) c = cell_of c held.now.cells
 
 -- WHAT A CELL HAS
 

@@ -7,22 +7,23 @@ use Rattle.dbtg_cells.specs.CellNumbers.{is_cell}
 use Rattle.dbtg_cells.specs.Names.{name_lt}
 use Rattle.dbtg_cells.specs.Shown.{CellValue}
 use Rattle.dbtg_unit.specs.declared.statement.Statement.{Statement}
+use Rattle.dbtg_unit.specs.declared.unit.Entry.{Entry}
 use Rattle.dbtg_unit.specs.declared.unit.Unit.{Unit}
 use Rattle.dbtg_cells.specs.declared.key.Owner.{Owner}
 use Rattle.dbtg_unit.specs.Base.{Database}
 use Rattle.dbtg_unit.specs.Cells.{cell}
 use Rattle.dbtg_unit.specs.Fits.{fits}
-use Rattle.dbtg_unit.specs.Image.{image_of}
+use Rattle.dbtg_unit.specs.Image.{Image, image_of}
 use Rattle.dbtg_unit.specs.declared.moves.Move.{Move}
 use Rattle.dbtg_step.specs.SequentialDatabase.{HeldCell, NeedsCell, In, MayMake, NamesCells, unit_at}
 use Rattle.dbtg_step.specs.Machine.{UnitState, Progress, State, SequentialState, HistoryEntry, replay}
 use Rattle.dbtg_step.specs.Step.{transition, MovedTo, next_need, run}
 use Rattle.dbtg_step.specs.Lawful.{Lawful, IsOpening, ImageHas}
-use Rattle.dbtg_step.specs.NeverStuck.{SomeUnitMoves, NeedsInOrder}
+use Rattle.dbtg_step.specs.NeverStuck.{IsNotStuck, NeedsInOrder}
 use Rattle.dbtg_step.specs.EventCount.{EventsAreCounted}
 use Rattle.dbtg_unit.specs.CellNames.{area_of_cell}
 use Rattle.dbtg_step.specs.Network.{network}
-use Rattle.dbtg_step.specs.Serial.{machine_after_scripts}
+use Rattle.dbtg_step.specs.Serial.{IsAfterScripts, IsSerialRun}
 use Rattle.dbtg_step.specs.Headline.{IsSequential, entry_of, machine_after, machine_of, opening_of}
 
 -- each event, of a step or a quit, leads from a lawful state to a lawful state
@@ -52,9 +53,7 @@ EveryImageIsOfItsHistory schema capacity =
 abbrev pub NoRunIsStuck : Lists → ℕ → Type 0
 NoRunIsStuck schema capacity =
     (opening : SequentialState (network schema capacity)) (s : State (network schema capacity)) (moves : List Move) → IsOpening (network schema capacity) opening s →
-    (u : ℕ) (state : UnitState (network schema capacity)) (w : Progress (network schema capacity)) →
-    unit_at (run (network schema capacity) opening s moves).units u ≡ Some state → state.progress ≡ Some w →
-    SomeUnitMoves (network schema capacity) opening (run (network schema capacity) opening s moves)
+    IsNotStuck (network schema capacity) opening (run (network schema capacity) opening s moves)
 
 -- a statement that is never blocked and never turns back has 2 + 2a + 3c events, for its a areas and c cells
 abbrev pub StatementsHaveTheirEvents : Lists → ℕ → Type 0
@@ -85,9 +84,21 @@ EveryRunIsSequential schema capacity =
     (image_of schema capacity (replay (network schema capacity) (opening_of schema capacity (length scripts)) (machine_after schema capacity scripts moves).history).database)
     (map (λ state. state.unit) (machine_after schema capacity scripts moves).units)
 
--- a serial run is the run of some moves: of steps of one unit after another
+-- stepping one unit after another comes to an end, with every statement of every script made; this is the run of some moves,
+-- and a serial run has just the history of it
+pub record SerialRunComesTo (schema : Lists) (capacity : ℕ) (scripts : List (List Statement)) : Type 0 where
+  pub last : State (network schema capacity)
+  pub stepped : IsAfterScripts schema capacity scripts last
+  pub moves : List Move
+  pub is_run : last ≡ machine_after schema capacity scripts moves
+  pub serial : IsSerialRun schema capacity scripts (map entry_of last.history)
+      (image_of schema capacity (replay (network schema capacity) (opening_of schema capacity (length scripts)) last.history).database)
+      (map (λ state. state.unit) last.units)
+  pub only : (history : List Entry) (image : Image) (units : List Unit) → IsSerialRun schema capacity scripts history image units → history ≡ map entry_of last.history
+
+-- of all scripts that fit
 abbrev pub EverySerialRunIsARun : Lists → ℕ → Type 0
-EverySerialRunIsARun schema capacity = (scripts : List (List Statement)) → (moves : List Move) × (machine_after_scripts schema capacity scripts ≡ machine_after schema capacity scripts moves)
+EverySerialRunIsARun schema capacity = (scripts : List (List Statement)) → scripts_fit schema scripts ≡ true → SerialRunComesTo schema capacity scripts
 
 -- A cell that a statement needs isn't held, and lies in an area that is held. Where all that is held was taken in turn, an
 -- area that is needed is above all that are held, and no cell is held; and a cell that is needed is above all that are held,

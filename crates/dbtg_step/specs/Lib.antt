@@ -11,9 +11,11 @@ pub mod Serial
 pub mod TurningBack
 pub mod Parts
 pub mod Events
+pub mod NeedOrder
 pub mod CoreSteps
 pub mod Runs
-pub mod SerialSteps
 pub mod Openings
 pub mod Imaging
 pub mod Audit
+pub mod Whole
+pub mod Turns

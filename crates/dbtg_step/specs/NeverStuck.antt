@@ -16,6 +16,10 @@ module _ (D : SequentialDatabase) where
     pub after : State D
     pub moves : step D opening s who ≡ MovedTo after
 
+  -- where a unit is in mid-statement, some unit's next step is an event
+  abbrev pub IsNotStuck : SequentialState D → State D → Type 0
+  IsNotStuck opening s = (u : ℕ) (state : UnitState D) (w : Progress D) → unit_at s.units u ≡ Some state → state.progress ≡ Some w → SomeUnitMoves opening s
+
 module _ (D : SequentialDatabase) (below : D.Cell → D.Cell → Bool) where
   -- areas come before cells
   unfoldable pub is_below : Wanted D.Cell → Wanted D.Cell → Bool

@@ -1,133 +1,26 @@
 //! The audit of a history: the statement of each entry is made anew, and its answer compared.
-ghost use Rattle.std.specs.Prelude.{◌≡◌, ℕ, ◌<◌, ◌≤◌, ◌-◌, ◌==◌, ◌&&◌, true, nat_lt, nat_le, List, [], ◌∷◌, ◌++◌, length, map, replicate, slice_get, Some, IfOk, OnOk};
+ghost use Rattle.std.specs.Prelude.{◌≡◌, ◌<◌, ◌-◌, ◌==◌, ◌&&◌, nat_lt, nat_le, length, slice_get, Some, IfOk};
 ghost use Rattle.std.specs.Bool.{Decides, MatchBool};
-ghost use Rattle.dbtg_schema.specs.Lists.{Lists};
 ghost use Rattle.dbtg_schema.specs.Sound.{IsSound};
-ghost use Rattle.dbtg_unit.specs.declared.statement.Statement.{Statement};
 ghost use Rattle.dbtg_unit.specs.declared.unit.Entry.{Entry};
 ghost use Rattle.dbtg_unit.specs.Fits.{fits};
-ghost use Rattle.dbtg_step.specs.declared.parts.Runner.{Runner};
-ghost use Rattle.dbtg_step.specs.Machine.{HistoryEntry};
-ghost use Rattle.dbtg_step.specs.Network.{network};
-ghost use Rattle.dbtg_step.specs.Parts.{state_of, unit_state_of};
-ghost use Rattle.dbtg_step.specs.Events.{IsWell};
-ghost use Rattle.dbtg_step.specs.Audit.{GoesOn, HasJoined, HasMade, IsAtWork, IsAudited, IsHanded, IsMaking, IsOpened, IsReady, Rests};
+ghost use Rattle.dbtg_step.specs.Audit.{GoesOn, HasJoined, IsAudited};
+ghost use Rattle.dbtg_step.specs.Whole.{state_now};
 
 use crate::comparing::same_answer;
-use crate::imaging::read_image;
-use crate::opening_parts::{opening_runners, opening_table};
-use crate::parts::{Parts, Runner};
-use crate::runner::units_of;
-use crate::stepping::step;
+use crate::whole::WholeDatabase;
 use dbtg_schema::{Row, Schema};
-use dbtg_unit::{Answer, Entry, Image, Statement, Stepped, Unit};
+use dbtg_unit::{Answer, Entry, Image, Unit};
 use std::alloc::{AllocError, Global};
 
-fn empty_scripts(alloc: Global, count: u8) -> Result<Row<Row<Statement>>, AllocError>
-    ensures { IfOk result (λ scripts. scripts ≡ replicate count []) }
-{
-    let mut scripts = Vec::new(alloc);
-    for _unit in 0..count {
-        scripts.push(Row::of(Vec::new(alloc)))?;
-    }
-    Ok(Row::of(scripts))
-}
-
-// So many units with nothing to do, and the opening database.
-fn opened(alloc: Global, schema: &Schema, capacity: u16, units: u8) -> Result<Parts, AllocError>
-    requires sound { IsSound schema.now }
-    ensures { IfOk result (λ parts. IsOpened schema.now capacity units parts) }
-{
-    let scripts = empty_scripts(alloc, units)?;
-    let table = opening_table(alloc, schema, capacity)?;
-    let runners = opening_runners(alloc, schema, scripts)?;
-    Ok(Parts {
-        table,
-        history: Vec::new(alloc),
-        runners,
-    })
-}
-
-// One statement more for a unit whose script has been made.
-fn lengthen(runner: &mut Runner, statement: Statement) -> Result<(), AllocError>
-    ensures { OnOk result (runner.new ≡ record { unit = runner.old.unit; held = runner.old.held; script = runner.old.script ++ statement ∷ []; next = length runner.old.script; stage = runner.old.stage }) }
-{
-    runner.next = runner.script.len();
-    runner.script.push(statement)?;
-    Ok(())
-}
-
-// The unit is handed a statement.
-fn hand(parts: &mut Parts, unit: u8, statement: Statement) -> Result<(), AllocError>
-    requires numbered { 0 < unit }
-    requires within { unit ≤ length parts.old.runners.items }
-    ensures { (schema : Lists) (capacity : ℕ) → IsReady schema capacity parts.old → fits schema statement ≡ true → OnOk result (IsHanded schema capacity unit statement parts.old parts.new) }
-{
-    lengthen(&mut parts.runners[unit as usize - 1], statement)
-}
-
-// Whether the unit has nothing to do.
-fn rests(runner: &Runner) -> bool
-    ensures { (schema : Lists) (capacity : ℕ) → Decides result (Rests (network schema capacity) (unit_state_of schema capacity runner.now)) }
-{
-    runner.stage.is_none() & (runner.script.len() <= runner.next)
-}
-
-// The unit makes its statement, step by step. No other unit holds anything, so that it never waits, and its steps come to an
-// end.
-fn run_out(
-    alloc: Global,
-    schema: &Schema,
-    capacity: u16,
-    parts: &mut Parts,
-    unit: u8,
-) -> Result<(), AllocError>
-    requires well { IsWell schema.now capacity parts.old }
-    requires numbered { 0 < unit }
-    requires within { unit ≤ length parts.old.runners.items }
-    requires work { IsAtWork schema.now capacity unit (state_of schema.now capacity parts.old) }
-    ensures well { OnOk result (IsWell schema.now capacity parts.new) }
-    ensures count { OnOk result (length parts.new.runners.items ≡ length parts.old.runners.items) }
-    ensures rests { OnOk result ((r : Runner) → slice_get parts.new.runners.items (unit - 1) ≡ Some r → Rests (network schema.now capacity) (unit_state_of schema.now capacity r)) }
-    ensures making { OnOk result ((x : Statement) (past : List (HistoryEntry (network schema.now capacity))) → IsMaking (network schema.now capacity) unit x past (state_of schema.now capacity parts.old) → IsMaking (network schema.now capacity) unit x past (state_of schema.now capacity parts.new)) }
-{
-    while !rests(&parts.runners[unit as usize - 1]) {
-        match step(alloc, schema, capacity, parts, unit) {
-            Stepped::Moved => {}
-            Stepped::NoMemory => return Err(AllocError),
-            Stepped::Blocked => unreachable!(),
-            Stepped::Idle => unreachable!(),
-        }
-    }
-    Ok(())
-}
-
-// One statement of a unit, made whole.
-fn make_whole(
-    alloc: Global,
-    schema: &Schema,
-    capacity: u16,
-    parts: &mut Parts,
-    unit: u8,
-    statement: &Statement,
-) -> Result<(), AllocError>
-    requires ready { IsReady schema.now capacity parts.old }
-    requires numbered { 0 < unit }
-    requires within { unit ≤ length parts.old.runners.items }
-    requires fitting { fits schema.now statement.now ≡ true }
-    ensures { OnOk result (HasMade schema.now capacity unit statement.now parts.old parts.new) }
-{
-    hand(parts, unit, statement.copy(alloc)?)?;
-    run_out(alloc, schema, capacity, parts, unit)
-}
-
 // Whether the entry has the next ticket, a unit that is there, and a statement that fits.
-fn may_follow(schema: &Schema, parts: &Parts, entry: &Entry) -> bool
-    ensures { result ≡ (entry.now.ticket == length parts.now.history.items && nat_lt 0 entry.now.unit && nat_le entry.now.unit (length parts.now.runners.items) && fits schema.now entry.now.statement) }
+fn may_follow(schema: &Schema, database: &WholeDatabase<'_>, entry: &Entry) -> bool
+    ensures count { length (state_now database.now).units ≡ database.now.units }
+    ensures may { result ≡ (entry.now.ticket == length database.now.history && nat_lt 0 entry.now.unit && nat_le entry.now.unit database.now.units && fits schema.now entry.now.statement) }
 {
-    (entry.ticket == parts.history.len() as u64)
+    (entry.ticket == database.history().len() as u64)
         & (0 < entry.unit)
-        & (entry.unit as usize <= parts.runners.len())
+        & (entry.unit as usize <= database.units().len())
         & entry.statement.fits(schema)
 }
 
@@ -139,22 +32,21 @@ fn newest_has(history: &[Entry], answer: &Answer) -> bool
     same_answer(&history[history.len() - 1].answer, answer)
 }
 
-// The next entry, if it is one of the sequential database.
+// Makes the statement of the next entry, if it may follow; whether it then is the entry.
 fn takes(
     alloc: Global,
     schema: &Schema,
-    capacity: u16,
-    parts: &mut Parts,
+    database: &mut WholeDatabase<'_>,
     entry: &Entry,
 ) -> Result<bool, AllocError>
-    requires ready { IsReady schema.now capacity parts.old }
-    ensures { IfOk result (λ follows. MatchBool follows (HasJoined schema.now capacity entry.now parts.old parts.new) (GoesOn schema.now capacity (length parts.old.runners.items) parts.old.history.items entry.now → ⊥)) }
+    requires { schema.now ≡ database.old.schema }
+    ensures { IfOk result (λ follows. MatchBool follows (HasJoined entry.now database.old database.new) (GoesOn database.old entry.now → ⊥)) }
 {
-    if !may_follow(schema, parts, entry) {
+    if !may_follow(schema, database, entry) {
         return Ok(false);
     }
-    make_whole(alloc, schema, capacity, parts, entry.unit, &entry.statement)?;
-    Ok(newest_has(&parts.history, &entry.answer))
+    database.make(entry.unit, entry.statement.copy(alloc)?)?;
+    Ok(newest_has(database.history(), &entry.answer))
 }
 
 /// Whether a history is one of the sequential database with so many units, numbered from 1: tickets 0, 1, 2, .. in order,
@@ -171,13 +63,12 @@ pub fn audit(
     requires sound { IsSound schema.now }
     ensures { IfOk result (λ found. IsAudited schema.now capacity units history.now found) }
 {
-    let mut parts = opened(alloc, schema, capacity, units)?;
+    let mut database = WholeDatabase::opening(alloc, schema, capacity, units)?;
     for entry in history {
-        if !takes(alloc, schema, capacity, &mut parts, entry)? {
+        if !takes(alloc, schema, &mut database, entry)? {
             return Ok(None);
         }
     }
-    let image = read_image(alloc, schema, capacity, &parts)?;
-    let units = units_of(alloc, parts.runners)?;
-    Ok(Some((image, units)))
+    let run = database.into_run()?;
+    Ok(Some((run.image, run.units)))
 }

@@ -38,8 +38,8 @@ pub fn make(
     Ok(finish(schema, prepared, held, unit))
 }
 
-// Makes room for one more entry; there are fewer entries than a list can have.
-fn make_room(history: &mut Vec<Entry>) -> Result<(), AllocError>
+/// Makes room for one more entry; there are fewer entries than a list can have.
+pub fn make_room(history: &mut Vec<Entry>) -> Result<(), AllocError>
     ensures items { history.new.items ≡ history.old.items }
     ensures room { OnOk result (length history.new.items < vec_capacity history.new) }
     ensures few { OnOk result (length history.new.items + 1 < 2 ^ 64) }

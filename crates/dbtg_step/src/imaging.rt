@@ -1,19 +1,26 @@
-//! The image of the core's database, read off each cell where it is.
+//! The image of a database, read off each cell where it is.
 ghost use Rattle.std.specs.Prelude.{◌≡◌, ◌++◌, [], IfOk, OnOk, Some, length, map, option_and_then, option_copied, option_map, slice_get, unwrap_or};
 ghost use Rattle.std.specs.List.{flat_map, range_with_len};
 ghost use Rattle.dbtg_schema.specs.Structure.{set_numbers};
 ghost use Rattle.dbtg_unit.specs.Hands.{cell_of};
 ghost use Rattle.dbtg_unit.specs.InHand.{numbers_of, users_of};
 ghost use Rattle.dbtg_step.specs.SequentialDatabase.{unit_at};
-ghost use Rattle.dbtg_step.specs.Imaging.{cell_in, found_cell, generations_in, image_from, list_of, lists_of, next_in, occurrence_at, record_of, records_of, stored_at, version_of, versions_of};
+ghost use Rattle.dbtg_step.specs.Imaging.{cell_in, found_cell, found_in, generations_in, image_from, list_of, lists_of, next_in, occurrence_at, record_of, records_of, stored_at, version_of, versions_of};
 
 use crate::parts::{Parts, Place, Runner};
 use dbtg_cells::{
     Cell, CellName, DbKey, Extent, Mode, Owner, Ring, Stored, Usage, Value, cell_number, copy_items,
 };
 use dbtg_schema::{AreaNo, RecordNo, Row, Schema, SetNo};
-use dbtg_unit::Image;
+use dbtg_unit::{Held, Image};
 use std::alloc::{AllocError, Global};
+
+/// Where cells are looked up: in a core, each at home or with its holder; or in hands that have all of them.
+#[derive(Clone, Copy)]
+pub enum CellSource<'a> {
+    Parts(&'a Parts),
+    Hands(&'a Held),
+}
 
 fn place_at(table: &[Place], number: usize) -> Option<&Place>
     ensures { option_copied result ≡ slice_get table.now number }
@@ -55,7 +62,7 @@ fn cell_in<'a>(runners: &'a [Runner], place: &'a Place, name: &CellName) -> Opti
 }
 
 // The cell of this name, at home or in the hands of its holder.
-fn find_cell<'a>(
+fn find_in_parts<'a>(
     schema: &Schema,
     capacity: u16,
     parts: &'a Parts,
@@ -72,16 +79,30 @@ fn find_cell<'a>(
     }
 }
 
+fn find_cell<'a>(
+    schema: &Schema,
+    capacity: u16,
+    source: CellSource<'a>,
+    name: &CellName,
+) -> Option<&'a Cell>
+    ensures { option_copied result ≡ found_in schema.now capacity source.entry name.now }
+{
+    match source {
+        CellSource::Parts(parts) => find_in_parts(schema, capacity, parts, name),
+        CellSource::Hands(held) => held.cell(name),
+    }
+}
+
 fn find_stored<'a>(
     schema: &Schema,
     capacity: u16,
-    parts: &'a Parts,
+    source: CellSource<'a>,
     rtype: RecordNo,
     number: u32,
 ) -> Option<&'a Stored>
-    ensures { option_copied result ≡ stored_at (found_cell schema.now capacity parts.now (CellName.Slot rtype number)) }
+    ensures { option_copied result ≡ stored_at (found_in schema.now capacity source.entry (CellName.Slot rtype number)) }
 {
-    match find_cell(schema, capacity, parts, &CellName::Slot(rtype, number)) {
+    match find_cell(schema, capacity, source, &CellName::Slot(rtype, number)) {
         Some(Cell::Slot(slot)) => slot.record(),
         _ => None,
     }
@@ -90,12 +111,12 @@ fn find_stored<'a>(
 fn find_ring<'a>(
     schema: &Schema,
     capacity: u16,
-    parts: &'a Parts,
+    source: CellSource<'a>,
     name: &CellName,
 ) -> Option<&'a Ring>
-    ensures { option_and_then (λ r. r.occurrence) (option_copied result) ≡ occurrence_at (found_cell schema.now capacity parts.now name.now) }
+    ensures { option_and_then (λ r. r.occurrence) (option_copied result) ≡ occurrence_at (found_in schema.now capacity source.entry name.now) }
 {
-    match find_cell(schema, capacity, parts, name) {
+    match find_cell(schema, capacity, source, name) {
         Some(Cell::Ring(ring)) => Some(ring),
         _ => None,
     }
@@ -104,12 +125,12 @@ fn find_ring<'a>(
 fn find_extent<'a>(
     schema: &Schema,
     capacity: u16,
-    parts: &'a Parts,
+    source: CellSource<'a>,
     rtype: RecordNo,
 ) -> Option<&'a Extent>
-    ensures { unwrap_or (option_map (λ e. e.numbers) (option_copied result)) [] ≡ numbers_of (found_cell schema.now capacity parts.now (CellName.Extent rtype)) }
+    ensures { unwrap_or (option_map (λ e. e.numbers) (option_copied result)) [] ≡ numbers_of (found_in schema.now capacity source.entry (CellName.Extent rtype)) }
 {
-    match find_cell(schema, capacity, parts, &CellName::Extent(rtype)) {
+    match find_cell(schema, capacity, source, &CellName::Extent(rtype)) {
         Some(Cell::Extent(extent)) => Some(extent),
         _ => None,
     }
@@ -118,12 +139,12 @@ fn find_extent<'a>(
 fn find_usage<'a>(
     schema: &Schema,
     capacity: u16,
-    parts: &'a Parts,
+    source: CellSource<'a>,
     area: AreaNo,
 ) -> Option<&'a Usage>
-    ensures { unwrap_or (option_map (λ u. u.users) (option_copied result)) [] ≡ users_of (found_cell schema.now capacity parts.now (CellName.Usage area)) }
+    ensures { unwrap_or (option_map (λ u. u.users) (option_copied result)) [] ≡ users_of (found_in schema.now capacity source.entry (CellName.Usage area)) }
 {
-    match find_cell(schema, capacity, parts, &CellName::Usage(area)) {
+    match find_cell(schema, capacity, source, &CellName::Usage(area)) {
         Some(Cell::Usage(usage)) => Some(usage),
         _ => None,
     }
@@ -172,15 +193,15 @@ fn add_records(
     alloc: Global,
     schema: &Schema,
     capacity: u16,
-    parts: &Parts,
+    source: CellSource<'_>,
     rtype: RecordNo,
     records: &mut Vec<(DbKey, Row<Value>)>,
 ) -> Result<(), AllocError>
-    ensures { OnOk result (records.new.items ≡ records.old.items ++ records_of capacity (found_cell schema.now capacity parts.now) rtype) }
+    ensures { OnOk result (records.new.items ≡ records.old.items ++ records_of capacity (found_in schema.now capacity source.entry) rtype) }
 {
     for turn in 0..capacity {
         let number = turn as u32 + 1;
-        let stored = find_stored(schema, capacity, parts, rtype, number);
+        let stored = find_stored(schema, capacity, source, rtype, number);
         add_record(alloc, rtype, number, stored, records)?;
     }
     Ok(())
@@ -189,15 +210,15 @@ fn add_records(
 fn add_versions(
     schema: &Schema,
     capacity: u16,
-    parts: &Parts,
+    source: CellSource<'_>,
     rtype: RecordNo,
     versions: &mut Vec<(DbKey, u64)>,
 ) -> Result<(), AllocError>
-    ensures { OnOk result (versions.new.items ≡ versions.old.items ++ versions_of capacity (found_cell schema.now capacity parts.now) rtype) }
+    ensures { OnOk result (versions.new.items ≡ versions.old.items ++ versions_of capacity (found_in schema.now capacity source.entry) rtype) }
 {
     for turn in 0..capacity {
         let number = turn as u32 + 1;
-        let stored = find_stored(schema, capacity, parts, rtype, number);
+        let stored = find_stored(schema, capacity, source, rtype, number);
         add_version(rtype, number, stored, versions)?;
     }
     Ok(())
@@ -207,15 +228,15 @@ fn all_records(
     alloc: Global,
     schema: &Schema,
     capacity: u16,
-    parts: &Parts,
+    source: CellSource<'_>,
 ) -> Result<Row<(DbKey, Row<Value>)>, AllocError>
-    ensures { IfOk result (λ row. row ≡ flat_map (records_of capacity (found_cell schema.now capacity parts.now)) (range_with_len 0 (length schema.now.types))) }
+    ensures { IfOk result (λ row. row ≡ flat_map (records_of capacity (found_in schema.now capacity source.entry)) (range_with_len 0 (length schema.now.types))) }
 {
     let mut records = Vec::new(alloc);
     let types = schema.types().len() as u8;
     for rtype in 0..types {
         let rtype = RecordNo::new(rtype);
-        add_records(alloc, schema, capacity, parts, rtype, &mut records)?;
+        add_records(alloc, schema, capacity, source, rtype, &mut records)?;
     }
     Ok(Row::of(records))
 }
@@ -224,15 +245,15 @@ fn all_versions(
     alloc: Global,
     schema: &Schema,
     capacity: u16,
-    parts: &Parts,
+    source: CellSource<'_>,
 ) -> Result<Row<(DbKey, u64)>, AllocError>
-    ensures { IfOk result (λ row. row ≡ flat_map (versions_of capacity (found_cell schema.now capacity parts.now)) (range_with_len 0 (length schema.now.types))) }
+    ensures { IfOk result (λ row. row ≡ flat_map (versions_of capacity (found_in schema.now capacity source.entry)) (range_with_len 0 (length schema.now.types))) }
 {
     let mut versions = Vec::new(alloc);
     let types = schema.types().len() as u8;
     for rtype in 0..types {
         let rtype = RecordNo::new(rtype);
-        add_versions(schema, capacity, parts, rtype, &mut versions)?;
+        add_versions(schema, capacity, source, rtype, &mut versions)?;
     }
     Ok(Row::of(versions))
 }
@@ -257,16 +278,16 @@ fn add_owned_lists(
     alloc: Global,
     schema: &Schema,
     capacity: u16,
-    parts: &Parts,
+    source: CellSource<'_>,
     set: SetNo,
     rtype: RecordNo,
     lists: &mut Vec<(Owner, Row<DbKey>)>,
 ) -> Result<(), AllocError>
-    ensures { OnOk result (lists.new.items ≡ lists.old.items ++ flat_map (λ n. list_of (occurrence_at (found_cell schema.now capacity parts.now (CellName.Ring set (Some (rtype, n)))))) (range_with_len 1 capacity)) }
+    ensures { OnOk result (lists.new.items ≡ lists.old.items ++ flat_map (λ n. list_of (occurrence_at (found_in schema.now capacity source.entry (CellName.Ring set (Some (rtype, n)))))) (range_with_len 1 capacity)) }
 {
     for turn in 0..capacity {
         let name = CellName::Ring(set, Some((rtype, turn as u32 + 1)));
-        add_list(alloc, find_ring(schema, capacity, parts, &name), lists)?;
+        add_list(alloc, find_ring(schema, capacity, source, &name), lists)?;
     }
     Ok(())
 }
@@ -275,18 +296,18 @@ fn add_lists(
     alloc: Global,
     schema: &Schema,
     capacity: u16,
-    parts: &Parts,
+    source: CellSource<'_>,
     set: SetNo,
     lists: &mut Vec<(Owner, Row<DbKey>)>,
 ) -> Result<(), AllocError>
-    ensures { OnOk result (lists.new.items ≡ lists.old.items ++ lists_of schema.now capacity (found_cell schema.now capacity parts.now) set) }
+    ensures { OnOk result (lists.new.items ≡ lists.old.items ++ lists_of schema.now capacity (found_in schema.now capacity source.entry) set) }
 {
     if schema.is_system(set) {
         let name = CellName::Ring(set, None);
-        return add_list(alloc, find_ring(schema, capacity, parts, &name), lists);
+        return add_list(alloc, find_ring(schema, capacity, source, &name), lists);
     }
     match schema.owner_type(set) {
-        Some(rtype) => add_owned_lists(alloc, schema, capacity, parts, set, rtype, lists),
+        Some(rtype) => add_owned_lists(alloc, schema, capacity, source, set, rtype, lists),
         None => Ok(()),
     }
 }
@@ -295,15 +316,15 @@ fn all_lists(
     alloc: Global,
     schema: &Schema,
     capacity: u16,
-    parts: &Parts,
+    source: CellSource<'_>,
 ) -> Result<Row<Row<(Owner, Row<DbKey>)>>, AllocError>
-    ensures { IfOk result (λ row. row ≡ map (lists_of schema.now capacity (found_cell schema.now capacity parts.now)) (set_numbers schema.now)) }
+    ensures { IfOk result (λ row. row ≡ map (lists_of schema.now capacity (found_in schema.now capacity source.entry)) (set_numbers schema.now)) }
 {
     let mut all = Vec::new(alloc);
     let sets = schema.sets().len() as u8;
     for set in 0..sets {
         let mut lists = Vec::new(alloc);
-        add_lists(alloc, schema, capacity, parts, SetNo::new(set), &mut lists)?;
+        add_lists(alloc, schema, capacity, source, SetNo::new(set), &mut lists)?;
         all.push(Row::of(lists))?;
     }
     Ok(Row::of(all))
@@ -322,15 +343,15 @@ fn next_numbers(
     alloc: Global,
     schema: &Schema,
     capacity: u16,
-    parts: &Parts,
+    source: CellSource<'_>,
 ) -> Result<Row<u32>, AllocError>
-    ensures { IfOk result (λ row. row ≡ map (λ t. next_in (numbers_of (found_cell schema.now capacity parts.now (CellName.Extent t)))) (range_with_len 0 (length schema.now.types))) }
+    ensures { IfOk result (λ row. row ≡ map (λ t. next_in (numbers_of (found_in schema.now capacity source.entry (CellName.Extent t)))) (range_with_len 0 (length schema.now.types))) }
 {
     let mut all = Vec::new(alloc);
     let types = schema.types().len() as u8;
     for rtype in 0..types {
         let rtype = RecordNo::new(rtype);
-        all.push(next_number(find_extent(schema, capacity, parts, rtype)))?;
+        all.push(next_number(find_extent(schema, capacity, source, rtype)))?;
     }
     Ok(Row::of(all))
 }
@@ -358,14 +379,14 @@ fn all_generations(
     alloc: Global,
     schema: &Schema,
     capacity: u16,
-    parts: &Parts,
+    source: CellSource<'_>,
 ) -> Result<Row<Row<u8>>, AllocError>
-    ensures { IfOk result (λ row. row ≡ map (λ t. generations_in (numbers_of (found_cell schema.now capacity parts.now (CellName.Extent t)))) (range_with_len 0 (length schema.now.types))) }
+    ensures { IfOk result (λ row. row ≡ map (λ t. generations_in (numbers_of (found_in schema.now capacity source.entry (CellName.Extent t)))) (range_with_len 0 (length schema.now.types))) }
 {
     let mut all = Vec::new(alloc);
     let types = schema.types().len() as u8;
     for rtype in 0..types {
-        let extent = find_extent(schema, capacity, parts, RecordNo::new(rtype));
+        let extent = find_extent(schema, capacity, source, RecordNo::new(rtype));
         all.push(generations_of(alloc, extent)?)?;
     }
     Ok(Row::of(all))
@@ -384,14 +405,14 @@ fn all_users(
     alloc: Global,
     schema: &Schema,
     capacity: u16,
-    parts: &Parts,
+    source: CellSource<'_>,
 ) -> Result<Row<Row<(u8, Mode)>>, AllocError>
-    ensures { IfOk result (λ row. row ≡ map (λ a. users_of (found_cell schema.now capacity parts.now (CellName.Usage a))) (range_with_len 0 (length schema.now.areas))) }
+    ensures { IfOk result (λ row. row ≡ map (λ a. users_of (found_in schema.now capacity source.entry (CellName.Usage a))) (range_with_len 0 (length schema.now.areas))) }
 {
     let mut all = Vec::new(alloc);
     let areas = schema.areas().len() as u8;
     for area in 0..areas {
-        let usage = find_usage(schema, capacity, parts, AreaNo::new(area));
+        let usage = find_usage(schema, capacity, source, AreaNo::new(area));
         all.push(users_of(alloc, usage)?)?;
     }
     Ok(Row::of(all))
@@ -402,16 +423,16 @@ pub fn read_image(
     alloc: Global,
     schema: &Schema,
     capacity: u16,
-    parts: &Parts,
+    source: CellSource<'_>,
 ) -> Result<Image, AllocError>
-    ensures { IfOk result (λ image. image ≡ image_from schema.now capacity (found_cell schema.now capacity parts.now)) }
+    ensures { IfOk result (λ image. image ≡ image_from schema.now capacity (found_in schema.now capacity source.entry)) }
 {
     Ok(Image {
-        records: all_records(alloc, schema, capacity, parts)?,
-        versions: all_versions(alloc, schema, capacity, parts)?,
-        lists: all_lists(alloc, schema, capacity, parts)?,
-        next: next_numbers(alloc, schema, capacity, parts)?,
-        last: all_generations(alloc, schema, capacity, parts)?,
-        usage: all_users(alloc, schema, capacity, parts)?,
+        records: all_records(alloc, schema, capacity, source)?,
+        versions: all_versions(alloc, schema, capacity, source)?,
+        lists: all_lists(alloc, schema, capacity, source)?,
+        next: next_numbers(alloc, schema, capacity, source)?,
+        last: all_generations(alloc, schema, capacity, source)?,
+        usage: all_users(alloc, schema, capacity, source)?,
     })
 }

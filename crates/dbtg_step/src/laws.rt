@@ -50,9 +50,10 @@ pub fn every_run_is_sequential()
     ensures { (schema : Lists) (capacity : ℕ) → IsSound schema → EveryRunIsSequential schema capacity }
 {}
 
-/// Stepping one unit after another, each until its next step is idle, is one of these runs.
+/// Stepping one unit after another, each until its next step is idle, comes to an end. It is one of these runs, in which every
+/// statement of every script is made in turn; and a serial run, which makes the same statements whole, has just its history.
 pub fn every_serial_run_is_a_run()
-    ensures { (schema : Lists) (capacity : ℕ) → EverySerialRunIsARun schema capacity }
+    ensures { (schema : Lists) (capacity : ℕ) → IsSound schema → EverySerialRunIsARun schema capacity }
 {}
 
 /// A cell that a statement needs next isn't held and lies in an area that is held; areas are needed in ascending order, and

@@ -14,10 +14,11 @@ mod quitting;
 mod results;
 mod runner;
 mod running;
-mod serially;
 mod statements;
 mod stepping;
 mod table;
+mod taking_turns;
+mod whole;
 
 pub use auditing::audit;
 pub use laws::{
@@ -31,3 +32,5 @@ pub use opening_parts::{opening_cells, opening_unit};
 pub use results::Run;
 pub use running::{run, run_serial};
 pub use statements::{next_need, prepare};
+pub use taking_turns::{Turned, run_turns};
+pub use whole::WholeDatabase;

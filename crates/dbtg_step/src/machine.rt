@@ -1,22 +1,25 @@
 //! The core: a database and its run-units, stepped event by event.
-ghost use Rattle.std.specs.Prelude.{◌≡◌, ◌≤◌, true, length, option_map, IfOk};
+ghost use Rattle.std.specs.Prelude.{◌≡◌, ◌≤◌, true, length, option_map, IfOk, OnOk};
 ghost use Rattle.dbtg_unit.specs.Image.{image_of};
 ghost use Rattle.dbtg_unit.specs.Replay.{opening_state, replay};
 ghost use Rattle.dbtg_step.specs.SequentialDatabase.{unit_at};
-ghost use Rattle.dbtg_step.specs.CoreSteps.{IsQuitStep, IsStep};
+ghost use Rattle.dbtg_step.specs.CoreSteps.{IsNeverStuck, IsQuitStep, IsStep};
 ghost use Rattle.dbtg_schema.specs.Sound.{IsSound};
 ghost use Rattle.dbtg_step.specs.Headline.{machine_of, opening_of};
 ghost use Rattle.dbtg_step.specs.Laws.{scripts_fit};
+ghost use Rattle.dbtg_step.specs.Network.{network};
 ghost use Rattle.dbtg_step.specs.Parts.{machine};
 ghost use Rattle.dbtg_step.specs.Runs.{IsHandedOut};
+ghost use Rattle.dbtg_step.specs.Turns.{AllBetween, HaveTurned};
 
-use crate::imaging::read_image;
+use crate::imaging::{CellSource, read_image};
 use crate::opening_parts::{opening_runners, opening_table};
 use crate::parts::Parts;
 use crate::quitting::quit;
 use crate::results::Run;
 use crate::runner::units_of;
 use crate::stepping::step;
+use crate::taking_turns::{Noted, take_turns};
 use dbtg_schema::{Row, Schema};
 use dbtg_unit::{Entry, Image, Statement, Stepped, Unit};
 use std::alloc::{AllocError, Global};
@@ -72,9 +75,11 @@ impl Core {
         })
     }
 
-    /// One step of the unit with this number: the machine's step, or want of memory before its ticket.
+    /// One step of the unit with this number: the machine's step, or want of memory in the place of an event before its
+    /// ticket. Where it leaves a unit in mid-statement, some unit's next step is an event.
     pub fn step(&mut self, unit: u8) -> Stepped
-        ensures { IsStep (machine self.old) unit result (machine self.new) }
+        ensures step { IsStep (machine self.old) unit result (machine self.new) }
+        ensures never_stuck { IsNeverStuck (machine self.new) }
     {
         step(
             self.alloc,
@@ -85,11 +90,28 @@ impl Core {
         )
     }
 
-    /// The unit with this number gives back all that it holds, unless its statement has its ticket. It takes no memory.
+    /// The unit with this number gives back all that it holds, unless its statement has its ticket. It takes no memory. Where
+    /// it leaves another in mid-statement, some unit's next step is an event.
     pub fn quit(&mut self, unit: u8) -> Stepped
-        ensures { IsQuitStep (machine self.old) unit result (machine self.new) }
+        ensures quit { IsQuitStep (machine self.old) unit result (machine self.new) }
+        ensures never_stuck { IsNeverStuck (machine self.new) }
     {
         quit(&self.schema, self.capacity, &mut self.parts, unit)
+    }
+
+    /// The units take these turns, one after another, and the moves that they stand for are noted.
+    pub(crate) fn take_turns(&mut self, turns: &[u8], noted: &mut Noted) -> Result<(), AllocError>
+        requires { AllBetween (network (machine self.old).schema (machine self.old).capacity) (machine self.old).state }
+        ensures { OnOk result (HaveTurned (machine self.old) turns.now (machine self.new) noted.old noted.new) }
+    {
+        take_turns(
+            self.alloc,
+            &self.schema,
+            self.capacity,
+            &mut self.parts,
+            turns,
+            noted,
+        )
     }
 
     /// The statements that drew a ticket, in the order of their tickets.
@@ -115,7 +137,8 @@ impl Core {
     pub fn image(&self, alloc: Global) -> Result<Image, AllocError>
         ensures { IfOk result (λ image. image ≡ image_of self.now.schema self.now.capacity (replay self.now.schema self.now.capacity (opening_state self.now.schema (length self.now.runners)) self.now.history).database) }
     {
-        read_image(alloc, &self.schema, self.capacity, &self.parts)
+        let source = CellSource::Parts(&self.parts);
+        read_image(alloc, &self.schema, self.capacity, source)
     }
 
     /// The core taken apart, with the results of the moves that led to it.

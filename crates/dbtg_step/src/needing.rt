@@ -1,10 +1,12 @@
 //! The events of a statement before its ticket: it takes the area or the cell that it needs next, or turns back.
-ghost use Rattle.std.specs.Prelude.{◌≡◌, ℕ, ◌≤◌, ◌<◌, ◌-◌, ◌++◌, ◌∷◌, ◌||◌, [], length, drop, take, slice_get, Some, IfOk};
+ghost use Rattle.std.specs.Prelude.{◌≡◌, ℕ, ◌≤◌, ◌<◌, ◌-◌, ◌++◌, ◌∷◌, ◌||◌, [], length, drop, take, slice_get, Some, IfOk, OnErr};
 ghost use Rattle.std.specs.List.{list_any};
 ghost use Rattle.dbtg_schema.specs.Lists.{Lists};
 ghost use Rattle.dbtg_unit.specs.declared.held.Need.{Need};
+ghost use Rattle.dbtg_unit.specs.declared.statement.Statement.{Statement};
 ghost use Rattle.dbtg_unit.specs.Guesses.{with_owners};
 ghost use Rattle.dbtg_step.specs.declared.parts.Runner.{Runner};
+ghost use Rattle.dbtg_step.specs.NeedOrder.{HasItsAreas};
 ghost use Rattle.dbtg_step.specs.Events.{holds_against, IsStepped, IsTaken, IsWell, NeedsNext, StandsNeeding};
 
 use crate::drawing::draws;
@@ -30,7 +32,8 @@ fn need_now(
     requires numbered { 0 < unit }
     requires within { unit ≤ length parts.now.runners.items }
     requires stands { (r : Runner) → slice_get parts.now.runners.items (unit - 1) ≡ Some r → StandsNeeding r stage }
-    ensures { IfOk result (λ n. NeedsNext schema.now capacity parts.now unit stage n) }
+    ensures need { IfOk result (λ n. NeedsNext schema.now capacity parts.now unit stage n) }
+    ensures refused { OnErr result ((r : Runner) (x : Statement) → slice_get parts.now.runners.items (unit - 1) ≡ Some r → slice_get r.script r.next ≡ Some x → HasItsAreas schema.now r.unit r.held x) }
 {
     let _ = stage.linked;
     let runner = &parts.runners[unit as usize - 1];
@@ -139,7 +142,7 @@ fn takes_cell(
             let runner = &mut parts.runners[unit as usize - 1];
             take_cell(&mut parts.table, &mut runner.held, unit, number, name)
         }
-        None => Stepped::NoMemory,
+        None => unreachable!(),
     }
 }
 

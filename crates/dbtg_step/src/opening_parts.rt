@@ -9,6 +9,7 @@ ghost use Rattle.dbtg_unit.specs.Base.{opening};
 ghost use Rattle.dbtg_unit.specs.Cells.{cell};
 ghost use Rattle.dbtg_unit.specs.Units.{opening_unit};
 ghost use Rattle.dbtg_step.specs.Openings.{homes_of, homes_shown, locations_of, opening_runner, runners_from};
+ghost use Rattle.dbtg_step.specs.Whole.{HasTaken};
 
 use crate::parts::{Place, Runner};
 use dbtg_cells::{Cell, CellName, Extent, Owner, Ring, Slot, Usage};
@@ -47,150 +48,132 @@ fn opening_cell(
     }
 }
 
-// The cells with one more.
-fn add_cell(
-    alloc: Global,
-    schema: &Schema,
-    capacity: u16,
-    cells: &mut Vec<Cell>,
-    name: &CellName,
-) -> Result<(), AllocError>
-    ensures { OnOk result (homes_shown cells.new.items ≡ homes_shown cells.old.items ++ homes_of schema.now capacity (name.now ∷ [])) }
+// The items with one more.
+fn add<T: Copy>(items: &mut Vec<T>, item: &T) -> Result<(), AllocError>
+    ensures { OnOk result (items.new.items ≡ items.old.items ++ item.now ∷ []) }
 {
-    let cell = opening_cell(alloc, schema, capacity, name)?;
-    cells.push(cell)?;
+    items.push(*item)?;
     Ok(())
 }
 
-fn add_usages(
-    alloc: Global,
-    schema: &Schema,
-    capacity: u16,
-    cells: &mut Vec<Cell>,
-) -> Result<(), AllocError>
-    ensures { OnOk result (homes_shown cells.new.items ≡ homes_shown cells.old.items ++ homes_of schema.now capacity (map CellName.Usage (range_with_len 0 (length schema.now.areas)))) }
+fn add_usages(schema: &Schema, names: &mut Vec<CellName>) -> Result<(), AllocError>
+    ensures { OnOk result (names.new.items ≡ names.old.items ++ map CellName.Usage (range_with_len 0 (length schema.now.areas))) }
 {
     for area in 0..schema.areas().len() as u8 {
-        add_cell(
-            alloc,
-            schema,
-            capacity,
-            cells,
-            &CellName::Usage(AreaNo::new(area)),
-        )?;
+        add(names, &CellName::Usage(AreaNo::new(area)))?;
     }
     Ok(())
 }
 
-fn add_extents(
-    alloc: Global,
-    schema: &Schema,
-    capacity: u16,
-    cells: &mut Vec<Cell>,
-) -> Result<(), AllocError>
-    ensures { OnOk result (homes_shown cells.new.items ≡ homes_shown cells.old.items ++ homes_of schema.now capacity (map CellName.Extent (range_with_len 0 (length schema.now.types)))) }
+fn add_extents(schema: &Schema, names: &mut Vec<CellName>) -> Result<(), AllocError>
+    ensures { OnOk result (names.new.items ≡ names.old.items ++ map CellName.Extent (range_with_len 0 (length schema.now.types))) }
 {
     for rtype in 0..schema.types().len() as u8 {
-        add_cell(
-            alloc,
-            schema,
-            capacity,
-            cells,
-            &CellName::Extent(RecordNo::new(rtype)),
-        )?;
+        add(names, &CellName::Extent(RecordNo::new(rtype)))?;
     }
     Ok(())
 }
 
 fn add_owned_rings(
-    alloc: Global,
-    schema: &Schema,
     capacity: u16,
     set: SetNo,
     owner: RecordNo,
-    cells: &mut Vec<Cell>,
+    names: &mut Vec<CellName>,
 ) -> Result<(), AllocError>
-    ensures { OnOk result (homes_shown cells.new.items ≡ homes_shown cells.old.items ++ homes_of schema.now capacity (map (λ n. CellName.Ring set (Some (owner, n))) (range_with_len 1 capacity))) }
+    ensures { OnOk result (names.new.items ≡ names.old.items ++ map (λ n. CellName.Ring set (Some (owner, n))) (range_with_len 1 capacity)) }
 {
     for lower in 0..capacity {
-        let name = CellName::Ring(set, Some((owner, lower as u32 + 1)));
-        add_cell(alloc, schema, capacity, cells, &name)?;
+        add(names, &CellName::Ring(set, Some((owner, lower as u32 + 1))))?;
     }
     Ok(())
 }
 
 fn add_rings_of(
-    alloc: Global,
     schema: &Schema,
     capacity: u16,
     set: SetNo,
-    cells: &mut Vec<Cell>,
+    names: &mut Vec<CellName>,
 ) -> Result<(), AllocError>
-    ensures { OnOk result (homes_shown cells.new.items ≡ homes_shown cells.old.items ++ homes_of schema.now capacity (rings_of schema.now capacity set)) }
+    ensures { OnOk result (names.new.items ≡ names.old.items ++ rings_of schema.now capacity set) }
 {
     if schema.is_system(set) {
-        return add_cell(alloc, schema, capacity, cells, &CellName::Ring(set, None));
+        return add(names, &CellName::Ring(set, None));
     }
     match schema.owner_type(set) {
-        Some(owner) => add_owned_rings(alloc, schema, capacity, set, owner, cells),
+        Some(owner) => add_owned_rings(capacity, set, owner, names),
         None => Ok(()),
     }
 }
 
-fn add_rings(
-    alloc: Global,
-    schema: &Schema,
-    capacity: u16,
-    cells: &mut Vec<Cell>,
-) -> Result<(), AllocError>
-    ensures { OnOk result (homes_shown cells.new.items ≡ homes_shown cells.old.items ++ homes_of schema.now capacity (flat_map (rings_of schema.now capacity) (set_numbers schema.now))) }
+fn add_rings(schema: &Schema, capacity: u16, names: &mut Vec<CellName>) -> Result<(), AllocError>
+    ensures { OnOk result (names.new.items ≡ names.old.items ++ flat_map (rings_of schema.now capacity) (set_numbers schema.now)) }
 {
     for set in 0..schema.sets().len() as u8 {
-        add_rings_of(alloc, schema, capacity, SetNo::new(set), cells)?;
+        add_rings_of(schema, capacity, SetNo::new(set), names)?;
     }
     Ok(())
 }
 
-fn add_slots_of(
-    alloc: Global,
-    schema: &Schema,
-    capacity: u16,
-    rtype: RecordNo,
-    cells: &mut Vec<Cell>,
-) -> Result<(), AllocError>
-    ensures { OnOk result (homes_shown cells.new.items ≡ homes_shown cells.old.items ++ homes_of schema.now capacity (slots_of capacity rtype)) }
+fn add_slots_of(capacity: u16, rtype: RecordNo, names: &mut Vec<CellName>) -> Result<(), AllocError>
+    ensures { OnOk result (names.new.items ≡ names.old.items ++ slots_of capacity rtype) }
 {
     for lower in 0..capacity {
-        let name = CellName::Slot(rtype, lower as u32 + 1);
-        add_cell(alloc, schema, capacity, cells, &name)?;
+        add(names, &CellName::Slot(rtype, lower as u32 + 1))?;
     }
     Ok(())
 }
 
-fn add_slots(
+fn add_slots(schema: &Schema, capacity: u16, names: &mut Vec<CellName>) -> Result<(), AllocError>
+    ensures { OnOk result (names.new.items ≡ names.old.items ++ flat_map (slots_of capacity) (range_with_len 0 (length schema.now.types))) }
+{
+    for rtype in 0..schema.types().len() as u8 {
+        add_slots_of(capacity, RecordNo::new(rtype), names)?;
+    }
+    Ok(())
+}
+
+/// The names of all cells of the schema at this capacity, in the order of their numbers.
+pub fn cell_names(
     alloc: Global,
     schema: &Schema,
     capacity: u16,
-    cells: &mut Vec<Cell>,
-) -> Result<(), AllocError>
-    ensures { OnOk result (homes_shown cells.new.items ≡ homes_shown cells.old.items ++ homes_of schema.now capacity (flat_map (slots_of capacity) (range_with_len 0 (length schema.now.types)))) }
+) -> Result<Vec<CellName>, AllocError>
+    ensures { IfOk result (λ names. names.items ≡ cells_in_order schema.now capacity) }
 {
-    for rtype in 0..schema.types().len() as u8 {
-        add_slots_of(alloc, schema, capacity, RecordNo::new(rtype), cells)?;
-    }
-    Ok(())
+    let mut names = Vec::new(alloc);
+    add_usages(schema, &mut names)?;
+    add_extents(schema, &mut names)?;
+    add_rings(schema, capacity, &mut names)?;
+    add_slots(schema, capacity, &mut names)?;
+    Ok(names)
 }
 
 /// All cells of the schema at this capacity in the order of their numbers, as the opening database has them.
 pub fn opening_cells(alloc: Global, schema: &Schema, capacity: u16) -> Result<Vec<Cell>, AllocError>
     ensures { IfOk result (λ cells. homes_shown cells.items ≡ homes_of schema.now capacity (cells_in_order schema.now capacity)) }
 {
-    let mut cells = Vec::new(alloc);
-    add_usages(alloc, schema, capacity, &mut cells)?;
-    add_extents(alloc, schema, capacity, &mut cells)?;
-    add_rings(alloc, schema, capacity, &mut cells)?;
-    add_slots(alloc, schema, capacity, &mut cells)?;
+    let names = cell_names(alloc, schema, capacity)?;
+    let mut cells = Vec::with_capacity(alloc, names.len())?;
+    for name in names {
+        cells.push(opening_cell(alloc, schema, capacity, &name)?)?;
+    }
     Ok(cells)
+}
+
+/// All cells of the schema at this capacity in hand under their names, as the opening database has them.
+pub fn hold_opening_cells(
+    alloc: Global,
+    schema: &Schema,
+    capacity: u16,
+    held: &mut Held,
+) -> Result<(), AllocError>
+    ensures { OnOk result (HasTaken schema.now capacity (cells_in_order schema.now capacity) held.old held.new) }
+{
+    for name in cell_names(alloc, schema, capacity)? {
+        let cell = opening_cell(alloc, schema, capacity, &name)?;
+        held.push_cell(name, cell)?;
+    }
+    Ok(())
 }
 
 // The table in which these cells are at home.

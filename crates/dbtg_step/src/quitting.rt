@@ -2,7 +2,7 @@
 ghost use Rattle.std.specs.Prelude.{◌≡◌, ◌≤◌, ◌<◌, ◌-◌, [], length, None, reverse, slice_get, Some};
 ghost use Rattle.dbtg_step.specs.declared.parts.Runner.{Runner};
 ghost use Rattle.dbtg_step.specs.Parts.{written_homes};
-ghost use Rattle.dbtg_step.specs.Events.{IsQuit, IsWell, StandsUnticketed};
+ghost use Rattle.dbtg_step.specs.Events.{HavePlaces, IsQuit, IsWell, StandsUnticketed};
 
 use crate::parts::{Parts, Place};
 use crate::table::put_home;
@@ -11,6 +11,7 @@ use dbtg_unit::{Held, Stepped};
 
 /// All cells go home, the newest first.
 fn give_cells(schema: &Schema, capacity: u16, table: &mut Vec<Place>, held: &mut Held)
+    requires { HavePlaces schema.now capacity held.old.cells table.old.items }
     ensures table { table.new.items ≡ written_homes schema.now capacity (reverse held.old.cells) table.old.items }
     ensures held { held.new ≡ record held.old { cells = [] } }
 {

@@ -2,7 +2,7 @@
 ghost use Rattle.std.specs.Prelude.{◌≡◌, ℕ, ◌<◌, ◌+◌, ◌∷◌, [], ◌++◌, OnOk, OnErr, Some, None, true, false, length, map, nat_lt, slice_get, IfOk};
 ghost use Rattle.dbtg_step.specs.Network.{is_delete};
 ghost use Rattle.dbtg_step.specs.Parts.{stage_while_held};
-ghost use Rattle.dbtg_step.specs.Events.{IsStanding};
+ghost use Rattle.dbtg_step.specs.Events.{HasStatement, IsStanding};
 ghost use Rattle.dbtg_unit.specs.declared.statement.Statement.{Statement};
 
 use crate::parts::{Runner, Stage};
@@ -27,12 +27,12 @@ pub enum Standing {
 
 /// Where the unit stands.
 pub fn where_it_stands(runner: &Runner) -> Standing
+    requires { HasStatement runner.now }
     ensures { IsStanding runner.now result }
 {
-    let is_over = runner.script.len() <= runner.next;
     match runner.stage {
         None => {
-            if is_over {
+            if runner.script.len() <= runner.next {
                 Standing::Over
             } else {
                 Standing::Between
@@ -41,8 +41,6 @@ pub fn where_it_stands(runner: &Runner) -> Standing
         Some(stage) => {
             if stage.ticket.is_some() {
                 Standing::Ticketed(stage)
-            } else if is_over {
-                Standing::Over
             } else if stage.turning_back && 0 < runner.held.cell_count() {
                 Standing::TurningBack(stage)
             } else {

@@ -1,16 +1,19 @@
 //! Runs: what a list of moves comes to, and one unit after another.
-ghost use Rattle.std.specs.Prelude.{◌≡◌, ◌≤◌, true, length, map, IfOk, OnOk};
+ghost use Rattle.std.specs.Prelude.{◌≡◌, ◌≤◌, ◌<◌, true, length, map, IfOk, OnOk};
+ghost use Rattle.std.specs.List.{list_all};
 ghost use Rattle.dbtg_schema.specs.Sound.{IsSound};
+ghost use Rattle.dbtg_unit.specs.Fits.{fits};
 ghost use Rattle.dbtg_step.specs.CoreSteps.{after_move, result_of_move};
 ghost use Rattle.dbtg_step.specs.Headline.{RunIs};
 ghost use Rattle.dbtg_step.specs.Laws.{scripts_fit};
 ghost use Rattle.dbtg_step.specs.Parts.{machine};
 ghost use Rattle.dbtg_step.specs.Runs.{after_moves, results_of_moves};
-ghost use Rattle.dbtg_step.specs.Serial.{SerialRunIs};
+ghost use Rattle.dbtg_step.specs.Serial.{SerialRunIs, in_turn_from};
+ghost use Rattle.dbtg_step.specs.Whole.{HasMadeAll};
 
 use crate::machine::Core;
 use crate::results::Run;
-use crate::serially::step_serially;
+use crate::whole::WholeDatabase;
 use dbtg_schema::{Row, Schema};
 use dbtg_unit::{Move, Statement, Stepped};
 use std::alloc::{AllocError, Global};
@@ -60,8 +63,43 @@ pub fn run(
     core.into_run(results)
 }
 
-/// Steps unit 1 until it is idle, then unit 2, and so on; at most 4,000,000,000 steps in all, which no scripts need. It has no
-/// results. A step that finds no memory ends it.
+// The statements of a unit's script, one after another.
+fn make_script(
+    database: &mut WholeDatabase<'_>,
+    unit: u8,
+    script: Row<Statement>,
+) -> Result<(), AllocError>
+    requires numbered { 0 < unit }
+    requires within { unit ≤ database.old.units }
+    requires fitting { list_all (fits database.old.schema) script ≡ true }
+    ensures { OnOk result (HasMadeAll database.old (map (λ x. (unit, x)) script) database.new) }
+{
+    for statement in script.into_vec() {
+        database.make(unit, statement)?;
+    }
+    Ok(())
+}
+
+// The scripts of the units, one after another.
+fn make_scripts(
+    database: &mut WholeDatabase<'_>,
+    scripts: Row<Row<Statement>>,
+) -> Result<(), AllocError>
+    requires units { length scripts ≡ database.old.units }
+    requires few { length scripts ≤ 255 }
+    requires fitting { scripts_fit database.old.schema scripts ≡ true }
+    ensures { OnOk result (HasMadeAll database.old (in_turn_from 1 scripts) database.new) }
+{
+    let mut before = 0;
+    for script in scripts.into_vec() {
+        make_script(database, before + 1, script)?;
+        before += 1;
+    }
+    Ok(())
+}
+
+/// Makes all statements of unit 1 whole, one after another, then those of unit 2, and so on. It has no results. A growth that
+/// is refused ends it.
 pub fn run_serial(
     alloc: Global,
     schema: &Schema,
@@ -74,7 +112,7 @@ pub fn run_serial(
     ensures { IfOk result (λ given. SerialRunIs schema.now capacity scripts given) }
 {
     let units = scripts.len() as u8;
-    let mut core = Core::new(alloc, schema, capacity, scripts)?;
-    step_serially(&mut core, units)?;
-    core.into_run(Vec::new(alloc))
+    let mut database = WholeDatabase::opening(alloc, schema, capacity, units)?;
+    make_scripts(&mut database, scripts)?;
+    database.into_run()
 }

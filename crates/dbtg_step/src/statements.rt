@@ -1,5 +1,6 @@
 //! What each statement needs next, and what it prepares: DELETE by its own crate, the others by theirs.
-ghost use Rattle.std.specs.Prelude.{◌≡◌, true, false, IfOk, MatchOption};
+ghost use Rattle.std.specs.Prelude.{◌≡◌, true, false, IfOk, MatchOption, OnErr};
+ghost use Rattle.dbtg_schema.specs.Sound.{IsSound};
 ghost use Rattle.dbtg_unit.specs.Base.{Database};
 ghost use Rattle.dbtg_unit.specs.Belongs.{IsUnitOf, IsWithin};
 ghost use Rattle.dbtg_unit.specs.EditsOf.{is_delete};
@@ -7,6 +8,7 @@ ghost use Rattle.dbtg_unit.specs.Fits.{fits};
 ghost use Rattle.dbtg_unit.specs.Local.{Agrees};
 ghost use Rattle.dbtg_unit.specs.Making.{CanFinish, MayPrepare, ShowsTheSame};
 ghost use Rattle.dbtg_unit.specs.Needs.{need};
+ghost use Rattle.dbtg_step.specs.NeedOrder.{AreCellsOf, HasItsAreas, IsAboveHands, LiesInHeldArea, WasTakenInTurn};
 
 use dbtg_schema::Schema;
 use dbtg_unit::{Erase, Held, Need, Prepared, Statement, Unit};
@@ -22,7 +24,7 @@ fn delete_option(statement: &Statement) -> Option<Erase>
     }
 }
 
-/// What the statement needs next.
+/// What the statement needs next. Memory is refused to a DELETE alone, and only once it has its areas.
 pub fn next_need(
     alloc: Global,
     schema: &Schema,
@@ -34,7 +36,10 @@ pub fn next_need(
     requires fits { fits schema.now statement.now ≡ true }
     requires of_schema { IsUnitOf schema.now unit.now }
     requires within { IsWithin capacity unit.now }
-    ensures { IfOk result (λ n. (db : Database) → Agrees schema.now capacity db held.now unit.now → n ≡ need schema.now capacity db unit.now held.now statement.now) }
+    ensures need { IfOk result (λ n. (db : Database) → Agrees schema.now capacity db held.now unit.now → n ≡ need schema.now capacity db unit.now held.now statement.now) }
+    ensures above { IfOk result (λ n. (db : Database) → IsSound schema.now → AreCellsOf schema.now capacity db unit.now statement.now held.now → WasTakenInTurn schema.now capacity unit.now statement.now held.now → IsAboveHands statement.now held.now n) }
+    ensures in_area { IfOk result (λ n. (db : Database) → IsSound schema.now → AreCellsOf schema.now capacity db unit.now statement.now held.now → LiesInHeldArea schema.now held.now n) }
+    ensures refused { OnErr result (HasItsAreas schema.now unit.now held.now statement.now) }
 {
     match delete_option(statement) {
         Some(option) => dbtg_erase::next_need(alloc, schema, capacity, unit, option, held),

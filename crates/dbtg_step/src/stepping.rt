@@ -45,10 +45,11 @@ pub fn gives_cell(
 ) -> Stepped
     requires numbered { 0 < unit }
     requires within { unit ≤ length parts.old.runners.items }
+    requires well { IsWell schema.now capacity parts.old }
     requires stands { (r : Runner) → slice_get parts.old.runners.items (unit - 1) ≡ Some r → StandsTicketed r stage }
     requires linked { (r : Runner) → slice_get parts.old.runners.items (unit - 1) ≡ Some r → length r.held.cells ≤ stage.linked }
     requires cells { (r : Runner) → slice_get parts.old.runners.items (unit - 1) ≡ Some r → 0 < length r.held.cells }
-    ensures { IsWell schema.now capacity parts.old → IsStepped schema.now capacity unit result parts.old parts.new }
+    ensures { IsStepped schema.now capacity unit result parts.old parts.new }
 {
     let _ = stage.linked;
     let runner = &mut parts.runners[unit as usize - 1];
@@ -82,8 +83,9 @@ pub fn turns_back(
 ) -> Stepped
     requires numbered { 0 < unit }
     requires within { unit ≤ length parts.old.runners.items }
+    requires well { IsWell schema.now capacity parts.old }
     requires stands { (r : Runner) → slice_get parts.old.runners.items (unit - 1) ≡ Some r → StandsTurning r stage }
-    ensures { IsWell schema.now capacity parts.old → IsStepped schema.now capacity unit result parts.old parts.new }
+    ensures { IsStepped schema.now capacity unit result parts.old parts.new }
 {
     let runner = &mut parts.runners[unit as usize - 1];
     give_cell(schema, capacity, &mut parts.table, &mut runner.held);

@@ -2,7 +2,9 @@
 
 use super::shop::shop;
 use dbtg_schema::Schema;
-use dbtg_script::{MovesFault, ScriptFault, read_moves, read_script};
+use dbtg_script::{
+    MovesFault, ScriptFault, TurnsFault, moves_words_text, read_moves, read_script, read_turns, turns_text,
+};
 use dbtg_unit::Move;
 use std::test::*;
 
@@ -134,6 +136,51 @@ fn moves_are_those_of_the_words(rt: HostRuntime) {
         moves.as_slice(),
         [Move::Step(2), Move::Step(2), Move::Quit(1), Move::Step(99)].as_slice()
     );
+}
+
+// The number of the fault and its word; (0, n) where n turns are read.
+fn turns_verdict(rt: &HostRuntime, text: &[u8]) -> (u8, u64) {
+    match read_turns(rt.alloc(), text) {
+        Ok(units) => (0, units.len() as u64),
+        Err(TurnsFault::Refused { word, cause }) => (cause.number(), word),
+        Err(TurnsFault::Memory) => (98, 0),
+    }
+}
+
+#[test]
+fn turns_and_their_faults(rt: HostRuntime) {
+    let units = read_turns(rt.alloc(), b"1 1 2\t1*3\r\n2").expect(&rt, "turns");
+    assert_eq!(rt; units.as_slice(), [1, 1, 2, 1, 1, 1, 2].as_slice());
+    assert_eq!(rt; turns_verdict(&rt, b"9 Q9 1*0"), (1, 2));
+    assert_eq!(rt; turns_verdict(&rt, b"9 1*0 Q9"), (1, 2));
+    assert_eq!(rt; turns_verdict(&rt, b"07"), (1, 1));
+    assert_eq!(rt; turns_verdict(&rt, b"1*1000000 1"), (2, 2));
+    assert_eq!(rt; turns_verdict(&rt, b"1*1000000 Q1"), (1, 2));
+    assert_eq!(rt; turns_verdict(&rt, b"1*1000000"), (0, 1_000_000));
+    assert_eq!(rt; turns_verdict(&rt, b"99 100"), (1, 2));
+    assert_eq!(rt; turns_verdict(&rt, b""), (0, 0));
+}
+
+#[test]
+fn moves_and_turns_are_printed_in_few_words(rt: HostRuntime) {
+    let moves = [
+        Move::Step(1),
+        Move::Step(1),
+        Move::Step(2),
+        Move::Quit(2),
+        Move::Quit(2),
+        Move::Step(2),
+        Move::Step(99),
+        Move::Step(99),
+        Move::Step(99),
+    ];
+    let text = moves_words_text(rt.alloc(), moves.as_slice()).expect(&rt, "memory");
+    assert_eq!(rt; text.as_slice(), b"1*2 2 Q2 Q2 2 99*3\n".as_slice());
+    let units = [1, 1, 2, 1, 1, 1, 2];
+    let turns = turns_text(rt.alloc(), units.as_slice()).expect(&rt, "memory");
+    assert_eq!(rt; turns.as_slice(), b"1*2 2 1*3 2\n".as_slice());
+    let none = turns_text(rt.alloc(), &[]).expect(&rt, "memory");
+    assert_eq!(rt; none.as_slice(), b"".as_slice());
 }
 
 // Each beginning of a text is read or refused.

@@ -1,4 +1,4 @@
-use Rattle.std.proofs.Common.{◌≡◌, ◌∙◌, ◌+◌, ◌++◌, sym, ap, subst, List, ℕ, Option, arith, length}
+use Rattle.std.proofs.Common.{◌≡◌, ◌∙◌, ◌+◌, ◌++◌, refl, sym, ap, subst, List, ℕ, Option, arith, length}
 use Rattle.std.specs.List.{list_all}
 use Rattle.std.proofs.lemmas.List.{append-nil}
 use Rattle.dbtg_unit.specs.Fits.{fits as statement_fits}
@@ -22,6 +22,16 @@ returns-in-Err-clause-refused c =
     let refused = rw c.trimmed.ensures at c.in-Err.ensures.refused in
     rw c.at_line.ensures (subst (λ (v : Option Fault). RefusesScript (at_line number c.in-Err.fault) v) (sym whole) (line_refused schema n number line after c.in-Err.fault refused))
 
+pub loop-line-init : goal.loop-line-init
+loop-line-init c =
+    let none = c.new-statements.ensures.items in
+    record {
+      reached = rw none refl;
+      said = rw none refl;
+      known = c.none-known.ensures c.args.schema.now c.new-statements.result.items;
+      in_range = omega arith;
+    }
+
 pub loop-line-preserved : goal.loop-line-preserved
 loop-line-preserved c =
     let schema = c.args.schema.now in
@@ -38,6 +48,7 @@ loop-line-preserved c =
           ∙ ap (λ (ls : List (List ℕ)). lines_verdict schema (length ss) number ls) (sym found) ∙ c.loop-line.invariant.reached;
       said = ap (λ (xs : List Statement). xs ++ statements_of schema after) taken ∙ one_more (line_statement schema (trimmed line)) ss (statements_of schema after)
           ∙ ap (λ (ls : List (List ℕ)). ss ++ statements_of schema ls) (sym found) ∙ c.loop-line.invariant.said;
+      known = c.in_default-take_line.ensures.known;
       in_range = omega (arith, c.in-Some.ensures.shorter);
     }
 

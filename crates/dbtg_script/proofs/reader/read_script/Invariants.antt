@@ -1,5 +1,6 @@
 use Rattle.std.proofs.Common.{◌≡◌, ◌+◌, ◌++◌, ◌≤◌, length}
 use Rattle.dbtg_script.specs.Lines.{lines}
+use Rattle.dbtg_script.specs.Known.{IsKnown}
 use Rattle.dbtg_script.specs.Reading.{lines_verdict}
 use Rattle.dbtg_script.specs.Statements.{script, statements_of}
 use Rattle.dbtg_script.proofs.reader.read_script.Given as goal
@@ -8,6 +9,7 @@ abbrev pub invariant-loop-line : goal.invariant-loop-line
 invariant-loop-line l = record {
   reached : lines_verdict l.schema (length l.statements.items) l.number (lines l.left.rest.now) ≡ lines_verdict l.schema 0 1 (lines l.fn.text);
   said : l.statements.items ++ statements_of l.schema (lines l.left.rest.now) ≡ script l.schema l.fn.text;
+  known : IsKnown l.schema l.statements.items l.known.places;
   in_range : l.number + length l.left.rest.now ≤ length l.fn.text + 1;
 }
 

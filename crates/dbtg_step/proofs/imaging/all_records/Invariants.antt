@@ -1,7 +1,7 @@
 use Rattle.std.proofs.Common.{◌≡◌}
 use Rattle.std.specs.List.{flat_map, range_with_len}
-use Rattle.dbtg_step.specs.Imaging.{found_cell, records_of}
+use Rattle.dbtg_step.specs.Imaging.{found_in, records_of}
 use Rattle.dbtg_step.proofs.imaging.all_records.Given as goal
 
 abbrev pub invariant-loop-rtype : goal.invariant-loop-rtype
-invariant-loop-rtype l = l.records.items ≡ flat_map (records_of l.capacity (found_cell l.schema l.capacity l.parts)) (range_with_len 0 l.rtype)
+invariant-loop-rtype l = l.records.items ≡ flat_map (records_of l.capacity (found_in l.schema l.capacity l.source)) (range_with_len 0 l.rtype)

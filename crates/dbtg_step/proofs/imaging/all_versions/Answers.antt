@@ -1,11 +1,11 @@
 use Rattle.std.proofs.Common.{[], ◌++◌, ◌∙◌, ap, arith}
-use Rattle.dbtg_step.specs.Imaging.{found_cell, versions_of}
+use Rattle.dbtg_step.specs.Imaging.{found_in, versions_of}
 use Rattle.dbtg_step.proofs.RangePushes.{flat_pushed}
 use Rattle.dbtg_step.proofs.imaging.all_versions.Goals as goal
 
 pub loop-rtype-preserved : goal.loop-rtype-preserved
 loop-rtype-preserved c =
-    let found = found_cell c.args.schema.now c.args.capacity c.args.parts.now in
+    let found = found_in c.args.schema.now c.args.capacity c.args.source in
     flat_pushed (versions_of c.args.capacity found) 0 c.loop-rtype.rtype c.loop-rtype.rtype (omega arith)
     [] c.loop-rtype.versions.items c.add_versions.new.versions.items c.loop-rtype.invariant
     (c.in_ok-add_versions.ensures ∙ ap (λ t. c.loop-rtype.versions.items ++ versions_of c.args.capacity found t) c.new-rtype.ensures)

@@ -2,8 +2,8 @@ use Rattle.std.proofs.Common.{◌≡◌, map}
 use Rattle.std.specs.List.{range_with_len}
 use Rattle.dbtg_cells.specs.declared.name.CellName.TheVariants.{Extent}
 use Rattle.dbtg_unit.specs.InHand.{numbers_of}
-use Rattle.dbtg_step.specs.Imaging.{found_cell, next_in}
+use Rattle.dbtg_step.specs.Imaging.{found_in, next_in}
 use Rattle.dbtg_step.proofs.imaging.next_numbers.Given as goal
 
 abbrev pub invariant-loop-rtype : goal.invariant-loop-rtype
-invariant-loop-rtype l = l.all.items ≡ map (λ t. next_in (numbers_of (found_cell l.schema l.capacity l.parts (Extent t)))) (range_with_len 0 l.rtype)
+invariant-loop-rtype l = l.all.items ≡ map (λ t. next_in (numbers_of (found_in l.schema l.capacity l.source (Extent t)))) (range_with_len 0 l.rtype)

@@ -1,5 +1,6 @@
 use Rattle.std.proofs.Common.{◌≡◌, Some, slice_get, length, refl, ◌-◌, arith}
 use Rattle.std.proofs.lemmas.Option.{slice_get_read}
+use Rattle.dbtg_step.proofs.NeedsRefused.{err_also, has_its_areas}
 use Rattle.dbtg_step.proofs.NeedsShown.{ok_also, needs_next, statement_fits, unit_in}
 use Rattle.dbtg_step.proofs.needing.need_now.Goals as goal
 
@@ -24,9 +25,16 @@ next_need-requires-clause-within c =
     let at : slice_get items (c.args.unit - 1) ≡ Some runner = slice_get_read items (length items) (c.args.unit - 1) runner refl (omega (arith, c.requires.within, c.requires.numbered)) c.index-runner.ensures in
     (unit_in c.args.schema.now c.args.capacity c.args.unit c.args.parts.now runner c.requires.well c.requires.numbered at).within
 
-pub returns : goal.returns
-returns c =
+pub returns-clause-need : goal.returns-clause-need
+returns-clause-need c =
     let runner = c.index-runner.result.now in
     let items = c.args.parts.now.runners.items in
     let at : slice_get items (c.args.unit - 1) ≡ Some runner = slice_get_read items (length items) (c.args.unit - 1) runner refl (omega (arith, c.requires.within, c.requires.numbered)) c.index-runner.ensures in
-    ok_also c.next_need.result _ _ (λ n. needs_next c.args.schema.now c.args.capacity c.args.unit c.args.parts.now runner c.requires.well c.requires.numbered at c.args.stage c.statement_of.result.now n c.statement_of.ensures) c.next_need.ensures
+    ok_also c.next_need.result _ _ (λ n. needs_next c.args.schema.now c.args.capacity c.args.unit c.args.parts.now runner c.requires.well c.requires.numbered at c.args.stage c.statement_of.result.now n c.statement_of.ensures) c.next_need.ensures.need
+
+pub returns-clause-refused : goal.returns-clause-refused
+returns-clause-refused c =
+    let runner = c.index-runner.result.now in
+    let items = c.args.parts.now.runners.items in
+    let at : slice_get items (c.args.unit - 1) ≡ Some runner = slice_get_read items (length items) (c.args.unit - 1) runner refl (omega (arith, c.requires.within, c.requires.numbered)) c.index-runner.ensures in
+    err_also c.next_need.result _ _ (has_its_areas c.args.schema.now runner c.statement_of.result.now items (c.args.unit - 1) at c.statement_of.ensures) c.next_need.ensures.refused

@@ -20,4 +20,4 @@ pub returns-in-Err : goal.returns-in-Err
 returns-in-Err c =
     let items = c.args.table.now.items in
     let at : slice_get items c.args.number ≡ Some (Home c.in-Home.cell) = slice_get_read items (length items) c.args.number c.index_mut.result.now refl c.requires c.index_mut.ensures.value ∙ ap Some (sym c.replace.ensures.value ∙ c.in-Home.is) in
-    record { after_is = ap (λ x. slice_set (slice_set items c.args.number c.replace.new.dest) c.args.number (Home x)) c.in-Err.ensures.value_returned ∙ set_back items c.args.number (Home c.in-Home.cell) c.replace.new.dest at; held = c.in-Err.ensures.err }
+    (record { after_is = ap (λ x. slice_set (slice_set items c.args.number c.replace.new.dest) c.args.number (Home x)) c.in-Err.ensures.value_returned ∙ set_back items c.args.number (Home c.in-Home.cell) c.replace.new.dest at; held = c.in-Err.ensures.err }, (c.in-Home.cell, at))

@@ -28,4 +28,6 @@ returns-in-Err c schema capacity well needs =
     let runner = c.index_mut.result.now in
     let items = c.args.parts.now.runners.items in
     let at : slice_get items (c.args.unit - 1) ≡ Some runner = slice_get_read items (length items) (c.args.unit - 1) runner refl (omega (arith, c.requires.within, c.requires.numbered)) c.index_mut.ensures.value in
-    area_refused schema capacity c.args.unit c.args.parts.now runner well c.requires.numbered at c.args.stage (c.requires.stands runner at) c.args.area needs _ _ c.push_area.new.self refl refl refl c.in-Err.ensures.err refl
+    let others : list_any (holds_against c.args.stage.exclusive c.args.area) (take (c.args.unit - 1) items) || list_any (holds_against c.args.stage.exclusive c.args.area) (drop c.args.unit items) ≡ false =
+    rw (c.deref.ensures.value) at (sym c.other_holds_against.ensures ∙ c.if-other_holds_against.false) in
+    area_refused schema capacity c.args.unit c.args.parts.now runner well c.requires.numbered at c.args.stage (c.requires.stands runner at) c.args.area needs _ _ c.push_area.new.self others refl refl refl c.in-Err.ensures.err refl

@@ -1,18 +1,19 @@
 use Rattle.std.proofs.Common.{◌≡◌, Some, slice_get, length, refl, sym, ◌∙◌, ◌-◌, arith}
 use Rattle.std.proofs.lemmas.Option.{slice_get_read}
 use Rattle.dbtg_step.proofs.EventsShown.{there_is}
-use Rattle.dbtg_step.proofs.FollowsShown.{cell_followed, refused_is, set_there}
+use Rattle.dbtg_step.proofs.FollowsShown.{cell_followed}
+use Rattle.dbtg_step.proofs.NeedsRefused.{needed_has_number}
 use Rattle.dbtg_step.proofs.needing.takes_cell.Goals as goal
 
-pub returns-in-Some : goal.returns-in-Some
-returns-in-Some c =
+pub returns : goal.returns
+returns c =
     let runner = c.index_mut-runner.result.now in
     let items = c.args.parts.now.runners.items in
     let at : slice_get items (c.args.unit - 1) ≡ Some runner = slice_get_read items (length items) (c.args.unit - 1) runner refl (omega (arith, c.requires.within, c.requires.numbered)) c.index_mut-runner.ensures.value in
     cell_followed c.args.schema.now c.args.capacity c.args.unit c.args.parts.now runner c.requires.well c.requires.numbered at c.args.stage (c.requires.stands runner at) c.args.name c.requires.needs c.in-Some.number (sym c.cell_number.ensures ∙ c.in-Some.is) _ _ c.take_cell.new.held c.take_cell.result c.take_cell.ensures refl refl refl
 
-pub returns-in-None : goal.returns-in-None
-returns-in-None c =
+pub unreachable-requires : goal.unreachable-requires
+unreachable-requires c =
     let items = c.args.parts.now.runners.items in
     let it = there_is items (c.args.unit - 1) (omega (arith, c.requires.within, c.requires.numbered)) in
-    refused_is c.args.schema.now c.args.capacity c.args.unit c.args.parts.now it.0 c.requires.well c.requires.numbered it.1 c.args.stage (c.requires.stands it.0 it.1) c.args.parts.now it.0 refl refl (sym (set_there items (c.args.unit - 1) it.0 it.1)) refl (c.requires.well.runners (c.args.unit - 1) it.0 it.1)
+    needed_has_number c.args.schema.now c.args.capacity c.args.unit c.args.parts.now it.0 c.requires.well c.requires.numbered it.1 c.args.stage (c.requires.stands it.0 it.1) c.args.name c.requires.needs (sym c.cell_number.ensures ∙ c.in-None.is)

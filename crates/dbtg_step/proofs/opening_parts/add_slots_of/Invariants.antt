@@ -1,7 +1,7 @@
-use Rattle.std.proofs.Common.{◌≡◌, ◌++◌}
-use Rattle.dbtg_cells.specs.CellNumbers.{slots_of}
-use Rattle.dbtg_step.specs.Openings.{homes_of, homes_shown}
+use Rattle.std.proofs.Common.{◌≡◌, ◌++◌, map}
+use Rattle.std.specs.List.{range_with_len}
+use Rattle.dbtg_cells.specs.declared.name.CellName.TheVariants.{Slot}
 use Rattle.dbtg_step.proofs.opening_parts.add_slots_of.Given as goal
 
 abbrev pub invariant-loop-lower : goal.invariant-loop-lower
-invariant-loop-lower l = homes_shown l.cells.items ≡ homes_shown l.initial.cells.items ++ homes_of l.schema l.capacity (slots_of l.lower l.rtype)
+invariant-loop-lower l = l.names.items ≡ l.initial.names.items ++ map (Slot l.rtype) (range_with_len 1 l.lower)

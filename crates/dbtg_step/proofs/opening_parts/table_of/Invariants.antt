@@ -1,4 +1,4 @@
-use Rattle.std.proofs.Common.{◌≡◌, ◌++◌, length}
+use Rattle.std.proofs.Common.{◌≡◌, ◌++◌}
 use Rattle.std.specs.Vec.Iter.{into_iter_items}
 use Rattle.dbtg_step.specs.Openings.{homes_shown, locations_of}
 use Rattle.dbtg_step.proofs.opening_parts.table_of.Given as goal

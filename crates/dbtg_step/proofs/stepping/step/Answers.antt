@@ -2,7 +2,7 @@ use Rattle.std.proofs.Common.{◌≡◌, Some, slice_get, length, refl, sym, sub
 use Rattle.std.proofs.lemmas.Option.{same_Some, slice_get_read}
 use Rattle.dbtg_step.specs.declared.parts.Runner.{Runner}
 use Rattle.dbtg_step.specs.Events.{StandsBetween, StandsNeeding, StandsTicketed, StandsTurning}
-use Rattle.dbtg_step.proofs.EventsShown.{no_unit_idle, over_idle}
+use Rattle.dbtg_step.proofs.EventsShown.{has_statement, no_unit_idle, over_idle}
 use Rattle.dbtg_step.proofs.stepping.step.Goals as goal
 use Rattle.dbtg_step.proofs.stepping.step.Goals.{then-unit-eq0-via-then-unit-eq0, then-unit-eq0-via-else-unit-eq0+then-len-unit}
 
@@ -21,7 +21,7 @@ pub returns-in-Between : goal.returns-in-Between
 returns-in-Between c = c.begins.ensures c.args.schema.now c.args.capacity c.requires.well
 
 pub returns-in-TurningBack : goal.returns-in-TurningBack
-returns-in-TurningBack c = c.turns_back.ensures c.requires.well
+returns-in-TurningBack c = c.turns_back.ensures
 
 pub begins-requires-clause-stands : goal.begins-requires-clause-stands
 begins-requires-clause-stands c r is =
@@ -50,3 +50,9 @@ ends-requires-clause-stands c r is =
     let at : slice_get items (c.args.unit - 1) ≡ Some c.index.result.now = slice_get_read items (length items) (c.args.unit - 1) c.index.result.now refl (omega arith) c.index.ensures in
     let same : c.index.result.now ≡ r = same_Some _ r (sym at ∙ is) in
     subst (λ (x : Runner). StandsTicketed x c.in-Ticketed.stage) same (rw c.in-Ticketed.is at c.where_it_stands.ensures)
+
+pub where_it_stands-requires : goal.where_it_stands-requires
+where_it_stands-requires c =
+    let items = c.args.parts.now.runners.items in
+    let at : slice_get items (c.args.unit - 1) ≡ Some c.index.result.now = slice_get_read items (length items) (c.args.unit - 1) c.index.result.now refl (omega arith) c.index.ensures in
+    has_statement c.args.schema.now c.args.capacity c.args.unit c.args.parts.now c.requires.well c.index.result.now (omega arith) at

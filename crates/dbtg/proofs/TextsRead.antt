@@ -1,0 +1,136 @@
+-- Texts that are read one after another, and what is then true of all.
+use Rattle.std.proofs.Common.{◌≡◌, ℕ, zero, suc, ◌+◌, ◌<◌, Bool, true, false, List, [], ◌∷◌, ◌++◌, length, map, Option, Some, None, inl, inr, refl, sym, ap, ◌∙◌, subst, arith}
+use Rattle.std.specs.Prelude.{◌⊎◌, is_some, option_map}
+use Rattle.std.proofs.lemmas.List.{append-nil, append_assoc, length-append, map_push}
+use Rattle.std.specs.List.{list_all}
+use Rattle.std.proofs.lemmas.List.Folds.{list_all-append}
+use Rattle.dbtg_schema.specs.Lists.{Lists}
+use Rattle.dbtg_unit.specs.Fits.{fits}
+use Rattle.dbtg_step.specs.Laws.{scripts_fit}
+use Rattle.dbtg_unit.specs.declared.statement.Statement.{Statement}
+use Rattle.dbtg_script.specs.StatementFaults.{refusal as script_refusal}
+use Rattle.dbtg_script.specs.Statements.{script}
+use Rattle.dbtg_script.specs.Texts.{script_line}
+use Rattle.dbtg.specs.declared.fault.Fault.{Fault}
+use Rattle.dbtg.specs.declared.fault.Fault.TheVariants.{Memory}
+use Rattle.dbtg.specs.declared.place.Place.{Place}
+use Rattle.dbtg.specs.declared.place.Place.TheVariants.{Schema, Script, Moves}
+use Rattle.dbtg.specs.Checking.{check_text, script_lines}
+use Rattle.dbtg.specs.Refusals.{AcceptsMoves, AcceptsTexts, AllAccepted, RefusesScript, is_count, schema_in}
+use Rattle.dbtg.specs.Replaying.{IsPrintedRun, moves_in}
+use Rattle.dbtg.specs.Sources.{ChecksHeld, HoldsMoves, HoldsScripts, ReadSchema, ReadScripts, ReplaysHeld, Texts, ThreadsHeld, ToldIn, ToldOfSchema, ToldOfScripts}
+use Rattle.dbtg.specs.Threading.{IsPrintedOnThreads}
+use Rattle.dbtg.proofs.InTurn.{accepted_behind, lines_behind}
+
+-- a text that is held behind others
+pub held_behind : (holds : Place → List ℕ → Type 0) (n : ℕ) (front : List (List ℕ)) (text : List ℕ) → HoldsScripts holds n front → holds (Script (n + length front)) text → HoldsScripts holds n (front ++ text ∷ [])
+held_behind holds n [] text held one =
+    let same : n + 0 ≡ n = omega arith in
+    (subst (λ (k : ℕ). holds (Script k) text) same one, tt)
+held_behind holds n (first ∷ front) text held one =
+    let same : n + suc (length front) ≡ n + 1 + length front = omega arith in
+    (held.0, held_behind holds (n + 1) front text held.1 (subst (λ (k : ℕ). holds (Script k) text) same one))
+
+pub one_more : (holds : Place → List ℕ → Type 0) (lists : Lists) (n : ℕ) (text : List ℕ) → ReadScripts holds lists n → holds (Script (n + 1)) text → script_refusal lists text ≡ None → ReadScripts holds lists (n + 1)
+one_more holds lists n text read held accepted =
+    let number : n + 1 ≡ 1 + length read.texts = omega (arith, read.many) in
+    record {
+      texts = read.texts ++ text ∷ [];
+      many = length-append read.texts (text ∷ []) ∙ ap (λ (k : ℕ). k + 1) read.many;
+      held = held_behind holds 1 read.texts text read.held (subst (λ (k : ℕ). holds (Script k) text) number held);
+      accepted = accepted_behind lists read.texts (text ∷ []) read.accepted (accepted, tt);
+    }
+
+-- the lines of the scripts that were read, and of one more
+pub line_behind : (holds : Place → List ℕ → Type 0) (lists : Lists) (n : ℕ) (text start before after : List ℕ)
+    → (read : ReadScripts holds lists n) × (before ≡ start ++ script_lines lists 1 read.texts) → holds (Script (n + 1)) text → script_refusal lists text ≡ None
+    → after ≡ before ++ script_line (n + 1) (length (script lists text)) → (read : ReadScripts holds lists (n + 1)) × (after ≡ start ++ script_lines lists 1 read.texts)
+unfolding one_more
+line_behind holds lists n text start before after so_far held e line =
+    let texts = so_far.0.texts in
+    let said = script_lines lists 1 texts in
+    let number : n + 1 ≡ 1 + length texts = omega (arith, so_far.0.many) in
+    let one : script_line (n + 1) (length (script lists text)) ≡ script_lines lists (1 + length texts) (text ∷ []) =
+    ap (λ (k : ℕ). script_line k (length (script lists text))) number ∙ sym (append-nil (script_line (1 + length texts) (length (script lists text)))) in (
+      one_more holds lists n text so_far.0 held e,
+      line ∙ ap (λ (xs : List ℕ). xs ++ script_line (n + 1) (length (script lists text))) so_far.1
+          ∙ append_assoc start said (script_line (n + 1) (length (script lists text)))
+          ∙ ap (λ (xs : List ℕ). start ++ (said ++ xs)) one
+          ∙ ap (λ (xs : List ℕ). start ++ xs) (sym (lines_behind lists 1 texts (text ∷ []))),
+    )
+
+-- the statements of the scripts that were read, and of one more
+pub script_behind : (holds : Place → List ℕ → Type 0) (lists : Lists) (n : ℕ) (text : List ℕ) (before after : List (List Statement))
+    → (read : ReadScripts holds lists n) × (before ≡ map (script lists) read.texts) → holds (Script (n + 1)) text → script_refusal lists text ≡ None
+    → after ≡ before ++ script lists text ∷ [] → (read : ReadScripts holds lists (n + 1)) × (after ≡ map (script lists) read.texts)
+unfolding one_more
+script_behind holds lists n text before after so_far held e taken = (
+  one_more holds lists n text so_far.0 held e,
+  taken ∙ ap (λ (xs : List (List Statement)). xs ++ script lists text ∷ []) so_far.1 ∙ sym (map_push (script lists) so_far.0.texts text),
+)
+
+pub fit_behind : (lists : Lists) (statements : List Statement) (before after : List (List Statement)) → after ≡ before ++ statements ∷ [] → scripts_fit lists before ≡ true → list_all (fits lists) statements ≡ true → scripts_fit lists after ≡ true
+fit_behind lists statements before after e all one =
+    ap (scripts_fit lists) e ∙ list_all-append (list_all (fits lists)) before (statements ∷ []) ∙ rw (all, one) refl
+
+-- a fault of the script behind those that were read
+pub told_here : (holds : Place → List ℕ → Type 0) (fails : Place → Fault → Type 0) (fault : Fault) (lists : Lists) (i count : ℕ) → ReadScripts holds lists i → i < count
+    → ToldIn holds fails fault (Script (i + 1)) (λ text. RefusesScript fault (i + 1) (script_refusal lists text)) → ToldOfScripts holds fails fault lists count
+told_here holds fails fault lists i count read within told = record { before = i; read = read; within = within; told = told }
+
+-- want of memory, once a schema is read
+pub memory_told : (holds : Place → List ℕ → Type 0) (fails : Place → Fault → Type 0) (lists : Lists) → ReadSchema holds lists → ToldOfSchema holds fails Memory
+memory_told holds fails lists read = inr (read.text, read.held, tt)
+
+-- what was read is accepted, as the schema's text says it
+pub all_accepted : (holds : Place → List ℕ → Type 0) (lists : Lists) (count : ℕ) (read : ReadSchema holds lists) (scripts : ReadScripts holds lists count) → AcceptsTexts read.text scripts.texts
+all_accepted holds lists count read scripts = (read.accepted, subst (λ (s : Lists). AllAccepted s scripts.texts) read.says scripts.accepted)
+
+-- the texts that were read, with these moves
+abbrev pub read_texts : (holds : Place → List ℕ → Type 0) (lists : Lists) (count : ℕ) → ReadSchema holds lists → ReadScripts holds lists count → (moves : Option (List ℕ)) → HoldsMoves holds moves → Texts holds count (is_some moves)
+read_texts holds lists count read scripts moves held = record {
+  schema = read.text;
+  scripts = scripts.texts;
+  moves = moves;
+  many = scripts.many;
+  has_moves = refl;
+  holds_schema = read.held;
+  holds_scripts = scripts.held;
+  holds_moves = held;
+}
+
+pub checks : (holds : Place → List ℕ → Type 0) (lists : Lists) (count : ℕ) (out : List ℕ) → ReadSchema holds lists → (scripts : ReadScripts holds lists count) → out ≡ check_text lists scripts.texts → ChecksHeld holds count out
+checks holds lists count out read scripts e = (
+  read_texts holds lists count read scripts None tt,
+  record {
+    texts = all_accepted holds lists count read scripts;
+    is_text = subst (λ (s : Lists). out ≡ check_text s scripts.texts) read.says e;
+  },
+)
+
+-- what a run of the statements that were read gives is the replay of the texts
+pub replays : (holds : Place → List ℕ → Type 0) (lists : Lists) (count : ℕ) (moves : Option (List ℕ)) (capacity : ℕ) (out : List ℕ)
+    → is_count count ≡ true → ReadSchema holds lists → (scripts : ReadScripts holds lists count) → HoldsMoves holds moves → AcceptsMoves moves
+    → IsPrintedRun lists capacity (map (script lists) scripts.texts) (option_map moves_in moves) out → ReplaysHeld holds count (is_some moves) capacity out
+replays holds lists count moves capacity out right read scripts held accepted run = (
+  read_texts holds lists count read scripts moves held,
+  record {
+    count = ap is_count scripts.many ∙ right;
+    texts = all_accepted holds lists count read scripts;
+    moves_too = accepted;
+    run = subst (λ (s : Lists). IsPrintedRun s capacity (map (script s) scripts.texts) (option_map moves_in moves) out) read.says run;
+  },
+)
+
+-- what the statements that were read come to on threads is what the texts do
+pub runs_on_threads : (holds : Place → List ℕ → Type 0) (lists : Lists) (count capacity : ℕ) (out : List ℕ)
+    → is_count count ≡ true → ReadSchema holds lists → (scripts : ReadScripts holds lists count)
+    → IsPrintedOnThreads lists capacity (map (script lists) scripts.texts) out → ThreadsHeld holds count capacity out
+runs_on_threads holds lists count capacity out right read scripts run = (
+  read_texts holds lists count read scripts None tt,
+  record {
+    count = ap is_count scripts.many ∙ right;
+    texts = all_accepted holds lists count read scripts;
+    run = subst (λ (s : Lists). IsPrintedOnThreads s capacity (map (script s) scripts.texts) out) read.says run;
+  },
+)

@@ -1,0 +1,9 @@
+//! The places of the texts that a command is given.
+
+/// The place of a text. Scripts are numbered from 1.
+#[derive(Clone, Copy)]
+pub enum Place {
+    Schema,
+    Script(usize),
+    Moves,
+}

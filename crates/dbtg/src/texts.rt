@@ -1,0 +1,50 @@
+//! The texts that a source gives, each judged before the next is read.
+ghost use Rattle.std.specs.Prelude.{◌≡◌, ◌++◌, IfErr, IfOk, OnOk, length, map, true};
+ghost use Rattle.dbtg_schema.specs.Sound.{IsSound};
+ghost use Rattle.dbtg_script.specs.Statements.{script};
+ghost use Rattle.dbtg_step.specs.Laws.{scripts_fit};
+ghost use Rattle.dbtg.specs.Sources.{ReadMoves, ReadSchema, ReadScripts, ToldOfMoves, ToldOfSchema, ToldOfScripts};
+
+use crate::fault::Fault;
+use crate::place::Place;
+use crate::reading::{moves_of, schema_of, take_script};
+use crate::source::Source;
+use dbtg_schema::{Row, Schema};
+use dbtg_unit::{Move, Statement};
+use std::alloc::Global;
+
+pub fn read_schema<S: Source>(alloc: Global, source: &S) -> Result<Schema, Fault>
+    ensures read { IfOk result (λ schema. ReadSchema (S.holds source.now) schema) }
+    ensures sound { IfOk result (λ schema. IsSound schema) }
+    ensures refused { IfErr result (λ fault. ToldOfSchema (S.holds source.now) (S.fails source.now) fault) }
+{
+    let text = source.read(alloc, Place::Schema)?;
+    schema_of(alloc, text.as_slice())
+}
+
+pub fn read_scripts<S: Source>(
+    alloc: Global,
+    source: &S,
+    schema: &Schema,
+) -> Result<Row<Row<Statement>>, Fault>
+    ensures read { IfOk result (λ scripts. (read : ReadScripts (S.holds source.now) schema.now (S.count source.now)) × (scripts ≡ map (script schema.now) read.texts)) }
+    ensures many { IfOk result (λ scripts. length scripts ≡ S.count source.now) }
+    ensures fitting { IsSound schema.now → IfOk result (λ scripts. scripts_fit schema.now scripts ≡ true) }
+    ensures refused { IfErr result (λ fault. ToldOfScripts (S.holds source.now) (S.fails source.now) fault schema.now (S.count source.now)) }
+{
+    let mut scripts = Row::of(Vec::new(alloc));
+    for i in 0..source.count() {
+        let text = source.read(alloc, Place::Script(i + 1))?;
+        take_script(alloc, &mut scripts, schema, i + 1, text.as_slice())?;
+    }
+    Ok(scripts)
+}
+
+pub fn read_moves<S: Source>(alloc: Global, source: &S) -> Result<Vec<Move>, Fault>
+    requires { S.has_moves source.now ≡ true }
+    ensures read { IfOk result (λ moves. ReadMoves (S.holds source.now) moves.items) }
+    ensures refused { IfErr result (λ fault. ToldOfMoves (S.holds source.now) (S.fails source.now) fault true) }
+{
+    let text = source.read(alloc, Place::Moves)?;
+    moves_of(alloc, text.as_slice())
+}

@@ -1,0 +1,17 @@
+use Rattle.std.proofs.Common.{◌≡◌, ◌∷◌, ◌++◌, ◌∙◌, [], length, sym, subst, arith, ℕ}
+use Rattle.dbtg_script.specs.Known.{IsRead, Says}
+use Rattle.dbtg_script.proofs.KnownLines.{new_read, still_known}
+use Rattle.dbtg_script.proofs.reader.take_new_line.Goals as goal
+
+pub returns-in_ok-push-in-Ok-Some-clause-known : goal.returns-in_ok-push-in-Ok-Some-clause-known
+returns-in_ok-push-in-Ok-Some-clause-known c =
+    let schema = c.args.schema.now in
+    let ss = c.args.statements.now.items in
+    let s = c.in-Ok-Some.statement in
+    let line = c.args.line.now in
+    let count : c.len.result ≡ length ss = omega arith in
+    let faultless = rw count at c.in-Ok-Some.ensures.accepted in
+    let says : Says schema (length ss) line s = record { faultless = faultless; said = sym c.in-Ok-Some.ensures.statement ∙ c.in-Ok-Some.field-0-is } in
+    let at : length ss ≡ c.len-in-Ok-Some.result = omega arith in
+    let read : IsRead schema (ss ++ s ∷ []) line c.len-in-Ok-Some.result = subst (λ (n : ℕ). IsRead schema (ss ++ s ∷ []) line n) at (new_read schema ss s line says) in
+    rw c.in_ok-push-in-Ok-Some.ensures.items (c.note.ensures schema (ss ++ s ∷ []) (still_known schema ss s c.args.known.now.places c.requires) read)

@@ -1,0 +1,29 @@
+-- Lines that were read before.
+use Rattle.std.specs.Prelude.{◌≡◌, ℕ, ◌<◌, true, List, [], ◌∷◌, Option, Some, None, slice_get}
+use Rattle.dbtg_schema.specs.Lists.{Lists}
+use Rattle.dbtg_schema.specs.Lookups.{first}
+use Rattle.dbtg_unit.specs.declared.statement.Statement.{Statement}
+use Rattle.dbtg_script.specs.declared.known.Seen.{Seen}
+use Rattle.dbtg_script.specs.Lines.{is_statement}
+use Rattle.dbtg_script.specs.StatementFaults.{line_faults}
+use Rattle.dbtg_script.specs.Statements.{line_statement}
+
+-- behind so many statements the line has no fault, and says this one
+pub record Says (schema : Lists) (count : ℕ) (line : List ℕ) (s : Statement) : Type 0 where
+  pub faultless : first (line_faults schema count line) ≡ None
+  pub said : line_statement schema line ≡ Some s
+
+-- the line has no fault wherever there is room for its statement, and this is the one at this place
+pub record IsRead (schema : Lists) (ss : List Statement) (line : List ℕ) (at : ℕ) : Type 0 where
+  pub holds_one : is_statement line ≡ true
+  pub faultless : (count : ℕ) → count < 65535 → first (line_faults schema count line) ≡ None
+  pub said : slice_get ss at ≡ line_statement schema line
+
+-- of each line that is kept
+abbrev pub IsReadAt : Lists → List Statement → Option Seen → Type 0
+IsReadAt schema ss None = Unit {0}
+IsReadAt schema ss (Some s) = IsRead schema ss s.line.now s.at
+
+abbrev pub IsKnown : Lists → List Statement → List (Option Seen) → Type 0
+IsKnown schema ss [] = Unit {0}
+IsKnown schema ss (p ∷ ps) = IsReadAt schema ss p × IsKnown schema ss ps

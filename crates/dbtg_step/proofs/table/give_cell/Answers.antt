@@ -1,0 +1,11 @@
+use Rattle.std.proofs.Common.{sym, subst}
+use Rattle.dbtg_cells.specs.declared.cell.Cell.{Cell}
+use Rattle.dbtg_cells.specs.declared.name.CellName.{CellName}
+use Rattle.dbtg_step.specs.SequentialDatabase.{In}
+use Rattle.dbtg_step.proofs.NeedsShown.{in_back}
+use Rattle.dbtg_step.proofs.table.give_cell.Goals as goal
+
+pub put_home-requires : goal.put_home-requires
+put_home-requires c =
+    let given : CellName × Cell = (c.in-Some.name, c.in-Some.cell) in
+    c.requires.places given (subst (In given) (sym c.in-Some.ensures.cells) (in_back given c.pop_cell.new.self.cells))

@@ -1,0 +1,37 @@
+use Rattle.std.proofs.Common.{◌≡◌, ◌∙◌, ap, sym, subst, length, None, replicate}
+use Rattle.dbtg_unit.specs.Base.{Database}
+use Rattle.dbtg_unit.specs.Hands.{Hands}
+use Rattle.dbtg_unit.specs.Local.{Agrees}
+use Rattle.dbtg_unit.specs.Needs.{need}
+use Rattle.dbtg_step.specs.Whole.{IsGuessed}
+use Rattle.dbtg_step.proofs.Wholes.{guessed_nothing, guessed_owners}
+use Rattle.dbtg_step.proofs.whole.guess_owners.Goals as goal
+
+pub returns-in-Stale-clause-guessed : goal.returns-in-Stale-clause-guessed
+returns-in-Stale-clause-guessed c =
+    let schema = c.args.schema.now in
+    let old = c.args.held.now in
+    let unit = c.args.unit.now in
+    let x = c.args.statement.now in
+    let none = c.none.ensures ∙ ap (λ n. replicate n None) (ap length c.sets.ensures.sets) in
+    let blank : c.set_guesses.new.self ≡ record { areas = old.areas; cells = old.cells; guesses = replicate (length schema.sets) None } = c.set_guesses.ensures ∙ (λ i. record { areas = old.areas; cells = old.cells; guesses = none i }) in
+    let is = subst (λ (h : Hands). (db : Database) → Agrees schema c.args.capacity db h unit → c.in_ok-owners.field-0 ≡ need schema c.args.capacity db unit h x) blank c.in_ok-owners.ensures.need in
+    let then : c.set_guesses-in-Stale.new.self ≡ record { areas = old.areas; cells = old.cells; guesses = c.in-Stale.owners } = c.set_guesses-in-Stale.ensures ∙ (λ i. record { areas = (blank i).areas; cells = (blank i).cells; guesses = c.in-Stale.owners }) in
+    subst (IsGuessed schema c.args.capacity unit x old) (sym then)
+    (guessed_owners schema c.args.capacity c.requires.sound unit x old c.requires.all c.requires.fitting c.requires.of_schema c.requires.within c.in_ok-owners.field-0 is c.in-Stale.owners c.in-Stale.is)
+
+pub returns-in_default : goal.returns-in_default
+returns-in_default c =
+    let schema = c.args.schema.now in
+    let old = c.args.held.now in
+    let unit = c.args.unit.now in
+    let x = c.args.statement.now in
+    let none = c.none.ensures ∙ ap (λ n. replicate n None) (ap length c.sets.ensures.sets) in
+    let blank : c.set_guesses.new.self ≡ record { areas = old.areas; cells = old.cells; guesses = replicate (length schema.sets) None } = c.set_guesses.ensures ∙ (λ i. record { areas = old.areas; cells = old.cells; guesses = none i }) in
+    let is = subst (λ (h : Hands). (db : Database) → Agrees schema c.args.capacity db h unit → c.in_ok-owners.field-0 ≡ need schema c.args.capacity db unit h x) blank c.in_ok-owners.ensures.need in
+    record {
+      guessed = subst (IsGuessed schema c.args.capacity unit x old) (sym blank)
+          (guessed_nothing schema c.args.capacity c.requires.sound unit x old c.requires.all c.requires.fitting c.requires.of_schema c.requires.within c.in_ok-owners.field-0 is c.in_default.not-Stale);
+      cells = ap (λ (h : Hands). h.cells) blank;
+      areas = ap (λ (h : Hands). h.areas) blank;
+    }

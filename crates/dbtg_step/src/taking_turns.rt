@@ -1,0 +1,166 @@
+//! Interleavings by whole statements: units take turns, and each turn is the events of one statement.
+ghost use Rattle.std.specs.Prelude.{◌≡◌, ℕ, ◌<◌, ◌≤◌, ◌-◌, ◌∷◌, ◌++◌, [], true, List, drop, length, IfOk, OnOk};
+ghost use Rattle.std.specs.Bool.{Decides};
+ghost use Rattle.dbtg_schema.specs.Lists.{Lists};
+ghost use Rattle.dbtg_schema.specs.Sound.{IsSound};
+ghost use Rattle.dbtg_unit.specs.declared.moves.Move.{Move};
+ghost use Rattle.dbtg_step.specs.declared.parts.Runner.{Runner};
+ghost use Rattle.dbtg_step.specs.Laws.{scripts_fit};
+ghost use Rattle.dbtg_step.specs.Network.{network};
+ghost use Rattle.dbtg_step.specs.Parts.{core_of, state_of, unit_state_of};
+ghost use Rattle.dbtg_step.specs.Events.{IsWell};
+ghost use Rattle.dbtg_step.specs.Turns.{AllBetween, AreGiven, HaveTurned, IsDone, IsNoted, NotesMore, TurnedIs};
+
+use crate::machine::Core;
+use crate::parts::{Parts, Runner};
+use crate::results::Run;
+use crate::stepping::step;
+use dbtg_schema::{Row, Schema};
+use dbtg_unit::{Move, Statement, Stepped};
+use std::alloc::{AllocError, Global};
+
+/// What a run by turns gives: the run, which has no results, and the moves that its turns stand for; none where these are more
+/// than were asked for.
+#[derive(Drop)]
+pub struct Turned {
+    pub run: Run,
+    pub moves: Option<Row<Move>>,
+}
+
+/// The first of the moves that were made, up to a limit, and whether there are more.
+#[derive(Drop)]
+pub struct Noted {
+    pub moves: Vec<Move>,
+    pub limit: usize,
+    pub over: bool,
+}
+
+impl Noted {
+    // Nothing yet.
+    fn new(alloc: Global, limit: usize) -> Noted
+        ensures limit { result.limit ≡ limit }
+        ensures nothing { IsNoted result [] }
+    {
+        Noted {
+            moves: Vec::new(alloc),
+            limit,
+            over: false,
+        }
+    }
+
+    // One move more was made.
+    fn note(&mut self, made: Move) -> Result<(), AllocError>
+        ensures { OnOk result (NotesMore self.old self.new (made ∷ [])) }
+    {
+        if self.moves.len() < self.limit {
+            self.moves.push(made)?;
+        } else {
+            self.over = true;
+        }
+        Ok(())
+    }
+
+    // The moves, where no more of them were made than the limit.
+    fn into_moves(self) -> Option<Row<Move>>
+        ensures { (moves : List Move) → IsNoted self moves → AreGiven self.limit moves result }
+    {
+        if self.over {
+            return None;
+        }
+        Some(Row::of(self.moves))
+    }
+}
+
+// How many statements the unit has left.
+fn statements_left(runner: &Runner) -> usize
+    ensures { result ≡ length (drop runner.now.next runner.now.script) }
+{
+    runner.script.len().saturating_sub(runner.next)
+}
+
+// Whether the unit is between statements, with so many left at most.
+fn is_done(runner: &Runner, left: usize) -> bool
+    ensures { (schema : Lists) (capacity : ℕ) → Decides result (IsDone (network schema capacity) left (unit_state_of schema capacity runner.now)) }
+{
+    runner.stage.is_none() & (statements_left(runner) <= left)
+}
+
+// One turn of a unit, step by step; nothing where there is no such unit, or its script is at its end. No other unit holds
+// anything, so that it never waits, and its steps come to an end.
+fn take_turn(
+    alloc: Global,
+    schema: &Schema,
+    capacity: u16,
+    parts: &mut Parts,
+    unit: u8,
+    noted: &mut Noted,
+) -> Result<(), AllocError>
+    requires well { IsWell schema.now capacity parts.old }
+    requires between { AllBetween (network schema.now capacity) (state_of schema.now capacity parts.old) }
+    ensures well { IsWell schema.now capacity parts.new }
+    ensures turned { OnOk result (HaveTurned (core_of schema.now capacity parts.old) (unit ∷ []) (core_of schema.now capacity parts.new) noted.old noted.new) }
+{
+    if unit == 0 || parts.runners.len() < unit as usize {
+        return Ok(());
+    }
+    let left = statements_left(&parts.runners[unit as usize - 1]);
+    if left == 0 {
+        return Ok(());
+    }
+    while !is_done(&parts.runners[unit as usize - 1], left - 1) {
+        match step(alloc, schema, capacity, parts, unit) {
+            Stepped::Moved => noted.note(Move::Step(unit))?,
+            Stepped::NoMemory => return Err(AllocError),
+            Stepped::Blocked => unreachable!(),
+            Stepped::Idle => unreachable!(),
+        }
+    }
+    Ok(())
+}
+
+/// The units take these turns, one after another. Where memory is refused it stops there.
+pub fn take_turns(
+    alloc: Global,
+    schema: &Schema,
+    capacity: u16,
+    parts: &mut Parts,
+    turns: &[u8],
+    noted: &mut Noted,
+) -> Result<(), AllocError>
+    requires well { IsWell schema.now capacity parts.old }
+    requires between { AllBetween (network schema.now capacity) (state_of schema.now capacity parts.old) }
+    ensures well { IsWell schema.now capacity parts.new }
+    ensures turned { OnOk result (HaveTurned (core_of schema.now capacity parts.old) turns.now (core_of schema.now capacity parts.new) noted.old noted.new) }
+{
+    for unit in turns {
+        take_turn(alloc, schema, capacity, parts, *unit, noted)?;
+    }
+    Ok(())
+}
+
+/// The units take these turns, from the opening database on, with a unit for each script: a turn is the events of a unit up to
+/// the last of its next statement, and nothing where there is no such unit or its script is at its end. The moves that the turns
+/// stand for are given where they are no more than the limit; a run with more of them goes on to its end just so. A step that
+/// finds no memory ends it.
+pub fn run_turns(
+    alloc: Global,
+    schema: &Schema,
+    capacity: u16,
+    scripts: Row<Row<Statement>>,
+    turns: &[u8],
+    limit: usize,
+) -> Result<Turned, AllocError>
+    requires sound { IsSound schema.now }
+    requires units { length scripts ≤ 255 }
+    requires fit { scripts_fit schema.now scripts ≡ true }
+    ensures { IfOk result (λ given. TurnedIs schema.now capacity scripts turns.now limit given) }
+{
+    let mut core = Core::new(alloc, schema, capacity, scripts)?;
+    let mut noted = Noted::new(alloc, limit);
+    core.take_turns(turns, &mut noted)?;
+    let run = core.into_run(Vec::new(alloc))?;
+    Ok(Turned {
+        run,
+        moves: noted.into_moves(),
+    })
+}

@@ -1,0 +1,217 @@
+//! A database in memory on which each statement is made whole, one after another: no unit waits, and nothing is in between.
+ghost use Rattle.std.specs.Prelude.{◌≡◌, ℕ, ◌≤◌, ◌<◌, ◌++◌, [], true, length, map, IfOk, OnOk, OnErr};
+ghost use Rattle.std.specs.List.{range_with_len};
+ghost use Rattle.dbtg_schema.specs.Sound.{IsSound};
+ghost use Rattle.dbtg_unit.specs.Base.{Database, opening};
+ghost use Rattle.dbtg_unit.specs.Belongs.{IsUnitOf, IsWithin};
+ghost use Rattle.dbtg_unit.specs.Fits.{fits};
+ghost use Rattle.dbtg_unit.specs.Image.{image_of};
+ghost use Rattle.dbtg_unit.specs.Local.{Agrees, AllAgree};
+ghost use Rattle.dbtg_unit.specs.Making.{HaveNextVersions};
+ghost use Rattle.dbtg_unit.specs.Prepared.{values_of};
+ghost use Rattle.dbtg_unit.specs.Replay.{IsHistoryOf};
+ghost use Rattle.dbtg_unit.specs.Units.{opening_unit};
+ghost use Rattle.dbtg_step.specs.Whole.{HasMade, HoldsAll, IsEffect, IsGuessed, IsMadeRun, IsWhole, state_now};
+
+use crate::drawing::{make, make_room};
+use crate::imaging::{CellSource, read_image};
+use crate::opening_parts::{hold_opening_cells, opening_unit};
+use crate::results::Run;
+use crate::statements::next_need;
+use dbtg_schema::{AreaNo, Row, Schema};
+use dbtg_unit::{Answer, Entry, Held, Image, Need, Owners, Statement, Unit};
+use std::alloc::{AllocError, Global};
+use std::marker::Model;
+
+// All areas in hand.
+fn hold_areas(schema: &Schema, held: &mut Held) -> Result<(), AllocError>
+    ensures { OnOk result (held.new ≡ record held.old { areas = held.old.areas ++ range_with_len 0 (length schema.now.areas) }) }
+{
+    for area in 0..schema.areas().len() as u8 {
+        held.push_area(AreaNo::new(area))?;
+    }
+    Ok(())
+}
+
+// Hands with all areas and cells of the opening database.
+fn opening_hands(alloc: Global, schema: &Schema, capacity: u16) -> Result<Held, AllocError>
+    ensures all { IfOk result (λ held. HoldsAll schema.now capacity held) }
+    ensures cells { IfOk result (λ held. AllAgree schema.now capacity (opening schema.now) held.cells) }
+{
+    let mut held = Held::new(alloc, Owners::none(schema.sets().len()));
+    hold_areas(schema, &mut held)?;
+    hold_opening_cells(alloc, schema, capacity, &mut held)?;
+    Ok(held)
+}
+
+// So many units before their first statements, numbered from 1.
+fn opening_units(alloc: Global, schema: &Schema, count: u8) -> Result<Vec<Unit>, AllocError>
+    ensures { IfOk result (λ units. units.items ≡ map (opening_unit schema.now) (range_with_len 1 count)) }
+{
+    let mut units = Vec::new(alloc);
+    for before in 0..count {
+        units.push(opening_unit(alloc, schema, before + 1)?)?;
+    }
+    Ok(units)
+}
+
+// Guesses that the statement needs are the true owners; there are no others. With all areas and cells in hand it then needs
+// nothing more.
+fn guess_owners(
+    alloc: Global,
+    schema: &Schema,
+    capacity: u16,
+    unit: &Unit,
+    statement: &Statement,
+    held: &mut Held,
+) -> Result<(), AllocError>
+    requires sound { IsSound schema.now }
+    requires fitting { fits schema.now statement.now ≡ true }
+    requires of_schema { IsUnitOf schema.now unit.now }
+    requires within { IsWithin capacity unit.now }
+    requires all { HoldsAll schema.now capacity held.old }
+    ensures guessed { OnOk result (IsGuessed schema.now capacity unit.now statement.now held.old held.new) }
+    ensures cells { held.new.cells ≡ held.old.cells }
+    ensures areas { held.new.areas ≡ held.old.areas }
+{
+    held.set_guesses(Owners::none(schema.sets().len()));
+    if let Need::Stale(owners) = next_need(alloc, schema, capacity, unit, statement, held)? {
+        held.set_guesses(owners);
+    }
+    Ok(())
+}
+
+// The statement's effect on the unit and the cells in hand. Where memory is refused, all shows the same.
+fn make_effect(
+    alloc: Global,
+    schema: &Schema,
+    capacity: u16,
+    unit: &mut Unit,
+    held: &mut Held,
+    statement: &Statement,
+) -> Result<Answer, AllocError>
+    requires sound { IsSound schema.now }
+    requires fitting { fits schema.now statement.now ≡ true }
+    requires of_schema { IsUnitOf schema.now unit.old }
+    requires within { IsWithin capacity unit.old }
+    requires all { HoldsAll schema.now capacity held.old }
+    requires versions { HaveNextVersions held.old.cells }
+    requires agrees { (db : Database) × Agrees schema.now capacity db held.old unit.old }
+    ensures effect { IfOk result (λ answer. (db : Database) → Agrees schema.now capacity db held.old unit.old → IsEffect schema.now capacity db statement.now unit.old unit.new held.new answer) }
+    ensures all { HoldsAll schema.now capacity held.new }
+    ensures unit { OnErr result (unit.new ≡ unit.old) }
+    ensures shows { OnErr result (values_of held.new.cells ≡ values_of held.old.cells) }
+{
+    guess_owners(alloc, schema, capacity, unit, statement, held)?;
+    make(alloc, schema, capacity, unit, held, statement)
+}
+
+/// A database in memory, all of its cells in hand, with its units and the statements that they made.
+#[derive(Drop)]
+pub struct WholeDatabase<'a> {
+    alloc: Global,
+    schema: &'a Schema,
+    capacity: u16,
+    held: Held,
+    units: Vec<Unit>,
+    history: Vec<Entry>,
+}
+
+impl<'a> Model for WholeDatabase<'a> {
+    ghost use Rattle.std.specs.Prelude.{length};
+    ghost use Rattle.dbtg_step.specs.Whole.{IsWhole, Making};
+
+    ghost Value = { Making };
+
+    ghost view = { λ d. record { schema = d.schema.now; capacity = d.capacity; units = length d.units.items; history = d.history.items } };
+
+    ghost invariant = { λ d. IsWhole d.schema.now d.capacity d.held d.units.items d.history.items };
+}
+
+impl<'a> WholeDatabase<'a> {
+    /// The opening database, and so many units, numbered from 1.
+    pub fn opening(
+        alloc: Global,
+        schema: &'a Schema,
+        capacity: u16,
+        units: u8,
+    ) -> Result<Self, AllocError>
+        requires sound { IsSound schema.now }
+        ensures { IfOk result (λ database. database ≡ record { schema = schema.now; capacity = capacity; units = units; history = [] }) }
+    {
+        Ok(WholeDatabase {
+            alloc,
+            schema,
+            capacity,
+            held: opening_hands(alloc, schema, capacity)?,
+            units: opening_units(alloc, schema, units)?,
+            history: Vec::new(alloc),
+        })
+    }
+
+    /// One statement of the unit with this number, made whole: what it makes of the database and of its unit, and what it
+    /// answers, are its effect. Where memory is refused nothing is changed.
+    pub fn make(&mut self, unit: u8, statement: Statement) -> Result<(), AllocError>
+        requires numbered { 0 < unit }
+        requires within { unit ≤ self.old.units }
+        requires fitting { fits self.old.schema statement ≡ true }
+        ensures made { OnOk result (HasMade self.old unit statement self.new) }
+        ensures unchanged { OnErr result (self.new ≡ self.old) }
+    {
+        make_room(&mut self.history)?;
+        let maker = &mut self.units[unit as usize - 1];
+        let answer = make_effect(
+            self.alloc,
+            self.schema,
+            self.capacity,
+            maker,
+            &mut self.held,
+            &statement,
+        )?;
+        let ticket = self.history.len() as u64;
+        self.history.push_reserved(Entry {
+            ticket,
+            unit,
+            statement,
+            answer,
+        });
+        Ok(())
+    }
+
+    /// The statements that were made, with their answers, the newest last.
+    pub fn history(&self) -> &[Entry]
+        ensures history { result.now ≡ self.now.history }
+        ensures of { IsHistoryOf self.now.schema self.now.capacity self.now.units self.now.history }
+    {
+        self.history.as_slice()
+    }
+
+    /// The units, in the order of their numbers, as their statements left them.
+    pub fn units(&self) -> &[Unit]
+        ensures units { result.now ≡ (state_now self.now).units }
+        ensures count { length result.now ≡ self.now.units }
+    {
+        self.units.as_slice()
+    }
+
+    /// The image of the database.
+    pub fn image(&self) -> Result<Image, AllocError>
+        ensures { IfOk result (λ image. image ≡ image_of self.now.schema self.now.capacity (state_now self.now).database) }
+    {
+        let source = CellSource::Hands(&self.held);
+        read_image(self.alloc, self.schema, self.capacity, source)
+    }
+
+    /// The database taken apart: its image, the statements that were made, and its units. There are no results of moves.
+    pub fn into_run(self) -> Result<Run, AllocError>
+        ensures { IfOk result (λ given. IsMadeRun self.entry given) }
+    {
+        let image = self.image()?;
+        Ok(Run {
+            results: Row::of(Vec::new(self.alloc)),
+            image,
+            history: Row::of(self.history),
+            units: Row::of(self.units),
+        })
+    }
+}

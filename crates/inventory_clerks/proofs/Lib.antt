@@ -1,0 +1,3 @@
+mod Belonging
+mod Crosses
+mod Filling
