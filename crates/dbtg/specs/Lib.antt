@@ -8,3 +8,4 @@ pub mod Sources
 pub mod Files
 pub mod Explaining
 pub mod FaultyWord
+pub mod Drawing

@@ -28,6 +28,10 @@ pub enum Call<'a> {
         schema: &'a str,
         scripts: Vec<&'a str>,
     },
+    Draw {
+        explains: bool,
+        schema: &'a str,
+    },
     Explain(Topic),
 }
 
@@ -67,6 +71,15 @@ fn check_command<'a>(alloc: Global, name: &'a str) -> Result<Command<'a>, AllocE
             alloc,
             "Files of scripts of this schema, any number of them; - for standard input, once",
         ))
+}
+
+// The command `draw`, by the name that its usage shows.
+fn draw_command<'a>(alloc: Global, name: &'a str) -> Result<Command<'a>, AllocError> {
+    Command::new(alloc, name)
+        .about("Prints the Bachman diagram of a schema, in the language of Graphviz")
+        .after_help("Example: dbtg draw shop.schema | dot -Tsvg -o shop.svg")
+        .arg(explain_option(alloc))?
+        .arg(schema_word(alloc))
 }
 
 // The command `explain`, by the name that its usage shows.
@@ -152,6 +165,7 @@ pub fn command<'a>(alloc: Global) -> Result<Command<'a>, AllocError> {
         .subcommand(check_command(alloc, "check")?)?
         .subcommand(replay_command(alloc, "replay")?)?
         .subcommand(threads_command(alloc, "threads")?)?
+        .subcommand(draw_command(alloc, "draw")?)?
         .subcommand(explain_command(alloc, "explain")?)
 }
 
@@ -259,6 +273,13 @@ fn threads_call<'a>(alloc: Global, given: &ArgMatches<'a>) -> Result<Call<'a>, E
     })
 }
 
+fn draw_call<'a>(given: &ArgMatches<'a>) -> Call<'a> {
+    Call::Draw {
+        explains: given.get_flag("explain"),
+        schema: given.get_str("schema").unwrap_or(""),
+    }
+}
+
 fn explain_call<'a>(alloc: Global, given: &ArgMatches<'a>) -> Result<Call<'a>, Error> {
     let words = words_of(alloc, given, "topic")?;
     match topic_of(words.as_slice()) {
@@ -277,6 +298,7 @@ pub fn call_of<'a>(alloc: Global, words: &'a [String]) -> Result<Call<'a>, Error
         Some(("check", given)) => check_call(alloc, given),
         Some(("replay", given)) => replay_call(alloc, given),
         Some(("threads", given)) => threads_call(alloc, given),
+        Some(("draw", given)) => Ok(draw_call(given)),
         Some(("explain", given)) => explain_call(alloc, given),
         _ => Err(Error::from(AllocError)),
     }

@@ -5,6 +5,7 @@ mod at_hand;
 mod capacity;
 mod check;
 mod command;
+mod draw;
 mod explain;
 mod fault;
 mod files;
@@ -19,6 +20,7 @@ mod threads;
 use check::check;
 use clap::error::ErrorKind;
 use command::{Call, call_of};
+use draw::draw;
 use explain::{Topic, explained};
 use fault::{Fault, status_of};
 use files::{Files, Paths};
@@ -77,6 +79,11 @@ fn print_check(rt: &HostRuntime, paths: &Paths, explains: bool) -> ExitCode {
     print_or_tell(rt, check(rt.alloc(), &files), paths, explains)
 }
 
+fn print_drawing(rt: &HostRuntime, paths: &Paths, explains: bool) -> ExitCode {
+    let files = Files { reader: rt, paths };
+    print_or_tell(rt, draw(rt.alloc(), &files), paths, explains)
+}
+
 fn print_replay(rt: &HostRuntime, paths: &Paths, capacity: u16, explains: bool) -> ExitCode {
     let files = Files { reader: rt, paths };
     print_or_tell(rt, replay(rt.alloc(), &files, capacity), paths, explains)
@@ -127,6 +134,9 @@ fn carry_out<R: Threads + Wait + Sync>(rt: &HostRuntime, threads: &R, call: &Cal
         } => {
             let paths = paths_of(*schema, scripts.as_slice(), None);
             print_threads(rt, threads, &paths, *capacity, *explains)
+        }
+        Call::Draw { explains, schema } => {
+            print_drawing(rt, &paths_of(*schema, &[], None), *explains)
         }
         Call::Explain(topic) => print_topic(rt, topic),
     }
