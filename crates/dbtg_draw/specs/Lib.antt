@@ -1,2 +1,5 @@
 pub mod Lines
 pub mod Dot
+pub mod Columns
+pub mod Layout
+pub mod Svg
