@@ -36,7 +36,7 @@ system_block sets = record { column = 0; area = None; lines = codes "SYSTEM" ∷
 abbrev pub system_blocks : List SetType → List Block
 system_blocks sets = if has_system sets then system_block sets ∷ [] else []
 
-abbrev pub type_block : Lists → List ℕ → ℕ → RecordType → Block
+unfoldable pub type_block : Lists → List ℕ → ℕ → RecordType → Block
 type_block schema columns t r = record { column = column_of columns t; area = Some r.area; lines = r.name ∷ detail_lines schema r; ends = count_ends (Some t) schema.sets }
 
 -- from record type t on
@@ -44,7 +44,7 @@ abbrev pub type_blocks : Lists → List ℕ → ℕ → List RecordType → List
 type_blocks schema columns t [] = []
 type_blocks schema columns t (r ∷ rs) = type_block schema columns t r ∷ type_blocks schema columns (t + 1) rs
 
-abbrev pub area_block : ℕ → Area → Block
+unfoldable pub area_block : ℕ → Area → Block
 area_block a area = record { column = 0; area = Some a; lines = (codes "AREA " ++ area.name) ∷ []; ends = 0 }
 
 -- from area a on
@@ -88,6 +88,9 @@ scale_of blocks links sets = record {
   sets = sets;
 }
 
+abbrev pub scale : Lists → Scale
+scale schema = scale_of (blocks schema) (links schema 0 schema.sets) (length schema.sets)
+
 -- a character is taken for 8 pixels wide, and a margin of 8 stands at each side
 abbrev pub box_width : Scale → ℕ
 box_width scale = 8 * scale.characters + 16
@@ -128,10 +131,23 @@ pub record Box : Type 0 where
 abbrev pub box_of : Scale → ℕ → Block → Box
 box_of scale top b = record { left = left_of scale b.column; top = top; width = box_width scale; height = height b }
 
--- one below another, from here on
+-- one below another, from this top on
 abbrev pub boxes_from : Scale → ℕ → List Block → List Box
 boxes_from scale top [] = []
 boxes_from scale top (b ∷ bs) = box_of scale top b ∷ boxes_from scale (top + pitch b) bs
+
+abbrev pub boxes : Lists → List Box
+boxes schema = boxes_from (scale schema) 16 (blocks schema)
+
+-- the size of the picture: as far right as the last column in use, as far down as the last box
+abbrev pub last_column : List Block → ℕ
+last_column blocks = fold (λ n (b : Block). larger n b.column) 0 blocks
+
+abbrev pub picture_width : Scale → List Block → ℕ
+picture_width scale blocks = left_of scale (last_column blocks) + box_width scale + 16
+
+abbrev pub picture_height : List Block → ℕ
+picture_height blocks = 16 + sum_by pitch blocks
 
 -- ---- arrows
 

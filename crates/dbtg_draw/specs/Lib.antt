@@ -3,3 +3,4 @@ pub mod Dot
 pub mod Columns
 pub mod Layout
 pub mod Svg
+pub mod Laws

@@ -1,27 +1,18 @@
 -- The diagram of a schema as SVG.
-use Rattle.std.specs.Prelude.{ℕ, ◌+◌, ◌-◌, List, [], ◌∷◌, ◌++◌, Option, Some, None, codes, decimal, fold, length, sum_by}
+use Rattle.std.specs.Prelude.{ℕ, ◌+◌, ◌-◌, List, [], ◌∷◌, ◌++◌, Option, Some, None, codes, decimal}
 use Rattle.std.specs.List.{flat_map}
 use Rattle.dbtg_schema.specs.Lists.{Lists}
-use Rattle.dbtg_draw.specs.Layout.{arrow_of, blocks, box_width, height, larger, left_of, links, pitch, scale_of, top_of}
+use Rattle.dbtg_schema.specs.declared.shape.SetType.{SetType}
+use Rattle.dbtg_draw.specs.Layout.{Box, arrow_of, blocks, box_of, left_of, links, picture_height, picture_width, pitch, scale}
+use Rattle.dbtg_draw.specs.declared.arrows.Arrow.{Arrow}
 use Rattle.dbtg_draw.specs.declared.blocks.Block.{Block}
 use Rattle.dbtg_draw.specs.declared.links.Link.{Link}
 use Rattle.dbtg_draw.specs.declared.scale.Scale.{Scale}
-use Rattle.dbtg_draw.specs.declared.arrows.Arrow.{Arrow}
 
 unfoldable pub attribute : List ℕ → ℕ → List ℕ
 attribute name n = 32 ∷ name ++ codes "='" ++ decimal n ++ codes "'"
 
 -- ---- the head
-
--- the size of the picture: as far right as the last column in use, as far down as the last box
-abbrev pub last_column : List Block → ℕ
-last_column blocks = fold (λ n (b : Block). larger n b.column) 0 blocks
-
-abbrev pub picture_width : Scale → List Block → ℕ
-picture_width scale blocks = left_of scale (last_column blocks) + box_width scale + 16
-
-abbrev pub picture_height : List Block → ℕ
-picture_height blocks = 16 + sum_by pitch blocks
 
 unfoldable pub open_text : List ℕ
 open_text = codes "<svg xmlns='http://www.w3.org/2000/svg'"
@@ -51,34 +42,41 @@ unfoldable pub open_rect : Option ℕ → List ℕ
 open_rect None = codes "<rect class='plain'"
 open_rect (Some a) = codes "<rect class='area" ++ decimal a ++ codes "'"
 
-unfoldable pub rect_text : Scale → ℕ → Block → List ℕ
-rect_text scale top b =
-    open_rect b.area ++ attribute (codes "x") (left_of scale b.column) ++ attribute (codes "y") top ++ attribute (codes "width") (box_width scale)
-    ++ attribute (codes "height") (height b) ++ codes "/>\n"
+unfoldable pub rect_text : Option ℕ → Box → List ℕ
+rect_text area box =
+    open_rect area ++ attribute (codes "x") box.left ++ attribute (codes "y") box.top ++ attribute (codes "width") box.width
+    ++ attribute (codes "height") box.height ++ codes "/>\n"
 
 unfoldable pub line_text : ℕ → ℕ → List ℕ → List ℕ
 line_text x y line = codes "<text" ++ attribute (codes "x") x ++ attribute (codes "y") y ++ codes ">" ++ line ++ codes "</text>\n"
 
--- one below another, from here on
+-- one below another, the first on this base
 abbrev pub lines_text : ℕ → ℕ → List (List ℕ) → List ℕ
 lines_text x y [] = []
 lines_text x y (line ∷ lines) = line_text x y line ++ lines_text x (y + 16) lines
 
 unfoldable pub box_text : Scale → ℕ → Block → List ℕ
-box_text scale top b = rect_text scale top b ++ lines_text (left_of scale b.column + 8) (top + 16) b.lines
+box_text scale top b = rect_text b.area (box_of scale top b) ++ lines_text (left_of scale b.column + 8) (top + 16) b.lines
 
--- one below another, from here on
+-- one below another, from this top on
 abbrev pub boxes_text : Scale → ℕ → List Block → List ℕ
 boxes_text scale top [] = []
 boxes_text scale top (b ∷ bs) = box_text scale top b ++ boxes_text scale (top + pitch b) bs
 
 -- ---- arrows
 
+unfoldable pub start_text : Arrow → List ℕ
+start_text a = codes "<path d='M" ++ decimal a.start ++ codes " " ++ decimal a.from
+
 -- along to the lane, down or up the lane, and along to the member
+unfoldable pub way_text : Arrow → List ℕ
+way_text a = codes "H" ++ decimal a.lane ++ codes "V" ++ decimal a.to ++ codes "H" ++ decimal a.head
+
+unfoldable pub end_text : List ℕ
+end_text = codes "' marker-end='url(#head)'/>\n"
+
 unfoldable pub path_text : Arrow → List ℕ
-path_text a =
-    codes "<path d='M" ++ decimal a.start ++ codes " " ++ decimal a.from ++ codes "H" ++ decimal a.lane ++ codes "V" ++ decimal a.to ++ codes "H" ++ decimal a.head
-    ++ codes "' marker-end='url(#head)'/>\n"
+path_text a = start_text a ++ way_text a ++ end_text
 
 -- words that end in front of the head of an arrow
 unfoldable pub label_text : ℕ → ℕ → List ℕ → List ℕ
@@ -87,12 +85,15 @@ label_text x y words = codes "<text class='label'" ++ attribute (codes "x") x ++
 unfoldable pub arrow_text : Arrow → Link → List ℕ
 arrow_text a l = path_text a ++ label_text (a.head - 14) (a.to - 4) l.above ++ label_text (a.head - 14) (a.to + 12) l.below
 
+unfoldable pub link_text : Scale → List SetType → List Block → Link → List ℕ
+link_text scale sets blocks l = arrow_text (arrow_of scale sets blocks l) l
+
 -- ---- the whole
 
 unfoldable pub drawn_text : Lists → Scale → List Block → List Link → List ℕ
 drawn_text schema scale blocks links =
     head_text (picture_width scale blocks) (picture_height blocks) ++ title_text schema.name ++ style_text ++ colours_text ++ marker_text
-    ++ boxes_text scale 16 blocks ++ flat_map (λ l. arrow_text (arrow_of scale schema.sets blocks l) l) links ++ codes "</svg>\n"
+    ++ boxes_text scale 16 blocks ++ flat_map (link_text scale schema.sets blocks) links ++ codes "</svg>\n"
 
 unfoldable pub svg_text : Lists → List ℕ
-svg_text schema = drawn_text schema (scale_of (blocks schema) (links schema 0 schema.sets) (length schema.sets)) (blocks schema) (links schema 0 schema.sets)
+svg_text schema = drawn_text schema (scale schema) (blocks schema) (links schema 0 schema.sets)

@@ -1,7 +1,7 @@
 //! Where the arrows of a diagram run.
 
 ghost use Rattle.dbtg_draw.specs.Layout.{arrow_of, box_width, column_at, end_of, left_of, owner_place};
-ghost use Rattle.std.specs.Prelude.{◌≡◌, ◌+◌, ◌≤◌, if◌then◌else◌, length, nat_lt, take};
+ghost use Rattle.std.specs.Prelude.{◌≡◌, ◌+◌, ◌^◌, ◌<◌, ◌≤◌, if◌then◌else◌, length, nat_lt, take};
 
 use crate::blocks::{Block, count_ends, first_type};
 use crate::links::Link;
@@ -38,8 +38,9 @@ fn column_at(blocks: &[Block], place: usize) -> u8
 }
 
 fn end_of(blocks: &[Block], place: usize, before: usize) -> u128
-    requires few { length blocks.now ≤ 32 }
+    requires { length blocks.now ≤ 32 }
     ensures value { result ≡ end_of blocks.now place before }
+    ensures bound { result < 2 ^ 90 }
 {
     top_of(blocks, place) + 32 * before as u128 + 20
 }
@@ -56,8 +57,9 @@ fn sets_before(sets: &[SetType], number: usize) -> &[SetType]
 
 /// The arrow of a member.
 pub fn arrow_of(scale: &Scale, sets: &[SetType], blocks: &[Block], link: &Link) -> Arrow
-    requires few { length blocks.now ≤ 32 }
-    ensures { result ≡ arrow_of scale.now sets.now blocks.now link.now }
+    requires { length blocks.now ≤ 32 }
+    ensures value { result ≡ arrow_of scale.now sets.now blocks.now link.now }
+    ensures bound { result.to < 2 ^ 90 }
 {
     let first = first_type(sets);
     let owner = owner_place(first, link.owner);
@@ -69,9 +71,9 @@ pub fn arrow_of(scale: &Scale, sets: &[SetType], blocks: &[Block], link: &Link) 
     let aside = scale.label_width() + 8 * link.set as u128 + 8;
     Arrow {
         start: start_of(scale, owner_column, member_column),
-        from: end_of(blocks, owner, count_ends(link.owner, before)),
+        from: end_of(blocks, owner, count_ends(&link.owner, before)),
         lane: head.saturating_sub(aside),
-        to: end_of(blocks, member, count_ends(Some(link.member), before)),
+        to: end_of(blocks, member, count_ends(&Some(link.member), before)),
         head,
     }
 }

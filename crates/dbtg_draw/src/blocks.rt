@@ -3,12 +3,14 @@
 ghost use Rattle.dbtg_draw.specs.Columns.{columns};
 ghost use Rattle.dbtg_draw.specs.Layout.{area_block, area_blocks, blocks, count_ends, first_type, system_block, system_blocks, title_block, touches, type_block, type_blocks};
 ghost use Rattle.dbtg_draw.specs.Lines.{detail_lines};
-ghost use Rattle.std.specs.Prelude.{◌≡◌, [], ◌∷◌, ◌++◌, ◌≤◌, IfOk, OnOk, length};
+ghost use Rattle.dbtg_schema.specs.Lookups.{some_and};
+ghost use Rattle.std.specs.List.{list_any};
+ghost use Rattle.std.specs.Prelude.{◌≡◌, ◌==◌, [], ◌∷◌, ◌++◌, ◌≤◌, IfOk, OnOk, length};
 
 use crate::columns::{column_of, columns};
 use crate::dot::has_system;
 use crate::lines::push_detail_lines;
-use dbtg_schema::{Area, AreaNo, RecordNo, RecordType, Row, Schema, SetType};
+use dbtg_schema::{Area, AreaNo, Member, RecordNo, RecordType, Row, Schema, SetType};
 use std::alloc::{AllocError, Global};
 
 /// A box that has no place yet: its column, the area that colours it, its lines, and how many arrows begin or end at it.
@@ -20,29 +22,35 @@ pub struct Block {
     pub ends: usize,
 }
 
-fn touches(node: Option<RecordNo>, set: &SetType) -> bool
-    ensures { result ≡ touches node set.now }
+fn is_owner(set: &SetType, rtype: RecordNo) -> bool
+    ensures { result ≡ some_and (λ o. o == rtype) set.now.owner }
+{
+    match set.owner {
+        Some(owner) => owner.index() == rtype.index(),
+        None => false,
+    }
+}
+
+fn has_member(members: &[Member], rtype: RecordNo) -> bool
+    ensures { result ≡ list_any (λ m. m.rtype == rtype) members.now }
+{
+    members
+        .iter()
+        .any(|member| member.rtype.index() == rtype.index())
+}
+
+fn touches(node: &Option<RecordNo>, set: &SetType) -> bool
+    ensures { result ≡ touches node.now set.now }
 {
     match node {
         None => set.owner.is_none(),
-        Some(rtype) => {
-            let is_owner = match set.owner {
-                Some(owner) => owner.index() == rtype.index(),
-                None => false,
-            };
-            is_owner
-                || set
-                    .members
-                    .as_slice()
-                    .iter()
-                    .any(|member| member.rtype.index() == rtype.index())
-        }
+        Some(rtype) => is_owner(set, *rtype) || has_member(set.members.as_slice(), *rtype),
     }
 }
 
 /// How many of these sets have SYSTEM, or a record type, as owner or member.
-pub fn count_ends(node: Option<RecordNo>, sets: &[SetType]) -> usize
-    ensures { result ≡ count_ends node sets.now }
+pub fn count_ends(node: &Option<RecordNo>, sets: &[SetType]) -> usize
+    ensures { result ≡ count_ends node.now sets.now }
 {
     let mut count = 0;
     for set in sets {
@@ -88,7 +96,7 @@ fn system_block(alloc: Global, sets: &[SetType]) -> Result<Block, AllocError>
         column: 0,
         area: None,
         lines: titled_line(alloc, b"SYSTEM", b"")?,
-        ends: count_ends(None, sets),
+        ends: count_ends(&None, sets),
     })
 }
 
@@ -118,6 +126,7 @@ fn type_lines(
     Ok(Row::of(lines))
 }
 
+#[tactic(auto, unfolding(crate::specs::Layout::type_block))]
 fn type_block(
     alloc: Global,
     schema: &Schema,
@@ -131,7 +140,7 @@ fn type_block(
         column: column_of(columns, rtype),
         area: Some(record.area),
         lines: type_lines(alloc, schema, record)?,
-        ends: count_ends(Some(rtype), schema.sets()),
+        ends: count_ends(&Some(rtype), schema.sets()),
     })
 }
 
@@ -151,6 +160,7 @@ fn push_type_blocks(
     Ok(())
 }
 
+#[tactic(auto, unfolding(crate::specs::Layout::area_block))]
 fn area_block(alloc: Global, number: AreaNo, area: &Area) -> Result<Block, AllocError>
     ensures { IfOk result (λ block. block ≡ area_block number area.now) }
 {
@@ -179,8 +189,7 @@ fn push_area_blocks(
 #[tactic(auto, unfolding(crate::specs::Layout::blocks))]
 /// All that has a box, from above to below.
 pub fn blocks(alloc: Global, schema: &Schema) -> Result<Vec<Block>, AllocError>
-    ensures blocks { IfOk result (λ all. all.items ≡ blocks schema.now) }
-    ensures few { IfOk result (λ all. length all.items ≤ 32) }
+    ensures { IfOk result (λ all. all.items ≡ blocks schema.now) }
 {
     let columns = columns(alloc, schema)?;
     let mut blocks = Vec::new(alloc);

@@ -111,7 +111,7 @@ pub fn pitch(block: &Block) -> u128
 
 /// The top of the box at this place, or of what stands below all.
 pub fn top_of(blocks: &[Block], place: usize) -> u128
-    requires few { length blocks.now ≤ 32 }
+    requires { length blocks.now ≤ 32 }
     ensures value { result ≡ top_of blocks.now place }
     ensures bound { result < 2 ^ 80 }
 {

@@ -1,10 +1,10 @@
 //! The diagram of a schema as SVG. A name that is read in a schema has capital letters, digits and hyphens alone, and pictures have
 //! parentheses beside digits, so that no byte is one to be escaped.
 
-ghost use Rattle.dbtg_draw.specs.Layout.{arrow_of, blocks, larger, links, scale_of};
-ghost use Rattle.dbtg_draw.specs.Svg.{arrow_text, attribute, box_text, boxes_text, colours_text, drawn_text, head_text, label_text, last_column, line_text, lines_text, marker_text, open_rect, open_text, path_text, picture_height, picture_width, rect_text, style_text, svg_text, title_text};
+ghost use Rattle.dbtg_draw.specs.Layout.{box_of, last_column, picture_height, picture_width};
+ghost use Rattle.dbtg_draw.specs.Svg.{arrow_text, attribute, box_text, boxes_text, colours_text, drawn_text, end_text, head_text, label_text, line_text, lines_text, link_text, marker_text, open_rect, open_text, path_text, rect_text, start_text, style_text, svg_text, title_text, way_text};
 ghost use Rattle.std.specs.List.{flat_map};
-ghost use Rattle.std.specs.Prelude.{◌≡◌, ◌+◌, ◌++◌, ◌^◌, ◌<◌, ◌≤◌, IfOk, OnOk, codes, decimal, length};
+ghost use Rattle.std.specs.Prelude.{◌≡◌, ◌++◌, ◌^◌, ◌<◌, ◌≤◌, IfOk, OnOk, decimal, length};
 
 use crate::arrows::{Arrow, arrow_of};
 use crate::blocks::{Block, blocks};
@@ -52,7 +52,7 @@ fn picture_width(scale: &Scale, blocks: &[Block]) -> u128
 }
 
 fn picture_height(blocks: &[Block]) -> u128
-    requires few { length blocks.now ≤ 32 }
+    requires { length blocks.now ≤ 32 }
     ensures { result ≡ picture_height blocks.now }
 {
     top_of(blocks, blocks.len())
@@ -130,7 +130,7 @@ fn open_rect(out: &mut Vec<u8>, area: Option<AreaNo>) -> Result<(), AllocError>
 
 #[tactic(auto, unfolding(crate::specs::Svg::rect_text))]
 fn push_rect(out: &mut Vec<u8>, scale: &Scale, top: u128, block: &Block) -> Result<(), AllocError>
-    ensures { OnOk result (out.new.items ≡ out.old.items ++ rect_text scale.now top block.now) }
+    ensures { OnOk result (out.new.items ≡ out.old.items ++ rect_text block.now.area (box_of scale.now top block.now)) }
 {
     open_rect(out, block.area)?;
     push_attribute(out, b"x", scale.left_of(block.column))?;
@@ -160,7 +160,7 @@ fn push_lines(
     first: u128,
     lines: &[Row<u8>],
 ) -> Result<(), AllocError>
-    requires bound { first < 2 ^ 90 }
+    requires { first < 2 ^ 90 }
     ensures { OnOk result (out.new.items ≡ out.old.items ++ lines_text left first lines.now) }
 {
     let mut base = first;
@@ -173,7 +173,7 @@ fn push_lines(
 
 #[tactic(auto, unfolding(crate::specs::Svg::box_text))]
 fn push_box(out: &mut Vec<u8>, scale: &Scale, top: u128, block: &Block) -> Result<(), AllocError>
-    requires bound { top < 2 ^ 80 }
+    requires { top < 2 ^ 80 }
     ensures { OnOk result (out.new.items ≡ out.old.items ++ box_text scale.now top block.now) }
 {
     push_rect(out, scale, top, block)?;
@@ -186,7 +186,7 @@ fn push_box(out: &mut Vec<u8>, scale: &Scale, top: u128, block: &Block) -> Resul
 }
 
 fn push_boxes(out: &mut Vec<u8>, scale: &Scale, blocks: &[Block]) -> Result<(), AllocError>
-    requires few { length blocks.now ≤ 32 }
+    requires { length blocks.now ≤ 32 }
     ensures { OnOk result (out.new.items ≡ out.old.items ++ boxes_text scale.now 16 blocks.now) }
 {
     let mut top = 16;
@@ -197,22 +197,44 @@ fn push_boxes(out: &mut Vec<u8>, scale: &Scale, blocks: &[Block]) -> Result<(), 
     Ok(())
 }
 
-#[tactic(auto, unfolding(crate::specs::Svg::path_text))]
-fn push_path(out: &mut Vec<u8>, arrow: &Arrow) -> Result<(), AllocError>
-    ensures { OnOk result (out.new.items ≡ out.old.items ++ path_text arrow.now) }
+#[tactic(auto, unfolding(crate::specs::Svg::start_text))]
+fn push_start(out: &mut Vec<u8>, arrow: &Arrow) -> Result<(), AllocError>
+    ensures { OnOk result (out.new.items ≡ out.old.items ++ start_text arrow.now) }
 {
     out.extend_from_slice(b"<path d='M")?;
     push_pixels(out, arrow.start)?;
     out.push(b' ')?;
     push_pixels(out, arrow.from)?;
+    Ok(())
+}
+
+#[tactic(auto, unfolding(crate::specs::Svg::way_text))]
+fn push_way(out: &mut Vec<u8>, arrow: &Arrow) -> Result<(), AllocError>
+    ensures { OnOk result (out.new.items ≡ out.old.items ++ way_text arrow.now) }
+{
     out.push(b'H')?;
     push_pixels(out, arrow.lane)?;
     out.push(b'V')?;
     push_pixels(out, arrow.to)?;
     out.push(b'H')?;
     push_pixels(out, arrow.head)?;
-    out.extend_from_slice(b"' marker-end='url(#head)'/>\n")?;
     Ok(())
+}
+
+#[tactic(auto, unfolding(crate::specs::Svg::end_text))]
+fn push_end(out: &mut Vec<u8>) -> Result<(), AllocError>
+    ensures { OnOk result (out.new.items ≡ out.old.items ++ end_text) }
+{
+    out.extend_from_slice(b"' marker-end='url(#head)'/>\n")
+}
+
+#[tactic(auto, unfolding(crate::specs::Svg::path_text))]
+fn push_path(out: &mut Vec<u8>, arrow: &Arrow) -> Result<(), AllocError>
+    ensures { OnOk result (out.new.items ≡ out.old.items ++ path_text arrow.now) }
+{
+    push_start(out, arrow)?;
+    push_way(out, arrow)?;
+    push_end(out)
 }
 
 #[tactic(auto, unfolding(crate::specs::Svg::label_text))]
@@ -230,7 +252,7 @@ fn push_label(out: &mut Vec<u8>, right: u128, base: u128, words: &[u8]) -> Resul
 
 #[tactic(auto, unfolding(crate::specs::Svg::arrow_text))]
 fn push_arrow(out: &mut Vec<u8>, arrow: &Arrow, link: &Link) -> Result<(), AllocError>
-    requires bound { arrow.now.to < 2 ^ 100 }
+    requires { arrow.now.to < 2 ^ 90 }
     ensures { OnOk result (out.new.items ≡ out.old.items ++ arrow_text arrow.now link.now) }
 {
     let right = arrow.head.saturating_sub(14);
@@ -244,18 +266,32 @@ fn push_arrow(out: &mut Vec<u8>, arrow: &Arrow, link: &Link) -> Result<(), Alloc
     push_label(out, right, arrow.to + 12, link.below.as_slice())
 }
 
-fn push_arrows(
+#[tactic(auto, unfolding(crate::specs::Svg::link_text))]
+fn push_link(
+    out: &mut Vec<u8>,
+    scale: &Scale,
+    sets: &[SetType],
+    blocks: &[Block],
+    link: &Link,
+) -> Result<(), AllocError>
+    requires { length blocks.now ≤ 32 }
+    ensures { OnOk result (out.new.items ≡ out.old.items ++ link_text scale.now sets.now blocks.now link.now) }
+{
+    push_arrow(out, &arrow_of(scale, sets, blocks, link), link)
+}
+
+fn push_links(
     out: &mut Vec<u8>,
     scale: &Scale,
     sets: &[SetType],
     blocks: &[Block],
     links: &[Link],
 ) -> Result<(), AllocError>
-    requires few { length blocks.now ≤ 32 }
-    ensures { OnOk result (out.new.items ≡ out.old.items ++ flat_map (λ l. arrow_text (arrow_of scale.now sets.now blocks.now l) l) links.now) }
+    requires { length blocks.now ≤ 32 }
+    ensures { OnOk result (out.new.items ≡ out.old.items ++ flat_map (link_text scale.now sets.now blocks.now) links.now) }
 {
     for link in links {
-        push_arrow(out, &arrow_of(scale, sets, blocks, link), link)?;
+        push_link(out, scale, sets, blocks, link)?;
     }
     Ok(())
 }
@@ -268,7 +304,7 @@ fn push_drawing(
     blocks: &[Block],
     links: &[Link],
 ) -> Result<(), AllocError>
-    requires few { length blocks.now ≤ 32 }
+    requires { length blocks.now ≤ 32 }
     ensures { OnOk result (out.new.items ≡ out.old.items ++ drawn_text schema.now scale.now blocks.now links.now) }
 {
     push_head(out, picture_width(scale, blocks), picture_height(blocks))?;
@@ -277,7 +313,7 @@ fn push_drawing(
     push_colours(out)?;
     push_marker(out)?;
     push_boxes(out, scale, blocks)?;
-    push_arrows(out, scale, schema.sets(), blocks, links)?;
+    push_links(out, scale, schema.sets(), blocks, links)?;
     out.extend_from_slice(b"</svg>\n")?;
     Ok(())
 }
@@ -287,6 +323,7 @@ fn push_drawing(
 pub fn svg_text(alloc: Global, schema: &Schema) -> Result<Vec<u8>, AllocError>
     ensures { IfOk result (λ text. text.items ≡ svg_text schema.now) }
 {
+    schema.is_well_formed();
     let mut out = Vec::new(alloc);
     let blocks = blocks(alloc, schema)?;
     let links = links(alloc, schema)?;
