@@ -1,6 +1,7 @@
 //! The words of the command, read by `clap`.
 
 use crate::capacity::capacity_of;
+use crate::draw::Form;
 use crate::explain::{Topic, topic_of};
 use crate::files::STANDARD_INPUT;
 use clap::error::ErrorKind;
@@ -30,6 +31,7 @@ pub enum Call<'a> {
     },
     Draw {
         explains: bool,
+        form: Form,
         schema: &'a str,
     },
     Explain(Topic),
@@ -73,11 +75,19 @@ fn check_command<'a>(alloc: Global, name: &'a str) -> Result<Command<'a>, AllocE
         ))
 }
 
+fn svg_option<'a>(alloc: Global) -> Arg<'a> {
+    Arg::new(alloc, "svg")
+        .long("svg")
+        .action(ArgAction::SetTrue)
+        .help("Draws as SVG, with a layout of its own [default: the language of Graphviz]")
+}
+
 // The command `draw`, by the name that its usage shows.
 fn draw_command<'a>(alloc: Global, name: &'a str) -> Result<Command<'a>, AllocError> {
     Command::new(alloc, name)
-        .about("Prints the Bachman diagram of a schema, in the language of Graphviz")
-        .after_help("Example: dbtg draw shop.schema | dot -Tsvg -o shop.svg")
+        .about("Prints the diagram of a schema: record types, and the sets from owner to member")
+        .after_help("Examples: dbtg draw --svg shop.schema, dbtg draw shop.schema | dot -Tpng")
+        .arg(svg_option(alloc))?
         .arg(explain_option(alloc))?
         .arg(schema_word(alloc))
 }
@@ -274,8 +284,14 @@ fn threads_call<'a>(alloc: Global, given: &ArgMatches<'a>) -> Result<Call<'a>, E
 }
 
 fn draw_call<'a>(given: &ArgMatches<'a>) -> Call<'a> {
+    let form = if given.get_flag("svg") {
+        Form::Svg
+    } else {
+        Form::Dot
+    };
     Call::Draw {
         explains: given.get_flag("explain"),
+        form,
         schema: given.get_str("schema").unwrap_or(""),
     }
 }

@@ -20,7 +20,7 @@ mod threads;
 use check::check;
 use clap::error::ErrorKind;
 use command::{Call, call_of};
-use draw::draw;
+use draw::{Form, draw};
 use explain::{Topic, explained};
 use fault::{Fault, status_of};
 use files::{Files, Paths};
@@ -79,9 +79,9 @@ fn print_check(rt: &HostRuntime, paths: &Paths, explains: bool) -> ExitCode {
     print_or_tell(rt, check(rt.alloc(), &files), paths, explains)
 }
 
-fn print_drawing(rt: &HostRuntime, paths: &Paths, explains: bool) -> ExitCode {
+fn print_drawing(rt: &HostRuntime, paths: &Paths, form: Form, explains: bool) -> ExitCode {
     let files = Files { reader: rt, paths };
-    print_or_tell(rt, draw(rt.alloc(), &files), paths, explains)
+    print_or_tell(rt, draw(rt.alloc(), &files, form), paths, explains)
 }
 
 fn print_replay(rt: &HostRuntime, paths: &Paths, capacity: u16, explains: bool) -> ExitCode {
@@ -135,9 +135,11 @@ fn carry_out<R: Threads + Wait + Sync>(rt: &HostRuntime, threads: &R, call: &Cal
             let paths = paths_of(*schema, scripts.as_slice(), None);
             print_threads(rt, threads, &paths, *capacity, *explains)
         }
-        Call::Draw { explains, schema } => {
-            print_drawing(rt, &paths_of(*schema, &[], None), *explains)
-        }
+        Call::Draw {
+            explains,
+            form,
+            schema,
+        } => print_drawing(rt, &paths_of(*schema, &[], None), *form, *explains),
         Call::Explain(topic) => print_topic(rt, topic),
     }
 }

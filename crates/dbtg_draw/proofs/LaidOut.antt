@@ -51,16 +51,21 @@ columns_within n (b ∷ bs) (suc k) d within = columns_within (larger n b.column
 further : (scale : Scale) (c last : ℕ) → c ≤ last → left_of scale c ≤ left_of scale last
 further scale c last below = grind arith
 
+first_inside : (scale : Scale) (last top rest : ℕ) (b : Block) → b.column ≤ last
+    → IsInside (left_of scale last + box_width scale + 16) (top + (pitch b + rest)) (box_of scale top b)
+first_inside scale last top rest b column =
+    let edge = further scale b.column last column in
+    record { right = omega (arith, edge); below = omega arith }
+
+next_inside : (width top one rest : ℕ) (box : Box) → IsInside width ((top + one) + rest) box → IsInside width (top + (one + rest)) box
+next_inside width top one rest box within = record { right = within.right; below = omega (arith, within.below) }
+
 inside : (scale : Scale) (last top : ℕ) (bs : List Block) → ((k : ℕ) (d : Block) → k < length bs → (slice_index_or bs k d).column ≤ last)
     → All (IsInside (left_of scale last + box_width scale + 16) (top + sum_by pitch bs)) (boxes_from scale top bs)
 inside scale last top [] columns k d within = absurd (omega arith)
-inside scale last top (b ∷ bs) columns zero d within =
-    let column : b.column ≤ last = columns zero b (omega arith) in
-    let edge = further scale b.column last column in
-    record { right = omega (arith, edge); below = omega arith }
+inside scale last top (b ∷ bs) columns zero d within = first_inside scale last top (sum_by pitch bs) b (columns zero b (omega arith))
 inside scale last top (b ∷ bs) columns (suc k) d within =
-    let rest = inside scale last (top + pitch b) bs (λ j e below. columns (suc j) e (omega arith)) k d (omega arith) in
-    record { right = rest.right; below = omega (arith, rest.below) }
+    next_inside _ top (pitch b) (sum_by pitch bs) _ (inside scale last (top + pitch b) bs (λ j e below. columns (suc j) e (omega arith)) k d (omega arith))
 
 -- ---- room for lines
 

@@ -1,1 +1,2 @@
 pub mod FewBlocks
+pub mod LaidOut

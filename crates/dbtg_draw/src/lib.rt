@@ -6,6 +6,7 @@ mod arrows;
 mod blocks;
 mod columns;
 mod dot;
+pub mod laws;
 mod lines;
 mod links;
 mod print;
