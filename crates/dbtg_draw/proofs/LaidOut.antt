@@ -1,10 +1,11 @@
 -- Every diagram is laid out well.
-use Rattle.std.proofs.Common.{◌≡◌, ℕ, zero, suc, ◌+◌, ◌*◌, ◌<◌, ◌≤◌, Bool, true, false, List, [], ◌∷◌, length, inl, inr, refl, arith}
+use Rattle.std.proofs.Common.{◌≡◌, ℕ, zero, suc, ◌+◌, ◌*◌, ◌<◌, ◌≤◌, Bool, true, false, List, [], ◌∷◌, length, inl, inr, refl, subst, sym, arith}
 use Rattle.std.specs.Prelude.{fold, nat_lt, slice_index_or, sum_by}
 use Rattle.std.specs.List.{All, AllPairs}
+use Rattle.std.proofs.lemmas.List.Sums.{sum_by-cons}
 use Rattle.std.proofs.lemmas.Bool.Decides.{nat_tests}
 use Rattle.dbtg_schema.specs.Lists.{Lists}
-use Rattle.dbtg_draw.specs.Layout.{Box, blocks, box_of, box_width, boxes, boxes_from, height, larger, last_column, left_of, longest, picture_height, picture_width, pitch, scale, scale_of, step}
+use Rattle.dbtg_draw.specs.Layout.{Box, blocks, box_of, box_width, boxes, boxes_from, height, larger, last_column, left_of, links, longest, picture_height, picture_width, pitch, scale, scale_of, step}
 use Rattle.dbtg_draw.specs.Laws.{AreApart, HoldsLines, IsInside, IsLaidOut}
 use Rattle.dbtg_draw.specs.declared.blocks.Block.{Block}
 use Rattle.dbtg_draw.specs.declared.links.Link.{Link}
@@ -63,9 +64,14 @@ next_inside width top one rest box within = record { right = within.right; below
 inside : (scale : Scale) (last top : ℕ) (bs : List Block) → ((k : ℕ) (d : Block) → k < length bs → (slice_index_or bs k d).column ≤ last)
     → All (IsInside (left_of scale last + box_width scale + 16) (top + sum_by pitch bs)) (boxes_from scale top bs)
 inside scale last top [] columns k d within = absurd (omega arith)
-inside scale last top (b ∷ bs) columns zero d within = first_inside scale last top (sum_by pitch bs) b (columns zero b (omega arith))
+inside scale last top (b ∷ bs) columns zero d within =
+    let width = left_of scale last + box_width scale + 16 in
+    subst (λ (s : ℕ). IsInside width (top + s) (box_of scale top b)) (sym (sum_by-cons pitch b bs)) (first_inside scale last top (sum_by pitch bs) b (columns zero b (omega arith)))
 inside scale last top (b ∷ bs) columns (suc k) d within =
-    next_inside _ top (pitch b) (sum_by pitch bs) _ (inside scale last (top + pitch b) bs (λ j e below. columns (suc j) e (omega arith)) k d (omega arith))
+    let width = left_of scale last + box_width scale + 16 in
+    let box : Box = slice_index_or (boxes_from scale (top + pitch b) bs) k d in
+    let here = inside scale last (top + pitch b) bs (λ j e below. columns (suc j) e (omega arith)) k d (omega arith) in
+    subst (λ (s : ℕ). IsInside width (top + s) box) (sym (sum_by-cons pitch b bs)) (next_inside width top (pitch b) (sum_by pitch bs) box here)
 
 -- ---- room for lines
 
@@ -102,5 +108,5 @@ pub laid_out : (schema : Lists) → IsLaidOut schema
 laid_out schema = record {
   apart = apart (scale schema) 16 (blocks schema);
   inside = inside (scale schema) (last_column (blocks schema)) 16 (blocks schema) (columns_within 0 (blocks schema));
-  lines = room (blocks schema) _ _;
+  lines = room (blocks schema) (links schema 0 schema.sets) (length schema.sets);
 }
