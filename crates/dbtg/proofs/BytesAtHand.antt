@@ -72,7 +72,7 @@ at_hand_replay schema scripts moves has capacity out e held =
 abbrev pub OnlyMemory : Place → Fault → Type 0
 OnlyMemory place fault = fault ≡ Memory
 
-schema_told : (fault : Fault) (schema : List ℕ) (scripts : List (List ℕ)) (moves : Option (List ℕ)) → ToldOfSchema (StandsIn schema scripts moves) OnlyMemory fault → RefusesSchema fault (schema_refusal schema)
+pub schema_told : (fault : Fault) (schema : List ℕ) (scripts : List (List ℕ)) (moves : Option (List ℕ)) → ToldOfSchema (StandsIn schema scripts moves) OnlyMemory fault → RefusesSchema fault (schema_refusal schema)
 schema_told fault schema scripts moves (inl memory) = subst (λ (f : Fault). RefusesSchema f (schema_refusal schema)) (sym memory) tt
 schema_told fault schema scripts moves (inr told) = subst (λ (text : List ℕ). RefusesSchema fault (schema_refusal text)) told.1 told.2
 
