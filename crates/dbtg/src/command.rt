@@ -132,7 +132,7 @@ fn replay_command<'a>(alloc: Global, name: &'a str) -> Result<Command<'a>, Alloc
     Command::new(alloc, name)
         .about("Runs scripts, and prints the answers, the database and the units")
         .after_help(
-            "Example: dbtg replay --capacity 10 --moves turns.moves shop.schema unit1.script unit2.script",
+            "Example: dbtg replay --capacity 10 --moves shop.moves shop.schema unit1.script unit2.script",
         )
         .arg(capacity_option(alloc))?
         .arg(moves_option(alloc))?
