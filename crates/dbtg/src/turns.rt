@@ -1,5 +1,6 @@
 //! The moves that turns stand for, as a text of moves.
-ghost use Rattle.std.specs.Prelude.{◌≡◌, ◌≤◌, IfErr, IfOk, true, length};
+ghost use Rattle.std.specs.Prelude.{◌≡◌, IfErr, IfOk, true, length, nat_le};
+ghost use Rattle.std.specs.List.{list_all};
 ghost use Rattle.dbtg_schema.specs.Sound.{IsSound};
 ghost use Rattle.dbtg_step.specs.Laws.{scripts_fit};
 ghost use Rattle.dbtg.specs.ByTurns.{AreMoreMoves, AreMovesOf};
@@ -31,6 +32,7 @@ fn moves_of(
     requires sound { IsSound schema.now }
     requires count { is_count (length scripts) ≡ true }
     requires fit { scripts_fit schema.now scripts ≡ true }
+    requires small { list_all (λ u. nat_le u 99) turns.now ≡ true }
     ensures done { IfOk result (λ out. AreMovesOf schema.now capacity scripts turns.now out.items) }
     ensures refused { IfErr result (λ fault. AreMoreMoves schema.now capacity scripts turns.now fault) }
 {
