@@ -19,13 +19,14 @@ use Rattle.dbtg_script.specs.Statements.{script}
 use Rattle.dbtg_script.specs.Turns.{turns_refusal}
 use Rattle.dbtg_script.specs.WordTexts.{moves_words_text}
 use Rattle.dbtg_script.proofs.ReadBack.{moves_back}
+use Rattle.dbtg.specs.declared.fault.Fault.{Fault}
 use Rattle.dbtg.specs.declared.order.Order.TheVariants.{Turns}
 use Rattle.dbtg.specs.declared.place.Place.{Place}
 use Rattle.dbtg.specs.declared.place.Place.TheVariants as place
-use Rattle.dbtg.specs.ByTurns.{AreMovesOf}
+use Rattle.dbtg.specs.ByTurns.{AreMoreMoves, AreMovesOf}
 use Rattle.dbtg.specs.Refusals.{is_count}
 use Rattle.dbtg.specs.Replaying.{moves_in, turns_in}
-use Rattle.dbtg.specs.Sources.{MovesHeld, ReadSchema, ReadScripts, ReadTurns}
+use Rattle.dbtg.specs.Sources.{MovesHeld, ReadSchema, ReadScripts, ReadTurns, ToldOfMoves}
 use Rattle.dbtg.proofs.SameRun.{replayed_same}
 use Rattle.dbtg.proofs.TextsRead.{all_accepted, read_texts}
 
@@ -67,16 +68,32 @@ moves_said lists capacity scripts turns moves given out run small few is =
     }
 
 -- what is said of the statements and turns that were read is what the texts say
-pub moves_held : (holds : Place → List ℕ → Type 0) (lists : Lists) (count capacity : ℕ) (turns out : List ℕ)
-    → is_count count ≡ true → ReadSchema holds lists → (scripts : ReadScripts holds lists count) → ReadTurns holds turns
-    → AreMovesOf lists capacity (map (script lists) scripts.texts) turns out → MovesHeld holds count capacity out
-moves_held holds lists count capacity turns out right read scripts by moves =
-    let of_text = subst (λ us. AreMovesOf lists capacity (map (script lists) scripts.texts) us out) by.says moves in
-    let of_texts = subst (λ (s : Lists). AreMovesOf s capacity (map (script s) scripts.texts) (turns_in by.text) out) read.says of_text in
-    (read_texts holds lists count read scripts (Turns by.text) by.held, by.text, refl, record {
-      count = ap is_count scripts.many ∙ right;
-      texts = all_accepted holds lists count read scripts;
-      turns_too = by.accepted;
-      moves = of_texts;
-      replayed = replayed_same read.text scripts.texts by.text out capacity of_texts.stand;
-    })
+module _ (holds : Place → List ℕ → Type 0) (lists : Lists) (count capacity : ℕ) (right : is_count count ≡ true) (read : ReadSchema holds lists) (scripts : ReadScripts holds lists count)
+    (statements : List (List Statement)) (same : statements ≡ map (script lists) scripts.texts) (turns used : List ℕ) (by : ReadTurns holds turns) (e : used ≡ turns) where
+  pub moves_held : (out : List ℕ) → AreMovesOf lists capacity statements used out → MovesHeld holds count capacity out
+  moves_held out moves =
+      let of_turns = subst (λ us. AreMovesOf lists capacity statements us out) (e ∙ by.says) moves in
+      let of_scripts = subst (λ ss. AreMovesOf lists capacity ss (turns_in by.text) out) same of_turns in
+      let of_texts = subst (λ (s : Lists). AreMovesOf s capacity (map (script s) scripts.texts) (turns_in by.text) out) read.says of_scripts in (
+        read_texts holds lists count read scripts (Turns by.text) by.held,
+        by.text,
+        refl,
+        record {
+          count = ap is_count scripts.many ∙ right;
+          texts = all_accepted holds lists count read scripts;
+          turns_too = by.accepted;
+          moves = of_texts;
+          replayed = replayed_same read.text scripts.texts by.text out capacity of_texts.stand;
+        },
+      )
+
+  pub more_told : (fault : Fault) → AreMoreMoves lists capacity statements used fault → ToldOfMoves holds fault count capacity
+  more_told fault more = record {
+    lists = lists;
+    turns = turns;
+    right = right;
+    schema = read;
+    scripts = scripts;
+    turns_too = by;
+    more = subst (λ ss. AreMoreMoves lists capacity ss turns fault) same (subst (λ us. AreMoreMoves lists capacity statements us fault) e more);
+  }

@@ -142,11 +142,13 @@ runs_on_threads holds lists count capacity out turns right read scripts run =
     let counted = ap is_count scripts.many ∙ right in
     let accepted = all_accepted holds lists count read scripts in
     let of_texts = subst (λ (s : Lists). IsPrintedOnThreads s capacity (map (script s) scripts.texts) out turns) read.says run in
-    let saved = saved_again read.text scripts.texts capacity out turns counted accepted of_texts in
-    (read_texts holds lists count read scripts Serial tt, record {
-      count = counted;
-      texts = accepted;
-      run = of_texts;
-      turns_too = saved.0;
-      again = saved.1;
-    })
+    let saved = saved_again read.text scripts.texts capacity out turns counted accepted of_texts in (
+      read_texts holds lists count read scripts Serial tt,
+      record {
+        count = counted;
+        texts = accepted;
+        run = of_texts;
+        turns_too = saved.0;
+        again = saved.1;
+      },
+    )

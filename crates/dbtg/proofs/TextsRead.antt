@@ -6,21 +6,25 @@ use Rattle.std.specs.List.{list_all}
 use Rattle.std.proofs.lemmas.List.Folds.{list_all-append}
 use Rattle.dbtg_schema.specs.Lists.{Lists}
 use Rattle.dbtg_unit.specs.Fits.{fits}
+use Rattle.dbtg_unit.specs.declared.moves.Move.{Move}
+use Rattle.dbtg_step.specs.Headline.{RunIs}
 use Rattle.dbtg_step.specs.Laws.{scripts_fit}
+use Rattle.dbtg_step.specs.Serial.{SerialRunIs}
 use Rattle.dbtg_unit.specs.declared.statement.Statement.{Statement}
 use Rattle.dbtg_script.specs.StatementFaults.{refusal as script_refusal}
 use Rattle.dbtg_script.specs.Statements.{script}
-use Rattle.dbtg_script.specs.Texts.{script_line}
+use Rattle.dbtg_script.specs.Texts.{moves_text, script_line}
 use Rattle.dbtg.specs.declared.fault.Fault.{Fault}
 use Rattle.dbtg.specs.declared.fault.Fault.TheVariants.{Memory}
 use Rattle.dbtg.specs.declared.place.Place.{Place}
 use Rattle.dbtg.specs.declared.place.Place.TheVariants.{Schema, Script}
 use Rattle.dbtg.specs.declared.order.Order.{Order}
-use Rattle.dbtg.specs.declared.order.Order.TheVariants.{Serial}
+use Rattle.dbtg.specs.declared.order.Order.TheVariants.{Serial, Moves, Turns}
+use Rattle.dbtg.specs.declared.order.OrderKind.TheVariants as kind
 use Rattle.dbtg.specs.Checking.{check_text, script_lines}
 use Rattle.dbtg.specs.Refusals.{AcceptsOrder, AcceptsTexts, AllAccepted, RefusesScript, is_count, schema_in}
-use Rattle.dbtg.specs.Replaying.{IsPrintedRun}
-use Rattle.dbtg.specs.Sources.{ChecksHeld, HoldsOrder, HoldsScripts, ReadSchema, ReadScripts, ReplaysHeld, Texts, ToldIn, ToldOfSchema, ToldOfScripts, kind_of}
+use Rattle.dbtg.specs.Replaying.{IsPrinted, IsPrintedRun, RunByTurnsIs, given_text, moves_in, turns_in}
+use Rattle.dbtg.specs.Sources.{ChecksHeld, HoldsOrder, HoldsScripts, ReadMoves, ReadSchema, ReadScripts, ReadTurns, ReplaysHeld, Texts, ToldIn, ToldOfSchema, ToldOfScripts, kind_of}
 use Rattle.dbtg.proofs.InTurn.{accepted_behind, lines_behind}
 
 -- a text that is held behind others
@@ -122,3 +126,21 @@ replays holds lists count order capacity out right read scripts held accepted ru
     run = subst (λ (s : Lists). IsPrintedRun s capacity (map (script s) scripts.texts) order out) read.says run;
   },
 )
+
+-- the same of what was read: nothing that says the order, moves, or turns
+module _ (holds : Place → List ℕ → Type 0) (lists : Lists) (count capacity : ℕ) (out : List ℕ) (right : is_count count ≡ true) (read : ReadSchema holds lists) (scripts : ReadScripts holds lists count)
+    (statements : List (List Statement)) (same : statements ≡ map (script lists) scripts.texts) where
+  pub replays_serially : IsPrinted (SerialRunIs lists capacity statements) (given_text lists) out → ReplaysHeld holds count kind.Serial capacity out
+  replays_serially run = replays holds lists count Serial capacity out right read scripts tt tt (subst (λ ss. IsPrinted (SerialRunIs lists capacity ss) (given_text lists) out) same run)
+
+  pub replays_moves : (moves used : List Move) → ReadMoves holds moves → used ≡ moves → IsPrinted (RunIs lists capacity statements used) (λ given. moves_text given.results ++ given_text lists given) out → ReplaysHeld holds count kind.Moves capacity out
+  replays_moves moves used by e run =
+      let of_text = subst (λ ms. IsPrinted (RunIs lists capacity statements ms) (λ given. moves_text given.results ++ given_text lists given) out) (e ∙ by.says) run in
+      replays holds lists count (Moves by.text) capacity out right read scripts by.held by.accepted
+      (subst (λ ss. IsPrinted (RunIs lists capacity ss (moves_in by.text)) (λ given. moves_text given.results ++ given_text lists given) out) same of_text)
+
+  pub replays_turns : (turns used : List ℕ) → ReadTurns holds turns → used ≡ turns → IsPrinted (RunByTurnsIs lists capacity statements used) (given_text lists) out → ReplaysHeld holds count kind.Turns capacity out
+  replays_turns turns used by e run =
+      let of_text = subst (λ us. IsPrinted (RunByTurnsIs lists capacity statements us) (given_text lists) out) (e ∙ by.says) run in
+      replays holds lists count (Turns by.text) capacity out right read scripts by.held by.accepted
+      (subst (λ ss. IsPrinted (RunByTurnsIs lists capacity ss (turns_in by.text)) (given_text lists) out) same of_text)

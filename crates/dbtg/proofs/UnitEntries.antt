@@ -82,10 +82,14 @@ Begins scripts es = (u : ℕ) (script : List Statement) → unit_at scripts u �
 -- with its first entry a unit makes the first statement of its script, and goes on with the others
 goes_on : (scripts : List (List Statement)) (e : Entry) (es : List Entry) (script : List Statement) → unit_at scripts e.unit ≡ Some script → Begins scripts (e ∷ es)
     → (rest : List Statement) × (e.statement ∷ rest ≡ script) × Begins (with_unit_at scripts e.unit rest) es
-goes_on scripts e es script at begins = (rest, split, λ u other found. elim (set_found scripts e.unit u rest other found) [
-  | inl p ↦ (here.0, ap (λ k. map (λ (f : Entry). f.statement) (entries_of k es) ++ here.0) p.0 ∙ p.1)
-  | inr p ↦ let b = begins u other p.1 in (b.0, ap (λ fs. map (λ (f : Entry). f.statement) fs ++ b.0) (sym (other_entry e es u (λ q. p.0 (sym q)))) ∙ b.1)
-])
+goes_on scripts e es script at begins = (
+  rest,
+  split,
+  λ u other found. elim (set_found scripts e.unit u rest other found) [
+    | inl p ↦ (here.0, ap (λ k. map (λ (f : Entry). f.statement) (entries_of k es) ++ here.0) p.0 ∙ p.1)
+    | inr p ↦ let b = begins u other p.1 in (b.0, ap (λ fs. map (λ (f : Entry). f.statement) fs ++ b.0) (sym (other_entry e es u (λ q. p.0 (sym q)))) ∙ b.1)
+  ],
+)
   where
     here : (left : List Statement) × (map (λ (f : Entry). f.statement) (entries_of e.unit (e ∷ es)) ++ left ≡ script)
     here = begins e.unit script at

@@ -23,14 +23,7 @@ pub enum Call<'a> {
         schema: &'a str,
         scripts: Vec<&'a str>,
     },
-    /// The moves that turns stand for.
-    Turns {
-        explains: bool,
-        capacity: u16,
-        turns: &'a str,
-        schema: &'a str,
-        scripts: Vec<&'a str>,
-    },
+    Turns(TurnsCall<'a>),
     /// `saved` is where the turns of the run go.
     Threads {
         explains: bool,
@@ -40,6 +33,16 @@ pub enum Call<'a> {
         scripts: Vec<&'a str>,
     },
     Explain(Topic),
+}
+
+/// What is wanted: the moves that turns stand for.
+#[derive(Drop)]
+pub struct TurnsCall<'a> {
+    pub explains: bool,
+    pub capacity: u16,
+    pub turns: &'a str,
+    pub schema: &'a str,
+    pub scripts: Vec<&'a str>,
 }
 
 fn schema_word<'a>(alloc: Global) -> Arg<'a> {
@@ -322,13 +325,13 @@ fn turns_call<'a>(alloc: Global, given: &ArgMatches<'a>) -> Result<Call<'a>, Err
     let mut command = turns_command(alloc, "dbtg turns")?;
     let capacity = capacity_wanted(alloc, &mut command, given)?;
     check_inputs(&mut command, schema, scripts.as_slice(), turns)?;
-    Ok(Call::Turns {
+    Ok(Call::Turns(TurnsCall {
         explains: given.get_flag("explain"),
         capacity,
         turns,
         schema,
         scripts,
-    })
+    }))
 }
 
 // Standard input is read, and no turns go there.

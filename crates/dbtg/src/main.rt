@@ -20,19 +20,18 @@ mod turns;
 
 use check::check;
 use clap::error::ErrorKind;
-use command::{Call, call_of};
+use command::{Call, TurnsCall, call_of};
 use explain::{Topic, explained};
 use fault::{Fault, status_of};
 use files::{Files, Paths};
 use order::Order;
 use reason::reason;
 use replay::replay;
-use std::env;
-use std::fs;
 use std::io::{self, Write};
 use std::process::ExitCode;
 use std::sync::Wait;
 use std::thread::Threads;
+use std::{env, fs};
 use threads::{OnThreads, run_on_threads};
 use turns::moves_for_turns;
 
@@ -113,21 +112,18 @@ fn print_saved(rt: &HostRuntime, said: &OnThreads, saved: Option<&str>) -> ExitC
     print_text(rt, said.printed.as_slice())
 }
 
-fn print_turns(
-    rt: &HostRuntime,
-    turns: &str,
-    schema: &str,
-    scripts: &[&str],
-    capacity: u16,
-    explains: bool,
-) -> ExitCode {
-    let paths = paths_of(schema, scripts, Order::Turns(turns));
+fn print_turns(rt: &HostRuntime, call: &TurnsCall) -> ExitCode {
+    let paths = Paths {
+        schema: call.schema,
+        scripts: call.scripts.as_slice(),
+        order: Order::Turns(call.turns),
+    };
     let files = Files {
         reader: rt,
         paths: &paths,
     };
-    let given = moves_for_turns(rt.alloc(), &files, capacity);
-    print_or_tell(rt, given, &paths, explains)
+    let given = moves_for_turns(rt.alloc(), &files, call.capacity);
+    print_or_tell(rt, given, &paths, call.explains)
 }
 
 fn paths_of<'a>(schema: &'a str, scripts: &'a [&'a str], order: Order<&'a str>) -> Paths<'a> {
@@ -144,10 +140,11 @@ fn carry_out<R: Threads + Wait + Sync>(rt: &HostRuntime, threads: &R, call: &Cal
             explains,
             schema,
             scripts,
-        } => {
-            let paths = paths_of(*schema, scripts.as_slice(), Order::Serial);
-            print_check(rt, &paths, *explains)
-        }
+        } => print_check(
+            rt,
+            &paths_of(*schema, scripts.as_slice(), Order::Serial),
+            *explains,
+        ),
         Call::Replay {
             explains,
             capacity,
@@ -158,13 +155,7 @@ fn carry_out<R: Threads + Wait + Sync>(rt: &HostRuntime, threads: &R, call: &Cal
             let paths = paths_of(*schema, scripts.as_slice(), *order);
             print_replay(rt, &paths, *capacity, *explains)
         }
-        Call::Turns {
-            explains,
-            capacity,
-            turns,
-            schema,
-            scripts,
-        } => print_turns(rt, *turns, *schema, scripts.as_slice(), *capacity, *explains),
+        Call::Turns(call) => print_turns(rt, call),
         Call::Threads {
             explains,
             capacity,

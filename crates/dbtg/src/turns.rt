@@ -14,7 +14,7 @@ use crate::source::Source;
 use crate::texts::{read_schema, read_scripts, read_turns};
 use dbtg_schema::{Row, Schema};
 use dbtg_script::moves_words_text;
-use dbtg_step::run_turns;
+use dbtg_step::{Turned, run_turns};
 use dbtg_unit::Statement;
 use std::alloc::Global;
 
@@ -36,8 +36,8 @@ fn moves_of(
     ensures done { IfOk result (λ out. AreMovesOf schema.now capacity scripts turns.now out.items) }
     ensures refused { IfErr result (λ fault. AreMoreMoves schema.now capacity scripts turns.now fault) }
 {
-    let turned = run_turns(alloc, schema, capacity, scripts, turns, MOST_MOVES)?;
-    match turned.moves {
+    let Turned { run: _, moves } = run_turns(alloc, schema, capacity, scripts, turns, MOST_MOVES)?;
+    match moves {
         Some(moves) => Ok(moves_words_text(alloc, moves.as_slice())?),
         None => Err(Fault::MovesOver),
     }
@@ -63,7 +63,11 @@ fn turns_known<S: Source>(
 }
 
 /// What `turns` prints of the schema, the scripts and the turns that a source gives, or the first fault.
-pub fn moves_for_turns<S: Source>(alloc: Global, source: &S, capacity: u16) -> Result<Vec<u8>, Fault>
+pub fn moves_for_turns<S: Source>(
+    alloc: Global,
+    source: &S,
+    capacity: u16,
+) -> Result<Vec<u8>, Fault>
     requires { S.order source.now ≡ Turns }
     ensures done { IfOk result (λ out. MovesHeld (S.holds source.now) (S.count source.now) capacity out.items) }
     ensures refused { IfErr result (λ fault. ToldOfTurns (S.holds source.now) (S.fails source.now) fault (S.count source.now) capacity) }
