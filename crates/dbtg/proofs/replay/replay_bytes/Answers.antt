@@ -1,4 +1,4 @@
-use Rattle.std.proofs.Common.{length, ◌≡◌}
+use Rattle.std.proofs.Common.{length}
 use Rattle.std.proofs.lemmas.Result.{IfErr-weaker, IfOk-weaker}
 use Rattle.dbtg.specs.Refusals.{RefusesReplay}
 use Rattle.dbtg.specs.Replaying.{IsReplay}

@@ -1,4 +1,4 @@
-use Rattle.std.proofs.Common.{◌≡◌, ap, ◌∙◌, subst}
+use Rattle.std.proofs.Common.{ap, ◌∙◌, subst}
 use Rattle.dbtg_script.specs.WordTexts.{moves_words_text}
 use Rattle.dbtg_step.specs.Turns.{AreGiven}
 use Rattle.dbtg.proofs.MovesOfTurns.{moves_said}
