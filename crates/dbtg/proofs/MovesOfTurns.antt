@@ -1,11 +1,10 @@
 -- The moves for which turns stand, as a text that says them.
-use Rattle.std.proofs.Common.{◌≡◌, ℕ, zero, suc, ◌≤◌, ◌<◌, ◌&&◌, true, List, [], ◌∷◌, ◌++◌, length, map, None, refl, sym, ap, ◌∙◌, subst, arith, nat_le}
+use Rattle.std.proofs.Common.{◌≡◌, ℕ, zero, suc, ◌≤◌, true, List, [], ◌∷◌, length, map, refl, sym, ap, ◌∙◌, subst, arith, nat_le}
 use Rattle.std.specs.List.{list_all}
 use Rattle.std.proofs.lemmas.Bool.{and_from, and_parts, le-leb}
 use Rattle.std.proofs.lemmas.List.Folds.{list_all-append}
 use Rattle.dbtg_schema.specs.Lists.{Lists}
 use Rattle.dbtg_unit.specs.declared.moves.Move.{Move}
-use Rattle.dbtg_unit.specs.declared.moves.Move.TheVariants.{Step}
 use Rattle.dbtg_unit.specs.declared.statement.Statement.{Statement}
 use Rattle.dbtg_step.specs.declared.results.Run.{Run}
 use Rattle.dbtg_step.specs.SequentialDatabase.{SequentialDatabase, unit_at}
@@ -16,13 +15,11 @@ use Rattle.dbtg_step.specs.Turns.{AreEvents, AreTurns, IsRunByTurns, IsTurn, IsT
 use Rattle.dbtg_script.specs.Laws.{has_unit_number, is_unit_number}
 use Rattle.dbtg_script.specs.Moves.{refusal as moves_refusal}
 use Rattle.dbtg_script.specs.Statements.{script}
-use Rattle.dbtg_script.specs.Turns.{turns_refusal}
 use Rattle.dbtg_script.specs.WordTexts.{moves_words_text}
 use Rattle.dbtg_script.proofs.ReadBack.{moves_back}
 use Rattle.dbtg.specs.declared.fault.Fault.{Fault}
 use Rattle.dbtg.specs.declared.order.Order.TheVariants.{Turns}
 use Rattle.dbtg.specs.declared.place.Place.{Place}
-use Rattle.dbtg.specs.declared.place.Place.TheVariants as place
 use Rattle.dbtg.specs.ByTurns.{AreMoreMoves, AreMovesOf}
 use Rattle.dbtg.specs.Refusals.{is_count}
 use Rattle.dbtg.specs.Replaying.{moves_in, turns_in}

@@ -16,7 +16,6 @@ use Rattle.dbtg_step.specs.Turns.{made_turns}
 use Rattle.dbtg_step.proofs.UnitLists.{map_at}
 use Rattle.dbtg_script.specs.Laws.{is_unit_number}
 use Rattle.dbtg_script.specs.Statements.{script}
-use Rattle.dbtg_script.specs.Texts.{run_text}
 use Rattle.dbtg_script.specs.Turns.{turns_refusal}
 use Rattle.dbtg_script.specs.WordTexts.{turns_text}
 use Rattle.dbtg_script.proofs.ReadBack.{turns_back}

@@ -1,6 +1,5 @@
 -- Texts that are read one after another, and what is then true of all.
-use Rattle.std.proofs.Common.{◌≡◌, ℕ, zero, suc, ◌+◌, ◌<◌, true, false, List, [], ◌∷◌, ◌++◌, length, map, None, inl, inr, refl, sym, ap, ◌∙◌, subst, arith}
-use Rattle.std.specs.Prelude.{◌⊎◌}
+use Rattle.std.proofs.Common.{◌≡◌, ℕ, suc, ◌+◌, ◌<◌, true, List, [], ◌∷◌, ◌++◌, length, map, None, inr, refl, sym, ap, ◌∙◌, subst, arith}
 use Rattle.std.proofs.lemmas.List.{append-nil, append_assoc, length-append, map_push}
 use Rattle.std.specs.List.{list_all}
 use Rattle.std.proofs.lemmas.List.Folds.{list_all-append}
@@ -17,12 +16,12 @@ use Rattle.dbtg_script.specs.Texts.{moves_text, script_line}
 use Rattle.dbtg.specs.declared.fault.Fault.{Fault}
 use Rattle.dbtg.specs.declared.fault.Fault.TheVariants.{Memory}
 use Rattle.dbtg.specs.declared.place.Place.{Place}
-use Rattle.dbtg.specs.declared.place.Place.TheVariants.{Schema, Script}
+use Rattle.dbtg.specs.declared.place.Place.TheVariants.{Script}
 use Rattle.dbtg.specs.declared.order.Order.{Order}
 use Rattle.dbtg.specs.declared.order.Order.TheVariants.{Serial, Moves, Turns}
 use Rattle.dbtg.specs.declared.order.OrderKind.TheVariants as kind
 use Rattle.dbtg.specs.Checking.{check_text, script_lines}
-use Rattle.dbtg.specs.Refusals.{AcceptsOrder, AcceptsTexts, AllAccepted, RefusesScript, is_count, schema_in}
+use Rattle.dbtg.specs.Refusals.{AcceptsOrder, AcceptsTexts, AllAccepted, RefusesScript, is_count}
 use Rattle.dbtg.specs.Replaying.{IsPrinted, IsPrintedRun, RunByTurnsIs, given_text, moves_in, turns_in}
 use Rattle.dbtg.specs.Sources.{ChecksHeld, HoldsOrder, HoldsScripts, ReadMoves, ReadSchema, ReadScripts, ReadTurns, ReplaysHeld, Texts, ToldIn, ToldOfSchema, ToldOfScripts, kind_of}
 use Rattle.dbtg.proofs.InTurn.{accepted_behind, lines_behind}

@@ -1,5 +1,5 @@
 -- Histories in which each unit makes the beginning of its script: whose the entries are determines which statements they have.
-use Rattle.std.proofs.Common.{◌≡◌, ℕ, zero, suc, ◌+◌, ◌-◌, ◌*◌, ◌<◌, ◌≤◌, cond, List, [], ◌∷◌, ◌++◌, length, map, Option, Some, None, slice_get, slice_set, inl, inr, refl, sym, ap, ◌∙◌, subst, arith, All}
+use Rattle.std.proofs.Common.{◌≡◌, ℕ, zero, suc, ◌+◌, ◌-◌, ◌*◌, ◌<◌, ◌≤◌, List, [], ◌∷◌, ◌++◌, length, map, Option, Some, None, slice_get, slice_set, inl, inr, refl, sym, ap, ◌∙◌, subst, arith}
 use Rattle.std.specs.Prelude.{nat_lt, option_map, ⊤}
 use Rattle.std.specs.Option.{unwrap_or}
 use Rattle.std.specs.List.{range_with_len}
@@ -10,7 +10,7 @@ use Rattle.dbtg_unit.specs.declared.statement.Statement.{Statement}
 use Rattle.dbtg_unit.specs.declared.unit.Entry.{Entry}
 use Rattle.dbtg_unit.specs.declared.unit.Unit.{Unit}
 use Rattle.dbtg_unit.specs.Effect.{Outcome, effect}
-use Rattle.dbtg_unit.specs.Replay.{State, AnswersHold, TicketsInOrder, after_entry, after_outcome, answer_to, answers, entries_of, outcome_of}
+use Rattle.dbtg_unit.specs.Replay.{State, AnswersHold, TicketsInOrder, after_entry, after_outcome, answers, entries_of, outcome_of}
 use Rattle.dbtg_unit.specs.Replaying.{statements_of}
 use Rattle.dbtg_unit.proofs.ReplayLemmas.{statements_determine}
 use Rattle.dbtg_step.specs.SequentialDatabase.{unit_at, with_unit_at}

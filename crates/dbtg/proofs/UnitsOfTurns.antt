@@ -1,9 +1,9 @@
 -- The units that a text of turns names are at most 99.
-use Rattle.std.proofs.Common.{◌≡◌, ℕ, zero, suc, ◌+◌, ◌≤◌, ◌&&◌, Bool, true, false, cond, not, List, [], ◌∷◌, ◌++◌, map, replicate, Option, Some, None, refl, sym, ap, ◌∙◌, arith, nat_le}
+use Rattle.std.proofs.Common.{◌≡◌, ℕ, zero, suc, ◌&&◌, Bool, true, false, cond, not, List, [], ◌∷◌, map, replicate, Option, Some, None, refl, sym, ◌∙◌, nat_le}
 use Rattle.std.specs.List.{list_all}
 use Rattle.std.specs.Prelude.{⊤}
 use Rattle.std.proofs.lemmas.List.Folds.{list_all-append}
-use Rattle.dbtg_script.specs.Moves.{begins_with, counted, plain_number, repeated, said, spelled_turn, times, words}
+use Rattle.dbtg_script.specs.Moves.{begins_with, counted, plain_number, repeated, said, spelled_turn, times}
 use Rattle.dbtg_script.specs.Spelling.{is_number, number, in_front, behind, has_byte}
 use Rattle.dbtg_script.specs.Turns.{turns_of}
 
