@@ -2,6 +2,7 @@ pub mod Refusals
 pub mod Telling
 pub mod Checking
 pub mod Replaying
+pub mod ByTurns
 pub mod Capacity
 pub mod Threading
 pub mod Sources

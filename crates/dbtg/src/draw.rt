@@ -7,6 +7,7 @@ ghost use Rattle.dbtg.specs.Sources.{ToldOfSchema};
 
 use crate::at_hand::AtHand;
 use crate::fault::Fault;
+use crate::order::Order;
 use crate::source::Source;
 use crate::texts::read_schema;
 use dbtg_draw::{dot_text, svg_text};
@@ -46,7 +47,7 @@ pub fn draw_bytes(alloc: Global, schema: &[u8], form: Form) -> Result<Vec<u8>, F
     let texts = AtHand {
         schema,
         scripts: &[],
-        moves: None,
+        order: Order::Serial,
     };
     draw(alloc, &texts, form)
 }
