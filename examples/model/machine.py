@@ -1,4 +1,5 @@
 """Units side by side and what is printed of them: docs/profile/events.md, scripts.md, printed-texts.md."""
+import itertools
 import re
 
 from database import SYSTEM, Database
@@ -89,11 +90,11 @@ class Machine:
                 pass
 
     def run_turns(self, order):
-        """Each unit in this order makes its next statement whole."""
-        for number in order:
+        """Each unit in this order makes its next statement whole; the steps that they make, by their units."""
+        for number in (it for it in order if it <= len(self.units)):
             at = self.units[number - 1].at
             while self.units[number - 1].at == at and self.step(number) != "I":
-                pass
+                yield number
 
     def run_moves(self, text):
         letters = []
@@ -135,17 +136,28 @@ def words_in(folder, args="args"):
 
 
 def machine_of(folder, words):
-    """The machine before the command with these words, and the text of its moves, if it has one."""
-    capacity, moves, files = 100, None, []
+    """The machine before the command with these words, and the texts of its moves and its turns, if it has them."""
+    capacity, order, files = 100, {"--moves": None, "--turns": None}, []
     words = iter(words[1:])
     for word in words:
         if word == "--capacity":
             capacity = int(next(words))
-        elif word == "--moves":
-            moves = read(f"{folder}/{next(words)}")
-        else:
+        elif word in order:
+            order[word] = read(f"{folder}/{next(words)}")
+        elif word != "--explain":
             files.append(read(f"{folder}/{word}"))
-    return Machine(Schema(files[0]), capacity, files[1:]), moves
+    return Machine(Schema(files[0]), capacity, files[1:]), order["--moves"], order["--turns"]
+
+
+def turns_in(text):
+    """The units of a text of turns, in their order."""
+    return [int(it.partition("*")[0]) for it in text.split() for _ in range(int(it.partition("*")[2] or 1))]
+
+
+def steps_text(units):
+    """The text of one step for each of these, in their order."""
+    words = [(unit, len(list(it))) for unit, it in itertools.groupby(units)]
+    return " ".join(f"{unit}*{times}" if times > 1 else f"{unit}" for unit, times in words) + "\n" * bool(words)
 
 
 def printed(machine, *head):
@@ -155,15 +167,24 @@ def printed(machine, *head):
 
 def replay(folder, words):
     """What the command with these words prints."""
-    machine, moves = machine_of(folder, words)
-    if moves is None:
+    machine, moves, turns = machine_of(folder, words)
+    if moves is not None:
+        return printed(machine, machine.run_moves(moves))
+    if turns is None:
         machine.run_serially()
-        return printed(machine)
-    return printed(machine, machine.run_moves(moves))
+    else:
+        list(machine.run_turns(turns_in(turns)))
+    return printed(machine)
+
+
+def moves_of_turns(folder, words):
+    """What `turns` with these words prints."""
+    machine, _, _ = machine_of(folder, [words[0], *words[2:]])
+    return steps_text(machine.run_turns(turns_in(read(f"{folder}/{words[1]}"))))
 
 
 def threads(folder, words, order):
     """What `threads` with the files of these words prints, where its tickets are drawn by the units in this order."""
-    machine, _ = machine_of(folder, words)
-    machine.run_turns(order)
+    machine, _, _ = machine_of(folder, words)
+    list(machine.run_turns(order))
     return printed(machine) + "AUDIT EQUAL\n"

@@ -12,6 +12,7 @@ mod explain;
 mod fault;
 mod files;
 mod hands;
+mod order;
 mod place;
 mod reading;
 mod reason;
@@ -19,6 +20,7 @@ mod replay;
 mod source;
 mod texts;
 mod threads;
+mod turns;
 
 use check::check_bytes;
 use dbtg_schema::{Row, Schema, SchemaFault};
@@ -30,6 +32,7 @@ use dbtg_step::{Core, Run, audit, run, run_serial};
 use dbtg_unit::{Move, Statement, Stepped};
 use fault::Fault;
 use hands::by_hand;
+use order::Order;
 use replay::replay_bytes;
 use std::alloc::{AllocError, Global};
 use std::io::{self, Write};
@@ -297,7 +300,7 @@ fn from_bytes(rt: &HostRuntime) -> Option<(Vec<u8>, Vec<u8>)> {
         check_bytes(alloc, schema.as_slice(), scripts.as_slice())
     })?;
     let replayed = call_bytes(rt, "replay_bytes", &|| -> Result<Vec<u8>, Fault> {
-        replay_bytes(alloc, schema.as_slice(), scripts.as_slice(), Some(moves.as_slice()), CAPACITY)
+        replay_bytes(alloc, schema.as_slice(), scripts.as_slice(), Order::Moves(moves.as_slice()), CAPACITY)
     })?;
     Some((checked, replayed))
 }

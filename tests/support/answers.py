@@ -7,6 +7,7 @@ from dataclasses import replace
 SCHEMA_BYTES = re.compile(rb"[^ -~\t\r\n]")
 SCRIPT_BYTES = re.compile(rb"[^ -~]")
 MOVE = re.compile(rb"(Q?)([1-9][0-9]?)|([1-9][0-9]?)\*([1-9][0-9]{0,6})")
+TURN = re.compile(rb"()([1-9][0-9]?)|([1-9][0-9]?)\*([1-9][0-9]{0,6})")
 GREATEST_SCHEMA, GREATEST_SCRIPT, MOST_STATEMENTS, MOST_MOVES = 65_536, 1_048_576, 65_535, 1_000_000
 
 
@@ -14,7 +15,7 @@ def unexplained(path, ran):
     """A run without the line that --explain adds to a fault. That line names the file and the same place; a run that has another, or
     none, is given a line that no answer has."""
     first, _, second = ran.err.partition(b"\n")
-    place = re.fullmatch(rb"(?:schema|script 1|moves) fault \d+ (line|word) (\d+)", first)
+    place = re.fullmatch(rb"(?:schema|script 1|moves|turns) fault \d+ (line|word) (\d+)", first)
     if not place:
         return ran
     named = path.encode() + (b":%s: " if place[1] == b"line" else b": word %s: ") % place[2]
@@ -94,11 +95,11 @@ def is_script_answered(text, ran):
     return 2 <= cause <= 13 and line in statements and line < (first_odd or len(lines) + 1)
 
 
-def moves_fault(text):
-    """The first fault of moves, as its number and its word; else how many moves there are."""
+def order_fault(text, shape):
+    """The first fault of moves or turns, whose words have this shape, as its number and its word; else how many there are."""
     total = 0
     for number, word in enumerate(re.findall(rb"[^ \t\r\n]+", text), 1):
-        found = MOVE.fullmatch(word)
+        found = shape.fullmatch(word)
         steps = int(found[4] or 1) if found else 0
         if not found or steps > MOST_MOVES:
             return (1, number), 0
@@ -109,7 +110,7 @@ def moves_fault(text):
 
 
 def is_moves_answered(text, ran):
-    fault, total = moves_fault(text)
+    fault, total = order_fault(text, MOVE)
     if fault:
         return (ran.status, ran.out, ran.err) == (1, b"", b"moves fault %d word %d\n" % fault)
     first = ran.out.partition(b"\n")[0]
@@ -117,7 +118,16 @@ def is_moves_answered(text, ran):
     return ran.status == 0 and not ran.err and first.startswith(b"MOVES") and len(letters) == total and not letters.strip(b"MBI") and b"\n--\n" in ran.out
 
 
-BY_KIND = {"schema": is_schema_answered, "script": is_script_answered, "moves": is_moves_answered}
+def is_turns_answered(text, ran):
+    fault, total = order_fault(text, TURN)
+    if fault:
+        return (ran.status, ran.out, ran.err) == (1, b"", b"turns fault %d word %d\n" % fault)
+    answers, _, rest = ran.out.partition(b"--\n")
+    tickets = [it.partition(b" ")[0] for it in answers.splitlines()]
+    return ran.status == 0 and not ran.err and rest and len(tickets) <= total and tickets == [b"%d" % it for it in range(len(tickets))]
+
+
+BY_KIND = {"schema": is_schema_answered, "script": is_script_answered, "moves": is_moves_answered, "turns": is_turns_answered}
 
 
 def is_well_answered(kind, text, ran):

@@ -42,6 +42,7 @@ class Case:
     out: bytes
     err: bytes
     moves: str = field(default="")
+    turns: str = field(default="")
 
     def parts(self):
         """The options before the schema, each with its word if it has one; and the words from the schema on."""
@@ -56,8 +57,8 @@ class Case:
         return [os.path.join(self.folder, it) for it in self.parts()[1]]
 
     def options(self):
-        """The words before the schema, without the moves and the wish to have a fault explained."""
-        return [self.words[0], *(it for option in self.parts()[0] if option[0] not in ("--moves", "--explain") for it in option)]
+        """The words before the schema, without the moves or turns and the wish to have a fault explained."""
+        return [self.words[0], *(it for option in self.parts()[0] if option[0] not in ("--moves", "--turns", "--explain") for it in option)]
 
 
 def bytes_of(path):
@@ -71,9 +72,9 @@ def bytes_if_any(path):
 
 def read_case(folder):
     words = tuple(bytes_of(f"{folder}/args").decode().splitlines())
-    moves = words[words.index("--moves") + 1] if "--moves" in words else ""
+    moves, turns = (words[words.index(it) + 1] if it in words else "" for it in ("--moves", "--turns"))
     texts = [bytes_if_any(f"{folder}/{it}") for it in ("stdout", "stderr")]
-    return Case(os.path.basename(folder), folder, words, int(bytes_if_any(f"{folder}/status") or 0), *texts, moves)
+    return Case(os.path.basename(folder), folder, words, int(bytes_if_any(f"{folder}/status") or 0), *texts, moves, turns)
 
 
 def cases():

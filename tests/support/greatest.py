@@ -1,4 +1,4 @@
-"""The greatest schemas, scripts and moves that docs/profile allows, deep and wide ones, and those one above, each with how it must be
+"""The greatest schemas, scripts, moves and turns that docs/profile allows, deep and wide ones, and those one above, each with how it must be
 answered."""
 
 import os
@@ -53,6 +53,13 @@ def moves(text, letters=None, err=None, end=OPENING):
     if err:
         return "moves", text.encode(), Wanted(*words, b"", f"moves fault {err}\n".encode())
     return "moves", text.encode(), Wanted(*words, f"MOVES {letters}\n{end}".encode())
+
+
+def turns(text, out=OPENING, err=None):
+    words = ("replay", "--turns"), (SCHEMA, SCRIPT)
+    if err:
+        return "turns", text.encode(), Wanted(*words, b"", f"turns fault {err}\n".encode())
+    return "turns", text.encode(), Wanted(*words, out.encode())
 
 
 def record(name, items=1):
@@ -168,7 +175,17 @@ def all_moves():
     yield moves("1*" + "9" * 4_000_000, err="1 word 1")
 
 
+def all_turns():
+    yield turns("1*1000000", text_of(f"{CARD}/stdout"))
+    yield turns("9 " * 1_000_000)
+    yield turns("9 " * 1_000_001, err="2 word 1000001")
+    yield turns("9*1000001", err="1 word 1")
+    yield turns(" " * 4_000_000 + "9")
+    yield turns("9" * 4_000_000, err="1 word 1")
+    yield turns("9*1000000 Q1", err="1 word 2")
+
+
 def texts():
     """All of them: the kind of each, its bytes, and what is wanted. Those that have a fault come twice, the second time explained."""
-    plain = [*schemas(), *scripts(), *all_moves()]
+    plain = [*schemas(), *scripts(), *all_moves(), *all_turns()]
     return [*plain, *((kind, text, replace(wanted, is_explained=True)) for kind, text, wanted in plain if wanted.err)]

@@ -1,4 +1,10 @@
 mod InTurn
 mod TextsRead
 mod BytesAtHand
+mod UnitEntries
+mod ScriptLength
+mod UnitsOfTurns
+mod SameRun
+mod MovesOfTurns
 mod OnThreads
+mod SavedTurns

@@ -1,5 +1,5 @@
 -- What the units of a new database make on threads.
-use Rattle.std.proofs.Common.{◌≡◌, ℕ, zero, suc, ◌+◌, ◌<◌, ◌≤◌, List, [], ◌∷◌, ◌++◌, length, map, refl, sym, ap, ◌∙◌, subst, inl, inr, ⊎_elim, arith, get_or, Some, All}
+use Rattle.std.proofs.Common.{◌≡◌, ℕ, zero, suc, ◌+◌, ◌<◌, ◌≤◌, List, [], ◌∷◌, ◌++◌, length, map, refl, sym, ap, ◌∙◌, subst, inl, inr, ⊎_elim, arith, get_or, Some, All, Result, Ok, Err, IfOk}
 use Rattle.std.specs.Prelude.{slice_get}
 use Rattle.std.specs.List.{range_with_len}
 use Rattle.std.proofs.lemmas.List.{get_or-map, length-append, length-map}
@@ -96,3 +96,8 @@ history_of_all db scripts settled count run = record {
         let number : after.unit.number ≡ 1 + k = own.0.number in
         let entries : entries_of (1 + k) settled.history ≡ after.journal = ap (λ n. entries_of n settled.history) (sym number) ∙ run.ends.journal after is_in in
         subst (λ n. AreOf script (entries_of n settled.history)) (one_more k) (are_of script (1 + k) db after settled.history own.0 own.1 entries)
+
+-- two things that are true of a value where there is one
+pub both_ok : {T E : Type 0} (r : Result T E) (P Q R : T → Type 0) → ((x : T) → P x → Q x → R x) → IfOk r P → IfOk r Q → IfOk r R
+both_ok (Ok x) P Q R f p q = f x p q
+both_ok (Err e) P Q R f p q = tt

@@ -1,25 +1,29 @@
 -- Texts that are read one after another, and what is then true of all.
-use Rattle.std.proofs.Common.{◌≡◌, ℕ, zero, suc, ◌+◌, ◌<◌, Bool, true, false, List, [], ◌∷◌, ◌++◌, length, map, Option, Some, None, inl, inr, refl, sym, ap, ◌∙◌, subst, arith}
-use Rattle.std.specs.Prelude.{◌⊎◌, is_some, option_map}
+use Rattle.std.proofs.Common.{◌≡◌, ℕ, suc, ◌+◌, ◌<◌, true, List, [], ◌∷◌, ◌++◌, length, map, None, inr, refl, sym, ap, ◌∙◌, subst, arith}
 use Rattle.std.proofs.lemmas.List.{append-nil, append_assoc, length-append, map_push}
 use Rattle.std.specs.List.{list_all}
 use Rattle.std.proofs.lemmas.List.Folds.{list_all-append}
 use Rattle.dbtg_schema.specs.Lists.{Lists}
 use Rattle.dbtg_unit.specs.Fits.{fits}
+use Rattle.dbtg_unit.specs.declared.moves.Move.{Move}
+use Rattle.dbtg_step.specs.Headline.{RunIs}
 use Rattle.dbtg_step.specs.Laws.{scripts_fit}
+use Rattle.dbtg_step.specs.Serial.{SerialRunIs}
 use Rattle.dbtg_unit.specs.declared.statement.Statement.{Statement}
 use Rattle.dbtg_script.specs.StatementFaults.{refusal as script_refusal}
 use Rattle.dbtg_script.specs.Statements.{script}
-use Rattle.dbtg_script.specs.Texts.{script_line}
+use Rattle.dbtg_script.specs.Texts.{moves_text, script_line}
 use Rattle.dbtg.specs.declared.fault.Fault.{Fault}
 use Rattle.dbtg.specs.declared.fault.Fault.TheVariants.{Memory}
 use Rattle.dbtg.specs.declared.place.Place.{Place}
-use Rattle.dbtg.specs.declared.place.Place.TheVariants.{Schema, Script, Moves}
+use Rattle.dbtg.specs.declared.place.Place.TheVariants.{Script}
+use Rattle.dbtg.specs.declared.order.Order.{Order}
+use Rattle.dbtg.specs.declared.order.Order.TheVariants.{Serial, Moves, Turns}
+use Rattle.dbtg.specs.declared.order.OrderKind.TheVariants as kind
 use Rattle.dbtg.specs.Checking.{check_text, script_lines}
-use Rattle.dbtg.specs.Refusals.{AcceptsMoves, AcceptsTexts, AllAccepted, RefusesScript, is_count, schema_in}
-use Rattle.dbtg.specs.Replaying.{IsPrintedRun, moves_in}
-use Rattle.dbtg.specs.Sources.{ChecksHeld, HoldsMoves, HoldsScripts, ReadSchema, ReadScripts, ReplaysHeld, Texts, ThreadsHeld, ToldIn, ToldOfSchema, ToldOfScripts}
-use Rattle.dbtg.specs.Threading.{IsPrintedOnThreads}
+use Rattle.dbtg.specs.Refusals.{AcceptsOrder, AcceptsTexts, AllAccepted, RefusesScript, is_count}
+use Rattle.dbtg.specs.Replaying.{IsPrinted, IsPrintedRun, RunByTurnsIs, given_text, moves_in, turns_in}
+use Rattle.dbtg.specs.Sources.{ChecksHeld, HoldsOrder, HoldsScripts, ReadMoves, ReadSchema, ReadScripts, ReadTurns, ReplaysHeld, Texts, ToldIn, ToldOfSchema, ToldOfScripts, kind_of}
 use Rattle.dbtg.proofs.InTurn.{accepted_behind, lines_behind}
 
 -- a text that is held behind others
@@ -86,22 +90,22 @@ memory_told holds fails lists read = inr (read.text, read.held, tt)
 pub all_accepted : (holds : Place → List ℕ → Type 0) (lists : Lists) (count : ℕ) (read : ReadSchema holds lists) (scripts : ReadScripts holds lists count) → AcceptsTexts read.text scripts.texts
 all_accepted holds lists count read scripts = (read.accepted, subst (λ (s : Lists). AllAccepted s scripts.texts) read.says scripts.accepted)
 
--- the texts that were read, with these moves
-abbrev pub read_texts : (holds : Place → List ℕ → Type 0) (lists : Lists) (count : ℕ) → ReadSchema holds lists → ReadScripts holds lists count → (moves : Option (List ℕ)) → HoldsMoves holds moves → Texts holds count (is_some moves)
-read_texts holds lists count read scripts moves held = record {
+-- the texts that were read, in this order
+abbrev pub read_texts : (holds : Place → List ℕ → Type 0) (lists : Lists) (count : ℕ) → ReadSchema holds lists → ReadScripts holds lists count → (order : Order (List ℕ)) → HoldsOrder holds order → Texts holds count (kind_of order)
+read_texts holds lists count read scripts order held = record {
   schema = read.text;
   scripts = scripts.texts;
-  moves = moves;
+  order = order;
   many = scripts.many;
-  has_moves = refl;
+  is_kind = refl;
   holds_schema = read.held;
   holds_scripts = scripts.held;
-  holds_moves = held;
+  holds_order = held;
 }
 
 pub checks : (holds : Place → List ℕ → Type 0) (lists : Lists) (count : ℕ) (out : List ℕ) → ReadSchema holds lists → (scripts : ReadScripts holds lists count) → out ≡ check_text lists scripts.texts → ChecksHeld holds count out
 checks holds lists count out read scripts e = (
-  read_texts holds lists count read scripts None tt,
+  read_texts holds lists count read scripts Serial tt,
   record {
     texts = all_accepted holds lists count read scripts;
     is_text = subst (λ (s : Lists). out ≡ check_text s scripts.texts) read.says e;
@@ -109,28 +113,33 @@ checks holds lists count out read scripts e = (
 )
 
 -- what a run of the statements that were read gives is the replay of the texts
-pub replays : (holds : Place → List ℕ → Type 0) (lists : Lists) (count : ℕ) (moves : Option (List ℕ)) (capacity : ℕ) (out : List ℕ)
-    → is_count count ≡ true → ReadSchema holds lists → (scripts : ReadScripts holds lists count) → HoldsMoves holds moves → AcceptsMoves moves
-    → IsPrintedRun lists capacity (map (script lists) scripts.texts) (option_map moves_in moves) out → ReplaysHeld holds count (is_some moves) capacity out
-replays holds lists count moves capacity out right read scripts held accepted run = (
-  read_texts holds lists count read scripts moves held,
+pub replays : (holds : Place → List ℕ → Type 0) (lists : Lists) (count : ℕ) (order : Order (List ℕ)) (capacity : ℕ) (out : List ℕ)
+    → is_count count ≡ true → ReadSchema holds lists → (scripts : ReadScripts holds lists count) → HoldsOrder holds order → AcceptsOrder order
+    → IsPrintedRun lists capacity (map (script lists) scripts.texts) order out → ReplaysHeld holds count (kind_of order) capacity out
+replays holds lists count order capacity out right read scripts held accepted run = (
+  read_texts holds lists count read scripts order held,
   record {
     count = ap is_count scripts.many ∙ right;
     texts = all_accepted holds lists count read scripts;
-    moves_too = accepted;
-    run = subst (λ (s : Lists). IsPrintedRun s capacity (map (script s) scripts.texts) (option_map moves_in moves) out) read.says run;
+    order_too = accepted;
+    run = subst (λ (s : Lists). IsPrintedRun s capacity (map (script s) scripts.texts) order out) read.says run;
   },
 )
 
--- what the statements that were read come to on threads is what the texts do
-pub runs_on_threads : (holds : Place → List ℕ → Type 0) (lists : Lists) (count capacity : ℕ) (out : List ℕ)
-    → is_count count ≡ true → ReadSchema holds lists → (scripts : ReadScripts holds lists count)
-    → IsPrintedOnThreads lists capacity (map (script lists) scripts.texts) out → ThreadsHeld holds count capacity out
-runs_on_threads holds lists count capacity out right read scripts run = (
-  read_texts holds lists count read scripts None tt,
-  record {
-    count = ap is_count scripts.many ∙ right;
-    texts = all_accepted holds lists count read scripts;
-    run = subst (λ (s : Lists). IsPrintedOnThreads s capacity (map (script s) scripts.texts) out) read.says run;
-  },
-)
+-- the same of what was read: nothing that says the order, moves, or turns
+module _ (holds : Place → List ℕ → Type 0) (lists : Lists) (count capacity : ℕ) (out : List ℕ) (right : is_count count ≡ true) (read : ReadSchema holds lists) (scripts : ReadScripts holds lists count)
+    (statements : List (List Statement)) (same : statements ≡ map (script lists) scripts.texts) where
+  pub replays_serially : IsPrinted (SerialRunIs lists capacity statements) (given_text lists) out → ReplaysHeld holds count kind.Serial capacity out
+  replays_serially run = replays holds lists count Serial capacity out right read scripts tt tt (subst (λ ss. IsPrinted (SerialRunIs lists capacity ss) (given_text lists) out) same run)
+
+  pub replays_moves : (moves used : List Move) → ReadMoves holds moves → used ≡ moves → IsPrinted (RunIs lists capacity statements used) (λ given. moves_text given.results ++ given_text lists given) out → ReplaysHeld holds count kind.Moves capacity out
+  replays_moves moves used by e run =
+      let of_text = subst (λ ms. IsPrinted (RunIs lists capacity statements ms) (λ given. moves_text given.results ++ given_text lists given) out) (e ∙ by.says) run in
+      replays holds lists count (Moves by.text) capacity out right read scripts by.held by.accepted
+      (subst (λ ss. IsPrinted (RunIs lists capacity ss (moves_in by.text)) (λ given. moves_text given.results ++ given_text lists given) out) same of_text)
+
+  pub replays_turns : (turns used : List ℕ) → ReadTurns holds turns → used ≡ turns → IsPrinted (RunByTurnsIs lists capacity statements used) (given_text lists) out → ReplaysHeld holds count kind.Turns capacity out
+  replays_turns turns used by e run =
+      let of_text = subst (λ us. IsPrinted (RunByTurnsIs lists capacity statements us) (given_text lists) out) (e ∙ by.says) run in
+      replays holds lists count (Turns by.text) capacity out right read scripts by.held by.accepted
+      (subst (λ ss. IsPrinted (RunByTurnsIs lists capacity ss (turns_in by.text)) (given_text lists) out) same of_text)

@@ -1,44 +1,62 @@
 -- What `replay` prints.
--- text, scripts and moves are bytes, lists the schema that a text says, given what a run gives.
-use Rattle.std.specs.Prelude.{ℕ, ◌≡◌, ◌++◌, true, List, map, length, Option, Some, None, option_map}
+-- text, scripts, moves and turns are bytes, lists the schema that a text says, given what a run gives.
+use Rattle.std.specs.Prelude.{ℕ, ◌≡◌, ◌++◌, true, List, map, length}
 use Rattle.dbtg_schema.specs.Lists.{Lists}
 use Rattle.dbtg_unit.specs.declared.statement.Statement.{Statement}
 use Rattle.dbtg_step.specs.declared.results.Run.{Run}
 use Rattle.dbtg_unit.specs.declared.moves.Move.{Move}
 use Rattle.dbtg_step.specs.Headline.{RunIs}
 use Rattle.dbtg_step.specs.Serial.{SerialRunIs}
+use Rattle.dbtg_step.specs.Turns.{IsRunByTurns}
 use Rattle.dbtg_script.specs.Moves.{moves_of, words}
 use Rattle.dbtg_script.specs.Statements.{script}
 use Rattle.dbtg_script.specs.Texts.{moves_text, run_text}
-use Rattle.dbtg.specs.Refusals.{schema_in, is_count, AcceptsTexts, AcceptsMoves}
+use Rattle.dbtg_script.specs.Turns.{turns_of}
+use Rattle.dbtg.specs.declared.order.Order.{Order}
+use Rattle.dbtg.specs.declared.order.Order.TheVariants.{Serial, Moves, Turns}
+use Rattle.dbtg.specs.Refusals.{schema_in, is_count, AcceptsTexts, AcceptsOrder}
 
 -- the moves that a text says
 abbrev pub moves_in : List ℕ → List Move
 moves_in text = moves_of (words text)
 
--- the run of these moves, or, without moves, of one script after another
-abbrev pub Gives : Lists → ℕ → List (List Statement) → Option (List Move) → Run → Type 0
-Gives lists capacity scripts None given = SerialRunIs lists capacity scripts given
-Gives lists capacity scripts (Some moves) given = RunIs lists capacity scripts moves given
+-- the turns that a text says
+abbrev pub turns_in : List ℕ → List ℕ
+turns_in text = turns_of (words text)
+
+-- the run by these turns, whatever moves they stand for
+abbrev pub RunByTurnsIs : Lists → ℕ → List (List Statement) → List ℕ → Run → Type 0
+RunByTurnsIs lists capacity scripts turns given = (moves : List Move) × IsRunByTurns lists capacity scripts turns moves given
+
+-- the run of these moves, by these turns, or, without either, of one script after another
+abbrev pub Gives : Lists → ℕ → List (List Statement) → Order (List ℕ) → Run → Type 0
+Gives lists capacity scripts Serial given = SerialRunIs lists capacity scripts given
+Gives lists capacity scripts (Moves text) given = RunIs lists capacity scripts (moves_in text) given
+Gives lists capacity scripts (Turns text) given = RunByTurnsIs lists capacity scripts (turns_in text) given
 
 -- answers, image and units
 abbrev pub given_text : Lists → Run → List ℕ
 given_text lists given = run_text lists given.history given.image.records given.image.lists given.image.next given.image.usage given.units
 
 -- with moves, the line of what they came to stands before it
-abbrev pub printed : Lists → Option (List Move) → Run → List ℕ
-printed lists None given = given_text lists given
-printed lists (Some moves) given = moves_text given.results ++ given_text lists given
+abbrev pub printed : Lists → Order (List ℕ) → Run → List ℕ
+printed lists Serial given = given_text lists given
+printed lists (Moves text) given = moves_text given.results ++ given_text lists given
+printed lists (Turns text) given = given_text lists given
+
+-- the text is what such a run gives, as it is printed
+pub record IsPrinted (Is : Run → Type 0) (print : Run → List ℕ) (out : List ℕ) : Type 0 where
+  pub given : Run
+  pub is_run : Is given
+  pub is_text : out ≡ print given
 
 -- the text is what the run of these statements gives, as it is printed
-pub record IsPrintedRun (lists : Lists) (capacity : ℕ) (scripts : List (List Statement)) (moves : Option (List Move)) (out : List ℕ) : Type 0 where
-  pub given : Run
-  pub is_run : Gives lists capacity scripts moves given
-  pub is_text : out ≡ printed lists moves given
+abbrev pub IsPrintedRun : Lists → ℕ → List (List Statement) → Order (List ℕ) → List ℕ → Type 0
+IsPrintedRun lists capacity scripts order out = IsPrinted (Gives lists capacity scripts order) (printed lists order) out
 
 -- 1 to 8 scripts, nothing is refused, and the text is what is printed of the run of what the texts say
-pub record IsReplay (text : List ℕ) (scripts : List (List ℕ)) (moves : Option (List ℕ)) (capacity : ℕ) (out : List ℕ) : Type 0 where
+pub record IsReplay (text : List ℕ) (scripts : List (List ℕ)) (order : Order (List ℕ)) (capacity : ℕ) (out : List ℕ) : Type 0 where
   pub count : is_count (length scripts) ≡ true
   pub texts : AcceptsTexts text scripts
-  pub moves_too : AcceptsMoves moves
-  pub run : IsPrintedRun (schema_in text) capacity (map (script (schema_in text)) scripts) (option_map moves_in moves) out
+  pub order_too : AcceptsOrder order
+  pub run : IsPrintedRun (schema_in text) capacity (map (script (schema_in text)) scripts) order out

@@ -1,65 +1,92 @@
 -- What a command prints of the texts that a source gives, and which fault it tells: the first, in the order in which they are read
--- and judged: number of scripts, schema, scripts from 1 on, moves. `holds` says that the source gives a text in a place, `fails`
+-- and judged: number of scripts, schema, scripts from 1 on, moves or turns. `holds` says that the source gives a text in a place, `fails`
 -- that it cannot, and tells a fault.
-use Rattle.std.specs.Prelude.{ℕ, ◌≡◌, ◌+◌, ◌-◌, ◌≤◌, ◌<◌, Bool, true, false, List, [], ◌∷◌, Option, Some, None, ◌⊎◌, length, is_some, slice_get}
+use Rattle.std.specs.Prelude.{ℕ, ◌≡◌, ◌+◌, ◌-◌, ◌≤◌, ◌<◌, true, false, List, [], ◌∷◌, Some, None, ◌⊎◌, length, map, slice_get}
 use Rattle.dbtg_schema.specs.Lists.{Lists}
 use Rattle.dbtg_schema.specs.SchemaFaults.{refusal as schema_refusal}
 use Rattle.dbtg_script.specs.Moves.{refusal as moves_refusal}
 use Rattle.dbtg_script.specs.StatementFaults.{refusal as script_refusal}
+use Rattle.dbtg_script.specs.Statements.{script}
+use Rattle.dbtg_script.specs.Turns.{turns_refusal}
 use Rattle.dbtg_unit.specs.declared.moves.Move.{Move}
 use Rattle.dbtg.specs.declared.fault.Fault.{Fault}
 use Rattle.dbtg.specs.declared.fault.Fault.TheVariants.{ScriptCount, Memory}
+use Rattle.dbtg.specs.declared.order.Order.{Order}
+use Rattle.dbtg.specs.declared.order.Order.TheVariants as by
+use Rattle.dbtg.specs.declared.order.OrderKind.{OrderKind}
+use Rattle.dbtg.specs.declared.order.OrderKind.TheVariants as kind
 use Rattle.dbtg.specs.declared.place.Place.{Place}
-use Rattle.dbtg.specs.declared.place.Place.TheVariants.{Schema, Script, Moves}
+use Rattle.dbtg.specs.declared.place.Place.TheVariants.{Schema, Script, Moves, Turns}
+use Rattle.dbtg.specs.ByTurns.{AreMoreMoves, IsMovesText}
 use Rattle.dbtg.specs.Checking.{IsCheck}
-use Rattle.dbtg.specs.Refusals.{schema_in, is_count, AllAccepted, RefusesMoves, RefusesSchema, RefusesScript}
-use Rattle.dbtg.specs.Replaying.{IsReplay, moves_in}
+use Rattle.dbtg.specs.Refusals.{schema_in, is_count, AllAccepted, RefusesMoves, RefusesSchema, RefusesScript, RefusesTurns}
+use Rattle.dbtg.specs.Replaying.{IsReplay, moves_in, turns_in}
 use Rattle.dbtg.specs.Threading.{IsThreads}
 
--- there is such a place, where there are so many scripts, and moves or none
-abbrev pub HasPlace : ℕ → Bool → Place → Type 0
-HasPlace count with_moves Schema = Unit {0}
-HasPlace count with_moves (Script n) = (1 ≤ n) × (n ≤ count)
-HasPlace count with_moves Moves = with_moves ≡ true
+-- what says the order, by its kind
+abbrev pub kind_of : {A : Type 0} → Order A → OrderKind
+kind_of by.Serial = kind.Serial
+kind_of (by.Moves it) = kind.Moves
+kind_of (by.Turns it) = kind.Turns
 
--- of a schema, scripts and moves, this one stands in this place; they are texts, or paths of files
-abbrev pub StandsIn : List ℕ → List (List ℕ) → Option (List ℕ) → Place → List ℕ → Type 0
-StandsIn schema scripts moves Schema it = it ≡ schema
-StandsIn schema scripts moves (Script n) it = slice_get scripts (n - 1) ≡ Some it
-StandsIn schema scripts moves Moves it = moves ≡ Some it
+-- the same order, said by another thing
+abbrev pub order_map : {A B : Type 0} → (A → B) → Order A → Order B
+order_map f by.Serial = by.Serial
+order_map f (by.Moves it) = by.Moves (f it)
+order_map f (by.Turns it) = by.Turns (f it)
+
+-- there is such a place, where there are so many scripts, and moves, turns or neither
+abbrev pub HasPlace : ℕ → OrderKind → Place → Type 0
+HasPlace count which Schema = Unit {0}
+HasPlace count which (Script n) = (1 ≤ n) × (n ≤ count)
+HasPlace count which Moves = which ≡ kind.Moves
+HasPlace count which Turns = which ≡ kind.Turns
+
+-- of a schema, scripts and moves or turns, this one stands in this place; they are texts, or paths of files
+abbrev pub StandsIn : List ℕ → List (List ℕ) → Order (List ℕ) → Place → List ℕ → Type 0
+StandsIn schema scripts order Schema it = it ≡ schema
+StandsIn schema scripts order (Script n) it = slice_get scripts (n - 1) ≡ Some it
+StandsIn schema scripts order Moves it = order ≡ by.Moves it
+StandsIn schema scripts order Turns it = order ≡ by.Turns it
 
 -- each text is held in the place of its script, from number n on
 abbrev pub HoldsScripts : (Place → List ℕ → Type 0) → ℕ → List (List ℕ) → Type 0
 HoldsScripts holds n [] = Unit {0}
 HoldsScripts holds n (text ∷ texts) = holds (Script n) text × HoldsScripts holds (n + 1) texts
 
--- the moves, where there are any, are held in their place
-abbrev pub HoldsMoves : (Place → List ℕ → Type 0) → Option (List ℕ) → Type 0
-HoldsMoves holds None = Unit {0}
-HoldsMoves holds (Some text) = holds Moves text
+-- the moves or turns, where there are any, are held in their place
+abbrev pub HoldsOrder : (Place → List ℕ → Type 0) → Order (List ℕ) → Type 0
+HoldsOrder holds by.Serial = Unit {0}
+HoldsOrder holds (by.Moves text) = holds Moves text
+HoldsOrder holds (by.Turns text) = holds Turns text
 
--- the texts of a schema, of so many scripts, and of moves where there are any, each held in its place
-pub record Texts (holds : Place → List ℕ → Type 0) (count : ℕ) (with_moves : Bool) : Type 0 where
+-- the texts of a schema, of so many scripts, and of moves or turns where there are any, each held in its place
+pub record Texts (holds : Place → List ℕ → Type 0) (count : ℕ) (which : OrderKind) : Type 0 where
   pub schema : List ℕ
   pub scripts : List (List ℕ)
-  pub moves : Option (List ℕ)
+  pub order : Order (List ℕ)
   pub many : length scripts ≡ count
-  pub has_moves : is_some moves ≡ with_moves
+  pub is_kind : kind_of order ≡ which
   pub holds_schema : holds Schema schema
   pub holds_scripts : HoldsScripts holds 1 scripts
-  pub holds_moves : HoldsMoves holds moves
+  pub holds_order : HoldsOrder holds order
 
 -- what `check` prints of texts that are held
 abbrev pub ChecksHeld : (Place → List ℕ → Type 0) → ℕ → List ℕ → Type 0
-ChecksHeld holds count out = (texts : Texts holds count false) × IsCheck texts.schema texts.scripts out
+ChecksHeld holds count out = (texts : Texts holds count kind.Serial) × IsCheck texts.schema texts.scripts out
 
 -- what `replay` prints of texts that are held
-abbrev pub ReplaysHeld : (Place → List ℕ → Type 0) → ℕ → Bool → ℕ → List ℕ → Type 0
-ReplaysHeld holds count with_moves capacity out = (texts : Texts holds count with_moves) × IsReplay texts.schema texts.scripts texts.moves capacity out
+abbrev pub ReplaysHeld : (Place → List ℕ → Type 0) → ℕ → OrderKind → ℕ → List ℕ → Type 0
+ReplaysHeld holds count which capacity out = (texts : Texts holds count which) × IsReplay texts.schema texts.scripts texts.order capacity out
 
--- what `threads` prints of texts that are held
-abbrev pub ThreadsHeld : (Place → List ℕ → Type 0) → ℕ → ℕ → List ℕ → Type 0
-ThreadsHeld holds count capacity out = (texts : Texts holds count false) × IsThreads texts.schema texts.scripts capacity out
+-- what `turns` prints of texts that are held
+abbrev pub MovesHeld : (Place → List ℕ → Type 0) → ℕ → ℕ → List ℕ → Type 0
+MovesHeld holds count capacity out =
+    (texts : Texts holds count kind.Turns) × (turns : List ℕ) × (texts.order ≡ by.Turns turns) × IsMovesText texts.schema texts.scripts turns capacity out
+
+-- what `threads` prints of texts that are held, and the turns that it saves
+abbrev pub ThreadsHeld : (Place → List ℕ → Type 0) → ℕ → ℕ → List ℕ → List ℕ → Type 0
+ThreadsHeld holds count capacity out turns = (texts : Texts holds count kind.Serial) × IsThreads texts.schema texts.scripts capacity out turns
 
 -- a text of a schema that is held and accepted, and says this schema
 pub record ReadSchema (holds : Place → List ℕ → Type 0) (lists : Lists) : Type 0 where
@@ -82,6 +109,13 @@ pub record ReadMoves (holds : Place → List ℕ → Type 0) (moves : List Move)
   pub accepted : moves_refusal text ≡ None
   pub says : moves ≡ moves_in text
 
+-- a text of turns that is held and accepted, and says these turns
+pub record ReadTurns (holds : Place → List ℕ → Type 0) (turns : List ℕ) : Type 0 where
+  pub text : List ℕ
+  pub held : holds Turns text
+  pub accepted : turns_refusal text ≡ None
+  pub says : turns ≡ turns_in text
+
 -- the fault is told in this place: the text cannot be given, or it is held and refused
 abbrev pub ToldIn : (Place → List ℕ → Type 0) → (Place → Fault → Type 0) → Fault → Place → (List ℕ → Type 0) → Type 0
 ToldIn holds fails fault place Refuses = fails place fault ⊎ ((text : List ℕ) × holds place text × Refuses text)
@@ -97,17 +131,33 @@ pub record ToldOfScripts (holds : Place → List ℕ → Type 0) (fails : Place 
   pub within : before < count
   pub told : ToldIn holds fails fault (Script (before + 1)) (λ text. RefusesScript fault (before + 1) (script_refusal lists text))
 
--- the fault is told of the moves; where there are none only memory is wanting
-abbrev pub ToldOfMoves : (Place → List ℕ → Type 0) → (Place → Fault → Type 0) → Fault → Bool → Type 0
-ToldOfMoves holds fails fault true = ToldIn holds fails fault Moves (λ text. RefusesMoves fault (moves_refusal text))
-ToldOfMoves holds fails fault false = fault ≡ Memory
+-- the fault is told of the moves or turns; where there are neither only memory is wanting
+abbrev pub ToldOfOrder : (Place → List ℕ → Type 0) → (Place → Fault → Type 0) → Fault → OrderKind → Type 0
+ToldOfOrder holds fails fault kind.Serial = fault ≡ Memory
+ToldOfOrder holds fails fault kind.Moves = ToldIn holds fails fault Moves (λ text. RefusesMoves fault (moves_refusal text))
+ToldOfOrder holds fails fault kind.Turns = ToldIn holds fails fault Turns (λ text. RefusesTurns fault (turns_refusal text))
 
 -- the fault is told of the schema, or the schema is held and accepted and it is told of a script
 abbrev pub ToldOfTexts : (Place → List ℕ → Type 0) → (Place → Fault → Type 0) → Fault → ℕ → Type 0
 ToldOfTexts holds fails fault count = ToldOfSchema holds fails fault ⊎ ((lists : Lists) × ReadSchema holds lists × ToldOfScripts holds fails fault lists count)
 
--- a wrong number of scripts, or else a fault that is told of schema and scripts, or of the moves where these are held and accepted
-abbrev pub ToldOfRun : (Place → List ℕ → Type 0) → (Place → Fault → Type 0) → Fault → ℕ → Bool → Type 0
-ToldOfRun holds fails fault count with_moves =
+-- a wrong number of scripts, or else a fault that is told of schema and scripts, or of the moves or turns where these are held and
+-- accepted
+abbrev pub ToldOfRun : (Place → List ℕ → Type 0) → (Place → Fault → Type 0) → Fault → ℕ → OrderKind → Type 0
+ToldOfRun holds fails fault count which =
     ((is_count count ≡ false) × (fault ≡ ScriptCount))
-    ⊎ ((is_count count ≡ true) × (ToldOfTexts holds fails fault count ⊎ ((lists : Lists) × ReadSchema holds lists × ReadScripts holds lists count × ToldOfMoves holds fails fault with_moves)))
+    ⊎ ((is_count count ≡ true) × (ToldOfTexts holds fails fault count ⊎ ((lists : Lists) × ReadSchema holds lists × ReadScripts holds lists count × ToldOfOrder holds fails fault which)))
+
+-- all texts are held and accepted, and the fault tells that the turns stand for too many moves
+pub record ToldOfMoves (holds : Place → List ℕ → Type 0) (fault : Fault) (count capacity : ℕ) : Type 0 where
+  pub lists : Lists
+  pub turns : List ℕ
+  pub right : is_count count ≡ true
+  pub schema : ReadSchema holds lists
+  pub scripts : ReadScripts holds lists count
+  pub turns_too : ReadTurns holds turns
+  pub more : AreMoreMoves lists capacity (map (script lists) scripts.texts) turns fault
+
+-- what `turns` tells: a fault of a run, or of its moves
+abbrev pub ToldOfTurns : (Place → List ℕ → Type 0) → (Place → Fault → Type 0) → Fault → ℕ → ℕ → Type 0
+ToldOfTurns holds fails fault count capacity = ToldOfRun holds fails fault count kind.Turns ⊎ ToldOfMoves holds fault count capacity

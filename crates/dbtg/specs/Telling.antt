@@ -6,8 +6,10 @@ use Rattle.dbtg_script.specs.declared.fault.ScriptFault.{ScriptFault}
 use Rattle.dbtg_script.specs.declared.fault.ScriptFault.TheVariants as script
 use Rattle.dbtg_script.specs.declared.moves.MovesFault.{MovesFault}
 use Rattle.dbtg_script.specs.declared.moves.MovesFault.TheVariants as moves
+use Rattle.dbtg_script.specs.declared.turns.TurnsFault.{TurnsFault}
+use Rattle.dbtg_script.specs.declared.turns.TurnsFault.TheVariants as turns
 use Rattle.dbtg.specs.declared.fault.Fault.{Fault}
-use Rattle.dbtg.specs.declared.fault.Fault.TheVariants.{Schema, Script, Moves, Memory}
+use Rattle.dbtg.specs.declared.fault.Fault.TheVariants.{Schema, Script, Moves, Turns, Memory}
 
 abbrev pub schema_fault : SchemaFault → Fault
 schema_fault (schema.Refused line cause) = Schema line cause
@@ -20,3 +22,7 @@ script_fault n script.Memory = Memory
 abbrev pub moves_fault : MovesFault → Fault
 moves_fault (moves.Refused word cause) = Moves word cause
 moves_fault moves.Memory = Memory
+
+abbrev pub turns_fault : TurnsFault → Fault
+turns_fault (turns.Refused word cause) = Turns word cause
+turns_fault turns.Memory = Memory

@@ -1,6 +1,6 @@
 -- What `threads` prints.
 -- lists is the schema that a text says; script k + 1 is that of the unit with number k + 1.
-use Rattle.std.specs.Prelude.{ℕ, ◌≡◌, ◌≤◌, ◌⊎◌, ◌+◌, true, List, [], ◌∷◌, ◌++◌, length, map, Some, slice_get, codes}
+use Rattle.std.specs.Prelude.{ℕ, ◌≡◌, ◌≤◌, ◌⊎◌, ◌+◌, true, List, [], ◌∷◌, ◌++◌, length, map, None, Some, slice_get, codes}
 use Rattle.dbtg_schema.specs.Lists.{Lists}
 use Rattle.dbtg_unit.specs.declared.statement.Statement.{Statement}
 use Rattle.dbtg_unit.specs.declared.unit.Entry.{Entry}
@@ -10,7 +10,11 @@ use Rattle.dbtg_unit.specs.Replay.{entries_of}
 use Rattle.dbtg_step.specs.Audit.{LeadsTo}
 use Rattle.dbtg_script.specs.Statements.{script}
 use Rattle.dbtg_script.specs.Texts.{run_text}
+use Rattle.dbtg_script.specs.Turns.{turns_refusal}
+use Rattle.dbtg_script.specs.WordTexts.{turns_text}
+use Rattle.dbtg.specs.declared.order.Order.TheVariants.{Turns}
 use Rattle.dbtg.specs.Refusals.{schema_in, is_count, AcceptsTexts}
+use Rattle.dbtg.specs.Replaying.{IsReplay}
 
 -- the entries are those of the script's statements, in order: of all, or of as many as a journal has room for
 pub record AreOf (script : List Statement) (entries : List Entry) : Type 0 where
@@ -28,16 +32,21 @@ pub record IsHistoryOfAll (lists : Lists) (capacity : ℕ) (scripts : List (List
 abbrev pub audit_line : List ℕ
 audit_line = codes "AUDIT EQUAL" ++ 10 ∷ []
 
--- the text is that of such a history: its answers, image and units, and the line of the audit
-pub record IsPrintedOnThreads (lists : Lists) (capacity : ℕ) (scripts : List (List Statement)) (out : List ℕ) : Type 0 where
+-- the text is that of such a history: its answers, image and units, and the line of the audit; and the turns are those of the
+-- units that made its entries
+pub record IsPrintedOnThreads (lists : Lists) (capacity : ℕ) (scripts : List (List Statement)) (out turns : List ℕ) : Type 0 where
   pub history : List Entry
   pub image : Image
   pub units : List Unit
   pub is_history : IsHistoryOfAll lists capacity scripts history image units
   pub is_text : out ≡ run_text lists history image.records image.lists image.next image.usage units ++ audit_line
+  pub are_turns : turns ≡ turns_text (map (λ e. e.unit) history)
 
--- 1 to 8 scripts, nothing is refused, and the text is what is printed of running on threads what the texts say
-pub record IsThreads (text : List ℕ) (scripts : List (List ℕ)) (capacity : ℕ) (out : List ℕ) : Type 0 where
+-- 1 to 8 scripts, nothing is refused, and the text is what is printed of running on threads what the texts say. The turns are
+-- accepted, and `replay` by them prints the same but for the last line
+pub record IsThreads (text : List ℕ) (scripts : List (List ℕ)) (capacity : ℕ) (out turns : List ℕ) : Type 0 where
   pub count : is_count (length scripts) ≡ true
   pub texts : AcceptsTexts text scripts
-  pub run : IsPrintedOnThreads (schema_in text) capacity (map (script (schema_in text)) scripts) out
+  pub run : IsPrintedOnThreads (schema_in text) capacity (map (script (schema_in text)) scripts) out turns
+  pub turns_too : turns_refusal turns ≡ None
+  pub again : (printed : List ℕ) → IsReplay text scripts (Turns turns) capacity printed → out ≡ printed ++ audit_line

@@ -9,6 +9,7 @@ ghost use Rattle.dbtg.specs.Sources.{ChecksHeld, ReadSchema, ReadScripts, ToldOf
 
 use crate::at_hand::AtHand;
 use crate::fault::Fault;
+use crate::order::Order;
 use crate::place::Place;
 use crate::reading::statements_of;
 use crate::source::Source;
@@ -84,7 +85,7 @@ pub fn check_bytes<'a>(
     let texts = AtHand {
         schema,
         scripts,
-        moves: None,
+        order: Order::Serial,
     };
     check(alloc, &texts)
 }

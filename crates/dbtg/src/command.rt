@@ -1,8 +1,10 @@
 //! The words of the command, read by `clap`.
 
 use crate::capacity::capacity_of;
+use crate::draw::Form;
 use crate::explain::{Topic, topic_of};
 use crate::files::STANDARD_INPUT;
+use crate::order::Order;
 use clap::error::ErrorKind;
 use clap::{Arg, ArgAction, ArgMatches, Command, Error};
 use std::alloc::{AllocError, Global};
@@ -18,17 +20,35 @@ pub enum Call<'a> {
     Replay {
         explains: bool,
         capacity: u16,
-        moves: Option<&'a str>,
+        order: Order<&'a str>,
         schema: &'a str,
         scripts: Vec<&'a str>,
     },
+    Turns(TurnsCall<'a>),
+    /// `saved` is where the turns of the run go.
     Threads {
         explains: bool,
         capacity: u16,
+        saved: Option<&'a str>,
         schema: &'a str,
         scripts: Vec<&'a str>,
     },
+    Draw {
+        explains: bool,
+        form: Form,
+        schema: &'a str,
+    },
     Explain(Topic),
+}
+
+/// What is wanted: the moves that turns stand for.
+#[derive(Drop)]
+pub struct TurnsCall<'a> {
+    pub explains: bool,
+    pub capacity: u16,
+    pub turns: &'a str,
+    pub schema: &'a str,
+    pub scripts: Vec<&'a str>,
 }
 
 fn schema_word<'a>(alloc: Global) -> Arg<'a> {
@@ -69,11 +89,28 @@ fn check_command<'a>(alloc: Global, name: &'a str) -> Result<Command<'a>, AllocE
         ))
 }
 
+fn svg_option<'a>(alloc: Global) -> Arg<'a> {
+    Arg::new(alloc, "svg")
+        .long("svg")
+        .action(ArgAction::SetTrue)
+        .help("Draws as SVG, with a layout of its own [default: the language of Graphviz]")
+}
+
+// The command `draw`, by the name that its usage shows.
+fn draw_command<'a>(alloc: Global, name: &'a str) -> Result<Command<'a>, AllocError> {
+    Command::new(alloc, name)
+        .about("Prints the diagram of a schema: record types, and the sets from owner to member")
+        .after_help("Examples: dbtg draw --svg shop.schema, dbtg draw shop.schema | dot -Tpng")
+        .arg(svg_option(alloc))?
+        .arg(explain_option(alloc))?
+        .arg(schema_word(alloc))
+}
+
 // The command `explain`, by the name that its usage shows.
 fn explain_command<'a>(alloc: Global, name: &'a str) -> Result<Command<'a>, AllocError> {
     Command::new(alloc, name)
         .about("Tells what a status or a fault means, when it comes and what to do next")
-        .override_usage("dbtg explain [CODE | schema N | script N | moves N]")
+        .override_usage("dbtg explain [CODE | schema N | script N | moves N | turns N]")
         .after_help("Examples: dbtg explain 0505, dbtg explain schema 7")
         .arg(
             Arg::new(alloc, "topic")
@@ -81,7 +118,7 @@ fn explain_command<'a>(alloc: Global, name: &'a str) -> Result<Command<'a>, Allo
                 .num_args(0..)
                 .action(ArgAction::Append)
                 .help(
-                    "A status of four digits, or the number of a fault: schema 1 to 18, script 1 to 14, moves 1 to 2 [default: a list of all]",
+                    "A status of four digits, or the number of a fault: schema 1 to 18, script 1 to 14, moves 1 to 2, turns 1 to 2 [default: a list of all]",
                 ),
         )
 }
@@ -105,21 +142,64 @@ fn moves_option<'a>(alloc: Global) -> Arg<'a> {
         )
 }
 
+fn turns_option<'a>(alloc: Global) -> Result<Arg<'a>, AllocError> {
+    Arg::new(alloc, "turns")
+        .long("turns")
+        .value_name("FILE")
+        .action(ArgAction::Set)
+        .help(
+            "The file of the turns, which say whose next statement is made, - for standard input; not with --moves",
+        )
+        .conflicts_with("moves")
+}
+
 // The command `replay`, by the name that its usage shows.
 fn replay_command<'a>(alloc: Global, name: &'a str) -> Result<Command<'a>, AllocError> {
     Command::new(alloc, name)
         .about("Runs scripts, and prints the answers, the database and the units")
         .after_help(
-            "Example: dbtg replay --capacity 10 --moves turns.moves shop.schema unit1.script unit2.script",
+            "Example: dbtg replay --capacity 10 --moves shop.moves shop.schema unit1.script unit2.script",
         )
         .arg(capacity_option(alloc))?
         .arg(moves_option(alloc))?
+        .arg(turns_option(alloc)?)?
         .arg(explain_option(alloc))?
         .arg(schema_word(alloc))?
         .arg(script_words(
             alloc,
             "Files of the scripts of units 1, 2, ..: 1 to 8 of them; - for standard input, once",
         ))
+}
+
+// The command `turns`, by the name that its usage shows.
+fn turns_command<'a>(alloc: Global, name: &'a str) -> Result<Command<'a>, AllocError> {
+    Command::new(alloc, name)
+        .about("Prints the moves that turns stand for, as a file of moves")
+        .after_help("Example: dbtg turns a.turns shop.schema unit1.script unit2.script")
+        .arg(capacity_option(alloc))?
+        .arg(explain_option(alloc))?
+        .arg(
+            Arg::new(alloc, "turns")
+                .value_name("FILE")
+                .required(true)
+                .action(ArgAction::Set)
+                .help("The file of the turns; - for standard input"),
+        )?
+        .arg(schema_word(alloc))?
+        .arg(script_words(
+            alloc,
+            "Files of the scripts of units 1, 2, ..: 1 to 8 of them; - for standard input, once",
+        ))
+}
+
+fn save_turns_option<'a>(alloc: Global) -> Arg<'a> {
+    Arg::new(alloc, "save-turns")
+        .long("save-turns")
+        .value_name("FILE")
+        .action(ArgAction::Set)
+        .help(
+            "The file to write the turns to by which replay --turns prints the same [default: they are not kept]",
+        )
 }
 
 // The command `threads`, by the name that its usage shows.
@@ -130,6 +210,7 @@ fn threads_command<'a>(alloc: Global, name: &'a str) -> Result<Command<'a>, Allo
         )
         .after_help("Example: dbtg threads --capacity 10 shop.schema unit1.script unit2.script")
         .arg(capacity_option(alloc))?
+        .arg(save_turns_option(alloc))?
         .arg(explain_option(alloc))?
         .arg(schema_word(alloc))?
         .arg(script_words(
@@ -151,7 +232,9 @@ pub fn command<'a>(alloc: Global) -> Result<Command<'a>, AllocError> {
         .after_help("Example: dbtg replay card.schema unit1.script")
         .subcommand(check_command(alloc, "check")?)?
         .subcommand(replay_command(alloc, "replay")?)?
+        .subcommand(turns_command(alloc, "turns")?)?
         .subcommand(threads_command(alloc, "threads")?)?
+        .subcommand(draw_command(alloc, "draw")?)?
         .subcommand(explain_command(alloc, "explain")?)
 }
 
@@ -198,12 +281,12 @@ fn check_inputs<'a>(
     command: &mut Command<'a>,
     schema: &str,
     scripts: &[&'a str],
-    moves: &str,
+    order: &str,
 ) -> Result<(), Error> {
     let is_schema = schema == STANDARD_INPUT;
-    let is_moves = moves == STANDARD_INPUT;
+    let is_order = order == STANDARD_INPUT;
     let inputs = count_inputs(scripts);
-    if inputs == 0 && !(is_schema && is_moves) || inputs == 1 && !is_schema && !is_moves {
+    if inputs == 0 && !(is_schema && is_order) || inputs == 1 && !is_schema && !is_order {
         return Ok(());
     }
     Err(command.error(
@@ -224,25 +307,66 @@ fn check_call<'a>(alloc: Global, given: &ArgMatches<'a>) -> Result<Call<'a>, Err
     })
 }
 
+// What says the order; the reader of the words takes one of the two options.
+fn order_wanted<'a>(given: &ArgMatches<'a>) -> Order<&'a str> {
+    if let Some(turns) = given.get_str("turns") {
+        return Order::Turns(turns);
+    }
+    match given.get_str("moves") {
+        Some(moves) => Order::Moves(moves),
+        None => Order::Serial,
+    }
+}
+
+fn order_path<'a>(order: Order<&'a str>) -> &'a str {
+    match order {
+        Order::Serial => "",
+        Order::Moves(path) => path,
+        Order::Turns(path) => path,
+    }
+}
+
 fn replay_call<'a>(alloc: Global, given: &ArgMatches<'a>) -> Result<Call<'a>, Error> {
     let schema = given.get_str("schema").unwrap_or("");
     let scripts = words_of(alloc, given, "scripts")?;
-    let moves = given.get_str("moves");
+    let order = order_wanted(given);
     let mut command = replay_command(alloc, "dbtg replay")?;
     let capacity = capacity_wanted(alloc, &mut command, given)?;
-    check_inputs(
-        &mut command,
-        schema,
-        scripts.as_slice(),
-        moves.unwrap_or(""),
-    )?;
+    check_inputs(&mut command, schema, scripts.as_slice(), order_path(order))?;
     Ok(Call::Replay {
         explains: given.get_flag("explain"),
         capacity,
-        moves,
+        order,
         schema,
         scripts,
     })
+}
+
+fn turns_call<'a>(alloc: Global, given: &ArgMatches<'a>) -> Result<Call<'a>, Error> {
+    let schema = given.get_str("schema").unwrap_or("");
+    let scripts = words_of(alloc, given, "scripts")?;
+    let turns = given.get_str("turns").unwrap_or("");
+    let mut command = turns_command(alloc, "dbtg turns")?;
+    let capacity = capacity_wanted(alloc, &mut command, given)?;
+    check_inputs(&mut command, schema, scripts.as_slice(), turns)?;
+    Ok(Call::Turns(TurnsCall {
+        explains: given.get_flag("explain"),
+        capacity,
+        turns,
+        schema,
+        scripts,
+    }))
+}
+
+// Standard input is read, and no turns go there.
+fn check_saved<'a>(command: &mut Command<'a>, saved: Option<&str>) -> Result<(), Error> {
+    if !matches!(saved, Some("-")) {
+        return Ok(());
+    }
+    Err(command.error(
+        ErrorKind::ArgumentConflict,
+        "the argument '-' cannot be used with '--save-turns <FILE>': turns are written to a file",
+    )?)
 }
 
 fn threads_call<'a>(alloc: Global, given: &ArgMatches<'a>) -> Result<Call<'a>, Error> {
@@ -250,13 +374,29 @@ fn threads_call<'a>(alloc: Global, given: &ArgMatches<'a>) -> Result<Call<'a>, E
     let scripts = words_of(alloc, given, "scripts")?;
     let mut command = threads_command(alloc, "dbtg threads")?;
     let capacity = capacity_wanted(alloc, &mut command, given)?;
+    let saved = given.get_str("save-turns");
     check_inputs(&mut command, schema, scripts.as_slice(), "")?;
+    check_saved(&mut command, saved)?;
     Ok(Call::Threads {
         explains: given.get_flag("explain"),
         capacity,
+        saved,
         schema,
         scripts,
     })
+}
+
+fn draw_call<'a>(given: &ArgMatches<'a>) -> Call<'a> {
+    let form = if given.get_flag("svg") {
+        Form::Svg
+    } else {
+        Form::Dot
+    };
+    Call::Draw {
+        explains: given.get_flag("explain"),
+        form,
+        schema: given.get_str("schema").unwrap_or(""),
+    }
 }
 
 fn explain_call<'a>(alloc: Global, given: &ArgMatches<'a>) -> Result<Call<'a>, Error> {
@@ -265,7 +405,7 @@ fn explain_call<'a>(alloc: Global, given: &ArgMatches<'a>) -> Result<Call<'a>, E
         Some(topic) => Ok(Call::Explain(topic)),
         None => Err(explain_command(alloc, "dbtg explain")?.error(
             ErrorKind::InvalidValue,
-            "no status and no fault is called so: a status of four digits is wanted, or schema, script or moves and the number of a fault; 'dbtg explain' lists all",
+            "no status and no fault is called so: a status of four digits is wanted, or schema, script, moves or turns and the number of a fault; 'dbtg explain' lists all",
         )?),
     }
 }
@@ -276,7 +416,9 @@ pub fn call_of<'a>(alloc: Global, words: &'a [String]) -> Result<Call<'a>, Error
     match matches.subcommand() {
         Some(("check", given)) => check_call(alloc, given),
         Some(("replay", given)) => replay_call(alloc, given),
+        Some(("turns", given)) => turns_call(alloc, given),
         Some(("threads", given)) => threads_call(alloc, given),
+        Some(("draw", given)) => Ok(draw_call(given)),
         Some(("explain", given)) => explain_call(alloc, given),
         _ => Err(Error::from(AllocError)),
     }

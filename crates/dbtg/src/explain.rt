@@ -1,4 +1,4 @@
-//! `explain`: what a status means, or a fault of a schema, a script or moves.
+//! `explain`: what a status means, or a fault of a schema, a script, moves or turns.
 ghost use Rattle.std.specs.Prelude.{IfSome};
 ghost use Rattle.dbtg.specs.Explaining.{IsAbout};
 
@@ -12,7 +12,7 @@ mod word;
 
 use causes::CAUSES;
 use dbtg_script::{is_number, number};
-use faults::{MOVES_FAULTS, SCHEMA_FAULTS, SCRIPT_FAULTS};
+use faults::{MOVES_FAULTS, SCHEMA_FAULTS, SCRIPT_FAULTS, TURNS_FAULTS};
 use row::{field, push_form, row_with};
 pub use schema_word::said_of_schema_word;
 use statuses::STATUSES;
@@ -25,6 +25,7 @@ pub enum Kind {
     Schema,
     Script,
     Moves,
+    Turns,
 }
 
 /// What is to be explained. Its rows are those of the code that was asked for.
@@ -74,6 +75,7 @@ fn faults_of(kind: Kind) -> &'static str {
         Kind::Schema => SCHEMA_FAULTS,
         Kind::Script => SCRIPT_FAULTS,
         Kind::Moves => MOVES_FAULTS,
+        Kind::Turns => TURNS_FAULTS,
     }
 }
 
@@ -90,6 +92,7 @@ fn kind_of(word: &str) -> Option<Kind> {
         b"schema" => Some(Kind::Schema),
         b"script" => Some(Kind::Script),
         b"moves" => Some(Kind::Moves),
+        b"turns" => Some(Kind::Turns),
         _ => None,
     }
 }
@@ -127,6 +130,7 @@ fn kind_row(kind: Kind) -> &'static [u8] {
         Kind::Schema => "schema|schema-language.md, Faults",
         Kind::Script => "script|scripts.md, Faults",
         Kind::Moves => "moves|events.md, Moves",
+        Kind::Turns => "turns|events.md, Turns",
     };
     row.as_bytes()
 }
@@ -218,7 +222,8 @@ fn push_all(out: &mut Vec<u8>) -> Result<(), AllocError> {
     push_statuses(out)?;
     push_faults(out, Kind::Schema)?;
     push_faults(out, Kind::Script)?;
-    push_faults(out, Kind::Moves)
+    push_faults(out, Kind::Moves)?;
+    push_faults(out, Kind::Turns)
 }
 
 /// What is printed of a topic.

@@ -2,10 +2,10 @@
 ghost use Rattle.std.specs.Prelude.{◌≡◌};
 ghost use Rattle.dbtg.specs.declared.fault.Fault.TheVariants.{Memory};
 ghost use Rattle.dbtg.specs.Refusals.{status_of};
-ghost use Rattle.dbtg.specs.Telling.{moves_fault, schema_fault, script_fault};
+ghost use Rattle.dbtg.specs.Telling.{moves_fault, schema_fault, script_fault, turns_fault};
 
 use dbtg_schema::{Cause as SchemaCause, SchemaFault};
-use dbtg_script::{Cause as ScriptCause, MovesCause, MovesFault, ScriptFault};
+use dbtg_script::{Cause as ScriptCause, MovesCause, MovesFault, ScriptFault, TurnsFault};
 use std::alloc::{AllocError, AllocFailed};
 use thiserror::Error;
 
@@ -31,6 +31,15 @@ pub enum Fault {
         word: u64,
         cause: MovesCause,
     },
+    /// The turns have a fault; this is their first.
+    #[error("turns fault {} word {word}", .cause.number())]
+    Turns {
+        word: u64,
+        cause: MovesCause,
+    },
+    /// The moves that the turns stand for are more than a text of moves may have.
+    #[error("moves over 1000000")]
+    MovesOver,
     /// A file cannot be read.
     #[error("cannot read {path}")]
     Unreadable {
@@ -96,9 +105,19 @@ impl Fault {
             MovesFault::Memory => Fault::Memory,
         }
     }
+
+    /// The fault of turns.
+    pub fn of_turns(fault: TurnsFault) -> Fault
+        ensures { result ≡ turns_fault fault }
+    {
+        match fault {
+            TurnsFault::Refused { word, cause } => Fault::Turns { word, cause },
+            TurnsFault::Memory => Fault::Memory,
+        }
+    }
 }
 
-/// The exit status: 1 for what is given to read, 2 for a wrong number of scripts, 3 for want of memory.
+/// The exit status: 1 for what is given to read and for too many moves, 2 for a wrong number of scripts, 3 for want of memory.
 pub fn status_of(fault: &Fault) -> u8
     ensures { result ≡ status_of fault.now }
 {

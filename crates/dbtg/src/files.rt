@@ -1,10 +1,11 @@
 //! Files as the source of the texts. No contract can say what a file has: that is what the reader of files says, and all that is
 //! proved here holds for each reader.
-ghost use Rattle.std.specs.Prelude.{◌≡◌, ℕ, List, IfErr, IfOk, is_some, length, map, option_map};
+ghost use Rattle.std.specs.Prelude.{◌≡◌, ℕ, List, IfErr, IfOk, length, map};
 ghost use Rattle.dbtg.specs.Files.{FileFails, FileHolds, IsUnread, most_of};
-ghost use Rattle.dbtg.specs.Sources.{HasPlace, StandsIn};
+ghost use Rattle.dbtg.specs.Sources.{HasPlace, StandsIn, kind_of, order_map};
 
 use crate::fault::Fault;
+use crate::order::{Order, OrderKind};
 use crate::place::Place;
 use crate::source::Source;
 use std::alloc::Global;
@@ -15,7 +16,7 @@ use std::io::{self, Input, Read};
 const SCHEMA_BYTES: u64 = 65_537;
 
 pub const SCRIPT_BYTES: u64 = 1_048_577;
-// Moves may be of any length.
+// Moves and turns may be of any length.
 const MOVES_BYTES: u64 = u64::MAX;
 
 /// The path that stands for standard input.
@@ -66,18 +67,20 @@ impl FileReader for HostRuntime {
 pub struct Paths<'a> {
     pub schema: &'a str,
     pub scripts: &'a [&'a str],
-    pub moves: Option<&'a str>,
+    pub order: Order<&'a str>,
 }
 
 impl<'a> Paths<'a> {
     fn path(&self, place: Place) -> &'a str
-        requires { HasPlace (length self.now.scripts.now) (is_some self.now.moves) place }
-        ensures { StandsIn self.now.schema.now (map (λ path. path.now) self.now.scripts.now) (option_map (λ path. path.now) self.now.moves) place result.now }
+        requires { HasPlace (length self.now.scripts.now) (kind_of self.now.order) place }
+        ensures { StandsIn self.now.schema.now (map (λ path. path.now) self.now.scripts.now) (order_map (λ path. path.now) self.now.order) place result.now }
     {
-        match place {
-            Place::Schema => self.schema,
-            Place::Script(number) => self.scripts[number - 1],
-            Place::Moves => self.moves.unwrap(),
+        match (place, self.order) {
+            (Place::Schema, _) => self.schema,
+            (Place::Script(number), _) => self.scripts[number - 1],
+            (Place::Moves, Order::Moves(path)) => path,
+            (Place::Turns, Order::Turns(path)) => path,
+            _ => unreachable!(),
         }
     }
 }
@@ -95,7 +98,7 @@ fn most_of(place: Place) -> u64
     match place {
         Place::Schema => SCHEMA_BYTES,
         Place::Script(_) => SCRIPT_BYTES,
-        Place::Moves => MOVES_BYTES,
+        Place::Moves | Place::Turns => MOVES_BYTES,
     }
 }
 
@@ -114,18 +117,18 @@ fn unread(alloc: Global, path: &str, error: &io::Error) -> Fault
 impl<'a, F: FileReader> Source for Files<'a, F> {
     ghost count = { λ s. length s.paths.now.scripts.now };
 
-    ghost has_moves = { λ s. is_some s.paths.now.moves };
+    ghost order = { λ s. kind_of s.paths.now.order };
 
-    ghost holds = { λ s place text. FileHolds (F.has s.reader.now) s.paths.now.schema.now (map (λ path. path.now) s.paths.now.scripts.now) (option_map (λ path. path.now) s.paths.now.moves) place text };
+    ghost holds = { λ s place text. FileHolds (F.has s.reader.now) s.paths.now.schema.now (map (λ path. path.now) s.paths.now.scripts.now) (order_map (λ path. path.now) s.paths.now.order) place text };
 
-    ghost fails = { λ s place fault. FileFails (F.lacks s.reader.now) s.paths.now.schema.now (map (λ path. path.now) s.paths.now.scripts.now) (option_map (λ path. path.now) s.paths.now.moves) place fault };
+    ghost fails = { λ s place fault. FileFails (F.lacks s.reader.now) s.paths.now.schema.now (map (λ path. path.now) s.paths.now.scripts.now) (order_map (λ path. path.now) s.paths.now.order) place fault };
 
     fn count(&self) -> usize {
         self.paths.scripts.len()
     }
 
-    fn has_moves(&self) -> bool {
-        self.paths.moves.is_some()
+    fn order(&self) -> OrderKind {
+        self.paths.order.kind()
     }
 
     fn read(&self, alloc: Global, place: Place) -> Result<Vec<u8>, Fault> {

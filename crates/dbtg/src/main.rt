@@ -5,9 +5,11 @@ mod at_hand;
 mod capacity;
 mod check;
 mod command;
+mod draw;
 mod explain;
 mod fault;
 mod files;
+mod order;
 mod place;
 mod reading;
 mod reason;
@@ -15,21 +17,25 @@ mod replay;
 mod source;
 mod texts;
 mod threads;
+mod turns;
 
 use check::check;
 use clap::error::ErrorKind;
-use command::{Call, call_of};
+use command::{Call, TurnsCall, call_of};
+use draw::{Form, draw};
 use explain::{Topic, explained};
 use fault::{Fault, status_of};
 use files::{Files, Paths};
+use order::Order;
 use reason::reason;
 use replay::replay;
-use std::env;
 use std::io::{self, Write};
 use std::process::ExitCode;
 use std::sync::Wait;
 use std::thread::Threads;
-use threads::run_on_threads;
+use std::{env, fs};
+use threads::{OnThreads, run_on_threads};
+use turns::moves_for_turns;
 
 fn told(rt: &HostRuntime, fault: &Fault) -> ExitCode {
     let _ = eprintln!(rt; "{fault}");
@@ -77,6 +83,16 @@ fn print_check(rt: &HostRuntime, paths: &Paths, explains: bool) -> ExitCode {
     print_or_tell(rt, check(rt.alloc(), &files), paths, explains)
 }
 
+fn print_drawing<'a>(rt: &'a HostRuntime, schema: &'a str, form: Form, explains: bool) -> ExitCode {
+    let scripts: Vec<&str> = Vec::new(rt.alloc());
+    let paths = paths_of(schema, scripts.as_slice(), Order::Serial);
+    let files = Files {
+        reader: rt,
+        paths: &paths,
+    };
+    print_or_tell(rt, draw(rt.alloc(), &files, form), &paths, explains)
+}
+
 fn print_replay(rt: &HostRuntime, paths: &Paths, capacity: u16, explains: bool) -> ExitCode {
     let files = Files { reader: rt, paths };
     print_or_tell(rt, replay(rt.alloc(), &files, capacity), paths, explains)
@@ -88,17 +104,45 @@ fn print_threads<R: Threads + Wait + Sync>(
     paths: &Paths,
     capacity: u16,
     explains: bool,
+    saved: Option<&str>,
 ) -> ExitCode {
     let files = Files { reader: rt, paths };
-    let given = run_on_threads(threads, rt.alloc(), &files, capacity);
-    print_or_tell(rt, given, paths, explains)
+    match run_on_threads(threads, rt.alloc(), &files, capacity) {
+        Ok(said) => print_saved(rt, &said, saved),
+        Err(fault) => told_of(rt, &fault, paths, explains),
+    }
 }
 
-fn paths_of<'a>(schema: &'a str, scripts: &'a [&'a str], moves: Option<&'a str>) -> Paths<'a> {
+// The turns into their file, where one is named, and then what is printed.
+fn print_saved(rt: &HostRuntime, said: &OnThreads, saved: Option<&str>) -> ExitCode {
+    if let Some(path) = saved {
+        if fs::write(rt, path, said.turns.as_slice()).is_err() {
+            let _ = eprintln!(rt; "cannot write {path}");
+            return ExitCode::FAILURE;
+        }
+    }
+    print_text(rt, said.printed.as_slice())
+}
+
+fn print_turns(rt: &HostRuntime, call: &TurnsCall) -> ExitCode {
+    let paths = Paths {
+        schema: call.schema,
+        scripts: call.scripts.as_slice(),
+        order: Order::Turns(call.turns),
+    };
+    let files = Files {
+        reader: rt,
+        paths: &paths,
+    };
+    let given = moves_for_turns(rt.alloc(), &files, call.capacity);
+    print_or_tell(rt, given, &paths, call.explains)
+}
+
+fn paths_of<'a>(schema: &'a str, scripts: &'a [&'a str], order: Order<&'a str>) -> Paths<'a> {
     Paths {
         schema,
         scripts,
-        moves,
+        order,
     }
 }
 
@@ -108,26 +152,37 @@ fn carry_out<R: Threads + Wait + Sync>(rt: &HostRuntime, threads: &R, call: &Cal
             explains,
             schema,
             scripts,
-        } => print_check(rt, &paths_of(*schema, scripts.as_slice(), None), *explains),
+        } => print_check(
+            rt,
+            &paths_of(*schema, scripts.as_slice(), Order::Serial),
+            *explains,
+        ),
         Call::Replay {
             explains,
             capacity,
-            moves,
+            order,
             schema,
             scripts,
         } => {
-            let paths = paths_of(*schema, scripts.as_slice(), *moves);
+            let paths = paths_of(*schema, scripts.as_slice(), *order);
             print_replay(rt, &paths, *capacity, *explains)
         }
+        Call::Turns(call) => print_turns(rt, call),
         Call::Threads {
             explains,
             capacity,
+            saved,
             schema,
             scripts,
         } => {
-            let paths = paths_of(*schema, scripts.as_slice(), None);
-            print_threads(rt, threads, &paths, *capacity, *explains)
+            let paths = paths_of(*schema, scripts.as_slice(), Order::Serial);
+            print_threads(rt, threads, &paths, *capacity, *explains, *saved)
         }
+        Call::Draw {
+            explains,
+            form,
+            schema,
+        } => print_drawing(rt, *schema, *form, *explains),
         Call::Explain(topic) => print_topic(rt, topic),
     }
 }

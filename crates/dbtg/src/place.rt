@@ -6,4 +6,5 @@ pub enum Place {
     Schema,
     Script(usize),
     Moves,
+    Turns,
 }

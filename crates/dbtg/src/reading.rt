@@ -6,13 +6,14 @@ ghost use Rattle.dbtg_schema.specs.Sound.{IsSound};
 ghost use Rattle.dbtg_script.specs.Moves.{refusal as moves_refusal};
 ghost use Rattle.dbtg_script.specs.StatementFaults.{refusal as script_refusal};
 ghost use Rattle.dbtg_script.specs.Statements.{script};
+ghost use Rattle.dbtg_script.specs.Turns.{turns_refusal};
 ghost use Rattle.dbtg_unit.specs.Fits.{fits};
-ghost use Rattle.dbtg.specs.Refusals.{RefusesMoves, RefusesSchema, RefusesScript, schema_in};
-ghost use Rattle.dbtg.specs.Replaying.{moves_in};
+ghost use Rattle.dbtg.specs.Refusals.{RefusesMoves, RefusesSchema, RefusesScript, RefusesTurns, schema_in};
+ghost use Rattle.dbtg.specs.Replaying.{moves_in, turns_in};
 
 use crate::fault::Fault;
 use dbtg_schema::{Row, Schema};
-use dbtg_script::{read_moves, read_script};
+use dbtg_script::{read_moves, read_script, read_turns};
 use dbtg_unit::{Move, Statement};
 use std::alloc::Global;
 
@@ -74,5 +75,17 @@ pub fn moves_of(alloc: Global, text: &[u8]) -> Result<Vec<Move>, Fault>
     match read_moves(alloc, text) {
         Ok(moves) => Ok(moves),
         Err(fault) => Err(Fault::of_moves(fault)),
+    }
+}
+
+/// The turns of a text.
+pub fn turns_of(alloc: Global, text: &[u8]) -> Result<Row<u8>, Fault>
+    ensures accepted { OnOk result (turns_refusal text.now ≡ None) }
+    ensures turns { IfOk result (λ turns. turns ≡ turns_in text.now) }
+    ensures refused { IfErr result (λ fault. RefusesTurns fault (turns_refusal text.now)) }
+{
+    match read_turns(alloc, text) {
+        Ok(turns) => Ok(turns),
+        Err(fault) => Err(Fault::of_turns(fault)),
     }
 }

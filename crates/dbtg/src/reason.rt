@@ -3,6 +3,7 @@
 use crate::explain::{Kind, advice_for, line_of, meaning_of, said_of_schema_word, said_of_word};
 use crate::fault::Fault;
 use crate::files::{FileReader, Files, Paths, SCRIPT_BYTES, STANDARD_INPUT};
+use crate::order::Order;
 use crate::texts::read_schema;
 use std::alloc::AllocError;
 use std::io;
@@ -182,6 +183,24 @@ fn push_schema(
     push_place(out, place.as_str(), word.as_slice(), meaning, other)
 }
 
+/// Puts what there is to say of a fault of the moves or turns behind a text.
+fn push_order(
+    rt: &HostRuntime,
+    paths: &Paths,
+    out: &mut Vec<u8>,
+    kind: Kind,
+    word: u64,
+    number: u8,
+) -> Result<(), AllocError> {
+    let path = match paths.order {
+        Order::Serial => "",
+        Order::Moves(path) => path,
+        Order::Turns(path) => path,
+    };
+    let place = format!(in rt.alloc(); "{path}: word {word}: ")?;
+    push_line(out, place.as_str(), meaning_of(kind, number), "")
+}
+
 /// The second line of a fault, where there is one.
 pub fn reason(
     rt: &HostRuntime,
@@ -200,14 +219,10 @@ pub fn reason(
             cause,
         } => push_script(rt, paths, &mut out, *number, *line, cause.number())?,
         Fault::Moves { word, cause } => {
-            let path = paths.moves.unwrap_or("");
-            let place = format!(in alloc; "{path}: word {word}: ")?;
-            push_line(
-                &mut out,
-                place.as_str(),
-                meaning_of(Kind::Moves, cause.number()),
-                "",
-            )?;
+            push_order(rt, paths, &mut out, Kind::Moves, *word, cause.number())?
+        }
+        Fault::Turns { word, cause } => {
+            push_order(rt, paths, &mut out, Kind::Turns, *word, cause.number())?
         }
         Fault::Unreadable { path } => return Ok(Some(unread_line(rt, path.as_str())?)),
         _ => return Ok(None),

@@ -1,19 +1,23 @@
 //! Running scripts, and the text of what comes of it.
-ghost use Rattle.std.specs.Prelude.{◌≡◌, ◌++◌, ◌≤◌, None, Some, IfErr, IfOk, OnOk, true, false, length, option_map};
+ghost use Rattle.std.specs.Prelude.{◌≡◌, ◌++◌, ◌≤◌, IfErr, IfOk, OnOk, true, false, length};
 ghost use Rattle.dbtg_schema.specs.Sound.{IsSound};
+ghost use Rattle.dbtg_script.specs.Texts.{moves_text};
+ghost use Rattle.dbtg_step.specs.Headline.{RunIs};
 ghost use Rattle.dbtg_step.specs.Laws.{scripts_fit};
+ghost use Rattle.dbtg_step.specs.Serial.{SerialRunIs};
 ghost use Rattle.dbtg.specs.Refusals.{RefusesReplay, is_count};
-ghost use Rattle.dbtg.specs.Replaying.{IsPrintedRun, IsReplay, given_text};
-ghost use Rattle.dbtg.specs.Sources.{ReadSchema, ReplaysHeld, ToldOfRun};
+ghost use Rattle.dbtg.specs.Replaying.{IsPrinted, IsReplay, RunByTurnsIs, given_text};
+ghost use Rattle.dbtg.specs.Sources.{ReadSchema, ReplaysHeld, ToldOfRun, order_map};
 ghost use Rattle.dbtg.specs.declared.fault.Fault.TheVariants.{ScriptCount};
 
 use crate::at_hand::AtHand;
 use crate::fault::Fault;
+use crate::order::{Order, OrderKind};
 use crate::source::Source;
-use crate::texts::{read_moves, read_schema, read_scripts};
+use crate::texts::{read_moves, read_schema, read_scripts, read_turns};
 use dbtg_schema::{Row, Schema};
 use dbtg_script::{moves_text, push_run};
-use dbtg_step::{Run, run, run_serial};
+use dbtg_step::{Run, run, run_serial, run_turns};
 use dbtg_unit::{Move, Statement};
 use std::alloc::{AllocError, Global};
 
@@ -59,7 +63,7 @@ pub fn serial_text(
     requires sound { IsSound schema.now }
     requires units { length scripts ≤ 255 }
     requires fit { scripts_fit schema.now scripts ≡ true }
-    ensures { IfOk result (λ out. IsPrintedRun schema.now capacity scripts None out.items) }
+    ensures { IfOk result (λ out. IsPrinted (SerialRunIs schema.now capacity scripts) (given_text schema.now) out.items) }
 {
     let given = run_serial(alloc, schema, capacity, scripts)?;
     let mut out = Vec::new(alloc);
@@ -78,7 +82,7 @@ pub fn moved_text(
     requires sound { IsSound schema.now }
     requires units { length scripts ≤ 255 }
     requires fit { scripts_fit schema.now scripts ≡ true }
-    ensures { IfOk result (λ out. IsPrintedRun schema.now capacity scripts (Some moves.now) out.items) }
+    ensures { IfOk result (λ out. IsPrinted (RunIs schema.now capacity scripts moves.now) (λ given. moves_text given.results ++ given_text schema.now given) out.items) }
 {
     let given = run(alloc, schema, capacity, scripts, moves)?;
     let mut out = moves_text(alloc, given.results.as_slice())?;
@@ -86,7 +90,26 @@ pub fn moved_text(
     Ok(out)
 }
 
-/// What is printed of the run of the scripts and the moves, over a schema that was read.
+/// Takes these turns. The moves that they stand for are not asked for.
+pub fn turned_text(
+    alloc: Global,
+    schema: &Schema,
+    capacity: u16,
+    scripts: Row<Row<Statement>>,
+    turns: &[u8],
+) -> Result<Vec<u8>, AllocError>
+    requires sound { IsSound schema.now }
+    requires units { length scripts ≤ 255 }
+    requires fit { scripts_fit schema.now scripts ≡ true }
+    ensures { IfOk result (λ out. IsPrinted (RunByTurnsIs schema.now capacity scripts turns.now) (given_text schema.now) out.items) }
+{
+    let given = run_turns(alloc, schema, capacity, scripts, turns, 0)?;
+    let mut out = Vec::new(alloc);
+    push_given(alloc, &mut out, schema, &given.run)?;
+    Ok(out)
+}
+
+/// What is printed of the run of the scripts in the order that is told, over a schema that was read.
 fn replay_known<S: Source>(
     alloc: Global,
     source: &S,
@@ -96,44 +119,49 @@ fn replay_known<S: Source>(
     requires counted { is_count (S.count source.now) ≡ true }
     requires read { ReadSchema (S.holds source.now) known.now }
     requires sound { IsSound known.now }
-    ensures done { IfOk result (λ out. ReplaysHeld (S.holds source.now) (S.count source.now) (S.has_moves source.now) capacity out.items) }
-    ensures refused { IfErr result (λ fault. ToldOfRun (S.holds source.now) (S.fails source.now) fault (S.count source.now) (S.has_moves source.now)) }
+    ensures done { IfOk result (λ out. ReplaysHeld (S.holds source.now) (S.count source.now) (S.order source.now) capacity out.items) }
+    ensures refused { IfErr result (λ fault. ToldOfRun (S.holds source.now) (S.fails source.now) fault (S.count source.now) (S.order source.now)) }
 {
     let scripts = read_scripts(alloc, source, known)?;
-    if source.has_moves() {
-        let moves = read_moves(alloc, source)?;
-        Ok(moved_text(alloc, known, capacity, scripts, moves.as_slice())?)
-    } else {
-        Ok(serial_text(alloc, known, capacity, scripts)?)
+    match source.order() {
+        OrderKind::Serial => Ok(serial_text(alloc, known, capacity, scripts)?),
+        OrderKind::Moves => {
+            let moves = read_moves(alloc, source)?;
+            Ok(moved_text(alloc, known, capacity, scripts, moves.as_slice())?)
+        }
+        OrderKind::Turns => {
+            let turns = read_turns(alloc, source)?;
+            Ok(turned_text(alloc, known, capacity, scripts, turns.as_slice())?)
+        }
     }
 }
 
-/// What `replay` prints of the schema, the scripts and the moves that a source gives, or the first fault. Without moves one script
-/// runs after the other.
+/// What `replay` prints of the schema, the scripts and the moves or turns that a source gives, or the first fault. Without moves and
+/// turns one script runs after the other.
 pub fn replay<S: Source>(alloc: Global, source: &S, capacity: u16) -> Result<Vec<u8>, Fault>
-    ensures done { IfOk result (λ out. ReplaysHeld (S.holds source.now) (S.count source.now) (S.has_moves source.now) capacity out.items) }
-    ensures refused { IfErr result (λ fault. ToldOfRun (S.holds source.now) (S.fails source.now) fault (S.count source.now) (S.has_moves source.now)) }
+    ensures done { IfOk result (λ out. ReplaysHeld (S.holds source.now) (S.count source.now) (S.order source.now) capacity out.items) }
+    ensures refused { IfErr result (λ fault. ToldOfRun (S.holds source.now) (S.fails source.now) fault (S.count source.now) (S.order source.now)) }
 {
     check_count(source.count())?;
     let known = read_schema(alloc, source)?;
     replay_known(alloc, source, &known, capacity)
 }
 
-/// What `replay` prints of a schema, scripts and moves at hand, or their first fault.
+/// What `replay` prints of a schema, scripts and moves or turns at hand, or their first fault.
 pub fn replay_bytes<'a>(
     alloc: Global,
     schema: &'a [u8],
     scripts: &'a [Row<u8>],
-    moves: Option<&'a [u8]>,
+    order: Order<&'a [u8]>,
     capacity: u16,
 ) -> Result<Vec<u8>, Fault>
-    ensures done { IfOk result (λ out. IsReplay schema.now scripts.now (option_map (λ m. m.now) moves.entry) capacity out.items) }
-    ensures refused { IfErr result (λ fault. RefusesReplay fault schema.now scripts.now (option_map (λ m. m.now) moves.entry)) }
+    ensures done { IfOk result (λ out. IsReplay schema.now scripts.now (order_map (λ t. t.now) order.entry) capacity out.items) }
+    ensures refused { IfErr result (λ fault. RefusesReplay fault schema.now scripts.now (order_map (λ t. t.now) order.entry)) }
 {
     let texts = AtHand {
         schema,
         scripts,
-        moves,
+        order,
     };
     replay(alloc, &texts, capacity)
 }

@@ -3,11 +3,12 @@ ghost use Rattle.std.specs.Prelude.{◌≡◌, ◌++◌, IfErr, IfOk, OnOk, leng
 ghost use Rattle.dbtg_schema.specs.Sound.{IsSound};
 ghost use Rattle.dbtg_script.specs.Statements.{script};
 ghost use Rattle.dbtg_step.specs.Laws.{scripts_fit};
-ghost use Rattle.dbtg.specs.Sources.{ReadMoves, ReadSchema, ReadScripts, ToldOfMoves, ToldOfSchema, ToldOfScripts};
+ghost use Rattle.dbtg.specs.declared.order.OrderKind.TheVariants.{Moves, Turns};
+ghost use Rattle.dbtg.specs.Sources.{ReadMoves, ReadSchema, ReadScripts, ReadTurns, ToldOfOrder, ToldOfSchema, ToldOfScripts};
 
 use crate::fault::Fault;
 use crate::place::Place;
-use crate::reading::{moves_of, schema_of, take_script};
+use crate::reading::{moves_of, schema_of, take_script, turns_of};
 use crate::source::Source;
 use dbtg_schema::{Row, Schema};
 use dbtg_unit::{Move, Statement};
@@ -41,10 +42,19 @@ pub fn read_scripts<S: Source>(
 }
 
 pub fn read_moves<S: Source>(alloc: Global, source: &S) -> Result<Vec<Move>, Fault>
-    requires { S.has_moves source.now ≡ true }
+    requires { S.order source.now ≡ Moves }
     ensures read { IfOk result (λ moves. ReadMoves (S.holds source.now) moves.items) }
-    ensures refused { IfErr result (λ fault. ToldOfMoves (S.holds source.now) (S.fails source.now) fault true) }
+    ensures refused { IfErr result (λ fault. ToldOfOrder (S.holds source.now) (S.fails source.now) fault Moves) }
 {
     let text = source.read(alloc, Place::Moves)?;
     moves_of(alloc, text.as_slice())
+}
+
+pub fn read_turns<S: Source>(alloc: Global, source: &S) -> Result<Row<u8>, Fault>
+    requires { S.order source.now ≡ Turns }
+    ensures read { IfOk result (λ turns. ReadTurns (S.holds source.now) turns) }
+    ensures refused { IfErr result (λ fault. ToldOfOrder (S.holds source.now) (S.fails source.now) fault Turns) }
+{
+    let text = source.read(alloc, Place::Turns)?;
+    turns_of(alloc, text.as_slice())
 }

@@ -1,11 +1,13 @@
 //! Running scripts on threads, and the text of what comes of it.
-ghost use Rattle.std.specs.Prelude.{◌≡◌, ◌++◌, IfErr, IfOk, false, length, true};
+ghost use Rattle.std.specs.Prelude.{◌≡◌, ◌++◌, IfErr, IfOk, length, map, true};
 ghost use Rattle.dbtg_schema.specs.Sound.{IsSound};
 ghost use Rattle.dbtg_script.specs.Texts.{run_text};
+ghost use Rattle.dbtg_script.specs.WordTexts.{turns_text};
 ghost use Rattle.dbtg_step.specs.Laws.{scripts_fit};
 ghost use Rattle.dbtg.specs.Refusals.{is_count};
 ghost use Rattle.dbtg.specs.Sources.{ThreadsHeld, ToldOfRun};
 ghost use Rattle.dbtg.specs.Threading.{IsPrintedOnThreads, audit_line};
+ghost use Rattle.dbtg.specs.declared.order.OrderKind.TheVariants.{Serial};
 
 use crate::fault::Fault;
 use crate::replay::check_count;
@@ -13,11 +15,18 @@ use crate::source::Source;
 use crate::texts::{read_schema, read_scripts};
 use dbtg_run::{Database, NoGate, Settled, run_units};
 use dbtg_schema::{Row, Schema};
-use dbtg_script::push_run;
-use dbtg_unit::Statement;
+use dbtg_script::{push_run, turns_text};
+use dbtg_unit::{Entry, Statement};
 use std::alloc::{AllocError, Global};
 use std::sync::Wait;
 use std::thread::Threads;
+
+/// What is printed of a run on threads, and the text of turns that says whose statement drew which ticket.
+#[derive(Drop)]
+pub struct OnThreads {
+    pub printed: Vec<u8>,
+    pub turns: Vec<u8>,
+}
 
 // Answers, image and units of a settled database, and the line of the audit. The audit is equal by proof: no other line is printed.
 fn settled_text(alloc: Global, settled: &Settled) -> Result<Vec<u8>, AllocError>
@@ -36,6 +45,25 @@ fn settled_text(alloc: Global, settled: &Settled) -> Result<Vec<u8>, AllocError>
     Ok(out)
 }
 
+// The units of a history, in the order of their tickets.
+fn units_in_turn(alloc: Global, history: &[Entry]) -> Result<Vec<u8>, AllocError>
+    ensures { IfOk result (λ units. units.items ≡ map (λ e. e.unit) history.now) }
+{
+    history.iter().map(|entry| entry.unit).collect(alloc)
+}
+
+// What a settled database has to say.
+fn said_of(alloc: Global, settled: &Settled) -> Result<OnThreads, AllocError>
+    ensures printed { IfOk result (λ said. said.printed.items ≡ run_text settled.now.schema settled.now.history settled.now.image.records settled.now.image.lists settled.now.image.next settled.now.image.usage settled.now.units ++ audit_line) }
+    ensures turns { IfOk result (λ said. said.turns.items ≡ turns_text (map (λ e. e.unit) settled.now.history)) }
+{
+    let units = units_in_turn(alloc, settled.history.as_slice())?;
+    Ok(OnThreads {
+        printed: settled_text(alloc, settled)?,
+        turns: turns_text(alloc, units.as_slice())?,
+    })
+}
+
 /// Runs each script by a unit of its own, on a thread of its own.
 fn threads_text<R: Threads + Wait + Sync>(
     rt: &R,
@@ -43,29 +71,30 @@ fn threads_text<R: Threads + Wait + Sync>(
     schema: Schema,
     capacity: u16,
     scripts: &[Row<Statement>],
-) -> Result<Vec<u8>, AllocError>
+) -> Result<OnThreads, AllocError>
     requires sound { IsSound schema }
     requires count { is_count (length scripts.now) ≡ true }
     requires fit { scripts_fit schema scripts.now ≡ true }
-    ensures { IfOk result (λ out. IsPrintedOnThreads schema capacity scripts.now out.items) }
+    ensures { IfOk result (λ said. IsPrintedOnThreads schema capacity scripts.now said.printed.items said.turns.items) }
 {
     let (db, units) = Database::make(alloc, schema, capacity, scripts.len() as u8)?;
     match run_units(rt, alloc, db, units, scripts, &NoGate) {
-        Ok(settled) => settled_text(alloc, &settled),
+        Ok(settled) => said_of(alloc, &settled),
         // All units of the database came, so it was memory that was refused.
         Err(_) => Err(AllocError),
     }
 }
 
-/// What `threads` prints of the schema and the scripts that a source gives, or the first fault.
+/// What `threads` prints of the schema and the scripts that a source gives, with the turns by which `replay` prints the same, or
+/// the first fault.
 pub fn run_on_threads<R: Threads + Wait + Sync, S: Source>(
     rt: &R,
     alloc: Global,
     source: &S,
     capacity: u16,
-) -> Result<Vec<u8>, Fault>
-    ensures done { IfOk result (λ out. ThreadsHeld (S.holds source.now) (S.count source.now) capacity out.items) }
-    ensures refused { IfErr result (λ fault. ToldOfRun (S.holds source.now) (S.fails source.now) fault (S.count source.now) false) }
+) -> Result<OnThreads, Fault>
+    ensures done { IfOk result (λ said. ThreadsHeld (S.holds source.now) (S.count source.now) capacity said.printed.items said.turns.items) }
+    ensures refused { IfErr result (λ fault. ToldOfRun (S.holds source.now) (S.fails source.now) fault (S.count source.now) Serial) }
 {
     check_count(source.count())?;
     let known = read_schema(alloc, source)?;

@@ -1,4 +1,4 @@
-//! What the faults of schemas, scripts and moves mean, as the tables of docs/profile say it: a fault's number, what it means,
+//! What the faults of schemas, scripts, moves and turns mean, as the tables of docs/profile say it: a fault's number, what it means,
 //! where it is found, and what to do next.
 
 /// The faults of a schema.
@@ -43,3 +43,8 @@ pub static SCRIPT_FAULTS: &str = "\
 pub static MOVES_FAULTS: &str = "\
 1|a word of another shape, or with a byte that is not one of these|at the word|Write u, u*k or Qu, with u from 1 to 99 and k from 1 to 1,000,000, without leading zeros.
 2|the word with which the total passes 1,000,000|at the word with which the total passes 1,000,000|Make fewer moves.";
+
+/// The faults of turns.
+pub static TURNS_FAULTS: &str = "\
+1|a word of another shape, a quit among them, or with a byte that is not one of these|at the word|Write u or u*k, with u from 1 to 99 and k from 1 to 1,000,000, without leading zeros.
+2|the word with which the total passes 1,000,000|at the word with which the total passes 1,000,000|Take fewer turns.";

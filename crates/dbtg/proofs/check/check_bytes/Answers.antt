@@ -1,5 +1,6 @@
-use Rattle.std.proofs.Common.{length, None}
+use Rattle.std.proofs.Common.{length}
 use Rattle.std.proofs.lemmas.Result.{IfErr-weaker, IfOk-weaker}
+use Rattle.dbtg.specs.declared.order.Order.TheVariants.{Serial}
 use Rattle.dbtg.specs.Checking.{IsCheck}
 use Rattle.dbtg.specs.Refusals.{RefusesTexts}
 use Rattle.dbtg.specs.Sources.{ChecksHeld, StandsIn, ToldOfTexts}
@@ -10,12 +11,12 @@ pub returns-clause-done : goal.returns-clause-done
 returns-clause-done c =
     let schema = c.args.schema.now in
     let scripts = c.args.scripts.now in
-    IfOk-weaker c.check.result (λ out. ChecksHeld (StandsIn schema scripts None) (length scripts) out.items) (λ out. IsCheck schema scripts out.items)
+    IfOk-weaker c.check.result (λ out. ChecksHeld (StandsIn schema scripts Serial) (length scripts) out.items) (λ out. IsCheck schema scripts out.items)
     (λ out held. at_hand_check schema scripts out.items held) c.check.ensures.done
 
 pub returns-clause-refused : goal.returns-clause-refused
 returns-clause-refused c =
     let schema = c.args.schema.now in
     let scripts = c.args.scripts.now in
-    IfErr-weaker c.check.result (λ fault. ToldOfTexts (StandsIn schema scripts None) OnlyMemory fault (length scripts)) (λ fault. RefusesTexts fault schema scripts)
-    (λ fault told. texts_told fault schema scripts None told) c.check.ensures.refused
+    IfErr-weaker c.check.result (λ fault. ToldOfTexts (StandsIn schema scripts Serial) OnlyMemory fault (length scripts)) (λ fault. RefusesTexts fault schema scripts)
+    (λ fault told. texts_told fault schema scripts Serial told) c.check.ensures.refused

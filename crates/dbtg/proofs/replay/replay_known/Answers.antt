@@ -1,19 +1,22 @@
-use Rattle.std.proofs.Common.{◌≡◌, Bool, true, false, Some, None, sym, ◌∙◌}
-use Rattle.dbtg.proofs.TextsRead.{replays}
+use Rattle.std.proofs.Common.{◌≡◌, sym, ◌∙◌}
+use Rattle.dbtg.specs.declared.order.OrderKind.TheVariants as kind
+use Rattle.dbtg.proofs.TextsRead.{replays_moves, replays_serially, replays_turns}
 use Rattle.dbtg.proofs.replay.replay_known.Goals as goal
 
-pub returns-in_ok-moved_text-clause-done : goal.returns-in_ok-moved_text-clause-done
-returns-in_ok-moved_text-clause-done g c =
-    let has : g.S.Source.has_moves c.args.source.now ≡ true = sym c.has_moves.ensures ∙ c.if-has_moves.true in
+pub returns-in_ok-serial_text-in-Serial-clause-done : goal.returns-in_ok-serial_text-in-Serial-clause-done
+returns-in_ok-serial_text-in-Serial-clause-done g c =
+    let which : g.S.Source.order c.args.source.now ≡ kind.Serial = sym c.order.ensures ∙ c.in-Serial.is in
     let read = c.in_ok-scripts.ensures.read in
-    let moves = c.in_ok-moves.ensures.read in
-    let same = c.as_slice.ensures.value ∙ moves.says in
-    rw has (replays _ c.args.known.now _ (Some moves.text) c.args.capacity _ c.requires.counted c.requires.read read.0 moves.held moves.accepted
-    (rw (sym read.1, sym same) c.in_ok-moved_text.ensures))
+    rw which (replays_serially _ c.args.known.now _ c.args.capacity _ c.requires.counted c.requires.read read.0 _ read.1 c.in_ok-serial_text-in-Serial.ensures)
 
-pub returns-in_ok-serial_text-clause-done : goal.returns-in_ok-serial_text-clause-done
-returns-in_ok-serial_text-clause-done g c =
-    let has : g.S.Source.has_moves c.args.source.now ≡ false = sym c.has_moves.ensures ∙ c.if-has_moves.false in
+pub returns-in_ok-moved_text-in-Moves-clause-done : goal.returns-in_ok-moved_text-in-Moves-clause-done
+returns-in_ok-moved_text-in-Moves-clause-done g c =
+    let which : g.S.Source.order c.args.source.now ≡ kind.Moves = sym c.order.ensures ∙ c.in-Moves.is in
     let read = c.in_ok-scripts.ensures.read in
-    rw has (replays _ c.args.known.now _ None c.args.capacity _ c.requires.counted c.requires.read read.0 tt tt
-    (rw (sym read.1) c.in_ok-serial_text.ensures))
+    rw which (replays_moves _ c.args.known.now _ c.args.capacity _ c.requires.counted c.requires.read read.0 _ read.1 _ _ c.in_ok-moves-in-Moves.ensures.read c.as_slice.ensures.value c.in_ok-moved_text-in-Moves.ensures)
+
+pub returns-in_ok-turned_text-in-Turns-clause-done : goal.returns-in_ok-turned_text-in-Turns-clause-done
+returns-in_ok-turned_text-in-Turns-clause-done g c =
+    let which : g.S.Source.order c.args.source.now ≡ kind.Turns = sym c.order.ensures ∙ c.in-Turns.is in
+    let read = c.in_ok-scripts.ensures.read in
+    rw which (replays_turns _ c.args.known.now _ c.args.capacity _ c.requires.counted c.requires.read read.0 _ read.1 _ _ c.in_ok-turns-in-Turns.ensures.read c.as_slice-in-Turns.ensures c.in_ok-turned_text-in-Turns.ensures)

@@ -1,7 +1,7 @@
 use Rattle.std.proofs.Common.{inl, inr, sym, ap, ◌∙◌}
 use Rattle.std.proofs.lemmas.Result.{err_from_is_err_and}
 use Rattle.dbtg.specs.Refusals.{is_count}
-use Rattle.dbtg.proofs.TextsRead.{runs_on_threads}
+use Rattle.dbtg.proofs.SavedTurns.{runs_on_threads}
 use Rattle.dbtg.proofs.threads.run_on_threads.Goals as goal
 
 pub returns-in_err-scripts-clause-refused : goal.returns-in_err-scripts-clause-refused
@@ -15,5 +15,5 @@ returns-clause-done g c =
     let right = ap is_count (sym c.count.ensures) ∙ c.in_ok-check_count.ensures.right in
     let read = c.in_ok-scripts.ensures.read in
     let same = c.as_slice.ensures ∙ read.1 in
-    runs_on_threads _ c.in_ok-known.known _ c.args.capacity _ right c.in_ok-known.ensures.read read.0
+    runs_on_threads _ c.in_ok-known.known _ c.args.capacity _ _ right c.in_ok-known.ensures.read read.0
     (rw (sym same) c.in_ok-threads_text.ensures)

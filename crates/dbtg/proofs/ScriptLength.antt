@@ -1,0 +1,61 @@
+-- A script that is accepted has at most 65,535 statements.
+use Rattle.std.proofs.Common.{◌≡◌, ℕ, ◌+◌, ◌<◌, ◌≤◌, ◌&&◌, Bool, true, false, cond, not, List, [], ◌∷◌, ◌++◌, length, map, Some, None, refl, arith, nat_le}
+use Rattle.std.proofs.lemmas.Bool.{leb-false}
+use Rattle.dbtg_schema.specs.Lists.{Lists}
+use Rattle.dbtg_schema.specs.Lookups.{first}
+use Rattle.dbtg_unit.specs.declared.statement.Statement.{Statement}
+use Rattle.dbtg_script.specs.declared.fault.Fault.{Fault}
+use Rattle.dbtg_script.specs.declared.fault.Cause.{Cause}
+use Rattle.dbtg_script.specs.declared.fault.Cause.TheVariants as cause
+use Rattle.dbtg_script.specs.Lines.{is_allowed, is_statement, lines, trimmed}
+use Rattle.dbtg_script.specs.StatementGrammar.{fits, statement}
+use Rattle.dbtg_script.specs.Tokens.{tokens}
+use Rattle.dbtg_schema.specs.Forms.{labels}
+use Rattle.dbtg_script.specs.Statements.{prepend, script, statement_of, statements_of}
+use Rattle.dbtg_script.specs.StatementFaults.{count_after, faults, line_faults, lines_faults, refusal, statement_faults, too_long, when}
+
+none_in_front : {X : Type 0} (xs ys : List X) → xs ++ ys ≡ [] → xs ≡ []
+none_in_front [] ys e = refl
+none_in_front (x ∷ xs) ys e = absurd (cc (e))
+
+none_behind : {X : Type 0} (xs ys : List X) → xs ++ ys ≡ [] → ys ≡ []
+none_behind [] ys e = e
+none_behind (x ∷ xs) ys e = absurd (cc (e))
+
+none_mapped : {X Y : Type 0} (f : X → Y) (xs : List X) → map f xs ≡ [] → xs ≡ []
+none_mapped f [] e = refl
+none_mapped f (x ∷ xs) e = absurd (cc (e))
+
+none_first : {X : Type 0} (xs : List X) → first xs ≡ None → xs ≡ []
+none_first [] e = refl
+none_first (x ∷ xs) e = absurd (cc (e))
+
+not_when : (b : Bool) (c : Cause) → when b c ≡ [] → b ≡ false
+not_when true c e = absurd (cc (e))
+not_when false c e = refl
+
+-- a line that has no fault leaves room for what it holds
+room : (b : Bool) (count : ℕ) (s : Statement) (ss : List Statement) → count ≤ 65535 → when (b && nat_le 65535 count) cause.TooMuch ≡ []
+    → (cond b (count + 1) count ≤ 65535 → cond b (count + 1) count + length ss ≤ 65535) → count + length (prepend (cond b (Some s) None) ss) ≤ 65535
+room true count s ss few none then =
+    let below : count < 65535 = leb-false 65535 count (not_when (nat_le 65535 count) cause.TooMuch none) in
+    let all = then (omega (arith, below)) in omega (arith, all)
+room false count s ss few none then = then few
+
+few_in_lines : (schema : Lists) (count number : ℕ) (ls : List (List ℕ)) → count ≤ 65535 → lines_faults schema count number ls ≡ [] → count + length (statements_of schema ls) ≤ 65535
+few_in_lines schema count number [] few none = omega (arith, few)
+few_in_lines schema count number (l ∷ ls) few none =
+    let line = trimmed l in
+    let said : Cause → Fault = λ c. record { line = number; cause = c } in
+    let others = lines_faults schema (count_after count line) (number + 1) ls in
+    let here : line_faults schema count line ≡ [] = none_mapped said (line_faults schema count line) (none_in_front (map said (line_faults schema count line)) others none) in
+    let behind : others ≡ [] = none_behind (map said (line_faults schema count line)) others none in
+    let ample : when (is_statement line && nat_le 65535 count) cause.TooMuch ≡ [] = none_in_front _ (when (not (is_allowed line)) cause.LineNotAllowed) (none_in_front _ (cond (is_statement line) (statement_faults schema line) []) here) in
+    room (is_statement line) count (statement_of schema (labels fits statement (tokens false line))) (statements_of schema ls) few ample
+    (λ most. few_in_lines schema (count_after count line) (number + 1) ls most behind)
+
+pub few_statements : (schema : Lists) (text : List ℕ) → refusal schema text ≡ None → length (script schema text) ≤ 65535
+few_statements schema text accepted =
+    let none = none_behind (too_long text) _ (none_first (faults schema text) accepted) in
+    let few = few_in_lines schema 0 1 (lines text) (omega arith) none in
+    omega (arith, few)

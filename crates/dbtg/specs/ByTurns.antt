@@ -1,0 +1,50 @@
+-- What `turns` prints: the moves that turns stand for.
+-- text, scripts and turns are bytes, lists the schema that a text says.
+use Rattle.std.specs.Prelude.{ℕ, ◌≡◌, ◌<◌, ◌++◌, true, List, None, map, length}
+use Rattle.dbtg_schema.specs.Lists.{Lists}
+use Rattle.dbtg_unit.specs.declared.moves.Move.{Move}
+use Rattle.dbtg_unit.specs.declared.moves.Stepped.{Stepped}
+use Rattle.dbtg_unit.specs.declared.statement.Statement.{Statement}
+use Rattle.dbtg_step.specs.declared.results.Run.{Run}
+use Rattle.dbtg_step.specs.Turns.{IsRunByTurns}
+use Rattle.dbtg_script.specs.Moves.{refusal as moves_refusal}
+use Rattle.dbtg_script.specs.Statements.{script}
+use Rattle.dbtg_script.specs.Texts.{moves_text}
+use Rattle.dbtg_script.specs.Turns.{turns_refusal}
+use Rattle.dbtg_script.specs.WordTexts.{moves_words_text}
+use Rattle.dbtg.specs.declared.fault.Fault.{Fault}
+use Rattle.dbtg.specs.declared.fault.Fault.TheVariants as fault
+use Rattle.dbtg.specs.declared.order.Order.TheVariants.{Moves, Turns}
+use Rattle.dbtg.specs.Refusals.{schema_in, is_count, AcceptsTexts}
+use Rattle.dbtg.specs.Replaying.{IsReplay, moves_in, turns_in}
+
+-- these turns stand for these moves: there is such a run
+abbrev pub StandFor : Lists → ℕ → List (List Statement) → List ℕ → List Move → Type 0
+StandFor lists capacity scripts turns moves = (given : Run) × IsRunByTurns lists capacity scripts turns moves given
+
+-- the text is accepted as one of moves, and says those for which the turns stand, as moves are printed
+pub record AreMovesOf (lists : Lists) (capacity : ℕ) (scripts : List (List Statement)) (turns : List ℕ) (out : List ℕ) : Type 0 where
+  pub accepted : moves_refusal out ≡ None
+  pub stand : StandFor lists capacity scripts turns (moves_in out)
+  pub is_text : out ≡ moves_words_text (moves_in out)
+
+-- the turns stand for more moves than a text of moves may have, and the fault says so, unless memory ran out
+abbrev pub AreMoreMoves : Lists → ℕ → List (List Statement) → List ℕ → Fault → Type 0
+AreMoreMoves lists capacity scripts turns fault.Memory = Unit {0}
+AreMoreMoves lists capacity scripts turns fault.MovesOver = (moves : List Move) × StandFor lists capacity scripts turns moves × (1000000 < length moves)
+AreMoreMoves lists capacity scripts turns (fault.Schema line cause) = ⊥
+AreMoreMoves lists capacity scripts turns (fault.Script n line cause) = ⊥
+AreMoreMoves lists capacity scripts turns (fault.Moves word cause) = ⊥
+AreMoreMoves lists capacity scripts turns (fault.Turns word cause) = ⊥
+AreMoreMoves lists capacity scripts turns (fault.Unreadable path) = ⊥
+AreMoreMoves lists capacity scripts turns fault.ScriptCount = ⊥
+
+-- 1 to 8 scripts, nothing is refused, and the text says the moves for which the turns stand. So `replay` of these moves prints,
+-- behind its line of moves, just what `replay` by the turns prints
+pub record IsMovesText (text : List ℕ) (scripts : List (List ℕ)) (turns : List ℕ) (capacity : ℕ) (out : List ℕ) : Type 0 where
+  pub count : is_count (length scripts) ≡ true
+  pub texts : AcceptsTexts text scripts
+  pub turns_too : turns_refusal turns ≡ None
+  pub moves : AreMovesOf (schema_in text) capacity (map (script (schema_in text)) scripts) (turns_in turns) out
+  pub replayed : (by_moves by_turns : List ℕ) → IsReplay text scripts (Moves out) capacity by_moves → IsReplay text scripts (Turns turns) capacity by_turns
+      → (results : List Stepped) × (by_moves ≡ moves_text results ++ by_turns)

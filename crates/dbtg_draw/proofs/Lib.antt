@@ -1,0 +1,2 @@
+pub mod FewBlocks
+pub mod LaidOut

@@ -1,0 +1,6 @@
+pub mod Lines
+pub mod Dot
+pub mod Columns
+pub mod Layout
+pub mod Svg
+pub mod Laws
