@@ -61,11 +61,11 @@ all_one journal order filled zero d below = filled
 all_one journal order filled (suc k) d below = absurd (omega arith)
 
 -- one order more of those in a list
-pub all_more : (a b : List Entry) (orders : List Order) (i : ℕ) (order : Order) → i < length orders → order ≡ get_or orders i order → Begins a b
-    → All (IsFilled a) (take i orders) → IsFilled b order → All (IsFilled b) (take (i + 1) orders)
-all_more a b orders i order below is grown all filled =
-    subst (All (IsFilled b)) (sym (take_more orders i order below ∙ ap (λ y. take i orders ++ y ∷ []) (sym is)))
-    (All-append (IsFilled b) (take i orders) (order ∷ []) (λ k d within. filled_more a b (get_or (take i orders) k d) grown (all k d within)) (all_one b order filled))
+pub all_more : (a b : List Entry) (orders : List Order) (i : ℕ) (d : Order) → i < length orders → Begins a b → All (IsFilled a) (take i orders)
+    → IsFilled b (get_or orders i d) → All (IsFilled b) (take (i + 1) orders)
+all_more a b orders i d below grown all filled =
+    subst (All (IsFilled b)) (sym (take_more orders i d below))
+    (All-append (IsFilled b) (take i orders) (get_or orders i d ∷ []) (λ k e within. filled_more a b (get_or (take i orders) k e) grown (all k e within)) (all_one b (get_or orders i d) filled))
 
 pub all_filled : (journal : List Entry) (orders : List Order) (i : ℕ) → length orders ≤ i → All (IsFilled journal) (take i orders) → All (IsFilled journal) orders
 all_filled journal orders i end all = subst (All (IsFilled journal)) (take_all i orders end) all
