@@ -5,7 +5,8 @@ ghost use Rattle.std.specs.Prelude.{◌≡◌, IfOk, MatchOption, true};
 ghost use Rattle.dbtg_schema.specs.Sound.{IsSound};
 ghost use Rattle.dbtg_unit.specs.Replay.{IsHistoryOf};
 ghost use Rattle.inventory_clerks.specs.Auditing.{IsTextOf, text_of};
-ghost use Rattle.inventory_clerks.specs.Staff.{IsStaffed};
+ghost use Rattle.inventory_clerks.specs.Orders.{rounds_of};
+ghost use Rattle.inventory_clerks.specs.Staff.{HaveFilled, IsStaffed};
 
 mod clerk;
 mod order;
@@ -90,10 +91,13 @@ const SECOND_ORDERS: [Order; 3] = [
     },
 ];
 
-// The orders of all rounds.
-fn all_rounds(alloc: Global, orders: &[Order]) -> Result<Vec<Order>, AllocError> {
+// The orders of so many rounds.
+#[tactic(auto, using(crate::proofs::Rounds::no_round, crate::proofs::Rounds::one_round_more))]
+fn all_rounds(alloc: Global, orders: &[Order], rounds: usize) -> Result<Vec<Order>, AllocError>
+    ensures { IfOk result (λ all. all.items ≡ rounds_of rounds orders.now) }
+{
     let mut all = Vec::new(alloc);
-    for _ in 0..ROUNDS {
+    'rounds: for _round in 0..rounds {
         all.extend_from_slice(orders)?;
     }
     Ok(all)
@@ -124,6 +128,7 @@ fn work_day<R: Threads + Wait + Sync>(
 ) -> Result<Settled, Stop>
     requires staffed { IsStaffed house }
     ensures schema { IfOk result (λ settled. settled.schema ≡ house.db.schema) }
+    ensures filled { IfOk result (HaveFilled first_orders.now second_orders.now) }
 {
     let house = fill_orders(rt, alloc, house, first_orders, second_orders)?;
     close_house(alloc, house)
@@ -131,10 +136,11 @@ fn work_day<R: Threads + Wait + Sync>(
 
 // The database at the end of the day.
 fn day<R: Threads + Wait + Sync>(rt: &R, alloc: Global) -> Result<Settled, Stop>
-    ensures { IfOk result (λ settled. IsSound settled.schema) }
+    ensures sound { IfOk result (λ settled. IsSound settled.schema) }
+    ensures filled { IfOk result (HaveFilled (rounds_of ROUNDS FIRST_ORDERS) (rounds_of ROUNDS SECOND_ORDERS)) }
 {
-    let firsts = all_rounds(alloc, &FIRST_ORDERS)?;
-    let seconds = all_rounds(alloc, &SECOND_ORDERS)?;
+    let firsts = all_rounds(alloc, &FIRST_ORDERS, ROUNDS)?;
+    let seconds = all_rounds(alloc, &SECOND_ORDERS, ROUNDS)?;
     let house = morning(rt, alloc, INVENTORY, FIRST_SCRIPT, SECOND_SCRIPT)?;
     work_day(rt, alloc, house, firsts.as_slice(), seconds.as_slice())
 }
