@@ -22,7 +22,6 @@ use Rattle.dbtg_run.specs.contracts.unit.RunUnit as RunUnit
 use Rattle.dbtg_run.specs.contracts.unit.RunUnit.TheInside as inside
 use Rattle.dbtg_run.specs.contracts.database.Database as Database
 use Rattle.inventory_clerks.specs.contracts.order.Order as Order
-use Rattle.inventory_clerks.specs.contracts.order.Stop as Stop
 
 cell_send : IsSend Cell.the_row
 cell_send = search (sendable, crosses) depth 60 fits 20000
@@ -68,6 +67,3 @@ database_sync = search (sendable, crosses, shared_sync, lease_sync, cell_send, s
 
 pub order_sync : IsSync Order.the_row
 order_sync = search (sendable, crosses) depth 60 fits 20000
-
-pub stop_send : IsSend Stop.the_row
-stop_send = search (sendable, crosses) depth 60 fits 20000

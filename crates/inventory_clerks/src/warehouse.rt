@@ -89,7 +89,6 @@ pub fn open_house<R: Wait>(
 type Back = (RunUnit, Result<(), Stop>);
 
 // Both clerks fill their orders, each on a thread of his own.
-#[tactic(auto, using(crate::proofs::Crosses::database_sync, crate::proofs::Crosses::order_sync, crate::proofs::Crosses::unit_send))]
 fn side_by_side<R: Threads + Wait + Sync>(
     rt: &R,
     alloc: Global,
