@@ -21,6 +21,7 @@ use Rattle.dbtg_run.specs.contracts.work.Work as Work
 use Rattle.dbtg_run.specs.contracts.unit.RunUnit as RunUnit
 use Rattle.dbtg_run.specs.contracts.unit.RunUnit.TheInside as inside
 use Rattle.dbtg_run.specs.contracts.database.Database as Database
+use Rattle.inventory_clerks.specs.contracts.order.Order as Order
 
 cell_send : IsSend Cell.the_row
 cell_send = search (sendable, crosses) depth 60 fits 20000
@@ -63,3 +64,6 @@ lease_sync T A g s f = record { shared = λ d b o ν q. part_keyless (Lease.the_
 
 pub database_sync : IsSync Database.the_row
 database_sync = search (sendable, crosses, shared_sync, lease_sync, cell_send, schema_sync) depth 60 fits 20000
+
+pub order_sync : IsSync Order.the_row
+order_sync = search (sendable, crosses) depth 60 fits 20000

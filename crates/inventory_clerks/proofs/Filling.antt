@@ -18,54 +18,6 @@ append_none : (xs : List Entry) → xs ≡ xs ++ []
 append_none [] = refl
 append_none (x ∷ xs) = ap (λ l. x ∷ l) (append_none xs)
 
-pub begins_same : (a : List Entry) → Begins a a
-begins_same a = record { more = []; is = append_none a }
-
-pub begins_then : (a b c : List Entry) → Begins a b → Begins b c → Begins a c
-begins_then a b c p q = record { more = p.more ++ q.more; is = q.is ∙ (ap (λ l. l ++ q.more) p.is ∙ append_assoc a p.more q.more) }
-
--- a statement that is done
-pub begins_done : (about : About) (a b : List Entry) (u : Unit) (x : Statement) (answer : Answer) → IsDone about a b u x answer → Begins a b
-begins_done about a b u x answer D = record { more = entry (length D.before) u.number x answer ∷ []; is = D.journal }
-
--- three statements that are done
-pub read_by : (about : About) (code stock : ℕ) (a b c d : List Entry) (u v w : Unit) (x y z : Answer)
-    → IsDone about a b u (find_of code) x → IsDone about b c v Keep y → IsDone about c d w (Get None) z
-    → x.status ≡ Done → y.status ≡ Done → stock_shown z ≡ Some stock → HasRead code stock a d
-read_by about code stock a b c d u v w x y z P Q R p q r =
-    let e = entry (length P.before) u.number (find_of code) x in
-    let f = entry (length Q.before) v.number Keep y in
-    let g = entry (length R.before) w.number (Get None) z in
-    record {
-      found = e;
-      kept = f;
-      got = g;
-      journal = R.journal ∙ (ap (λ l. l ++ g ∷ []) (Q.journal ∙ (ap (λ l. l ++ f ∷ []) P.journal ∙ append_assoc a (e ∷ []) (f ∷ []))) ∙ append_assoc a (e ∷ f ∷ []) (g ∷ []));
-      found_is = refl;
-      kept_is = refl;
-      got_is = refl;
-      found_done = p;
-      kept_done = q;
-      shown = r;
-    }
-
--- what was read is changed
-pub filled_by : (about : About) (order : Order) (stock left : ℕ) (a b c : List Entry) (u : Unit) (x : Answer)
-    → HasRead order.code stock a b → IsDone about b c u (change_of left) x → is_after order stock left → x.status ≡ Done → IsFilled c order
-filled_by about order stock left a b c u x read D is done = record {
-  before = a;
-  after = [];
-  read = b;
-  changed = entry (length D.before) u.number (change_of left) x;
-  stock = stock;
-  left = left;
-  has_read = read;
-  journal_is = D.journal;
-  changed_is = refl;
-  left_is = is;
-  is_done = done;
-}
-
 -- an order that is filled stays so
 pub filled_more : (a b : List Entry) (order : Order) → Begins a b → IsFilled a order → IsFilled b order
 filled_more a b order p f = record {
@@ -109,11 +61,11 @@ all_one journal order filled zero d below = filled
 all_one journal order filled (suc k) d below = absurd (omega arith)
 
 -- one order more of those in a list
-pub all_more : (a b : List Entry) (orders : List Order) (i : ℕ) (order : Order) → i < length orders → order ≡ get_or orders i order → Begins a b
-    → All (IsFilled a) (take i orders) → IsFilled b order → All (IsFilled b) (take (i + 1) orders)
-all_more a b orders i order below is grown all filled =
-    subst (All (IsFilled b)) (sym (take_more orders i order below ∙ ap (λ y. take i orders ++ y ∷ []) (sym is)))
-    (All-append (IsFilled b) (take i orders) (order ∷ []) (λ k d within. filled_more a b (get_or (take i orders) k d) grown (all k d within)) (all_one b order filled))
+pub all_more : (a b : List Entry) (orders : List Order) (i : ℕ) (d : Order) → i < length orders → Begins a b → All (IsFilled a) (take i orders)
+    → IsFilled b (get_or orders i d) → All (IsFilled b) (take (i + 1) orders)
+all_more a b orders i d below grown all filled =
+    subst (All (IsFilled b)) (sym (take_more orders i d below))
+    (All-append (IsFilled b) (take i orders) (get_or orders i d ∷ []) (λ k e within. filled_more a b (get_or (take i orders) k e) grown (all k e within)) (all_one b (get_or orders i d) filled))
 
 pub all_filled : (journal : List Entry) (orders : List Order) (i : ℕ) → length orders ≤ i → All (IsFilled journal) (take i orders) → All (IsFilled journal) orders
 all_filled journal orders i end all = subst (All (IsFilled journal)) (take_all i orders end) all

@@ -1,3 +1,5 @@
 mod Belonging
+mod Closing
 mod Crosses
 mod Filling
+mod Rounds

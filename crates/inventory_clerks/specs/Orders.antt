@@ -1,5 +1,5 @@
 -- What it is that an order is filled.
-use Rattle.std.specs.Prelude.{ℕ, ◌≡◌, ◌+◌, List, [], ◌∷◌, ◌++◌, Bool, true, false, Option, Some, None, map, slice_get}
+use Rattle.std.specs.Prelude.{ℕ, zero, suc, ◌≡◌, ◌+◌, List, [], ◌∷◌, ◌++◌, Bool, true, false, Option, Some, None, map, slice_get}
 use Rattle.dbtg_cells.specs.declared.key.Value.{Value}
 use Rattle.dbtg_cells.specs.declared.key.Value.TheVariants.{Num, Text}
 use Rattle.dbtg_unit.specs.declared.statement.Statement.{Statement}
@@ -36,6 +36,11 @@ stock_shown answer = stock_in answer.items
 -- what is there after an order: what was there, with what is brought and without what is taken
 abbrev pub is_after : Order → ℕ → ℕ → Type 0
 is_after order before after = after + order.taken ≡ before + order.brought
+
+-- the orders so often, one round behind another
+unfoldable pub rounds_of : ℕ → List Order → List Order
+rounds_of zero orders = []
+rounds_of (suc n) orders = rounds_of n orders ++ orders
 
 -- three statements of the unit, one directly behind another: the ware is found, kept, and then read, and this is its stock
 pub record HasRead (code stock : ℕ) (old new : List Entry) : Type 0 where

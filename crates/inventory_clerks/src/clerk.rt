@@ -142,7 +142,6 @@ fn fill<R: Wait>(
 }
 
 /// A clerk fills his orders, one after another, and comes back.
-#[tactic(auto, using(crate::proofs::Filling::all_more, crate::proofs::Filling::all_filled))]
 pub fn work<R: Wait>(
     rt: &R,
     alloc: Global,

@@ -1,18 +1,18 @@
 //! Two clerks of a warehouse, each on a thread of his own, fill their orders; then what they did is audited.
 #![tactic(auto)]
 
-ghost use Rattle.std.specs.Prelude.{◌≡◌, ◌++◌, All, IfOk, IfSome, MatchOption, OnOk, true};
+ghost use Rattle.std.specs.Prelude.{◌≡◌, IfOk, MatchOption, true};
 ghost use Rattle.dbtg_schema.specs.Sound.{IsSound};
 ghost use Rattle.dbtg_unit.specs.Replay.{IsHistoryOf};
-ghost use Rattle.dbtg_run.specs.UnitView.{BelongsTo};
 ghost use Rattle.inventory_clerks.specs.Auditing.{IsTextOf, text_of};
-ghost use Rattle.inventory_clerks.specs.Orders.{IsFilled};
+ghost use Rattle.inventory_clerks.specs.Orders.{rounds_of};
+ghost use Rattle.inventory_clerks.specs.Staff.{HaveFilled, IsStaffed};
 
 mod clerk;
 mod order;
+mod warehouse;
 
-use clerk::{open, work};
-use dbtg_run::{Database, RunUnit, Settled, settle};
+use dbtg_run::Settled;
 use dbtg_schema::Schema;
 use dbtg_script::{image_text, units_text};
 use dbtg_step::audit;
@@ -22,7 +22,8 @@ use std::alloc::{AllocError, Global};
 use std::io::{self, Write};
 use std::process::ExitCode;
 use std::sync::Wait;
-use std::thread::{Threads, join};
+use std::thread::Threads;
+use warehouse::{Warehouse, close_house, fill_orders, new_house, open_house};
 
 /// The greatest number that a record can have.
 const CAPACITY: u16 = 100;
@@ -90,104 +91,58 @@ const SECOND_ORDERS: [Order; 3] = [
     },
 ];
 
-// The orders of all rounds.
-fn all_rounds(alloc: Global, orders: &[Order]) -> Result<Vec<Order>, AllocError> {
+// The orders of so many rounds.
+#[tactic(auto, using(crate::proofs::Rounds::no_round, crate::proofs::Rounds::one_round_more))]
+fn all_rounds(alloc: Global, orders: &[Order], rounds: usize) -> Result<Vec<Order>, AllocError>
+    ensures { IfOk result (λ all. all.items ≡ rounds_of rounds orders.now) }
+{
     let mut all = Vec::new(alloc);
-    for _ in 0..ROUNDS {
+    'rounds: for _round in 0..rounds {
         all.extend_from_slice(orders)?;
     }
     Ok(all)
 }
 
-// What a clerk comes back with: the unit, and whether all orders are filled.
-type Back = (RunUnit, Result<(), Stop>);
-
-// Both clerks fill their orders, each on a thread of his own.
-#[tactic(auto, using(crate::proofs::Crosses::database_sync, crate::proofs::Crosses::unit_send))]
-fn side_by_side<R: Threads + Wait + Sync>(
+// The warehouse as the clerks find it when their day begins.
+fn morning<R: Wait>(
     rt: &R,
     alloc: Global,
-    db: &Database,
-    first: RunUnit,
+    inventory: &[u8],
+    first_text: &[u8],
+    second_text: &[u8],
+) -> Result<Warehouse, Stop>
+    ensures staffed { IfOk result IsStaffed }
+    ensures sound { IfOk result (λ house. IsSound house.db.schema) }
+{
+    let house = new_house(alloc, inventory)?;
+    open_house(rt, alloc, house, first_text, second_text)
+}
+
+// What the day comes to, when both clerks have filled all their orders.
+fn work_day<R: Threads + Wait + Sync>(
+    rt: &R,
+    alloc: Global,
+    house: Warehouse,
     first_orders: &[Order],
-    second: RunUnit,
     second_orders: &[Order],
-) -> (Back, Back)
-    requires first { BelongsTo db.now first }
-    requires second { BelongsTo db.now second }
-    ensures belong { BelongsTo db.now result.0.0 × BelongsTo db.now result.1.0 }
-    ensures first { OnOk result.0.1 (All (IsFilled result.0.0.journal) first_orders.now) }
-    ensures second { OnOk result.1.1 (All (IsFilled result.1.0.journal) second_orders.now) }
+) -> Result<Settled, Stop>
+    requires staffed { IsStaffed house }
+    ensures schema { IfOk result (λ settled. settled.schema ≡ house.db.schema) }
+    ensures filled { IfOk result (HaveFilled first_orders.now second_orders.now) }
 {
-    let backs = join(
-        rt,
-        move || -> Back
-            requires { BelongsTo db.now first }
-            ensures { BelongsTo db.entry.now result.0 × OnOk result.1 (All (IsFilled result.0.journal) first_orders.entry.now) }
-        { work(rt, alloc, db, first, first_orders) },
-        move || -> Back
-            requires { BelongsTo db.now second }
-            ensures { BelongsTo db.entry.now result.0 × OnOk result.1 (All (IsFilled result.0.journal) second_orders.entry.now) }
-        { work(rt, alloc, db, second, second_orders) },
-    );
-    backs
+    let house = fill_orders(rt, alloc, house, first_orders, second_orders)?;
+    close_house(alloc, house)
 }
 
-// The two units of a database.
-#[tactic(auto, using(crate::proofs::Belonging::last_belongs, crate::proofs::Belonging::others_belong))]
-fn two_of(db: &Database, units: Vec<RunUnit>) -> Option<(RunUnit, RunUnit)>
-    requires belong { All (BelongsTo db.now) units.items }
-    ensures { IfSome result (λ two. BelongsTo db.now two.0 × BelongsTo db.now two.1) }
-{
-    let _about = &db.about;
-    let mut units = units;
-    let second = units.pop()?;
-    let first = units.pop()?;
-    Some((first, second))
-}
-
-// The database and its two clerks, with the wares in stock.
-#[tactic(auto, using(crate::proofs::Belonging::opened_belong))]
-fn morning<R: Wait>(rt: &R, alloc: Global) -> Result<(Database, RunUnit, RunUnit), Stop>
-    ensures belong { IfOk result (λ t. BelongsTo t.0 t.1 × BelongsTo t.0 t.2) }
-    ensures sound { IfOk result (λ t. IsSound t.0.schema) }
-{
-    let Ok(schema) = Schema::read(alloc, INVENTORY) else {
-        return Err(Stop::NoStatement);
-    };
-    let (db, units) = Database::make(alloc, schema, CAPACITY, UNITS)?;
-    let Some((mut first, mut second)) = two_of(&db, units) else {
-        return Err(Stop::NoUnit);
-    };
-    open(rt, alloc, &db, &mut first, FIRST_SCRIPT)?;
-    open(rt, alloc, &db, &mut second, SECOND_SCRIPT)?;
-    Ok((db, first, second))
-}
-
-// The database at the end of the day, when both clerks have filled all their orders.
-#[tactic(auto, using(crate::proofs::Belonging::both_belong))]
+// The database at the end of the day.
 fn day<R: Threads + Wait + Sync>(rt: &R, alloc: Global) -> Result<Settled, Stop>
-    ensures { IfOk result (λ settled. IsSound settled.schema) }
+    ensures sound { IfOk result (λ settled. IsSound settled.schema) }
+    ensures filled { IfOk result (HaveFilled (rounds_of ROUNDS FIRST_ORDERS) (rounds_of ROUNDS SECOND_ORDERS)) }
 {
-    let (db, first, second) = morning(rt, alloc)?;
-    let firsts = all_rounds(alloc, &FIRST_ORDERS)?;
-    let seconds = all_rounds(alloc, &SECOND_ORDERS)?;
-    let (one, other) = side_by_side(
-        rt,
-        alloc,
-        &db,
-        first,
-        firsts.as_slice(),
-        second,
-        seconds.as_slice(),
-    );
-    let ((first, ran), (second, also_ran)) = (one, other);
-    ran?;
-    also_ran?;
-    match settle(alloc, db, Vec::from_array(alloc, [first, second])?) {
-        Ok(settled) => Ok(settled),
-        Err(_) => Err(Stop::NoMemory),
-    }
+    let firsts = all_rounds(alloc, &FIRST_ORDERS, ROUNDS)?;
+    let seconds = all_rounds(alloc, &SECOND_ORDERS, ROUNDS)?;
+    let house = morning(rt, alloc, INVENTORY, FIRST_SCRIPT, SECOND_SCRIPT)?;
+    work_day(rt, alloc, house, firsts.as_slice(), seconds.as_slice())
 }
 
 // Records, lists and usage, and behind them the units, as they are printed.
@@ -250,13 +205,14 @@ fn report(alloc: Global, settled: &Settled) -> Result<Vec<u8>, AllocError>
     Ok(out)
 }
 
-fn print_day<R: Threads + Wait + Sync>(rt: &HostRuntime, threads: &R) -> Result<Vec<u8>, Stop> {
-    let settled = day(threads, rt.alloc())?;
-    Ok(report(rt.alloc(), &settled)?)
+// What is printed of the day.
+fn day_text<R: Threads + Wait + Sync>(rt: &R, alloc: Global) -> Result<Vec<u8>, Stop> {
+    let settled = day(rt, alloc)?;
+    Ok(report(alloc, &settled)?)
 }
 
 fn main(rt: HostRuntime) -> io::Result<ExitCode> {
-    match print_day(&rt, &rt) {
+    match day_text(&rt, rt.alloc()) {
         Ok(out) => {
             io::writer(&rt).write_all(out.as_slice())?;
             Ok(ExitCode::SUCCESS)
