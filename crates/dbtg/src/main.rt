@@ -83,7 +83,7 @@ fn print_check(rt: &HostRuntime, paths: &Paths, explains: bool) -> ExitCode {
     print_or_tell(rt, check(rt.alloc(), &files), paths, explains)
 }
 
-fn print_drawing(rt: &HostRuntime, schema: &str, form: Form, explains: bool) -> ExitCode {
+fn print_drawing<'a>(rt: &'a HostRuntime, schema: &'a str, form: Form, explains: bool) -> ExitCode {
     let scripts: Vec<&str> = Vec::new(rt.alloc());
     let paths = paths_of(schema, scripts.as_slice(), Order::Serial);
     let files = Files {
