@@ -33,10 +33,12 @@ pub enum Call<'a> {
         schema: &'a str,
         scripts: Vec<&'a str>,
     },
+    /// A diagram is of a schema alone; the list of scripts, which has its place among the paths, is empty.
     Draw {
         explains: bool,
         form: Form,
         schema: &'a str,
+        no_scripts: Vec<&'a str>,
     },
     Explain(Topic),
 }
@@ -386,7 +388,7 @@ fn threads_call<'a>(alloc: Global, given: &ArgMatches<'a>) -> Result<Call<'a>, E
     })
 }
 
-fn draw_call<'a>(given: &ArgMatches<'a>) -> Call<'a> {
+fn draw_call<'a>(alloc: Global, given: &ArgMatches<'a>) -> Call<'a> {
     let form = if given.get_flag("svg") {
         Form::Svg
     } else {
@@ -396,6 +398,7 @@ fn draw_call<'a>(given: &ArgMatches<'a>) -> Call<'a> {
         explains: given.get_flag("explain"),
         form,
         schema: given.get_str("schema").unwrap_or(""),
+        no_scripts: Vec::new(alloc),
     }
 }
 
@@ -418,7 +421,7 @@ pub fn call_of<'a>(alloc: Global, words: &'a [String]) -> Result<Call<'a>, Error
         Some(("replay", given)) => replay_call(alloc, given),
         Some(("turns", given)) => turns_call(alloc, given),
         Some(("threads", given)) => threads_call(alloc, given),
-        Some(("draw", given)) => Ok(draw_call(given)),
+        Some(("draw", given)) => Ok(draw_call(alloc, given)),
         Some(("explain", given)) => explain_call(alloc, given),
         _ => Err(Error::from(AllocError)),
     }

@@ -83,14 +83,9 @@ fn print_check(rt: &HostRuntime, paths: &Paths, explains: bool) -> ExitCode {
     print_or_tell(rt, check(rt.alloc(), &files), paths, explains)
 }
 
-fn print_drawing<'a>(rt: &'a HostRuntime, schema: &'a str, form: Form, explains: bool) -> ExitCode {
-    let scripts: Vec<&str> = Vec::new(rt.alloc());
-    let paths = paths_of(schema, scripts.as_slice(), Order::Serial);
-    let files = Files {
-        reader: rt,
-        paths: &paths,
-    };
-    print_or_tell(rt, draw(rt.alloc(), &files, form), &paths, explains)
+fn print_drawing(rt: &HostRuntime, paths: &Paths, form: Form, explains: bool) -> ExitCode {
+    let files = Files { reader: rt, paths };
+    print_or_tell(rt, draw(rt.alloc(), &files, form), paths, explains)
 }
 
 fn print_replay(rt: &HostRuntime, paths: &Paths, capacity: u16, explains: bool) -> ExitCode {
@@ -182,7 +177,11 @@ fn carry_out<R: Threads + Wait + Sync>(rt: &HostRuntime, threads: &R, call: &Cal
             explains,
             form,
             schema,
-        } => print_drawing(rt, *schema, *form, *explains),
+            no_scripts,
+        } => {
+            let paths = paths_of(*schema, no_scripts.as_slice(), Order::Serial);
+            print_drawing(rt, &paths, *form, *explains)
+        }
         Call::Explain(topic) => print_topic(rt, topic),
     }
 }
