@@ -1,5 +1,0 @@
-mod Belonging
-mod Closing
-mod Crosses
-mod Filling
-mod Rounds
