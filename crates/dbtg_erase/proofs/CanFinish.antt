@@ -5,7 +5,6 @@ use Rattle.std.specs.List.{flat_map, list_all, list_any}
 use Rattle.std.proofs.lemmas.Bool.{and_parts, eqb-true, false≢true, false_from_ne_true, not-true, not_from_false}
 use Rattle.std.proofs.lemmas.Option.{none-some}
 use Rattle.dbtg_schema.specs.Lists.{Lists}
-use Rattle.dbtg_schema.specs.Lookups.{first_cause}
 use Rattle.dbtg_cells.specs.declared.cell.Cell.{Cell}
 use Rattle.dbtg_cells.specs.declared.cell.Cell.TheVariants.{Usage as UsageCell, Extent as ExtentCell, Ring as RingCell, Slot as SlotCell}
 use Rattle.dbtg_cells.specs.declared.key.DbKey.{DbKey}
@@ -23,19 +22,18 @@ use Rattle.dbtg_unit.specs.declared.edit.CellEdit.{CellEdit}
 use Rattle.dbtg_unit.specs.declared.edit.Edit.TheVariants.{Vacate}
 use Rattle.dbtg_unit.specs.declared.statement.Erase.{Erase}
 use Rattle.dbtg_unit.specs.declared.statement.Statement.TheVariants.{Delete}
-use Rattle.dbtg_unit.specs.declared.unit.Cause.{Cause}
 use Rattle.dbtg_unit.specs.declared.unit.Unit.{Unit}
 use Rattle.dbtg_unit.specs.Base.{Database, Record, calc_items, is_live, key_at, owner_of, sort_key}
 use Rattle.dbtg_unit.specs.CellNames.{place_of, slot_name}
 use Rattle.dbtg_unit.specs.Cells.{cell, number_of, owner_at, ring_of, slot_of}
-use Rattle.dbtg_unit.specs.Checks.{refused_at_once}
 use Rattle.dbtg_unit.specs.Edits.{edited_at}
 use Rattle.dbtg_unit.specs.EditsOf.{closing_edits, delete_edits, leave_number, leaving_edits, left_behind, losing_edits, slot_edit, staying_owner}
-use Rattle.dbtg_unit.specs.Effect.{delete_checks, is_gone}
-use Rattle.dbtg_unit.specs.Erasing.{delete_cells, delete_cells_of, doomed_in_turn, members_of_all}
+use Rattle.dbtg_unit.specs.Effect.{is_gone}
+use Rattle.dbtg_unit.specs.Erasing.{delete_cells, doomed_in_turn, members_of_all}
 use Rattle.dbtg_unit.specs.Hands.{Hands}
 use Rattle.dbtg_unit.specs.Legal.{differ, pairwise}
 use Rattle.dbtg_unit.specs.Local.{Agrees, holds}
+use Rattle.dbtg_unit.specs.Prepared.{Plan}
 use Rattle.dbtg_unit.specs.Making.{CanFinish, CanMake, HaveNextVersions, MayPrepare}
 use Rattle.dbtg_unit.proofs.DeleteCells.{left_live, left_once, skips_closings, skips_leavings}
 use Rattle.dbtg_unit.proofs.EditLemmas.{range-distinct}
@@ -48,12 +46,10 @@ use Rattle.dbtg_unit.proofs.OnePlan.{may_plan}
 use Rattle.dbtg_unit.proofs.OwnersFound.{standing}
 use Rattle.dbtg_unit.proofs.PlacingOrder.{pairwise-weaker}
 use Rattle.dbtg_unit.proofs.ReadingCells.{held_cell}
-use Rattle.dbtg_unit.proofs.ReadyParts.{prepared_has_all}
-use Rattle.dbtg_erase.specs.ErasePlan.{delete_plan, erasing_plan, unless_refusal, whole_plan}
-use Rattle.dbtg_erase.specs.WorkList.{gone_in}
+use Rattle.dbtg_erase.specs.ErasePlan.{whole_plan}
 use Rattle.dbtg_erase.proofs.CanErase.{HasNext, IsIn, apart, closings_possible, losings_possible, numbers_possible, places_possible, vacatings_possible}
-use Rattle.dbtg_erase.proofs.ErasePlan.{cells_are, checks_are, left_held}
-use Rattle.dbtg_erase.proofs.PlanIsEffect.{Passed, is_prepared, passed}
+use Rattle.dbtg_erase.proofs.ErasePlan.{edits_are as planned_edits, left_held}
+use Rattle.dbtg_erase.proofs.PlanIsEffect.{Passed, is_prepared, plan_by}
 use Rattle.dbtg_erase.proofs.Possible.{Possible, possible-append, possible_can_make}
 
 module _ (schema : Lists) (capacity : ℕ) (db : Database) (hands : Hands) (unit : Unit) (agrees : Agrees schema capacity db hands unit) (option : Erase) (k : DbKey)
@@ -170,31 +166,11 @@ module _ (schema : Lists) (capacity : ℕ) (db : Database) (hands : Hands) (unit
       (possible-append vacatings _ _ (vacatings_possible turn _) losings_can))))
 
 module _ (schema : Lists) (capacity : ℕ) (unit : Unit) (hands : Hands) (option : Erase) (may : MayPrepare schema capacity unit hands (Delete option)) where
-  module _ (db : Database) (agrees : Agrees schema capacity db hands unit) where
-    of_current : (k : DbKey) → ((c : CellName) → In c (delete_cells_of schema capacity db unit option (Some k)) → holds hands.cells c ≡ true) → CanMake (delete_plan schema capacity hands unit option (Some k)).cells hands.cells
-    of_current k has = by (first_cause (delete_checks schema capacity db unit option k)) refl where
-      by : (o : Option Cause) → first_cause (delete_checks schema capacity db unit option k) ≡ o → CanMake (delete_plan schema capacity hands unit option (Some k)).cells hands.cells
-      by (Some cause) h =
-          subst (λ (o : Option Cause). CanMake (unless_refusal o (erasing_plan schema hands (gone_in schema capacity hands option k) k)).cells hands.cells)
-          (sym (checks_are schema capacity db hands unit agrees option k has ∙ h)) tt
-      by None h =
-          let p = passed schema capacity db unit option k h in
-          subst (λ (o : Option Cause). CanMake (unless_refusal o (erasing_plan schema hands (gone_in schema capacity hands option k) k)).cells hands.cells)
-          (sym (checks_are schema capacity db hands unit agrees option k has ∙ h))
-          (subst (λ es. CanMake es hands.cells) (cells_are schema capacity db hands unit agrees option k has p.own p.none p.live)
-          (edits_can schema capacity db hands unit agrees option k has may.versions p))
-
-    can_make : CanMake (whole_plan schema capacity hands unit option).cells hands.cells
-    can_make = at_once (refused_at_once schema capacity unit (Delete option)) refl where
-      on_cells : (r : Option DbKey) → ((c : CellName) → In c (delete_cells_of schema capacity db unit option r) → holds hands.cells c ≡ true) → CanMake (delete_plan schema capacity hands unit option r).cells hands.cells
-      on_cells None has = tt
-      on_cells (Some k) has = of_current k has
-
-      at_once : (o : Option Cause) → refused_at_once schema capacity unit (Delete option) ≡ o → CanMake (whole_plan schema capacity hands unit option).cells hands.cells
-      at_once (Some cause) h = subst (λ (o : Option Cause). CanMake (unless_refusal o (delete_plan schema capacity hands unit option unit.currency.run_unit)).cells hands.cells) (sym h) tt
-      at_once None h =
-          subst (λ (o : Option Cause). CanMake (unless_refusal o (delete_plan schema capacity hands unit option unit.currency.run_unit)).cells hands.cells) (sym h)
-          (on_cells unit.currency.run_unit (prepared_has_all schema capacity unit hands (Delete option) h may.ready db agrees).cells)
+  can_make : (db : Database) → Agrees schema capacity db hands unit → CanMake (whole_plan schema capacity hands unit option).cells hands.cells
+  can_make db agrees =
+      plan_by schema capacity unit hands option (may_plan may) db agrees (λ (plan : Plan). CanMake plan.cells hands.cells) (λ cause e. tt)
+      (λ k current e has p. subst (λ es. CanMake es hands.cells) (planned_edits schema capacity db hands unit agrees option k has p.own p.none p.live)
+      (edits_can schema capacity db hands unit agrees option k has may.versions p))
 
   -- a DELETE that needs nothing more can finish what it prepares
   pub delete_can_finish : CanFinish schema capacity unit hands (Delete option) (whole_plan schema capacity hands unit option)

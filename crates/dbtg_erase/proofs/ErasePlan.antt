@@ -1,7 +1,7 @@
 -- What a DELETE prepares is its effect on each database that agrees with the cells in hand.
 use Rattle.std.proofs.Common.{◌⊎◌, ◌≡◌, refl, sym, ◌∙◌, ap, subst, ℕ, ◌+◌, arith, eqb, Bool, true, false, cond, not, ◌&&◌, ◌||◌, List, [], ◌∷◌, ◌++◌, length, Option, Some, None, inl, inr, ⊎_elim, map}
 use Rattle.std.specs.Prelude.{filter, is_some, nat_lt, if◌then◌else◌}
-use Rattle.std.specs.List.{find, flat_map, list_any, range_with_len}
+use Rattle.std.specs.List.{find, flat_map, list_all, list_any, range_with_len}
 use Rattle.std.specs.Option.{option_or}
 use Rattle.std.proofs.lemmas.Bool.{and_from, and_parts, cases_Bool, eq-eqb, cond-false, cond-true, false≢true, false_from_ne_true, or_left, or_right}
 use Rattle.std.proofs.lemmas.Option.{none-some}
@@ -28,7 +28,9 @@ use Rattle.dbtg_unit.specs.declared.unit.Unit.{Unit}
 use Rattle.dbtg_unit.specs.Base.{Database, is_live, members_of, owner_of, owners}
 use Rattle.dbtg_unit.specs.CellNames.{place_of, slot_name}
 use Rattle.dbtg_unit.specs.EditsOf.{closing_edits, delete_edits, erasing_edits, leave_number, leaving_edits, left_behind, losing_edits, lost_sets, ring_edits, slot_edit, staying_owner}
-use Rattle.dbtg_unit.specs.Effect.{delete_checks, has_members, is_gone, is_plain, own_checks, version_of}
+use Rattle.dbtg_unit.specs.Checks.{delete_checks, own_checks}
+use Rattle.dbtg_unit.specs.Conditions.{has_members, is_plain}
+use Rattle.dbtg_unit.specs.Effect.{is_gone, version_of}
 use Rattle.dbtg_unit.specs.Erasing.{cells_of_doomed, delete_cells, doomed_in_turn, members_of_all, names_once, outer_cells, own_rings, rings_to_member, with_those}
 use Rattle.dbtg_unit.specs.Hands.{Hands}
 use Rattle.dbtg_unit.specs.InHand.{owner_in, version_in, in_hand}
@@ -43,9 +45,9 @@ use Rattle.dbtg_unit.proofs.DeleteCells.{left_is, version_left}
 use Rattle.dbtg_unit.proofs.InTurn.{all_from, all_pass, met_are_live}
 use Rattle.dbtg_unit.proofs.LocalDelete.{after_delete, is_taken_out}
 use Rattle.dbtg_unit.proofs.LocalStatements.{once_has}
-use Rattle.dbtg_erase.specs.ErasePlan.{checks_in, edits_in_hand, erasing_plan, has_members_in, raised_versions}
+use Rattle.dbtg_erase.specs.ErasePlan.{erasing_plan, raised_versions}
 use Rattle.dbtg_erase.specs.WorkList.{gone_in, list_in, members_in_hand, own_sets}
-use Rattle.dbtg_erase.proofs.Reading.{all_members_are, filter-agree, flat-agree, gone_agrees, unowned}
+use Rattle.dbtg_erase.proofs.Reading.{all_members_are, filter-agree, flat-agree, gone_agrees, unowned, unowned_in}
 
 -- THE FIRST CAUSE
 
@@ -67,14 +69,6 @@ any-filter p q (x ∷ xs) h =
       | inr e ↦ ap (λ b. list_any p (cond b (x ∷ filter q xs) (filter q xs))) e ∙ any-filter p q xs h ∙ ap (λ b. b || list_any p xs) (sym (h x e))
     ]
 
-pub any-both : (p q : ℕ → Bool) (xs : List ℕ) → list_any (λ x. q x && p x) xs ≡ list_any p (filter q xs)
-any-both p q [] = refl
-any-both p q (x ∷ xs) =
-    elim (q x) as (λ b. ((b && p x) || list_any (λ x. q x && p x) xs) ≡ list_any p (cond b (x ∷ filter q xs) (filter q xs))) [
-      | true ↦ ap (λ b. p x || b) (any-both p q xs)
-      | false ↦ any-both p q xs
-    ]
-
 pub any-same : (p q : ℕ → Bool) (xs : List ℕ) → ((x : ℕ) → In x xs → p x ≡ q x) → list_any p xs ≡ list_any q xs
 any-same p q [] h = refl
 any-same p q (x ∷ xs) h = λ i. h x (inl refl) i || any-same p q xs (λ y j. h y (inr j)) i
@@ -83,6 +77,10 @@ any-same p q (x ∷ xs) h = λ i. h x (inl refl) i || any-same p q xs (λ y j. h
 all_there : {X : Type 0} (has : X → Bool) (xs : List X) → ((x : X) → In x xs → has x ≡ true) → find (λ x. not (has x)) xs ≡ None
 all_there has [] h = refl
 all_there has (x ∷ xs) h = ap (λ b. cond (not b) (Some x) (find (λ x. not (has x)) xs)) (h x (inl refl)) ∙ all_there has xs (λ y j. h y (inr j))
+
+all_in : {X : Type 0} (p : X → Bool) (xs : List X) → ((x : X) → In x xs → p x ≡ true) → list_all p xs ≡ true
+all_in p [] h = refl
+all_in p (x ∷ xs) h = and_from _ _ (h x (inl refl)) (all_in p xs (λ y j. h y (inr j)))
 
 map-same : {X Y : Type 0} (f g : X → Y) (xs : List X) → ((x : X) → f x ≡ g x) → map f xs ≡ map g xs
 map-same f g [] h = refl
@@ -95,10 +93,6 @@ map-map f g (x ∷ xs) = ap (λ ys. f (g x) ∷ ys) (map-map f g xs)
 map-id : {X : Type 0} (xs : List X) → xs ≡ map (λ x. x) xs
 map-id [] = refl
 map-id (x ∷ xs) = ap (λ ys. x ∷ ys) (map-id xs)
-
-all_pass_filter : {X : Type 0} (p : X → Bool) (xs : List X) → ((x : X) → In x xs → p x ≡ true) → xs ≡ filter p xs
-all_pass_filter p [] h = refl
-all_pass_filter p (x ∷ xs) h = ap (λ ys. x ∷ ys) (all_pass_filter p xs (λ y j. h y (inr j))) ∙ sym (ap (λ b. cond b (x ∷ filter p xs) (filter p xs)) (h x (inl refl)))
 
 -- KEPT VERSIONS
 
@@ -168,7 +162,7 @@ module _ (schema : Lists) (capacity : ℕ) (db : Database) (hands : Hands) (unit
   -- THE CHECKS
 
   abbrev has_any : Bool
-  has_any = is_plain option && has_members schema db k
+  has_any = is_plain option && has_members schema (whole schema capacity db) k
 
   abbrev owned : List ℕ
   owned = own_sets schema k
@@ -184,7 +178,7 @@ module _ (schema : Lists) (capacity : ℕ) (db : Database) (hands : Hands) (unit
   own_are : own_checks (in_hand hands) unit k ≡ own_checks (whole schema capacity db) unit k
   own_are = own_checks_agree (in_hand hands) (whole schema capacity db) unit k (same_record schema capacity db hands unit agrees k slot_held)
 
-  members_are_some : has_members schema db k ≡ list_any (λ s. nat_lt 0 (length (members_of db s (Rec k)))) owned
+  members_are_some : has_members schema (whole schema capacity db) k ≡ list_any (λ s. nat_lt 0 (length (members_of db s (Rec k)))) owned
   members_are_some =
       sym (any-filter (λ s. nat_lt 0 (length (members_of db s (Rec k)))) (λ s. owns schema s k.rtype) (set_numbers schema)
       (λ s e. ap (λ xs. nat_lt 0 (length xs)) (unowned schema capacity db hands unit agrees k s e)))
@@ -226,10 +220,12 @@ module _ (schema : Lists) (capacity : ℕ) (db : Database) (hands : Hands) (unit
               (sym (ap (λ b. b || list_any (λ s. nat_lt 0 (length (members_of db s (Rec k)))) sets) none) ∙ e))
         ]
 
-    found_in_hand : has_members_in schema hands k ≡ list_any (λ s. nat_lt 0 (length (list_in hands k s))) owned
-    found_in_hand = any-both (λ s. nat_lt 0 (length (list_in hands k s))) (λ s. owns schema s k.rtype) (set_numbers schema)
+    found_in_hand : has_members schema (in_hand hands) k ≡ list_any (λ s. nat_lt 0 (length (list_in hands k s))) owned
+    found_in_hand =
+        sym (any-filter (λ s. nat_lt 0 (length (list_in hands k s))) (λ s. owns schema s k.rtype) (set_numbers schema)
+        (λ s e. ap (λ xs. nat_lt 0 (length xs)) (unowned_in schema capacity db hands unit agrees k s e)))
 
-    members_found : (is_plain option && has_members_in schema hands k) ≡ has_any
+    members_found : (is_plain option && has_members schema (in_hand hands) k) ≡ has_any
     members_found =
         ap (λ b. is_plain option && b) found_in_hand
         ∙ elim (cases_Bool has_any) [
@@ -245,11 +241,11 @@ module _ (schema : Lists) (capacity : ℕ) (db : Database) (hands : Hands) (unit
               ∙ sym members_are_some)
         ]
 
-  pub checks_are : first_cause (checks_in schema hands unit option k) ≡ first_cause (delete_checks schema capacity db unit option k)
+  pub checks_are : first_cause (delete_checks schema (in_hand hands) unit option k) ≡ first_cause (delete_checks schema (whole schema capacity db) unit option k)
   checks_are = by (first_cause (own_checks (whole schema capacity db) unit k)) refl where
-    by : (o : Option Cause) → first_cause (own_checks (whole schema capacity db) unit k) ≡ o → first_cause (checks_in schema hands unit option k) ≡ first_cause (delete_checks schema capacity db unit option k)
+    by : (o : Option Cause) → first_cause (own_checks (whole schema capacity db) unit k) ≡ o → first_cause (delete_checks schema (in_hand hands) unit option k) ≡ first_cause (delete_checks schema (whole schema capacity db) unit option k)
     by (Some cause) e =
-        refused-first (own_checks (in_hand hands) unit k) ((is_plain option && has_members_in schema hands k, OwnerHasMembers) ∷ []) cause (ap first_cause own_are ∙ e)
+        refused-first (own_checks (in_hand hands) unit k) ((is_plain option && has_members schema (in_hand hands) k, OwnerHasMembers) ∷ []) cause (ap first_cause own_are ∙ e)
         ∙ sym (refused-first (own_checks (whole schema capacity db) unit k) ((has_any, OwnerHasMembers) ∷ []) cause e)
     by None e = λ i. first_cause (own_are i ++ (members_found e i, OwnerHasMembers) ∷ [])
 
@@ -386,19 +382,18 @@ module _ (schema : Lists) (capacity : ℕ) (db : Database) (hands : Hands) (unit
           name_is x (inl j) = let s = of_map (λ s. slot_edit x (ChangeOwner s None)) e (lost_sets schema (owner_of schema capacity db) turn x) j in ap (λ (f : CellEdit). f.name) (sym s.2)
           name_is x (inr j) = elim j [ inl same ↦ ap (λ (f : CellEdit). f.name) (sym same) | inr never ↦ absurd never ]
 
-    pub edits_held : (e : CellEdit) → In e (delete_edits schema capacity db option k) → holds hands.cells e.name ≡ true
-    edits_held e i =
+    edit_held : (e : CellEdit) → In e (delete_edits schema capacity db option k) → holds hands.cells e.name ≡ true
+    edit_held e i =
         ⊎_elim (number_held e) (λ j. ⊎_elim (place_held e) (λ l. ⊎_elim (ring_closed_held e) (λ m. ⊎_elim (slot_vacated_held e) (slot_left_held e)
         (of_append e (map (λ d. slot_edit d Vacate) turn) _ m)) (of_append e (flat_map (closing_edits schema) turn) _ l)) (of_append e (flat_map (leaving_edits schema (owner_of schema capacity db) turn) turn) _ j))
         (of_append e (map leave_number turn) _ i)
 
-    -- so none is left out
-    pub cells_are : delete_edits schema capacity db option k ≡ edits_in_hand hands (erasing_edits schema (owner_in hands) (members_in_hand schema hands) (gone_in schema capacity hands option k))
-    cells_are = all_pass_filter (λ (e : CellEdit). holds hands.cells e.name) (delete_edits schema capacity db option k) edits_held ∙ ap (edits_in_hand hands) edits_are
+    pub edits_held : list_all (λ (e : CellEdit). holds hands.cells e.name) (delete_edits schema capacity db option k) ≡ true
+    edits_held = all_in (λ (e : CellEdit). holds hands.cells e.name) (delete_edits schema capacity db option k) edit_held
 
 -- a plan by its parts
 pub plan_from : (schema : Lists) (hands : Hands) (k : DbKey) (target gone behind : List DbKey) (edits : List CellEdit) (versions : List (DbKey × ℕ))
-    → gone ≡ target → behind ≡ left_behind (members_in_hand schema hands) gone → edits ≡ edits_in_hand hands (erasing_edits schema (owner_in hands) (members_in_hand schema hands) gone)
+    → gone ≡ target → behind ≡ left_behind (members_in_hand schema hands) gone → edits ≡ erasing_edits schema (owner_in hands) (members_in_hand schema hands) gone
     → versions ≡ map (λ x. (x, version_in hands x + 1)) behind
     → record { answer = record { status = Done; key = None; items = None }; cells = edits; versions = versions; unit = LoseCurrent k } ≡ erasing_plan schema hands target k
 plan_from schema hands k target gone behind edits versions gone_are left_are edits_are versions_are =

@@ -1,13 +1,26 @@
 -- The first of some names that passes, as they are gone through.
 use Rattle.std.proofs.Common.{◌≡◌, refl, sym, ◌∙◌, ap, arith, get_or, length, ℕ, suc, ◌+◌, ◌<◌, ◌≤◌, Bool, true, false, cond, List, [], ◌∷◌, ◌++◌, Option, Some, None, drop, map}
 use Rattle.std.proofs.Math.Seq.{drop-cons}
-use Rattle.std.specs.Prelude.{filter}
+use Rattle.std.specs.Prelude.{filter, is_some}
 use Rattle.std.specs.List.{find, flat_map, range_with_len}
 use Rattle.std.specs.Option.{option_or}
+use Rattle.dbtg_cells.specs.declared.cell.Cell.{Cell}
 use Rattle.dbtg_cells.specs.declared.key.DbKey.{DbKey}
 use Rattle.dbtg_cells.specs.declared.name.CellName.{CellName}
+use Rattle.dbtg_cells.specs.Names.{name_eq}
+use Rattle.dbtg_unit.specs.Hands.{Hands, cell_of}
+use Rattle.dbtg_unit.specs.Local.{holds}
 use Rattle.dbtg_unit.proofs.NumberLemmas.{numbers_end, numbers_next}
 use Rattle.dbtg_erase.proofs.KeyLists.{append_nil}
+
+pub found_by_name : (cells : List (CellName × Cell)) (c : CellName) → is_some (cell_of c cells) ≡ holds cells c
+found_by_name [] c = refl
+found_by_name (e ∷ es) c =
+    elim (name_eq c e.0) as (λ b. is_some (cond b (Some e.1) (cell_of c es)) ≡ cond b true (holds es c)) [ true ↦ refl | false ↦ found_by_name es c ]
+
+-- a cell is held where one is found by its name
+pub held_by_name : (hands : Hands) (c : CellName) (o : Option Cell) → o ≡ cell_of c hands.cells → is_some o ≡ holds hands.cells c
+held_by_name hands c o e = ap is_some e ∙ found_by_name hands.cells c
 
 pub find_or : (p : CellName → Bool) (xs ys : List CellName) → find p (xs ++ ys) ≡ option_or (find p xs) (find p ys)
 find_or p [] ys = refl

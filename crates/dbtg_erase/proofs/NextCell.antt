@@ -21,7 +21,8 @@ use Rattle.dbtg_unit.specs.declared.unit.Unit.{Unit}
 use Rattle.dbtg_unit.specs.Base.{Database, is_live, members_of, owner_of}
 use Rattle.dbtg_unit.specs.CellNames.{slot_name}
 use Rattle.dbtg_unit.specs.Doomed.{all_keys}
-use Rattle.dbtg_unit.specs.Effect.{has_members, is_plain, own_checks}
+use Rattle.dbtg_unit.specs.Checks.{own_checks}
+use Rattle.dbtg_unit.specs.Conditions.{has_members, is_plain}
 use Rattle.dbtg_unit.specs.Erasing.{cells_of_doomed, delete_cells, doomed_in_turn, members_of_all, names_once, outer_cells, own_rings, rings_to_member, taken_with}
 use Rattle.dbtg_unit.specs.Hands.{Hands}
 use Rattle.dbtg_unit.specs.InHand.{owner_in, in_hand}
@@ -31,15 +32,14 @@ use Rattle.dbtg_unit.proofs.CheckLemmas.{passes_check}
 use Rattle.dbtg_unit.proofs.InHandLemmas.{members_in_hand as members_are, owner_in_hand, same_record}
 use Rattle.dbtg_unit.proofs.InTurn.{met_are_live}
 use Rattle.dbtg_unit.proofs.LiveKeys.{In, all_at, in_flat_map, in_map}
-use Rattle.dbtg_erase.specs.ErasePlan.{has_members_in}
 use Rattle.dbtg_erase.specs.NextCell.{first_missing, is_missing, least_name, next_cell_in, next_of_gone, next_of_passed, outer_names, ring_of, stops_at, unless_stopped}
 use Rattle.dbtg_erase.specs.WorkList.{cells_of_gone, gone_in, list_in, own_sets}
 use Rattle.dbtg_erase.proofs.Bringing.{prefix}
-use Rattle.dbtg_erase.proofs.ErasePlan.{any-both, any-filter, any-same}
+use Rattle.dbtg_erase.proofs.ErasePlan.{any-filter, any-same}
 use Rattle.dbtg_erase.proofs.FirstNames.{find_or}
 use Rattle.dbtg_erase.proofs.LeastName.{first_is_least}
 use Rattle.dbtg_erase.proofs.OuterCells.{named_outer, outer_ascend, outer_named}
-use Rattle.dbtg_erase.proofs.Reading.{gone_agrees, none_wanting, unowned}
+use Rattle.dbtg_erase.proofs.Reading.{gone_agrees, none_wanting, unowned, unowned_in}
 
 -- where each name stands once, the first that passes is the same
 find_once : (p : CellName → Bool) (met names : List CellName) → ((c : CellName) → list_any (name_eq c) met ≡ true → p c ≡ false) → find p (names_once met names) ≡ find p names
@@ -169,12 +169,13 @@ module _ (schema : Lists) (capacity : ℕ) (db : Database) (hands : Hands) (unit
   all_rings [] h = refl
   all_rings (s ∷ sets) h = let hs = or_parts _ _ h in ap (λ b. ring s ∷ cond b [] (rings_to_member schema db k sets)) hs.0 ∙ ap (λ cs. ring s ∷ cs) (all_rings sets hs.1)
 
-  members_owned : has_members schema db k ≡ list_any some_of owned
+  members_owned : has_members schema (whole schema capacity db) k ≡ list_any some_of owned
   members_owned =
       sym (any-filter some_of (λ s. owns schema s k.rtype) (set_numbers schema) (λ s e. ap (λ xs. nat_lt 0 (length xs)) (unowned schema capacity db hands unit agrees k s e)))
 
-  found_owned : has_members_in schema hands k ≡ list_any some_in owned
-  found_owned = any-both some_in (λ s. owns schema s k.rtype) (set_numbers schema)
+  found_owned : has_members schema (in_hand hands) k ≡ list_any some_in owned
+  found_owned =
+      sym (any-filter some_in (λ s. owns schema s k.rtype) (set_numbers schema) (λ s e. ap (λ xs. nat_lt 0 (length xs)) (unowned_in schema capacity db hands unit agrees k s e)))
 
   -- WHAT GOES
 
@@ -237,7 +238,7 @@ module _ (schema : Lists) (capacity : ℕ) (db : Database) (hands : Hands) (unit
           by (Some c) b e h = ap (λ o. option_or o (least_name None (filter wanting (flat_map (outer_names schema hands) (gone_in schema capacity hands option k))))) e
 
     abbrev has_any : Bool
-    has_any = is_plain option && has_members schema db k
+    has_any = is_plain option && has_members schema (whole schema capacity db) k
 
     -- the cells of one that is not refused for itself
     abbrev cells_passed : Bool → List CellName
@@ -247,13 +248,13 @@ module _ (schema : Lists) (capacity : ℕ) (db : Database) (hands : Hands) (unit
     all_named = find_once wanting [] (slot_name k ∷ named) (λ c h. absurd (false≢true h)) ∙ skip_slot named ∙ general_is
 
     -- the plain form
-    plain_is : (b : Bool) → has_members schema db k ≡ b
-        → find wanting (cells_passed b) ≡ option_or (first_missing hands (rings_to_member_in hands k owned)) (cond (has_members_in schema hands k) None general)
+    plain_is : (b : Bool) → has_members schema (whole schema capacity db) k ≡ b
+        → find wanting (cells_passed b) ≡ option_or (first_missing hands (rings_to_member_in hands k owned)) (cond (has_members schema (in_hand hands) k) None general)
     plain_is true e = skip_slot (rings_to_member schema db k owned) ∙ as_far owned ∙ by (find wanting (rings_to_member_in hands k owned)) refl where
-      by : (o : Option CellName) → find wanting (rings_to_member_in hands k owned) ≡ o → find wanting (rings_to_member_in hands k owned) ≡ option_or (find wanting (rings_to_member_in hands k owned)) (cond (has_members_in schema hands k) None general)
-      by (Some c) h = h ∙ sym (ap (λ o. option_or o (cond (has_members_in schema hands k) None general)) h)
+      by : (o : Option CellName) → find wanting (rings_to_member_in hands k owned) ≡ o → find wanting (rings_to_member_in hands k owned) ≡ option_or (find wanting (rings_to_member_in hands k owned)) (cond (has_members schema (in_hand hands) k) None general)
+      by (Some c) h = h ∙ sym (ap (λ o. option_or o (cond (has_members schema (in_hand hands) k) None general)) h)
       by None h =
-          h ∙ sym (ap (λ o. option_or o (cond (has_members_in schema hands k) None general)) h ∙ cond-true (has_members_in schema hands k) None general (found_owned ∙ found_in owned h (sym members_owned ∙ e)))
+          h ∙ sym (ap (λ o. option_or o (cond (has_members schema (in_hand hands) k) None general)) h ∙ cond-true (has_members schema (in_hand hands) k) None general (found_owned ∙ found_in owned h (sym members_owned ∙ e)))
     plain_is false e = all_named ∙ by found_rings refl where
       none : list_any some_of owned ≡ false
       none = sym members_owned ∙ e
@@ -261,22 +262,22 @@ module _ (schema : Lists) (capacity : ℕ) (db : Database) (hands : Hands) (unit
       rings_are : find wanting (rings_to_member_in hands k owned) ≡ found_rings
       rings_are = sym (as_far owned) ∙ ap (find wanting) (all_rings owned none)
 
-      by : (o : Option CellName) → found_rings ≡ o → general ≡ option_or (find wanting (rings_to_member_in hands k owned)) (cond (has_members_in schema hands k) None general)
+      by : (o : Option CellName) → found_rings ≡ o → general ≡ option_or (find wanting (rings_to_member_in hands k owned)) (cond (has_members schema (in_hand hands) k) None general)
       by (Some c) h =
           sym general_is
           ∙ find_or wanting (own_rings schema k ++ flat_map (cells_of_doomed schema db) turn) (outer_cells schema capacity db turn)
           ∙ ap (λ o. option_or o (find wanting (outer_cells schema capacity db turn))) (find_or wanting (own_rings schema k) (flat_map (cells_of_doomed schema db) turn) ∙ ap (λ o. option_or o (find wanting (flat_map (cells_of_doomed schema db) turn))) h)
-          ∙ sym (ap (λ o. option_or o (cond (has_members_in schema hands k) None general)) (rings_are ∙ h))
+          ∙ sym (ap (λ o. option_or o (cond (has_members schema (in_hand hands) k) None general)) (rings_are ∙ h))
       by None h =
-          sym (ap (λ o. option_or o (cond (has_members_in schema hands k) None general)) (rings_are ∙ h)
-          ∙ cond-false (has_members_in schema hands k) None general
+          sym (ap (λ o. option_or o (cond (has_members schema (in_hand hands) k) None general)) (rings_are ∙ h)
+          ∙ cond-false (has_members schema (in_hand hands) k) None general
           (found_owned ∙ any-same some_in some_of owned (λ s i. sym (some_is s (none_wanting (holds hands.cells) (own_rings schema k) h (ring s) (in_map ring s owned i)))) ∙ none))
 
     passed_is : find wanting (cells_passed has_any) ≡ next_of_passed schema capacity hands option k
     passed_is = by (is_plain option) where
-      by : (b : Bool) → find wanting (cells_passed (b && has_members schema db k)) ≡ unless_stopped hands k (cond b (find (stops_at schema hands k) (set_numbers schema)) None) general
+      by : (b : Bool) → find wanting (cells_passed (b && has_members schema (whole schema capacity db) k)) ≡ unless_stopped hands k (cond b (find (stops_at schema hands k) (set_numbers schema)) None) general
       by true =
-          plain_is (has_members schema db k) refl
+          plain_is (has_members schema (whole schema capacity db) k) refl
           ∙ ap (λ b. option_or (first_missing hands (rings_to_member_in hands k owned)) (cond b None general)) found_owned
           ∙ stopped schema hands k general (set_numbers schema)
       by false = all_named
@@ -293,13 +294,13 @@ module _ (schema : Lists) (capacity : ℕ) (db : Database) (hands : Hands) (unit
       elim (cases_Bool (holds hands.cells (slot_name k))) [
         | inr h ↦
             ap (λ t. option_or (cond (not t) (Some (slot_name k)) None) (cond (is_some (first_cause (own_checks (in_hand hands) unit k))) None (next_of_passed schema capacity hands option k))) h
-            ∙ sym (first_named (is_some (first_cause (own_checks (whole schema capacity db) unit k))) (is_plain option && has_members schema db k) (rings_to_member schema db k owned) named h)
+            ∙ sym (first_named (is_some (first_cause (own_checks (whole schema capacity db) unit k))) (is_plain option && has_members schema (whole schema capacity db) k) (rings_to_member schema db k owned) named h)
         | inl h ↦
             ap (λ t. option_or (cond (not t) (Some (slot_name k)) None) (cond (is_some (first_cause (own_checks (in_hand hands) unit k))) None (next_of_passed schema capacity hands option k))) h
             ∙ ap (λ checks. cond (is_some (first_cause checks)) None (next_of_passed schema capacity hands option k)) (own_checks_agree (in_hand hands) (whole schema capacity db) unit k (same_record schema capacity db hands unit agrees k h))
             ∙ by h (first_cause (own_checks (whole schema capacity db) unit k)) refl
       ] where
         by : holds hands.cells (slot_name k) ≡ true → (o : Option Cause) → first_cause (own_checks (whole schema capacity db) unit k) ≡ o
-            → cond (is_some o) None (next_of_passed schema capacity hands option k) ≡ find wanting (cond (is_some o) (slot_name k ∷ []) (cond (is_plain option && has_members schema db k) (slot_name k ∷ rings_to_member schema db k owned) (names_once [] (slot_name k ∷ named))))
+            → cond (is_some o) None (next_of_passed schema capacity hands option k) ≡ find wanting (cond (is_some o) (slot_name k ∷ []) (cond (is_plain option && has_members schema (whole schema capacity db) k) (slot_name k ∷ rings_to_member schema db k owned) (names_once [] (slot_name k ∷ named))))
         by h (Some cause) e = sym (ap (λ t. cond (not t) (Some (slot_name k)) None) h)
         by h None e = sym (passed_is h (not-false _ (passes_check (not (is_live db k)) Deleted _ e).0))

@@ -14,20 +14,24 @@ use Rattle.dbtg_cells.specs.declared.key.Owner.{Owner}
 use Rattle.dbtg_cells.specs.declared.key.Owner.TheVariants.{Rec}
 use Rattle.dbtg_cells.specs.declared.name.CellName.{CellName}
 use Rattle.dbtg_cells.specs.declared.name.CellName.TheVariants.{Ring}
+use Rattle.dbtg_cells.specs.declared.cell.Cell.{Cell}
 use Rattle.dbtg_cells.specs.Keys.{is_member, owner_eq}
+use Rattle.dbtg_cells.specs.Members.{keys_in}
 use Rattle.dbtg_unit.specs.declared.statement.Erase.{Erase}
 use Rattle.dbtg_unit.specs.declared.unit.Unit.{Unit}
 use Rattle.dbtg_unit.specs.Base.{Database, is_live, key_at, live_keys, members_of, owner_of, owners}
 use Rattle.dbtg_unit.specs.CellNames.{slot_name}
 use Rattle.dbtg_unit.specs.Doomed.{all_keys, is_elsewhere, takes, takes_member}
 use Rattle.dbtg_unit.specs.Erasing.{cells_of_doomed, doomed_in_turn, members_of_all, own_rings, taken_with}
-use Rattle.dbtg_unit.specs.Hands.{Hands}
+use Rattle.dbtg_unit.specs.Hands.{Hands, cell_of}
+use Rattle.dbtg_unit.specs.InHand.{occurrence_of}
 use Rattle.dbtg_unit.specs.Local.{Agrees, holds}
 use Rattle.dbtg_unit.proofs.InHandLemmas.{members_in_hand as members_are, owner_in_hand}
 use Rattle.dbtg_unit.proofs.InTurn.{met_few}
 use Rattle.dbtg_unit.proofs.LiveKeys.{In, any_element, any_in, in_flat_map, in_left, in_map, in_right, listed, member_nowhere, member_of_owner, none_is, of_filter, owner_in as among_owners}
 use Rattle.dbtg_erase.specs.WorkList.{cells_of_gone, elsewhere_in, gone_in, list_in, members_in_hand, most_gone, own_sets, taken_in, taken_of_set}
 use Rattle.dbtg_erase.proofs.Bringing.{Agree, agree}
+use Rattle.dbtg_erase.proofs.FirstNames.{found_by_name}
 
 -- LISTS
 
@@ -85,6 +89,14 @@ module _ (schema : Lists) (capacity : ℕ) (db : Database) (hands : Hands) (unit
 
   pub unowned : (d : DbKey) (s : ℕ) → owns schema s d.rtype ≡ false → members_of db s (Rec d) ≡ []
   unowned d s h = ap (λ l. unwrap_or l []) (none_is (db.lists s (Rec d)) (agrees.legal.pairs s (Rec d) ∙ ap (λ b. b && is_live db d) h))
+
+  -- nor has it one in hand
+  pub unowned_in : (d : DbKey) (s : ℕ) → owns schema s d.rtype ≡ false → list_in hands d s ≡ []
+  unowned_in d s h =
+      elim (cases_Bool (holds hands.cells (Ring s (Some (d.rtype, d.number))))) [
+        | inl there ↦ sym (members_are schema capacity db hands unit agrees s (Rec d) there) ∙ unowned d s h
+        | inr free ↦ ap (λ (o : Option Cell). keys_in (occurrence_of (Rec d) o)) (none_is (cell_of (Ring s (Some (d.rtype, d.number))) hands.cells) (found_by_name hands.cells (Ring s (Some (d.rtype, d.number))) ∙ free))
+      ]
 
   owned_members : (d : DbKey) → members_of_all schema db d ≡ flat_map (λ s. members_of db s (Rec d)) (own_sets schema d)
   owned_members d = flat-filter (λ s. members_of db s (Rec d)) (λ s. owns schema s d.rtype) (set_numbers schema) (unowned d)

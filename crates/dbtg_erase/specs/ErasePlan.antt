@@ -1,38 +1,25 @@
 -- What a DELETE prepares, read off the cells in hand.
 -- k is a key, s a set.
-use Rattle.std.specs.Prelude.{ℕ, ◌+◌, Bool, ◌&&◌, List, [], ◌∷◌, ◌++◌, Option, Some, None, filter, length, map, nat_lt}
-use Rattle.std.specs.List.{list_any}
+use Rattle.std.specs.Prelude.{ℕ, ◌+◌, List, [], Option, Some, None, map}
 use Rattle.dbtg_schema.specs.Lists.{Lists}
 use Rattle.dbtg_schema.specs.Lookups.{first_cause}
-use Rattle.dbtg_schema.specs.Structure.{owns, set_numbers}
 use Rattle.dbtg_cells.specs.declared.key.DbKey.{DbKey}
 use Rattle.dbtg_cells.specs.declared.name.CellName.TheVariants.{Ring}
-use Rattle.dbtg_unit.specs.CellChecks.{own_checks}
+use Rattle.dbtg_unit.specs.Checks.{delete_checks, refused_at_once}
 use Rattle.dbtg_unit.specs.declared.edit.CellEdit.{CellEdit}
 use Rattle.dbtg_unit.specs.declared.edit.Edit.TheVariants.{ChangeOwner, CloseRing}
 use Rattle.dbtg_unit.specs.declared.edit.UnitEdit.TheVariants.{LoseCurrent, Same}
 use Rattle.dbtg_unit.specs.declared.statement.Erase.{Erase}
 use Rattle.dbtg_unit.specs.declared.statement.Statement.TheVariants.{Delete}
 use Rattle.dbtg_unit.specs.declared.unit.Cause.{Cause}
-use Rattle.dbtg_unit.specs.declared.unit.Cause.TheVariants.{NoCurrentOfRunUnit, OwnerHasMembers}
+use Rattle.dbtg_unit.specs.declared.unit.Cause.TheVariants.{NoCurrentOfRunUnit}
 use Rattle.dbtg_unit.specs.declared.unit.Status.TheVariants.{Done, Refused}
 use Rattle.dbtg_unit.specs.declared.unit.Unit.{Unit}
-use Rattle.dbtg_unit.specs.Checks.{refused_at_once}
 use Rattle.dbtg_unit.specs.EditsOf.{erasing_edits, left_behind, slot_edit}
-use Rattle.dbtg_unit.specs.Effect.{is_plain}
 use Rattle.dbtg_unit.specs.Hands.{Hands}
 use Rattle.dbtg_unit.specs.InHand.{owner_in, version_in, in_hand}
-use Rattle.dbtg_unit.specs.Local.{holds}
 use Rattle.dbtg_unit.specs.Prepared.{Plan}
-use Rattle.dbtg_erase.specs.WorkList.{gone_in, list_in, members_in_hand}
-
--- k owns a member in hand
-abbrev pub has_members_in : Lists → Hands → DbKey → Bool
-has_members_in schema hands k = list_any (λ s. owns schema s k.rtype && nat_lt 0 (length (list_in hands k s))) (set_numbers schema)
-
--- deleted, changed by another; the plain form wants no members
-abbrev pub checks_in : Lists → Hands → Unit → Erase → DbKey → List (Bool × Cause)
-checks_in schema hands unit option k = own_checks (in_hand hands) unit k ++ (is_plain option && has_members_in schema hands k, OwnerHasMembers) ∷ []
+use Rattle.dbtg_erase.specs.WorkList.{gone_in, members_in_hand}
 
 -- refused for a cause: nothing is changed
 abbrev pub refusal : Cause → Plan
@@ -41,10 +28,6 @@ refusal cause = record { answer = record { status = Refused cause; key = None; i
 -- the members that stay, each at its next version
 abbrev pub raised_versions : Lists → Hands → List DbKey → List (DbKey × ℕ)
 raised_versions schema hands gone = map (λ x. (x, version_in hands x + 1)) (left_behind (members_in_hand schema hands) gone)
-
--- the edits of cells that are in hand; of a DELETE that needs nothing more, all are
-abbrev pub edits_in_hand : Hands → List CellEdit → List CellEdit
-edits_in_hand hands = filter (λ e. holds hands.cells e.name)
 
 -- the edit that closes d's ring of set s
 abbrev pub close_ring : DbKey → ℕ → CellEdit
@@ -59,7 +42,7 @@ abbrev pub erasing_plan : Lists → Hands → List DbKey → DbKey → Plan
 erasing_plan schema hands gone k =
     record {
       answer = record { status = Done; key = None; items = None };
-      cells = edits_in_hand hands (erasing_edits schema (owner_in hands) (members_in_hand schema hands) gone);
+      cells = erasing_edits schema (owner_in hands) (members_in_hand schema hands) gone;
       versions = raised_versions schema hands gone;
       unit = LoseCurrent k;
     }
@@ -72,7 +55,7 @@ unless_refusal None plan = plan
 -- DELETE of the current of run-unit
 abbrev pub delete_plan : Lists → ℕ → Hands → Unit → Erase → Option DbKey → Plan
 delete_plan schema capacity hands unit option None = refusal NoCurrentOfRunUnit
-delete_plan schema capacity hands unit option (Some k) = unless_refusal (first_cause (checks_in schema hands unit option k)) (erasing_plan schema hands (gone_in schema capacity hands option k) k)
+delete_plan schema capacity hands unit option (Some k) = unless_refusal (first_cause (delete_checks schema (in_hand hands) unit option k)) (erasing_plan schema hands (gone_in schema capacity hands option k) k)
 
 -- a DELETE, with the checks that need no cell
 abbrev pub whole_plan : Lists → ℕ → Hands → Unit → Erase → Plan

@@ -10,7 +10,7 @@ use Rattle.dbtg_cells.specs.declared.key.DbKey.{DbKey}
 use Rattle.dbtg_cells.specs.declared.name.CellName.{CellName}
 use Rattle.dbtg_cells.specs.declared.name.CellName.TheVariants.{Extent, Ring}
 use Rattle.dbtg_cells.specs.Names.{name_lt}
-use Rattle.dbtg_unit.specs.CellChecks.{own_checks}
+use Rattle.dbtg_unit.specs.Checks.{own_checks}
 use Rattle.dbtg_unit.specs.declared.held.Need.{Need}
 use Rattle.dbtg_unit.specs.declared.held.Need.TheVariants.{Take, Ready}
 use Rattle.dbtg_unit.specs.declared.statement.Erase.{Erase}

@@ -1,5 +1,5 @@
 //! The edits by which a DELETE changes the cells in hand.
-ghost use Rattle.std.specs.Prelude.{◌≡◌, [], ◌∷◌, ◌++◌, filter, map, None, IfOk, OnOk};
+ghost use Rattle.std.specs.Prelude.{◌≡◌, [], ◌∷◌, ◌++◌, filter, map, IfOk, OnOk};
 ghost use Rattle.std.specs.List.{flat_map};
 ghost use Rattle.dbtg_schema.specs.Lookups.{some_and};
 ghost use Rattle.dbtg_schema.specs.Structure.{owns, set_numbers};
@@ -8,8 +8,7 @@ ghost use Rattle.dbtg_unit.specs.CellNames.{place_of};
 ghost use Rattle.dbtg_unit.specs.EditsOf.{closing_edits, erasing_edits, leave_number, leaving_edits, left_behind, losing_edits, lost_sets, ring_edits, slot_edit, staying_owner};
 ghost use Rattle.dbtg_unit.specs.Effect.{is_gone};
 ghost use Rattle.dbtg_unit.specs.InHand.{owner_in};
-ghost use Rattle.dbtg_unit.specs.Local.{holds};
-ghost use Rattle.dbtg_erase.specs.ErasePlan.{close_ring, edits_in_hand, lose_owner};
+ghost use Rattle.dbtg_erase.specs.ErasePlan.{close_ring, lose_owner};
 ghost use Rattle.dbtg_erase.specs.WorkList.{members_in_hand};
 
 use crate::keys::Keys;
@@ -19,36 +18,13 @@ use dbtg_schema::{Row, Schema, SetNo};
 use dbtg_unit::{CellEdit, Edit, Held, set_count};
 use std::alloc::{AllocError, Global};
 
-pub(crate) fn is_held(held: &Held, name: &CellName) -> bool
-    ensures { result ≡ holds held.now.cells name.now }
-{
-    match held.cell(name) {
-        Some(_cell) => true,
-        None => false,
-    }
-}
-
-// Adds an edit, if its cell is in hand.
-fn push_edit(held: &Held, edit: CellEdit, edits: &mut Row<CellEdit>) -> Result<(), AllocError>
-    ensures { OnOk result (edits.new ≡ edits.old ++ edits_in_hand held.now (edit ∷ [])) }
-{
-    if is_held(held, &edit.name) {
-        edits.push(edit)?;
-    }
-    Ok(())
-}
-
-// Adds an edit of the slot of a key, if that is in hand.
-fn push_slot_edit(
-    held: &Held,
-    key: &DbKey,
-    edit: Edit,
-    edits: &mut Row<CellEdit>,
-) -> Result<(), AllocError>
-    ensures { OnOk result (edits.new ≡ edits.old ++ edits_in_hand held.now (slot_edit key.now edit ∷ [])) }
+// Adds an edit of the slot of a key.
+fn push_slot_edit(key: &DbKey, edit: Edit, edits: &mut Row<CellEdit>) -> Result<(), AllocError>
+    ensures { OnOk result (edits.new ≡ edits.old ++ slot_edit key.now edit ∷ []) }
 {
     let name = CellName::Slot(key.rtype, key.number);
-    push_edit(held, CellEdit { name, edit }, edits)
+    edits.push(CellEdit { name, edit })?;
+    Ok(())
 }
 
 pub(crate) fn ring_name(set: SetNo, owner: &Owner) -> CellName
@@ -96,39 +72,35 @@ fn is_lost(gone: &Keys, owner: Option<Owner>) -> bool
 }
 
 #[tactic(auto, using(crate::proofs::EditLists::edits_append))]
-fn leave_numbers(held: &Held, gone: &[DbKey], edits: &mut Row<CellEdit>) -> Result<(), AllocError>
-    ensures { OnOk result (edits.new ≡ edits.old ++ edits_in_hand held.now (map leave_number gone.now)) }
+fn leave_numbers(gone: &[DbKey], edits: &mut Row<CellEdit>) -> Result<(), AllocError>
+    ensures { OnOk result (edits.new ≡ edits.old ++ map leave_number gone.now) }
 {
     for key in gone {
         let edit = CellEdit {
             name: CellName::Extent(key.rtype),
             edit: Edit::LeaveNumber { number: key.number },
         };
-        push_edit(held, edit, edits)?;
+        edits.push(edit)?;
     }
     Ok(())
 }
 
 // Takes a record out of the list of an owner, where there is one.
 fn take_out(
-    held: &Held,
     set: SetNo,
     owner: Option<Owner>,
     key: &DbKey,
     edits: &mut Row<CellEdit>,
 ) -> Result<(), AllocError>
-    ensures { OnOk result (edits.new ≡ edits.old ++ edits_in_hand held.now (ring_edits set owner (TakeOut key.now ∷ []))) }
+    ensures { OnOk result (edits.new ≡ edits.old ++ ring_edits set owner (TakeOut key.now ∷ [])) }
 {
-    match owner {
-        Some(owner) => {
-            let edit = CellEdit {
-                name: ring_name(set, &owner),
-                edit: Edit::TakeOut { key: *key },
-            };
-            push_edit(held, edit, edits)
-        }
-        None => Ok(()),
+    if let Some(owner) = owner {
+        edits.push(CellEdit {
+            name: ring_name(set, &owner),
+            edit: Edit::TakeOut { key: *key },
+        })?;
     }
+    Ok(())
 }
 
 // Takes a record out of the lists of the owners that stay.
@@ -140,11 +112,11 @@ fn leave_lists(
     key: &DbKey,
     edits: &mut Row<CellEdit>,
 ) -> Result<(), AllocError>
-    ensures { OnOk result (edits.new ≡ edits.old ++ edits_in_hand held.now (leaving_edits schema.now (owner_in held.now) gone.now key.now)) }
+    ensures { OnOk result (edits.new ≡ edits.old ++ leaving_edits schema.now (owner_in held.now) gone.now key.now) }
 {
     for s in 0..set_count(schema) {
         let set = SetNo::new(s);
-        take_out(held, set, staying(gone, owner(held, set, key)), key, edits)?;
+        take_out(set, staying(gone, owner(held, set, key)), key, edits)?;
     }
     Ok(())
 }
@@ -156,7 +128,7 @@ fn leave_all_lists(
     gone: &Keys,
     edits: &mut Row<CellEdit>,
 ) -> Result<(), AllocError>
-    ensures { OnOk result (edits.new ≡ edits.old ++ edits_in_hand held.now (flat_map (leaving_edits schema.now (owner_in held.now) gone.now) gone.now)) }
+    ensures { OnOk result (edits.new ≡ edits.old ++ flat_map (leaving_edits schema.now (owner_in held.now) gone.now) gone.now) }
 {
     for key in gone.as_slice() {
         leave_lists(schema, held, gone, key, edits)?;
@@ -167,35 +139,29 @@ fn leave_all_lists(
 // Closes the occurrence that a record owns in a set, if it owns one.
 fn close_list(
     schema: &Schema,
-    held: &Held,
     key: &DbKey,
     set: SetNo,
     edits: &mut Row<CellEdit>,
 ) -> Result<(), AllocError>
-    ensures { OnOk result (edits.new ≡ edits.old ++ edits_in_hand held.now (map (close_ring key.now) (filter (λ s. owns schema.now s key.now.rtype) (set ∷ [])))) }
+    ensures { OnOk result (edits.new ≡ edits.old ++ map (close_ring key.now) (filter (λ s. owns schema.now s key.now.rtype) (set ∷ []))) }
 {
     if schema.owns(set, key.rtype) {
         let edit = CellEdit {
             name: CellName::Ring(set, Some((key.rtype, key.number))),
             edit: Edit::CloseRing,
         };
-        push_edit(held, edit, edits)?;
+        edits.push(edit)?;
     }
     Ok(())
 }
 
 // Closes the occurrences that a record owns.
-fn close_lists(
-    schema: &Schema,
-    held: &Held,
-    key: &DbKey,
-    edits: &mut Row<CellEdit>,
-) -> Result<(), AllocError>
-    ensures { OnOk result (edits.new ≡ edits.old ++ edits_in_hand held.now (closing_edits schema.now key.now)) }
+fn close_lists(schema: &Schema, key: &DbKey, edits: &mut Row<CellEdit>) -> Result<(), AllocError>
+    ensures { OnOk result (edits.new ≡ edits.old ++ closing_edits schema.now key.now) }
 {
     for s in 0..set_count(schema) {
         let set = SetNo::new(s);
-        close_list(schema, held, key, set, edits)?;
+        close_list(schema, key, set, edits)?;
     }
     Ok(())
 }
@@ -203,24 +169,23 @@ fn close_lists(
 #[tactic(auto, using(crate::proofs::EditLists::edits_append))]
 fn close_all_lists(
     schema: &Schema,
-    held: &Held,
     gone: &[DbKey],
     edits: &mut Row<CellEdit>,
 ) -> Result<(), AllocError>
-    ensures { OnOk result (edits.new ≡ edits.old ++ edits_in_hand held.now (flat_map (closing_edits schema.now) gone.now)) }
+    ensures { OnOk result (edits.new ≡ edits.old ++ flat_map (closing_edits schema.now) gone.now) }
 {
     for key in gone {
-        close_lists(schema, held, key, edits)?;
+        close_lists(schema, key, edits)?;
     }
     Ok(())
 }
 
 #[tactic(auto, using(crate::proofs::EditLists::edits_append))]
-fn vacate_slots(held: &Held, gone: &[DbKey], edits: &mut Row<CellEdit>) -> Result<(), AllocError>
-    ensures { OnOk result (edits.new ≡ edits.old ++ edits_in_hand held.now (map (λ d. slot_edit d Vacate) gone.now)) }
+fn vacate_slots(gone: &[DbKey], edits: &mut Row<CellEdit>) -> Result<(), AllocError>
+    ensures { OnOk result (edits.new ≡ edits.old ++ map (λ d. slot_edit d Vacate) gone.now) }
 {
     for key in gone {
-        push_slot_edit(held, key, Edit::Vacate, edits)?;
+        push_slot_edit(key, Edit::Vacate, edits)?;
     }
     Ok(())
 }
@@ -233,10 +198,10 @@ fn lose_owner(
     set: SetNo,
     edits: &mut Row<CellEdit>,
 ) -> Result<(), AllocError>
-    ensures { OnOk result (edits.new ≡ edits.old ++ edits_in_hand held.now (map (lose_owner key.now) (filter (λ s. some_and (is_gone gone.now) (owner_in held.now s key.now)) (set ∷ [])))) }
+    ensures { OnOk result (edits.new ≡ edits.old ++ map (lose_owner key.now) (filter (λ s. some_and (is_gone gone.now) (owner_in held.now s key.now)) (set ∷ []))) }
 {
     if is_lost(gone, owner(held, set, key)) {
-        push_slot_edit(held, key, Edit::ChangeOwner { set, owner: None }, edits)?;
+        push_slot_edit(key, Edit::ChangeOwner { set, owner: None }, edits)?;
     }
     Ok(())
 }
@@ -249,7 +214,7 @@ fn lose_owners(
     key: &DbKey,
     edits: &mut Row<CellEdit>,
 ) -> Result<(), AllocError>
-    ensures { OnOk result (edits.new ≡ edits.old ++ edits_in_hand held.now (map (lose_owner key.now) (lost_sets schema.now (owner_in held.now) gone.now key.now))) }
+    ensures { OnOk result (edits.new ≡ edits.old ++ map (lose_owner key.now) (lost_sets schema.now (owner_in held.now) gone.now key.now)) }
 {
     for s in 0..set_count(schema) {
         let set = SetNo::new(s);
@@ -267,10 +232,10 @@ fn lose(
     key: &DbKey,
     edits: &mut Row<CellEdit>,
 ) -> Result<(), AllocError>
-    ensures { OnOk result (edits.new ≡ edits.old ++ edits_in_hand held.now (losing_edits schema.now (owner_in held.now) gone.now key.now)) }
+    ensures { OnOk result (edits.new ≡ edits.old ++ losing_edits schema.now (owner_in held.now) gone.now key.now) }
 {
     lose_owners(schema, held, gone, key, edits)?;
-    push_slot_edit(held, key, Edit::RaiseVersion, edits)
+    push_slot_edit(key, Edit::RaiseVersion, edits)
 }
 
 #[tactic(auto, using(crate::proofs::EditLists::edits_append))]
@@ -281,7 +246,7 @@ fn lose_all(
     left: &[DbKey],
     edits: &mut Row<CellEdit>,
 ) -> Result<(), AllocError>
-    ensures { OnOk result (edits.new ≡ edits.old ++ edits_in_hand held.now (flat_map (losing_edits schema.now (owner_in held.now) gone.now) left.now)) }
+    ensures { OnOk result (edits.new ≡ edits.old ++ flat_map (losing_edits schema.now (owner_in held.now) gone.now) left.now) }
 {
     for key in left {
         lose(schema, held, gone, key, edits)?;
@@ -289,7 +254,7 @@ fn lose_all(
     Ok(())
 }
 
-/// The edits of the records that go, and of the members that stay, as far as their cells are in hand.
+/// The edits of the records that go, and of the members that stay, by the cells in hand.
 #[tactic(auto, using(crate::proofs::EditLists::edits_append))]
 pub(crate) fn erasing_edits(
     alloc: Global,
@@ -299,13 +264,13 @@ pub(crate) fn erasing_edits(
     left: &Keys,
 ) -> Result<Row<CellEdit>, AllocError>
     requires { left.now ≡ left_behind (members_in_hand schema.now held.now) gone.now }
-    ensures { IfOk result (λ edits. edits ≡ edits_in_hand held.now (erasing_edits schema.now (owner_in held.now) (members_in_hand schema.now held.now) gone.now)) }
+    ensures { IfOk result (λ edits. edits ≡ erasing_edits schema.now (owner_in held.now) (members_in_hand schema.now held.now) gone.now) }
 {
     let mut edits = Row::of(Vec::new(alloc));
-    leave_numbers(held, gone.as_slice(), &mut edits)?;
+    leave_numbers(gone.as_slice(), &mut edits)?;
     leave_all_lists(schema, held, gone, &mut edits)?;
-    close_all_lists(schema, held, gone.as_slice(), &mut edits)?;
-    vacate_slots(held, gone.as_slice(), &mut edits)?;
+    close_all_lists(schema, gone.as_slice(), &mut edits)?;
+    vacate_slots(gone.as_slice(), &mut edits)?;
     lose_all(schema, held, gone, left.as_slice(), &mut edits)?;
     Ok(edits)
 }

@@ -8,12 +8,12 @@ ghost use Rattle.dbtg_unit.specs.declared.statement.Statement.TheVariants.{Delet
 ghost use Rattle.dbtg_unit.specs.Effect.{is_plain};
 ghost use Rattle.dbtg_unit.specs.Erasing.{own_rings};
 ghost use Rattle.dbtg_unit.specs.InHand.{owner_in};
-ghost use Rattle.dbtg_unit.specs.Local.{Agrees};
+ghost use Rattle.dbtg_unit.specs.Local.{Agrees, holds};
 ghost use Rattle.dbtg_unit.specs.Needs.{areas_in_order, need, ring_names};
 ghost use Rattle.dbtg_erase.specs.NextCell.{first_missing, is_missing, least_name, nearer, need_of, next_cell_in, next_cell_of, next_of_gone, next_of_passed, outer_names, ring_of, stops_at};
 ghost use Rattle.dbtg_erase.specs.WorkList.{cells_of_gone, list_in, members_in_hand};
 
-use crate::edits::{is_held, ring_name};
+use crate::edits::ring_name;
 use crate::keys::Keys;
 use crate::preparing::has_any;
 use crate::work_list::{gone, list, owner};
@@ -23,6 +23,15 @@ use dbtg_unit::{
     Erase, Held, Need, Statement, Unit, next_area, own_refusal, refused_at_once, set_count,
 };
 use std::alloc::{AllocError, Global};
+
+fn is_held(held: &Held, name: &CellName) -> bool
+    ensures { result ≡ holds held.now.cells name.now }
+{
+    match held.cell(name) {
+        Some(_cell) => true,
+        None => false,
+    }
+}
 
 // The cell of this name, if it is not in hand.
 fn missing(held: &Held, name: CellName) -> Option<CellName>

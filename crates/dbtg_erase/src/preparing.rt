@@ -1,13 +1,12 @@
 //! What a DELETE that needs nothing more prepares.
-ghost use Rattle.std.specs.Prelude.{◌≡◌, ◌+◌, ◌&&◌, length, map, nat_lt, IfOk};
-ghost use Rattle.std.specs.List.{list_any};
+ghost use Rattle.std.specs.Prelude.{◌≡◌, ◌+◌, length, map, nat_lt, IfOk};
 ghost use Rattle.dbtg_schema.specs.Lookups.{first_cause};
-ghost use Rattle.dbtg_schema.specs.Structure.{owns};
-ghost use Rattle.dbtg_unit.specs.Effect.{is_plain};
-ghost use Rattle.dbtg_unit.specs.InHand.{version_in};
+ghost use Rattle.dbtg_unit.specs.Checks.{delete_checks};
+ghost use Rattle.dbtg_unit.specs.Conditions.{has_members};
+ghost use Rattle.dbtg_unit.specs.InHand.{in_hand, version_in};
 ghost use Rattle.dbtg_unit.specs.Making.{CanFinish, HaveNextVersions, MayPrepare};
 ghost use Rattle.dbtg_unit.specs.declared.statement.Statement.TheVariants.{Delete};
-ghost use Rattle.dbtg_erase.specs.ErasePlan.{checks_in, erasing_plan, has_members_in, refusal, whole_plan};
+ghost use Rattle.dbtg_erase.specs.ErasePlan.{erasing_plan, refusal, whole_plan};
 ghost use Rattle.dbtg_erase.specs.WorkList.{gone_in, list_in};
 
 use crate::edits::erasing_edits;
@@ -31,20 +30,13 @@ pub(crate) fn has_any(held: &Held, key: &DbKey, set: SetNo) -> bool
     }
 }
 
-// Does a record own a member in its list of this set?
-fn owns_any(schema: &Schema, held: &Held, key: &DbKey, set: SetNo) -> bool
-    ensures { result ≡ (owns schema.now set key.now.rtype && nat_lt 0 (length (list_in held.now key.now set))) }
-{
-    schema.owns(set, key.rtype) && has_any(held, key, set)
-}
-
 // Has a record a member in some list in hand?
 #[tactic(auto, using(dbtg_unit::proofs::NumberLemmas::numbers_next, dbtg_unit::proofs::NumberLemmas::numbers_end))]
 fn has_members(schema: &Schema, held: &Held, key: &DbKey) -> bool
-    ensures { result ≡ has_members_in schema.now held.now key.now }
+    ensures { result ≡ has_members schema.now (in_hand held.now) key.now }
 {
     for s in 0..set_count(schema) {
-        if owns_any(schema, held, key, SetNo::new(s)) {
+        if has_any(held, key, SetNo::new(s)) {
             return true;
         }
     }
@@ -60,7 +52,7 @@ fn refusal_of(
     option: Erase,
     key: &DbKey,
 ) -> Option<Cause>
-    ensures { result ≡ first_cause (checks_in schema.now held.now unit.now option key.now) }
+    ensures { result ≡ first_cause (delete_checks schema.now (in_hand held.now) unit.now option key.now) }
 {
     if let Some(cause) = own_refusal(held, unit, key) {
         return Some(cause);

@@ -1,7 +1,6 @@
 -- A statement about the current of run-unit, whose checks are said over a view: where the cells in hand answer as the database
 -- does, and the plan is the effect where the checks pass, the whole plan is the effect.
-use Rattle.std.proofs.Common.{◌≡◌, refl, sym, ◌∙◌, ap, ℕ, Bool, true, List, Option, Some, None}
-use Rattle.std.specs.List.{list_all}
+use Rattle.std.proofs.Common.{◌≡◌, refl, sym, ◌∙◌, ap, ℕ, Bool, List, [], Option, Some, None}
 use Rattle.dbtg_schema.specs.Lists.{Lists}
 use Rattle.dbtg_schema.specs.Lookups.{first_cause}
 use Rattle.dbtg_cells.specs.declared.key.DbKey.{DbKey}
@@ -12,10 +11,10 @@ use Rattle.dbtg_unit.specs.declared.unit.Cause.TheVariants.{NoCurrentOfRunUnit}
 use Rattle.dbtg_unit.specs.declared.unit.Unit.{Unit}
 use Rattle.dbtg_unit.specs.Base.{Database}
 use Rattle.dbtg_unit.specs.Checks.{refused_at_once}
-use Rattle.dbtg_unit.specs.Effect.{Outcome, effect, effect_on_cells, on_current, unless_refused}
+use Rattle.dbtg_unit.specs.Effect.{Outcome, effect, effect_on_cells, unless_refused}
+use Rattle.dbtg_unit.proofs.Outcomes.{on_current}
 use Rattle.dbtg_unit.specs.Hands.{Hands}
 use Rattle.dbtg_unit.specs.InHand.{in_hand}
-use Rattle.dbtg_unit.specs.Local.{holds}
 use Rattle.dbtg_unit.specs.Prepared.{IsEffect, Plan}
 use Rattle.dbtg_unit.specs.View.{View, whole}
 use Rattle.dbtg_plan.specs.Plans.{on_current_plan, unless_refusal}
@@ -25,7 +24,7 @@ module _ (schema : Lists) (capacity : ℕ) (unit : Unit) (hands : Hands) (statem
     (checks : View → DbKey → List (Bool × Cause)) (plan : DbKey → Plan) where
   module _ (db : Database) (outcome : DbKey → Outcome)
       (is : effect_on_cells schema capacity db unit statement ≡ on_current db unit unit.currency.run_unit (checks (whole schema capacity db)) outcome)
-      (agree : (k : DbKey) → unit.currency.run_unit ≡ Some k → checks (in_hand hands) k ≡ checks (whole schema capacity db) k)
+      (agree : (k : DbKey) → unit.currency.run_unit ≡ Some k → first_cause (checks (in_hand hands) k) ≡ first_cause (checks (whole schema capacity db) k))
       (does : (k : DbKey) → unit.currency.run_unit ≡ Some k → first_cause (checks (in_hand hands) k) ≡ None → effect schema capacity db unit statement ≡ outcome k
       → IsEffect schema capacity db unit hands.guesses statement (plan k)) where
     pub current-is_effect : IsEffect schema capacity db unit hands.guesses statement (on_current_plan unit.currency.run_unit (checks (in_hand hands)) plan)
@@ -37,19 +36,19 @@ module _ (schema : Lists) (capacity : ℕ) (unit : Unit) (hands : Hands) (statem
       by_current None e = refusal-is_effect schema capacity db unit hands.guesses statement NoCurrentOfRunUnit (effect-of None e)
       by_current (Some k) e = by_checks (first_cause (checks (in_hand hands) k)) refl where
         there : (c : Option Cause) → first_cause (checks (in_hand hands) k) ≡ c → effect schema capacity db unit statement ≡ unless_refused db unit c (outcome k)
-        there c h = effect-of (Some k) e ∙ ap (λ (c : Option Cause). unless_refused db unit c (outcome k)) (ap first_cause (sym (agree k e)) ∙ h)
+        there c h = effect-of (Some k) e ∙ ap (λ (c : Option Cause). unless_refused db unit c (outcome k)) (sym (agree k e) ∙ h)
 
         by_checks : (c : Option Cause) → first_cause (checks (in_hand hands) k) ≡ c → IsEffect schema capacity db unit hands.guesses statement (unless_refusal c (plan k))
         by_checks (Some cause) h = refusal-is_effect schema capacity db unit hands.guesses statement cause (there (Some cause) h)
         by_checks None h = does k e h (there None h)
 
-  -- what is prepared changes held cells alone, where it does so once the checks pass
-  pub current-all_held : ((k : DbKey) → unit.currency.run_unit ≡ Some k → first_cause (checks (in_hand hands) k) ≡ None → list_all (λ (e : CellEdit). holds hands.cells e.name) (plan k).cells ≡ true)
-      → list_all (λ (e : CellEdit). holds hands.cells e.name) (on_current_plan unit.currency.run_unit (checks (in_hand hands)) plan).cells ≡ true
-  current-all_held passed = by_current unit.currency.run_unit refl where
-    by_current : (r : Option DbKey) → unit.currency.run_unit ≡ r → list_all (λ (e : CellEdit). holds hands.cells e.name) (on_current_plan r (checks (in_hand hands)) plan).cells ≡ true
-    by_current None e = refl
+  -- what holds of no edits, and of those that are made once the checks pass, holds of those that are prepared
+  pub current-cells : (P : List CellEdit → Type 0) → P [] → ((k : DbKey) → unit.currency.run_unit ≡ Some k → first_cause (checks (in_hand hands) k) ≡ None → P (plan k).cells)
+      → P (on_current_plan unit.currency.run_unit (checks (in_hand hands)) plan).cells
+  current-cells P none passed = by_current unit.currency.run_unit refl where
+    by_current : (r : Option DbKey) → unit.currency.run_unit ≡ r → P (on_current_plan r (checks (in_hand hands)) plan).cells
+    by_current None e = none
     by_current (Some k) e = by_checks (first_cause (checks (in_hand hands) k)) refl where
-      by_checks : (c : Option Cause) → first_cause (checks (in_hand hands) k) ≡ c → list_all (λ (e : CellEdit). holds hands.cells e.name) (unless_refusal c (plan k)).cells ≡ true
-      by_checks (Some cause) h = refl
+      by_checks : (c : Option Cause) → first_cause (checks (in_hand hands) k) ≡ c → P (unless_refusal c (plan k)).cells
+      by_checks (Some cause) h = none
       by_checks None h = passed k e h

@@ -1,7 +1,7 @@
 -- What a FIND takes next and what it prepares, off the cells in hand, is what it needs and does on each database that agrees with them.
 -- k is a key, s a set, r a record type, a an area, c the name of a cell, db a database.
-use Rattle.std.proofs.Common.{◌≡◌, refl, sym, ◌∙◌, ap, subst, ℕ, ◌+◌, ◌<◌, true, ◌&&◌, List, [], ◌∷◌, ◌++◌, length, take, Option, Some, None, map, arith, inl, inr}
-use Rattle.std.specs.Prelude.{◌==◌, nat_lt, option_map, unwrap_or, filter, Result, Ok, Err}
+use Rattle.std.proofs.Common.{◌≡◌, refl, sym, ◌∙◌, ap, subst, ℕ, ◌+◌, ◌<◌, true, false, cond, ◌&&◌, ◌⊎◌, List, [], ◌∷◌, ◌++◌, length, take, Option, Some, None, map, arith, inl, inr}
+use Rattle.std.specs.Prelude.{◌==◌, nat_lt, option_and_then, option_map, unwrap_or, filter, if◌then◌else◌, Result, Ok, Err}
 use Rattle.std.specs.List.{list_all, range_with_len}
 use Rattle.std.specs.Option.{option_or}
 use Rattle.std.proofs.lemmas.Bool.{and_parts}
@@ -9,6 +9,7 @@ use Rattle.std.proofs.lemmas.Bool.Decides.{nat_tests}
 use Rattle.std.proofs.lemmas.List.{take_all}
 use Rattle.std.proofs.lemmas.List.FromFn.{length-map-range_with_len}
 use Rattle.dbtg_schema.specs.Lists.{Lists}
+use Rattle.dbtg_schema.specs.Lookups.{at}
 use Rattle.dbtg_schema.specs.Structure.{area_of, types_in}
 use Rattle.dbtg_cells.specs.declared.key.DbKey.{DbKey}
 use Rattle.dbtg_cells.specs.declared.key.Owner.{Owner}
@@ -21,34 +22,69 @@ use Rattle.dbtg_unit.specs.declared.statement.Form.TheVariants.{Key, CurrentOfUn
 use Rattle.dbtg_unit.specs.declared.statement.Statement.TheVariants.{Find}
 use Rattle.dbtg_unit.specs.declared.statement.Suppress.{Suppress}
 use Rattle.dbtg_unit.specs.declared.unit.Cause.{Cause}
+use Rattle.dbtg_unit.specs.declared.unit.Cause.TheVariants.{Deleted, NoneSatisfies}
+use Rattle.dbtg_unit.specs.declared.unit.Place.{Place}
 use Rattle.dbtg_unit.specs.declared.unit.Unit.{Unit}
-use Rattle.dbtg_unit.specs.Base.{Database, owner_of}
+use Rattle.dbtg_unit.specs.Base.{Database, is_live, owner_of}
 use Rattle.dbtg_unit.specs.Belongs.{IsUnitOf}
 use Rattle.dbtg_unit.specs.CellNames.{slot_name}
 use Rattle.dbtg_unit.specs.Cells.{cell}
 use Rattle.dbtg_unit.specs.Checks.{refused_at_once}
 use Rattle.dbtg_unit.specs.Effect.{Outcome, done, effect, finding}
 use Rattle.dbtg_unit.specs.Fits.{form_fits, if_named, is_type}
-use Rattle.dbtg_unit.specs.Found.{found}
+use Rattle.dbtg_unit.specs.Found.{found, with_current}
 use Rattle.dbtg_unit.specs.Guesses.{guesses_after}
 use Rattle.dbtg_unit.specs.Hands.{Hands}
 use Rattle.dbtg_unit.specs.InHand.{stored_in}
 use Rattle.dbtg_unit.specs.Local.{Agrees, holds}
-use Rattle.dbtg_unit.specs.Making.{CanFinish, CanMake, MayPrepare}
-use Rattle.dbtg_unit.specs.Needs.{find_cells, found_slot}
+use Rattle.dbtg_unit.specs.Making.{CanFinish, CanMake}
+use Rattle.dbtg_unit.specs.Needs.{current_owner, find_cells, found_slot, ring_names, slot_names}
 use Rattle.dbtg_unit.specs.Prepared.{IsEffect}
-use Rattle.dbtg_unit.specs.Units.{owners_of, seen, seen_with}
-use Rattle.dbtg_unit.proofs.AlikeFind.{slot_of_found}
+use Rattle.dbtg_unit.specs.Units.{key_of_place, owners_of, place_in, seen, seen_with}
 use Rattle.dbtg_unit.proofs.FoundLemmas.{found_live}
 use Rattle.dbtg_unit.proofs.InHandLemmas.{live_in_hand, owners_in_hand}
-use Rattle.dbtg_unit.proofs.LiveKeys.{In, in_left, some_is}
+use Rattle.dbtg_unit.proofs.LiveKeys.{In, in_left, in_right, some_is}
 use Rattle.dbtg_unit.proofs.LocalReady.{all_held}
+use Rattle.dbtg_unit.proofs.OnePlan.{MayPlan}
 use Rattle.dbtg_unit.proofs.ReadyParts.{prepared_has_all}
 use Rattle.dbtg_plan.specs.Finding.{cells_to_find, found_in, is_wanted, next_cell_in, owners_in, plan_of_found}
 use Rattle.dbtg_plan.proofs.FindingLemmas.{found_reads, only_named}
 use Rattle.dbtg_plan.specs.Missing.{first_missing}
 use Rattle.dbtg_plan.proofs.MissingCells.{missing-append, none_missing}
 use Rattle.dbtg_plan.proofs.PlanLemmas.{effect-on_cells, refusal-is_effect}
+
+-- THE SLOT OF WHAT IS FOUND
+
+not_found : {X : Type 0} {k : DbKey} {cause : Cause} → Err cause ≡ Ok k → X
+not_found h = cc
+
+same_found : {x k : DbKey} → ◌≡◌ {A = Result DbKey Cause} (Ok x) (Ok k) → x ≡ k
+same_found h = cc
+
+module _ (schema : Lists) (capacity : ℕ) (db : Database) (unit : Unit) where
+  -- the slot of what is found is named
+  of_current_slot : (o : Option DbKey) (k : DbKey) → with_current o (λ x. if is_live db x then Ok x else Err Deleted) ≡ Ok k → In (slot_name k) (slot_names o)
+  of_current_slot None k h = not_found h
+  of_current_slot (Some x) k h =
+      elim (is_live db x) as (λ b. cond b (Ok x) (Err Deleted) ≡ Ok k → (slot_name x ≡ slot_name k) ⊎ ⊥) [ true ↦ λ e. inl (ap slot_name (same_found e)) | false ↦ λ e. not_found e ] h
+
+  of_found_slot : (r : Result DbKey Cause) (k : DbKey) → r ≡ Ok k → In (slot_name k) (found_slot r)
+  of_found_slot (Ok x) k h = inl (ap slot_name (same_found h))
+  of_found_slot (Err cause) k h = not_found h
+
+  pub slot_of_found : (form : Form) (k : DbKey) → found schema capacity db unit form ≡ Ok k → In (slot_name k) (find_cells schema capacity db unit form)
+  slot_of_found (Key x) k h = elim (is_live db x) as (λ b. cond b (Ok x) (Err NoneSatisfies) ≡ Ok k → (slot_name x ≡ slot_name k) ⊎ ⊥) [ true ↦ λ e. inl (ap slot_name (same_found e)) | false ↦ λ e. not_found e ] h
+  slot_of_found CurrentOfUnit k h = of_current_slot unit.currency.run_unit k h
+  slot_of_found (CurrentOfType r) k h = of_current_slot (at unit.currency.types r) k h
+  slot_of_found (CurrentOfSet s) k h = of_current_slot (option_and_then key_of_place (place_in schema unit s)) k h
+  slot_of_found (CurrentOfArea a) k h = of_current_slot (at unit.currency.areas a) k h
+  slot_of_found (InSet which r s) k h = in_right _ (ring_names s (current_owner schema unit s)) (found_slot (found schema capacity db unit (InSet which r s))) (of_found_slot _ k h)
+  slot_of_found (InArea which r a) k h =
+      in_right _ (map Extent (unwrap_or (option_map (λ t. t ∷ []) r) (types_in schema a))) (found_slot (found schema capacity db unit (InArea which r a))) (of_found_slot _ k h)
+  slot_of_found (OwnerOf s) k h = of_current_slot (option_and_then (λ (place : Place). key_of_place (record place { at = None })) (place_in schema unit s)) k h
+  slot_of_found (Calc r values) k h = inr (of_found_slot _ k h)
+  slot_of_found (NextDuplicate r) k h = inr (of_found_slot _ k h)
+  slot_of_found (Sorted v s) k h = in_right _ (ring_names s (current_owner schema unit s)) (found_slot (found schema capacity db unit (Sorted v s))) (of_found_slot _ k h)
 
 -- THE NEXT CELL
 
@@ -130,7 +166,7 @@ module _ (schema : Lists) (capacity : ℕ) (db : Database) (hands : Hands) (unit
 -- THE PLAN
 
 module _ (schema : Lists) (capacity : ℕ) (unit : Unit) (hands : Hands) (form : Form) (suppress : Suppress)
-    (may : MayPrepare schema capacity unit hands (Find form suppress)) (passes : refused_at_once schema capacity unit (Find form suppress) ≡ None) where
+    (may : MayPlan schema capacity unit hands (Find form suppress)) (passes : refused_at_once schema capacity unit (Find form suppress) ≡ None) where
   fit : form_fits schema form ≡ true
   fit = (and_parts _ _ may.fits).0
 
@@ -170,8 +206,8 @@ module _ (schema : Lists) (capacity : ℕ) (unit : Unit) (hands : Hands) (form :
           cells = λ c. ap (λ (o : Outcome). cell schema capacity o.database c) e;
         }
 
-    plan_is_effect : IsEffect schema capacity db unit hands.guesses (Find form suppress) (plan_of_found hands suppress (found_in schema unit hands form))
-    plan_is_effect = by_result (found_in schema unit hands form) ready_reads
+    pub find_is_effect : IsEffect schema capacity db unit hands.guesses (Find form suppress) (plan_of_found hands suppress (found_in schema unit hands form))
+    find_is_effect = by_result (found_in schema unit hands form) ready_reads
 
   nothing_edited : (r : Result DbKey Cause) → (plan_of_found hands suppress r).cells ≡ []
   nothing_edited (Ok k) = refl
@@ -183,7 +219,7 @@ module _ (schema : Lists) (capacity : ℕ) (unit : Unit) (hands : Hands) (form :
       record {
         prepared = record {
           held = λ db agrees. subst (λ (es : List CellEdit). list_all (λ (e : CellEdit). holds hands.cells e.name) es ≡ true) none refl;
-          effects = plan_is_effect;
+          effects = find_is_effect;
         };
         can_make = λ db agrees. subst (λ (es : List CellEdit). CanMake es hands.cells) none tt;
       }

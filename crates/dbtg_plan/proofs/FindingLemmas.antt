@@ -23,7 +23,7 @@ use Rattle.dbtg_unit.specs.declared.unit.Cause.{Cause}
 use Rattle.dbtg_unit.specs.declared.unit.Cause.TheVariants.{Deleted, End, NoneSatisfies, PositionLost}
 use Rattle.dbtg_unit.specs.declared.unit.Place.{Place}
 use Rattle.dbtg_unit.specs.declared.unit.Unit.{Unit}
-use Rattle.dbtg_unit.specs.Base.{Database, calc_items, is_live, items_of, live_keys, members_of, sort_key}
+use Rattle.dbtg_unit.specs.Base.{Database, calc_items, is_live, items_of, key_at, live_keys, members_of, sort_key}
 use Rattle.dbtg_unit.specs.Belongs.{IsUnitOf}
 use Rattle.dbtg_unit.specs.CellNames.{place_of, slot_name}
 use Rattle.dbtg_unit.specs.Cells.{number_of}
@@ -36,11 +36,16 @@ use Rattle.dbtg_unit.specs.Needs.{ring_names, slot_names}
 use Rattle.dbtg_unit.specs.Units.{key_of_owner, key_of_place, place_in}
 use Rattle.dbtg_unit.proofs.ExtentInHand.{calc_items_in_hand, first-map, keys_behind_in_hand, live_by_extent, live_keys_in_hand, with_calc_in_hand}
 use Rattle.dbtg_unit.proofs.InHandLemmas.{entries_in_hand, list_in_hand, live_in_hand, numbers_in_hand}
-use Rattle.dbtg_unit.proofs.LiveKeys.{In, in_filter, in_map, of_range}
-use Rattle.dbtg_unit.proofs.TwoDatabases.{live_key_type}
+use Rattle.dbtg_unit.proofs.LiveKeys.{In, in_filter, in_map, of_filter, of_map, of_range}
 use Rattle.dbtg_plan.specs.Finding.{area_keys_in, cells_to_find, duplicate_found, found_in, is_wanted, keys_of_type, keys_wanted, member_found, sorted_found, stored_or}
 
 -- LISTS
+
+-- a live key of a type is of that type
+live_key_type : (capacity t : ℕ) (d : Database) (x : DbKey) → In x (live_keys capacity d t) → x.rtype ≡ t
+live_key_type capacity t d x i =
+    let made = of_map (key_at d t) x (range_with_len 1 capacity) (of_filter (is_live d) x (map (key_at d t) (range_with_len 1 capacity)) i).0 in
+    ap (λ (y : DbKey). y.rtype) (sym made.2)
 
 all_pass : {X : Type 0} (p : X → Bool) (xs : List X) → ((x : X) → In x xs → p x ≡ true) → filter p xs ≡ xs
 all_pass p [] h = refl

@@ -16,7 +16,7 @@ use Rattle.dbtg_cells.specs.declared.name.CellName.TheVariants.{Ring}
 use Rattle.dbtg_cells.specs.declared.ring.Occurrence.{Occurrence}
 use Rattle.dbtg_cells.specs.Keys.{key_eq, is_member, owner_eq}
 use Rattle.dbtg_cells.specs.Members.{keys_in}
-use Rattle.dbtg_unit.specs.CellChecks.{own_checks, insert_checks, place_checks}
+use Rattle.dbtg_unit.specs.Checks.{own_checks, insert_checks, place_checks}
 use Rattle.dbtg_unit.specs.declared.edit.CellEdit.{CellEdit}
 use Rattle.dbtg_unit.specs.declared.edit.Edit.TheVariants.{ChangeOwner, RaiseVersion}
 use Rattle.dbtg_unit.specs.declared.statement.Statement.{Statement}
@@ -47,7 +47,7 @@ use Rattle.dbtg_unit.proofs.InHandLemmas.{items_in_hand, live_in_hand, members_i
 use Rattle.dbtg_unit.proofs.SameView.{insert_checks_agree}
 use Rattle.dbtg_unit.specs.InHand.{in_hand}
 use Rattle.dbtg_unit.specs.View.{View, whole}
-use Rattle.dbtg_plan.proofs.CurrentPlans.{current-all_held, current-is_effect}
+use Rattle.dbtg_plan.proofs.CurrentPlans.{current-cells, current-is_effect}
 use Rattle.dbtg_unit.proofs.KeyLemmas.{key_eq-refl, owner_eq-refl}
 use Rattle.dbtg_unit.proofs.LegalEffect.{passed, some_from}
 use Rattle.dbtg_unit.proofs.LiveKeys.{In, in_left, in_range, in_right, member_nowhere, none_is}
@@ -191,14 +191,14 @@ module _ (schema : Lists) (capacity : ℕ) (unit : Unit) (hands : Hands) (s : �
   -- what is prepared changes held cells alone
   all-held : (db : Database) → Agrees schema capacity db hands unit → list_all (λ (e : CellEdit). holds hands.cells e.name) (insert_plan schema unit hands s).cells ≡ true
   all-held db agrees =
-      current-all_held schema capacity unit hands (Insert s) passes checks (inserting schema unit hands s)
+      current-cells schema capacity unit hands (Insert s) passes checks (inserting schema unit hands s) (λ es. list_all (λ (e : CellEdit). holds hands.cells e.name) es ≡ true) refl
       (λ k current h. let slot = slot_held db agrees k current in and_from _ _ (ring_held db agrees) (and_from _ _ slot (and_from _ _ slot refl)))
 
   pub insert-is_prepared : IsPrepared schema capacity unit hands (Insert s) (insert_plan schema unit hands s)
   insert-is_prepared = record {
     held = all-held;
     effects = λ db agrees.
-        current-is_effect schema capacity unit hands (Insert s) passes checks (inserting schema unit hands s) db (inserted schema db unit s) refl (checks-are db agrees) (inserts db agrees);
+        current-is_effect schema capacity unit hands (Insert s) passes checks (inserting schema unit hands s) db (inserted schema db unit s) refl (λ k e. ap first_cause (checks-are db agrees k e)) (inserts db agrees);
   }
 
 -- THAT IT CAN BE MADE

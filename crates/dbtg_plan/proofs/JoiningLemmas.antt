@@ -17,7 +17,7 @@ use Rattle.dbtg_cells.specs.declared.key.Value.{Value}
 use Rattle.dbtg_cells.specs.declared.name.CellName.TheVariants.{Ring}
 use Rattle.dbtg_cells.specs.declared.ring.Occurrence.{Occurrence}
 use Rattle.dbtg_cells.specs.Members.{Entry, keys_in, members_in}
-use Rattle.dbtg_unit.specs.CellChecks.{place_checks}
+use Rattle.dbtg_unit.specs.Checks.{place_checks}
 use Rattle.dbtg_unit.specs.declared.unit.Cause.TheVariants.{Deleted, PositionLost}
 use Rattle.dbtg_unit.specs.declared.unit.Unit.{Unit}
 use Rattle.dbtg_unit.specs.Base.{Database, items_of, key_item, members_of, sort_key}

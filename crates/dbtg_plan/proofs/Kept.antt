@@ -14,16 +14,6 @@ flat_map-kept f p q (x ∷ xs) =
       | false ↦ refl
     ]
 
--- whether one of them passes a third
-pub any-kept : {X : Type 0} (f p q : X → Bool) (xs : List X) → list_any (λ x. (p x && q x) && f x) xs ≡ list_any f (filter q (filter p xs))
-any-kept f p q [] = refl
-any-kept f p q (x ∷ xs) =
-    ap (λ b. ((p x && q x) && f x) || b) (any-kept f p q xs)
-    ∙ elim (p x) as (λ b. (((b && q x) && f x) || list_any f (filter q (filter p xs))) ≡ list_any f (filter q (cond b (x ∷ filter p xs) (filter p xs)))) [
-      | true ↦ elim (q x) as (λ c. ((c && f x) || list_any f (filter q (filter p xs))) ≡ list_any f (cond c (x ∷ filter q (filter p xs)) (filter q (filter p xs)))) [ true ↦ refl | false ↦ refl ]
-      | false ↦ refl
-    ]
-
 -- whether one that passes one test passes another
 pub any-filter : {X : Type 0} (f p : X → Bool) (xs : List X) → list_any f (filter p xs) ≡ list_any (λ x. p x && f x) xs
 any-filter f p [] = refl
@@ -33,10 +23,6 @@ any-filter f p (x ∷ xs) =
       | false ↦ any-filter f p xs
     ]
 
-pub any-map : {X Y : Type 0} (f : Y → Bool) (g : X → Y) (xs : List X) → list_any f (map g xs) ≡ list_any (λ x. f (g x)) xs
-any-map f g [] = refl
-any-map f g (x ∷ xs) = ap (λ b. f (g x) || b) (any-map f g xs)
-
 -- checks with one cause
 pub first_cause-any : {X C : Type 0} (f : X → Bool) (cause : C) (xs : List X) → first_cause (map (λ x. (f x, cause)) xs) ≡ cond (list_any f xs) (Some cause) None
 first_cause-any f cause [] = refl
@@ -45,12 +31,3 @@ first_cause-any f cause (x ∷ xs) =
       | true ↦ refl
       | false ↦ first_cause-any f cause xs
     ]
-
--- what is asked only where something holds
-pub and_agrees : (b c d : Bool) → (b ≡ true → c ≡ d) → (b && c) ≡ (b && d)
-and_agrees true c d h = h refl
-and_agrees false c d h = refl
-
-pub cond_agrees : {X : Type 0} (b : Bool) (x y z : X) → (b ≡ true → x ≡ y) → cond b x z ≡ cond b y z
-cond_agrees true x y z h = h refl
-cond_agrees false x y z h = refl

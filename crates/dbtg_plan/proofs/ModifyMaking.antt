@@ -2,10 +2,10 @@
 use Rattle.std.proofs.Common.{◌≡◌, refl, sym, ◌∙◌, ap, subst, ℕ, Bool, true, false, cond, not, ◌&&◌, List, [], ◌∷◌, ◌++◌, Option, Some, None, eqb, map, length, append_assoc, ⊎_elim}
 use Rattle.std.specs.Prelude.{is_none, is_some, option_map, option_and_then, unwrap_or, slice_get}
 use Rattle.std.specs.List.{find, flat_map, list_all, list_any, position_or_len}
-use Rattle.std.proofs.lemmas.Bool.{and_parts, and_from, false≢true, not-false}
+use Rattle.std.proofs.lemmas.Bool.{and_from, false≢true}
 use Rattle.std.proofs.lemmas.List.Folds.{find_at, list_all-append, list_all-map}
 use Rattle.dbtg_schema.specs.Lists.{Lists}
-use Rattle.dbtg_schema.specs.Lookups.{first_cause, some_and}
+use Rattle.dbtg_schema.specs.Lookups.{some_and}
 use Rattle.dbtg_schema.specs.Sound.{IsSound, IsSoundSet}
 use Rattle.dbtg_schema.specs.Structure.{order_of, pictures, set_numbers}
 use Rattle.dbtg_schema.specs.WellFormed.{is_sorted}
@@ -28,7 +28,6 @@ use Rattle.dbtg_unit.specs.declared.edit.CellEdit.{CellEdit}
 use Rattle.dbtg_unit.specs.declared.edit.Edit.{Edit}
 use Rattle.dbtg_unit.specs.declared.edit.Edit.TheVariants.{ChangeItems, ChangeNumber, RaiseVersion, ReplaceMember}
 use Rattle.dbtg_unit.specs.declared.statement.Change.{Change}
-use Rattle.dbtg_unit.specs.declared.unit.Cause.TheVariants.{ChangedByAnother, Deleted}
 use Rattle.dbtg_unit.specs.declared.unit.Unit.{Unit}
 use Rattle.dbtg_unit.specs.Base.{Database, calc_items, key_item, members_of, owner_of, sort_key}
 use Rattle.dbtg_unit.specs.CanEdit.{CanEdit, CanPlace}
@@ -38,24 +37,23 @@ use Rattle.dbtg_unit.specs.Effect.{names_calc, uses_position}
 use Rattle.dbtg_unit.specs.Fits.{values_fit}
 use Rattle.dbtg_unit.specs.Found.{is_lost}
 use Rattle.dbtg_unit.specs.Hands.{Hands, cell_of}
-use Rattle.dbtg_unit.specs.InHand.{numbers_of, occurrence_in, owner_in, stored_in}
+use Rattle.dbtg_unit.specs.InHand.{numbers_in, numbers_of, occurrence_in, owner_in}
 use Rattle.dbtg_unit.specs.Legal.{keys_in_order, pairwise}
 use Rattle.dbtg_unit.specs.Local.{Agrees, holds}
 use Rattle.dbtg_unit.specs.Making.{CanMake, HaveNextVersions}
 use Rattle.dbtg_unit.specs.Placing.{compares}
 use Rattle.dbtg_unit.specs.Units.{place_in}
-use Rattle.dbtg_unit.proofs.CheckLemmas.{passes_check}
-use Rattle.dbtg_unit.proofs.InHandLemmas.{entries_in_hand, members_in_hand, owner_in_hand}
+use Rattle.dbtg_unit.proofs.InHandLemmas.{entries_in_hand, listed_in_hand, members_in_hand, owner_in_hand}
 use Rattle.dbtg_unit.proofs.LiveKeys.{In, member_of_owner, of_flat_map}
 use Rattle.dbtg_unit.proofs.EditLemmas.{range-distinct}
 use Rattle.dbtg_unit.proofs.MakingLemmas.{EachCanEdit, are_distinct, are_of_others, can_make-raised, each-append, each-flat_map, leaves-items}
 use Rattle.dbtg_unit.proofs.PlacedLemmas.{all-filter, pairwise-filter}
+use Rattle.dbtg_unit.proofs.RingsLemmas.{there as member_there}
 use Rattle.dbtg_unit.proofs.SortKeyLemmas.{at_entry}
-use Rattle.dbtg_plan.specs.Modifying.{calc_edits_in, is_numbered_in, is_rekeyed, is_replaced, modify_checks_in, modify_edits_in, replacing_edits_in}
+use Rattle.dbtg_plan.specs.Modifying.{calc_edits_in, is_rekeyed, modify_edits_in, replacing_edits_in}
 use Rattle.dbtg_plan.proofs.JoiningLemmas.{can-place, members-compare, pairwise-map}
 use Rattle.dbtg_plan.proofs.ModifyPlan.{rekeyed_clause, rekeyed_number}
-use Rattle.dbtg_plan.proofs.ModifyReading.{occurrence_there}
-use Rattle.dbtg_plan.proofs.RingEdits.{can-edit-ring, extent-held, ring-held, slot-held}
+use Rattle.dbtg_plan.proofs.RingEdits.{can-edit-ring}
 use Rattle.dbtg_plan.proofs.StoreMaking.{distinct-append, distinct-flat_map, other-rings}
 
 all-flat_map : {X Y : Type 0} (p : Y → Bool) (f : X → List Y) → ((x : X) → list_all p (f x) ≡ true) → (xs : List X) → list_all p (flat_map f xs) ≡ true
@@ -78,9 +76,9 @@ module _ (schema : Lists) (hands : Hands) (unit : Unit) (changes : List Change) 
   calc_edit = record { name = Extent k.rtype; edit = ChangeNumber k.number (calc_items schema k.rtype items) }
 
   -- there is none, or the one of the ring of the record's owner
-  of_set : (P : List CellEdit → Type 0) (s : ℕ) → P [] → ((o : Owner) → is_replaced schema hands changes k s ≡ true → owner_in hands s k ≡ Some o → P (record { name = Ring s (place_of o); edit = edit_at s } ∷ [])) → P (replacing s)
-  of_set P s none one = by_case (is_replaced schema hands changes k s) (owner_in hands s k) refl refl where
-    by_case : (b : Bool) (o : Option Owner) → is_replaced schema hands changes k s ≡ b → owner_in hands s k ≡ o → P (cond b (ring_edits s o (edit_at s ∷ [])) [])
+  of_set : (P : List CellEdit → Type 0) (s : ℕ) → P [] → ((o : Owner) → is_rekeyed schema changes k.rtype s ≡ true → owner_in hands s k ≡ Some o → P (record { name = Ring s (place_of o); edit = edit_at s } ∷ [])) → P (replacing s)
+  of_set P s none one = by_case (is_rekeyed schema changes k.rtype s) (owner_in hands s k) refl refl where
+    by_case : (b : Bool) (o : Option Owner) → is_rekeyed schema changes k.rtype s ≡ b → owner_in hands s k ≡ o → P (cond b (ring_edits s o (edit_at s ∷ [])) [])
     by_case false o e is = none
     by_case true None e is = none
     by_case true (Some o) e is = one o e is
@@ -120,34 +118,18 @@ module _ (schema : Lists) (hands : Hands) (unit : Unit) (changes : List Change) 
       ∙ and_from _ _ (of_calc (λ es. are_of_others (slot_name k) es ≡ true) refl (λ named. refl))
       (all-flat_map (λ (e : CellEdit). not (name_eq (slot_name k) e.name)) replacing (λ s. of_set (λ es. are_of_others (slot_name k) es ≡ true) s refl (λ o replaced is. refl)) (set_numbers schema))
 
-  -- WHERE NOTHING REFUSES
+  -- THEIR CELLS ARE IN HAND
 
-  module _ (passes : first_cause (modify_checks_in schema hands unit changes k items) ≡ None) where
-    pub stored_there : is_some (stored_in hands k) ≡ true
-    stored_there = not-false _ (passes_check (not (is_some (stored_in hands k))) Deleted _ passes).0
-
-    pub numbered_there : names_calc schema k.rtype changes ≡ true → is_numbered_in hands k ≡ true
-    numbered_there named =
-        let own = passes_check (not (is_some (stored_in hands k))) Deleted _ passes in
-        let kept = passes_check _ ChangedByAnother _ own.1 in
-        let number = passes_check (names_calc schema k.rtype changes && not (is_numbered_in hands k)) Deleted _ kept.1 in
-        not-false _ (sym (ap (λ b. b && not (is_numbered_in hands k)) named) ∙ number.0)
-
-    abbrev is_held : CellEdit → Bool
-    is_held e = holds hands.cells e.name
-
-    ring_there : (s : ℕ) → list_all is_held (replacing s) ≡ true
-    ring_there s =
-        of_set (λ es. list_all is_held es ≡ true) s refl
-        (λ o replaced is. and_from _ _ (ring-held hands s o (sym (ap (λ (q : Option Owner). is_some (option_and_then (occurrence_in hands s) q)) is) ∙ (and_parts _ _ replaced).1)) refl)
-
-    pub edits_held : list_all is_held (modify_edits_in schema hands unit changes k items) ≡ true
-    edits_held =
-        let slot = slot-held hands k stored_there in
-        let slots : List CellEdit = slot_edit k (ChangeItems items) ∷ (slot_edit k RaiseVersion ∷ []) in
-        list_all-append is_held (calc_edits_in schema changes k items) (replacing_all ++ slots)
-        ∙ and_from _ _ (of_calc (λ es. list_all is_held es ≡ true) refl (λ named. and_from _ _ (extent-held hands k.rtype k.number (numbered_there named)) refl))
-        (list_all-append is_held replacing_all slots ∙ and_from _ _ (all-flat_map is_held replacing ring_there (set_numbers schema)) (and_from _ _ slot (and_from _ _ slot refl)))
+  pub edits_held : holds hands.cells (slot_name k) ≡ true → (names_calc schema k.rtype changes ≡ true → holds hands.cells (Extent k.rtype) ≡ true)
+      → ((s : ℕ) (o : Owner) → is_rekeyed schema changes k.rtype s ≡ true → owner_in hands s k ≡ Some o → holds hands.cells (Ring s (place_of o)) ≡ true)
+      → list_all (λ (e : CellEdit). holds hands.cells e.name) (modify_edits_in schema hands unit changes k items) ≡ true
+  edits_held slot extent rings =
+      let is_held : CellEdit → Bool = λ e. holds hands.cells e.name in
+      let slots : List CellEdit = slot_edit k (ChangeItems items) ∷ (slot_edit k RaiseVersion ∷ []) in
+      list_all-append is_held (calc_edits_in schema changes k items) (replacing_all ++ slots)
+      ∙ and_from _ _ (of_calc (λ es. list_all is_held es ≡ true) refl (λ named. and_from _ _ (extent named) refl))
+      (list_all-append is_held replacing_all slots
+      ∙ and_from _ _ (all-flat_map is_held replacing (λ s. of_set (λ es. list_all is_held es ≡ true) s refl (λ o named is. and_from _ _ (rings s o named is) refl)) (set_numbers schema)) (and_from _ _ slot (and_from _ _ slot refl)))
 
 -- THAT THEY CAN BE MADE
 
@@ -193,6 +175,11 @@ module _ (schema : Lists) (capacity : ℕ) (db : Database) (hands : Hands) (unit
   abbrev CanReplace : ℕ → Option Occurrence → Type 0
   CanReplace s occurrence = (is_member k (keys_in occurrence) ≡ true) × CanPlace (order_of schema s) (position_at s) (key_item schema s k.rtype items) (with_members (without_key k) occurrence)
 
+  -- the occurrence of its owner is in hand
+  occurrence_there : (s : ℕ) (o : Owner) → is_rekeyed schema changes k.rtype s ≡ true → owner_of schema capacity db s k ≡ Some o → is_some (occurrence_in hands s o) ≡ true
+  occurrence_there s o named is =
+      sym (listed_in_hand schema capacity db hands unit agrees s o (rings s o named is)) ∙ member_there k (db.lists s o) (member_of_owner schema capacity db agrees.legal s o k is)
+
   can_replace : (s : ℕ) (o : Owner) → is_rekeyed schema changes k.rtype s ≡ true → owner_of schema capacity db s k ≡ Some o → CanReplace s (occurrence_in hands s o)
   can_replace s o named is =
       let held = rings s o named is in
@@ -207,7 +194,7 @@ module _ (schema : Lists) (capacity : ℕ) (db : Database) (hands : Hands) (unit
       ap (pairwise stand) entries ∙ pairwise-map (λ x. (x, sort_key schema db s x)) stand (members_of db s o) ∙ agrees.legal.sorted s o in (
         ap (is_member k) (sym (members_in_hand schema capacity db hands unit agrees s o held)) ∙ member_of_owner schema capacity db agrees.legal s o k is,
         can-place (order_of schema s) (position_at s) (key_item schema s k.rtype items) (with_members (without_key k) occurrence)
-            (there occurrence (occurrence_there schema capacity db hands unit agrees changes k slot rings s o named is))
+            (there occurrence (occurrence_there s o named is))
             (ap (λ b. b && is_lost (position_at s) (keys_in (with_members (without_key k) occurrence))) (rekeyed_sorted schema sound changes k.rtype s named))
             (ap (list_all compare) (less occurrence) ∙ all-filter compare (λ (e : Entry). not (has_key k e)) (members_in occurrence) kinds)
             (ap (pairwise stand) (less occurrence) ∙ pairwise-filter stand (λ (e : Entry). not (has_key k e)) (members_in occurrence) stands),
@@ -223,15 +210,14 @@ module _ (schema : Lists) (capacity : ℕ) (db : Database) (hands : Hands) (unit
   ring_can : (s : ℕ) → EachCanEdit (replacing schema hands unit changes k items s) hands.cells
   ring_can s =
       of_set schema hands unit changes k items (λ es. EachCanEdit es hands.cells) s tt
-      (λ o replaced is.
-      let named = (and_parts _ _ replaced).0 in
+      (λ o named is.
       let owned = owner_in_hand schema capacity db hands unit agrees k slot s (rekeyed_number schema changes k.rtype s named) ∙ is in (
-        can-edit-ring hands s o (edit_at schema hands unit changes k items s) (occurrence_there schema capacity db hands unit agrees changes k slot rings s o named owned)
+        can-edit-ring hands s o (edit_at schema hands unit changes k items s) (occurrence_there s o named owned)
             (λ v there same. subst (CanReplace s) (sym same) (can_replace s o named owned)),
         tt,
       ))
 
-  calc_can : (names_calc schema k.rtype changes ≡ true → is_numbered_in hands k ≡ true) → EachCanEdit (calc_edits_in schema changes k items) hands.cells
+  calc_can : (names_calc schema k.rtype changes ≡ true → some_and is_used (entry_of k.number (numbers_in hands k.rtype)) ≡ true) → EachCanEdit (calc_edits_in schema changes k items) hands.cells
   calc_can numbered = of_calc schema hands unit changes k items (λ es. EachCanEdit es hands.cells) tt (λ named. (extent_can named, tt)) where
     extent_can : names_calc schema k.rtype changes ≡ true → (x : Cell) → cell_of (Extent k.rtype) hands.cells ≡ Some x → CanEdit (ChangeNumber k.number (calc_items schema k.rtype items)) x
     extent_can named (UsageCell u) h = tt
@@ -239,7 +225,7 @@ module _ (schema : Lists) (capacity : ℕ) (db : Database) (hands : Hands) (unit
     extent_can named (SlotCell r) h = tt
     extent_can named (ExtentCell v) h = ap (λ (o : Option Cell). some_and is_used (entry_of k.number (numbers_of o))) (sym h) ∙ numbered named
 
-  pub edits_can : HaveNextVersions hands.cells → (names_calc schema k.rtype changes ≡ true → is_numbered_in hands k ≡ true) → CanMake (modify_edits_in schema hands unit changes k items) hands.cells
+  pub edits_can : HaveNextVersions hands.cells → (names_calc schema k.rtype changes ≡ true → some_and is_used (entry_of k.number (numbers_in hands k.rtype)) ≡ true) → CanMake (modify_edits_in schema hands unit changes k items) hands.cells
   edits_can versions numbered =
       let calc = calc_edits_in schema changes k items in
       let all = replacing_all schema hands unit changes k items in

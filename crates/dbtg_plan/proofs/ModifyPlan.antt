@@ -1,10 +1,10 @@
 -- What is prepared of a MODIFY is its effect on every database that agrees with what is held.
-use Rattle.std.proofs.Common.{◌≡◌, refl, sym, ◌∙◌, ap, subst, ℕ, ◌+◌, Bool, true, false, cond, not, ◌&&◌, List, [], ◌∷◌, ◌++◌, Option, Some, None, inl, eqb, map}
+use Rattle.std.proofs.Common.{◌≡◌, refl, sym, ◌∙◌, ap, subst, ℕ, ◌+◌, Bool, true, false, cond, ◌&&◌, List, [], ◌∷◌, ◌++◌, Option, Some, None, inl, eqb, map}
 use Rattle.std.specs.Prelude.{is_some, option_map, unwrap_or}
 use Rattle.std.specs.List.{list_any, flat_map}
 use Rattle.std.proofs.lemmas.Bool.{and_from, eqb-true, false≢true, false_from_ne_true, not-false}
 use Rattle.dbtg_schema.specs.Lists.{Lists}
-use Rattle.dbtg_schema.specs.Lookups.{at, first_cause, some_and}
+use Rattle.dbtg_schema.specs.Lookups.{at, some_and}
 use Rattle.dbtg_schema.specs.Structure.{member_clause, rekeyed_sets, set_numbers}
 use Rattle.dbtg_schema.specs.declared.shape.Member.{Member}
 use Rattle.dbtg_cells.specs.declared.key.DbKey.{DbKey}
@@ -14,29 +14,25 @@ use Rattle.dbtg_cells.specs.declared.name.CellName.TheVariants.{Extent, Ring}
 use Rattle.dbtg_cells.specs.Keys.{owner_eq}
 use Rattle.dbtg_unit.specs.declared.edit.UnitEdit.TheVariants.{Same}
 use Rattle.dbtg_unit.specs.declared.statement.Change.{Change}
-use Rattle.dbtg_unit.specs.declared.statement.Statement.{Statement}
 use Rattle.dbtg_unit.specs.declared.statement.Statement.TheVariants.{Modify}
-use Rattle.dbtg_unit.specs.declared.unit.Cause.TheVariants.{Deleted}
 use Rattle.dbtg_unit.specs.declared.unit.Unit.{Unit}
 use Rattle.dbtg_unit.specs.Base.{Database, Record, is_live, items_of, owner_of}
 use Rattle.dbtg_unit.specs.CellNames.{place_of, slot_name}
-use Rattle.dbtg_unit.specs.Checks.{refused_at_once}
 use Rattle.dbtg_unit.specs.EditsOf.{modify_edits}
-use Rattle.dbtg_unit.specs.Effect.{Outcome, changed_items, effect, modified, modify_checks, names_calc, next_version, on_current, unless_refused, version_of, with_its_items}
+use Rattle.dbtg_unit.specs.Effect.{Outcome, changed_items, modified, names_calc, next_version, version_of, with_its_items}
 use Rattle.dbtg_unit.specs.Hands.{Hands}
 use Rattle.dbtg_unit.specs.Legal.{Legal}
 use Rattle.dbtg_unit.specs.Local.{Agrees, holds}
 use Rattle.dbtg_unit.specs.Needs.{cells_of, is_stale, is_wrong_guess, ring_names, slot_names}
-use Rattle.dbtg_unit.specs.Prepared.{IsEffect, Plan, unit_after}
-use Rattle.dbtg_unit.proofs.CheckLemmas.{passes_check}
+use Rattle.dbtg_unit.specs.Prepared.{Plan, unit_after}
 use Rattle.dbtg_unit.proofs.ItemLemmas.{set_number}
 use Rattle.dbtg_unit.proofs.KeyLemmas.{key_eq-refl, same_owner}
 use Rattle.dbtg_unit.proofs.LiveKeys.{In, any_element, any_in, in_filter, in_flat_map, in_left, in_right, member_of_owner, some_and_is}
 use Rattle.dbtg_unit.proofs.ModifyCells.{modify_makes}
 use Rattle.dbtg_plan.specs.Modifying.{is_rekeyed}
-use Rattle.dbtg_plan.specs.Plans.{done_answer, unless_refusal}
-use Rattle.dbtg_plan.proofs.OutcomeLemmas.{Makes, makes-effect, makes-unless}
-use Rattle.dbtg_plan.proofs.PlanLemmas.{effect-on_cells, noted-renoted}
+use Rattle.dbtg_plan.specs.Plans.{done_answer}
+use Rattle.dbtg_plan.proofs.OutcomeLemmas.{Makes}
+use Rattle.dbtg_plan.proofs.PlanLemmas.{noted-renoted}
 
 -- the member clause of a set in which a key item is named
 pub rekeyed_clause : (schema : Lists) (changes : List Change) (t s : ℕ) → is_rekeyed schema changes t s ≡ true → is_some (member_clause schema s t) ≡ true
@@ -95,9 +91,6 @@ module _ (schema : Lists) (capacity : ℕ) (db : Database) (hands : Hands) (unit
 -- THE EFFECT
 
 module _ (schema : Lists) (capacity : ℕ) (db : Database) (hands : Hands) (unit : Unit) (changes : List Change) (k : DbKey) where
-  abbrev statement : Statement
-  statement = Modify k.rtype changes
-
   abbrev new : Outcome
   new = modified schema capacity db unit changes k
 
@@ -122,25 +115,6 @@ module _ (schema : Lists) (capacity : ℕ) (db : Database) (hands : Hands) (unit
   unit_is : is_live db k ≡ true → unit_after schema done_plan unit ≡ new.unit
   unit_is live = ap (λ (kept : List (DbKey × ℕ)). record unit { kept = kept }) (noted-renoted k (version_of db k + 1) new.database (version_now live) unit.kept)
 
-  on_current_is : unit.currency.run_unit ≡ Some k
-      → on_current db unit unit.currency.run_unit (modify_checks schema capacity db unit changes) (modified schema capacity db unit changes) ≡ unless_refused db unit (first_cause (modify_checks schema capacity db unit changes k)) new
-  on_current_is current = ap (λ (o : Option DbKey). on_current db unit o (modify_checks schema capacity db unit changes) (modified schema capacity db unit changes)) current
-
-  effect_is : refused_at_once schema capacity unit statement ≡ None → unit.currency.run_unit ≡ Some k
-      → effect schema capacity db unit statement ≡ unless_refused db unit (first_cause (modify_checks schema capacity db unit changes k)) new
-  effect_is passes current = effect-on_cells schema capacity db unit statement passes ∙ on_current_is current
-
   -- a MODIFY that nothing refuses
-  pub done_makes : Legal schema capacity db → Legal schema capacity new.database → is_live db k ≡ true → Makes schema capacity db unit hands.guesses statement done_plan new
+  pub done_makes : Legal schema capacity db → Legal schema capacity new.database → is_live db k ≡ true → Makes schema capacity db unit hands.guesses (Modify k.rtype changes) done_plan new
   done_makes legal lawful live = record { answer = refl; unit_is = unit_is live; guesses_are = refl; cells = modify_makes schema capacity db unit changes k legal live lawful }
-
-  pub is_effect : (plan : Plan) → refused_at_once schema capacity unit statement ≡ None → unit.currency.run_unit ≡ Some k → Legal schema capacity db → Legal schema capacity (effect schema capacity db unit statement).database
-      → plan ≡ unless_refusal (first_cause (modify_checks schema capacity db unit changes k)) done_plan → IsEffect schema capacity db unit hands.guesses statement plan
-  is_effect plan passes current legal lawful same =
-      let cause = first_cause (modify_checks schema capacity db unit changes k) in
-      let is = effect_is passes current in
-      let makes = makes-unless schema capacity db unit hands.guesses statement cause cause done_plan new refl (λ none.
-      done_makes legal (subst (λ (o : Outcome). Legal schema capacity o.database) (is ∙ ap (λ c. unless_refused db unit c new) none) lawful) (not-false _ (passes_check (not (is_live db k)) Deleted _ none).0)) in
-      makes-effect schema capacity db unit hands.guesses statement passes plan
-      (subst (Makes schema capacity db unit hands.guesses statement plan) (sym (on_current_is current))
-      (subst (λ (p : Plan). Makes schema capacity db unit hands.guesses statement p (unless_refused db unit cause new)) (sym same) makes))

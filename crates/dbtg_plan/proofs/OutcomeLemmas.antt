@@ -18,7 +18,7 @@ use Rattle.dbtg_unit.specs.Base.{Database}
 use Rattle.dbtg_unit.specs.Cells.{cell}
 use Rattle.dbtg_unit.specs.Checks.{refused_at_once}
 use Rattle.dbtg_unit.specs.Edits.{edited_at}
-use Rattle.dbtg_unit.specs.Effect.{Outcome, done, effect, effect_on_cells, on_current, refused, unless_refused}
+use Rattle.dbtg_unit.specs.Effect.{Outcome, done, effect, effect_on_cells, refused, unless_refused}
 use Rattle.dbtg_unit.specs.Guesses.{guesses_after}
 use Rattle.dbtg_unit.specs.Hands.{Hands}
 use Rattle.dbtg_unit.specs.Local.{Agrees, holds}
@@ -44,27 +44,23 @@ module _ (schema : Lists) (capacity : ℕ) (db : Database) (unit : Unit) (guesse
     by_check (Some cause) h = makes-refusal cause
     by_check None h = h refl
 
-  pub makes-current : (current : Option DbKey) (checks checks' : DbKey → List (Bool × Cause)) (plan : DbKey → Plan) (outcome : DbKey → Outcome)
-      → ((k : DbKey) → current ≡ Some k → first_cause (checks k) ≡ first_cause (checks' k)) → ((k : DbKey) → current ≡ Some k → first_cause (checks' k) ≡ None → Makes (plan k) (outcome k))
-      → Makes (on_current_plan current checks plan) (on_current db unit current checks' outcome)
-  makes-current None checks checks' plan outcome e h = makes-refusal _
-  makes-current (Some k) checks checks' plan outcome e h = makes-unless (first_cause (checks k)) (first_cause (checks' k)) (plan k) (outcome k) (e k refl) (h k refl)
-
   -- what is done with the unit alone
   pub makes-done : (change : UnitEdit) (key : Option DbKey) (items items' : Option (List Value)) (after : Unit) → items ≡ items' → unit_edited schema change unit ≡ after
       → guesses_edited change guesses ≡ guesses_after schema capacity statement guesses (done db after key items') → Makes (done_plan change key items) (done db after key items')
   makes-done change key items items' after same is guesses_are = record { answer = λ i. record { status = Done; key = key; items = same i }; unit_is = is; guesses_are = guesses_are; cells = λ c. refl }
 
-  -- a plan that makes the outcome on the cells is the effect of a statement that is not refused at once
+  -- a plan that makes the outcome of a statement is its effect
+  pub makes-is : (plan : Plan) (outcome : Outcome) → effect schema capacity db unit statement ≡ outcome → Makes plan outcome → IsEffect schema capacity db unit guesses statement plan
+  makes-is plan outcome e makes = record {
+    answer = makes.answer ∙ sym (ap (λ (o : Outcome). o.answer) e);
+    unit_is = makes.unit_is ∙ sym (ap (λ (o : Outcome). o.unit) e);
+    guesses_are = makes.guesses_are ∙ sym (ap (guesses_after schema capacity statement guesses) e);
+    cells = λ c. ap (λ (o : Outcome). cell schema capacity o.database c) e ∙ makes.cells c;
+  }
+
+  -- so is one that makes the outcome on the cells, where no check without cells refuses
   pub makes-effect : refused_at_once schema capacity unit statement ≡ None → (plan : Plan) → Makes plan (effect_on_cells schema capacity db unit statement) → IsEffect schema capacity db unit guesses statement plan
-  makes-effect passes plan makes =
-      let e = sym (effect-on_cells schema capacity db unit statement passes) in
-      record {
-        answer = makes.answer ∙ ap (λ (o : Outcome). o.answer) e;
-        unit_is = makes.unit_is ∙ ap (λ (o : Outcome). o.unit) e;
-        guesses_are = makes.guesses_are ∙ ap (guesses_after schema capacity statement guesses) e;
-        cells = λ c. ap (λ (o : Outcome). cell schema capacity o.database c) (sym e) ∙ makes.cells c;
-      }
+  makes-effect passes plan = makes-is plan (effect_on_cells schema capacity db unit statement) (effect-on_cells schema capacity db unit statement passes)
 
 -- PLANS THAT CHANGE NO CELL
 

@@ -15,7 +15,7 @@ use Rattle.dbtg_cells.specs.declared.ring.Occurrence.{Occurrence}
 use Rattle.dbtg_cells.specs.Keys.{is_member, owner_eq}
 use Rattle.dbtg_cells.specs.Members.{keys_in}
 use Rattle.dbtg_unit.proofs.OnePlan.{MayPlan}
-use Rattle.dbtg_unit.specs.CellChecks.{remove_checks}
+use Rattle.dbtg_unit.specs.Checks.{remove_checks}
 use Rattle.dbtg_unit.specs.declared.edit.CellEdit.{CellEdit}
 use Rattle.dbtg_unit.specs.declared.edit.Edit.TheVariants.{ChangeOwner, RaiseVersion, TakeOut}
 use Rattle.dbtg_unit.specs.declared.statement.Statement.TheVariants.{Remove}
@@ -42,7 +42,7 @@ use Rattle.dbtg_unit.proofs.OwnersFound.{owner_has, some_list}
 use Rattle.dbtg_unit.proofs.SameView.{remove_checks_agree}
 use Rattle.dbtg_unit.specs.InHand.{in_hand}
 use Rattle.dbtg_unit.specs.View.{View, whole}
-use Rattle.dbtg_plan.proofs.CurrentPlans.{current-all_held, current-is_effect}
+use Rattle.dbtg_plan.proofs.CurrentPlans.{current-cells, current-is_effect}
 use Rattle.dbtg_unit.proofs.ReadyParts.{prepared_has_all}
 use Rattle.dbtg_plan.specs.Plans.{on_current_plan, refusal, unless_refusal}
 use Rattle.dbtg_plan.specs.Removing.{remove_plan, removing}
@@ -121,7 +121,7 @@ module _ (schema : Lists) (capacity : ℕ) (unit : Unit) (hands : Hands) (s : �
 
   -- what is prepared changes held cells alone
   all-held : (db : Database) → Agrees schema capacity db hands unit → list_all (λ (e : CellEdit). holds hands.cells e.name) (remove_plan unit hands s).cells ≡ true
-  all-held db agrees = current-all_held schema capacity unit hands (Remove s) passes checks (removing hands s) by_key where
+  all-held db agrees = current-cells schema capacity unit hands (Remove s) passes checks (removing hands s) (λ es. list_all (λ (e : CellEdit). holds hands.cells e.name) es ≡ true) refl by_key where
     ring-held-by : (k : DbKey) → unit.currency.run_unit ≡ Some k → (q : Option Owner) → owner_in hands s k ≡ q → list_all (λ (e : CellEdit). holds hands.cells e.name) (ring_edits s q (TakeOut k ∷ [])) ≡ true
     ring-held-by k current None e = refl
     ring-held-by k current (Some o) e = and_from _ _ (ring_held db agrees k current o e) refl
@@ -135,7 +135,7 @@ module _ (schema : Lists) (capacity : ℕ) (unit : Unit) (hands : Hands) (s : �
   pub remove-is_prepared : IsPrepared schema capacity unit hands (Remove s) (remove_plan unit hands s)
   remove-is_prepared = record {
     held = all-held;
-    effects = λ db agrees. current-is_effect schema capacity unit hands (Remove s) passes checks (removing hands s) db (removed db unit s) refl (checks-are db agrees) (removes db agrees);
+    effects = λ db agrees. current-is_effect schema capacity unit hands (Remove s) passes checks (removing hands s) db (removed db unit s) refl (λ k e. ap first_cause (checks-are db agrees k e)) (removes db agrees);
   }
 
   -- THAT IT CAN BE MADE

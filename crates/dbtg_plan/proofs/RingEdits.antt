@@ -1,26 +1,23 @@
 -- Edits of cells in hand, by what is read off them.
 -- c is the name of a cell, x a cell, k a key, s a set, o an owner.
-use Rattle.std.proofs.Common.{◌≡◌, refl, sym, ◌∙◌, ap, subst, ℕ, zero, suc, true, false, cond, List, [], ◌∷◌, Option, Some, None}
+use Rattle.std.proofs.Common.{◌≡◌, refl, sym, ◌∙◌, ap, subst, ℕ, true, false, cond, List, [], ◌∷◌, Option, Some, None}
 use Rattle.std.specs.Prelude.{is_some}
 use Rattle.std.proofs.lemmas.Bool.{false≢true}
-use Rattle.dbtg_cells.specs.declared.key.DbKey.{DbKey}
 use Rattle.dbtg_cells.specs.declared.key.Owner.{Owner}
 use Rattle.dbtg_cells.specs.declared.name.CellName.{CellName}
-use Rattle.dbtg_cells.specs.declared.name.CellName.TheVariants.{Extent, Ring}
+use Rattle.dbtg_cells.specs.declared.name.CellName.TheVariants.{Ring}
 use Rattle.dbtg_cells.specs.declared.cell.Cell.{Cell}
 use Rattle.dbtg_cells.specs.declared.cell.Cell.TheVariants.{Usage as UsageCell, Extent as ExtentCell, Ring as RingCell, Slot as SlotCell}
 use Rattle.dbtg_cells.specs.declared.ring.Occurrence.{Occurrence}
 use Rattle.dbtg_cells.specs.Keys.{owner_eq}
 use Rattle.dbtg_cells.specs.Names.{name_eq}
-use Rattle.dbtg_cells.specs.Numbers.{entry_of, is_used}
-use Rattle.dbtg_schema.specs.Lookups.{some_and}
 use Rattle.dbtg_cells.specs.Shown.{RingView}
 use Rattle.dbtg_unit.specs.declared.edit.Edit.{Edit}
 use Rattle.dbtg_unit.specs.declared.edit.Edit.TheVariants.{ChangeOwner}
 use Rattle.dbtg_unit.specs.CanEdit.{CanEdit}
-use Rattle.dbtg_unit.specs.CellNames.{place_of, slot_name}
+use Rattle.dbtg_unit.specs.CellNames.{place_of}
 use Rattle.dbtg_unit.specs.Hands.{Hands, cell_of}
-use Rattle.dbtg_unit.specs.InHand.{numbers_in, numbers_of, of_owner, occurrence_in, occurrence_of, stored_in, stored_of}
+use Rattle.dbtg_unit.specs.InHand.{of_owner, occurrence_in, occurrence_of}
 use Rattle.dbtg_unit.specs.Local.{holds}
 use Rattle.dbtg_unit.specs.Making.{CanEditHeld}
 
@@ -28,28 +25,6 @@ use Rattle.dbtg_unit.specs.Making.{CanEditHeld}
 pub holds-there : (cells : List (CellName × Cell)) (c : CellName) → is_some (cell_of c cells) ≡ holds cells c
 holds-there [] c = refl
 holds-there (e ∷ es) c = elim (name_eq c e.0) as (λ b. is_some (cond b (Some e.1) (cell_of c es)) ≡ cond b true (holds es c)) [ true ↦ refl | false ↦ holds-there es c ]
-
--- the slot of a record in hand is held
-pub slot-held : (hands : Hands) (k : DbKey) → is_some (stored_in hands k) ≡ true → holds hands.cells (slot_name k) ≡ true
-slot-held hands k there = sym (holds-there hands.cells (slot_name k)) ∙ from (cell_of (slot_name k) hands.cells) there where
-  from : (x : Option Cell) → is_some (stored_of k.generation x) ≡ true → is_some x ≡ true
-  from None h = absurd (false≢true h)
-  from (Some x) h = refl
-
--- and so is the ring of an occurrence in hand
-pub ring-held : (hands : Hands) (s : ℕ) (o : Owner) → is_some (occurrence_in hands s o) ≡ true → holds hands.cells (Ring s (place_of o)) ≡ true
-ring-held hands s o there = sym (holds-there hands.cells (Ring s (place_of o))) ∙ from (cell_of (Ring s (place_of o)) hands.cells) there where
-  from : (x : Option Cell) → is_some (occurrence_of o x) ≡ true → is_some x ≡ true
-  from None h = absurd (false≢true h)
-  from (Some x) h = refl
-
--- and so is the extent of a number in use
-pub extent-held : (hands : Hands) (t n : ℕ) → some_and is_used (entry_of n (numbers_in hands t)) ≡ true → holds hands.cells (Extent t) ≡ true
-extent-held hands t n used = sym (holds-there hands.cells (Extent t)) ∙ from n (cell_of (Extent t) hands.cells) used where
-  from : (n : ℕ) (x : Option Cell) → some_and is_used (entry_of n (numbers_of x)) ≡ true → is_some x ≡ true
-  from zero None h = h
-  from (suc n) None h = h
-  from n (Some x) h = refl
 
 -- an occurrence that is an owner's is the ring's
 pub ring-is : (o : Owner) (ring : Option Occurrence) → is_some (of_owner o ring) ≡ true → ring ≡ of_owner o ring

@@ -52,7 +52,6 @@ use Rattle.dbtg_unit.proofs.ExtentInHand.{free_in_hand}
 use Rattle.dbtg_unit.proofs.InHandLemmas.{members_in_hand, numbers_in_hand}
 use Rattle.dbtg_unit.proofs.LegalEffect.{some_from}
 use Rattle.dbtg_unit.proofs.LiveKeys.{In, all_at, any_in, in_flat_map, in_left, in_right, of_append, of_filter, of_flat_map, some_and_is}
-use Rattle.dbtg_unit.proofs.LocalReady.{all_held}
 use Rattle.dbtg_unit.proofs.LocalStore.{new_is_fresh}
 use Rattle.dbtg_unit.proofs.MakingLemmas.{EachCanEdit, are_distinct, can_make-distinct, each-append}
 use Rattle.dbtg_unit.proofs.PlacedLemmas.{pairwise-filter}
@@ -60,7 +59,6 @@ use Rattle.dbtg_unit.proofs.ReadingCells.{held_cell}
 use Rattle.dbtg_unit.proofs.StoreCells.{own_ring-before, owner-not_k}
 use Rattle.dbtg_unit.proofs.StoreLegal.{not_member}
 use Rattle.dbtg_plan.specs.Joining.{joined_occurrence, joined_place}
-use Rattle.dbtg_plan.specs.Missing.{first_missing}
 use Rattle.dbtg_plan.specs.Store.{HasRoom, store_rings_in}
 use Rattle.dbtg_plan.proofs.JoiningLemmas.{can-join-in_hand, place_checks-in_hand}
 use Rattle.dbtg_plan.proofs.NumberSteps.{free_entry}
@@ -193,10 +191,8 @@ module _ (schema : Lists) (unit : Unit) (k : DbKey) (items : List Value) where
     of_filling j = in_right e.name (store_rings schema unit k) (slot_name k ∷ []) (inl (sym (filling-name e j)))
 
   -- where no cell is missing, each edit is of a cell in hand
-  pub edits-held : (hands : Hands) → first_missing hands (Extent k.rtype ∷ (store_rings schema unit k ++ slot_name k ∷ [])) ≡ None → list_all (λ (e : CellEdit). holds hands.cells e.name) (store_edits schema unit k items) ≡ true
-  edits-held hands h =
-      all-in (λ (e : CellEdit). holds hands.cells e.name) (store_edits schema unit k items)
-      (λ e i. all_held hands.cells (Extent k.rtype ∷ (store_rings schema unit k ++ slot_name k ∷ [])) h e.name (edit-needed e i))
+  pub edits-held : (hands : Hands) → ((c : CellName) → In c (Extent k.rtype ∷ (store_rings schema unit k ++ slot_name k ∷ [])) → holds hands.cells c ≡ true) → list_all (λ (e : CellEdit). holds hands.cells e.name) (store_edits schema unit k items) ≡ true
+  edits-held hands held = all-in (λ (e : CellEdit). holds hands.cells e.name) (store_edits schema unit k items) (λ e i. held e.name (edit-needed e i))
 
 -- CELLS IN HAND
 
@@ -206,7 +202,7 @@ there-held c cells x h = sym (holds-there cells c) ∙ ap is_some h
 
 module _ (schema : Lists) (capacity : ℕ) (db : Database) (hands : Hands) (unit : Unit) (agrees : Agrees schema capacity db hands unit)
     (t n : ℕ) (items : List Value) (free : free_number capacity db t ≡ Some n) (has_places : list_any (λ s. is_none (place_in schema unit s)) (automatic_sets schema t) ≡ false)
-    (passes : first_cause (store_checks schema capacity db unit t items) ≡ None) where
+    (passes : first_cause (store_checks schema (whole schema capacity db) unit t items) ≡ None) where
   abbrev k : DbKey
   k = new_key db t n
 
@@ -258,7 +254,7 @@ module _ (schema : Lists) (capacity : ℕ) (db : Database) (hands : Hands) (unit
       by_cell (RingCell v) there =
           let held = there-held (Ring s (place_of (joined_place schema unit s).owner)) hands.cells (RingCell v) there in
           let clause = some_and_is (λ m. is_automatic m.class) (member_clause schema s t) (of_filter (λ s. some_and (λ m. is_automatic m.class) (member_clause schema s t)) s (set_numbers schema) i).1 in
-          let unique = (passes_check (calc_taken schema capacity db t items (λ k. false)) DuplicatesNotAllowed _ (passes_check (is_none (free_number capacity db t)) NoRoom _ passes).1).1 in
+          let unique = (passes_check (calc_taken schema (whole schema capacity db) t items None) DuplicatesNotAllowed _ (passes_check (is_none (free_number capacity db t)) NoRoom _ passes).1).1 in
           let checks : first_cause (place_checks schema (in_hand hands) unit s (key_item schema s t items)) ≡ None
           = ap first_cause (place_checks-in_hand schema capacity db hands unit agrees s held (key_item schema s t items))
           ∙ passes-each (λ s. place_checks schema (whole schema capacity db) unit s (key_item schema s t items)) (automatic_sets schema t) s (automatic s i) unique in

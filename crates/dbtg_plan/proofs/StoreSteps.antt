@@ -1,14 +1,13 @@
 -- The steps of a STORE over the sets of a schema.
 -- s is a set, t a record type, i how many sets are behind.
-use Rattle.std.proofs.Common.{◌≡◌, ◌≢◌, refl, sym, ◌∙◌, ap, subst, ℕ, zero, suc, ◌+◌, ◌<◌, ◌≤◌, Bool, true, false, cond, not, ◌&&◌, List, [], ◌∷◌, ◌++◌, Option, Some, None, eqb, inl, inr, map, drop, length, append_assoc, append-nil, arith}
+use Rattle.std.proofs.Common.{◌≡◌, ◌≢◌, refl, sym, ◌∙◌, ap, subst, ℕ, zero, suc, ◌+◌, ◌<◌, ◌≤◌, Bool, true, false, cond, ◌&&◌, List, [], ◌∷◌, ◌++◌, Option, Some, None, eqb, inl, inr, map, drop, length, append_assoc, append-nil, arith}
 use Rattle.std.specs.Prelude.{filter, is_some, option_and_then, replicate, slice_get}
 use Rattle.std.specs.List.{enumerate_from, find, flat_map, list_any, range_with_len}
 use Rattle.std.proofs.lemmas.Bool.{cases_Bool, eqb-false, eqb-true, false_from_ne_true, false≢true}
 use Rattle.std.proofs.lemmas.List.Folds.{find-append}
 use Rattle.dbtg_schema.specs.Lists.{Lists}
 use Rattle.dbtg_schema.specs.Lookups.{first_cause, some_and}
-use Rattle.dbtg_schema.specs.Structure.{automatic_sets, calc_of, is_automatic, member_clause, owns, set_numbers}
-use Rattle.dbtg_schema.specs.declared.shape.Calc.{Calc}
+use Rattle.dbtg_schema.specs.Structure.{automatic_sets, is_automatic, member_clause, owns, set_numbers}
 use Rattle.dbtg_schema.specs.declared.shape.SetType.{SetType}
 use Rattle.dbtg_cells.specs.declared.key.DbKey.{DbKey}
 use Rattle.dbtg_cells.specs.declared.key.Owner.{Owner}
@@ -29,7 +28,6 @@ use Rattle.dbtg_unit.proofs.CheckLemmas.{number_within}
 use Rattle.dbtg_unit.proofs.EditLemmas.{has_number-filter, has_number-passes, has_number-range, has_number-unfiltered}
 use Rattle.dbtg_unit.proofs.NumberLemmas.{numbers_end}
 use Rattle.dbtg_unit.proofs.ReservingLemmas.{of_held-kept}
-use Rattle.dbtg_plan.specs.Calc.{calc_taken_in}
 use Rattle.dbtg_plan.specs.Joining.{joined_place}
 use Rattle.dbtg_plan.specs.Missing.{first_missing, is_missing}
 use Rattle.dbtg_plan.specs.Store.{HasRoom, openings_of}
@@ -172,13 +170,3 @@ pub rooms_all : (schema : Lists) (unit : Unit) (hands : Hands) (k : DbKey) (i : 
 rooms_all schema unit hands k i all rooms s joins =
     let low = (number_within s 0 (length schema.sets) (has_number-unfiltered (λ s. some_and (λ m. is_automatic m.class) (member_clause schema s k.rtype)) s (set_numbers schema) joins)).1 in
     rooms s (omega arith) joins
-
--- where there is no extent, nothing is taken
-pub none_taken : (schema : Lists) (t : ℕ) (items : List Value) → calc_taken_in schema [] t items None ≡ false
-none_taken schema t items = by_calc (calc_of schema t) where
-  by_calc : (calc : Option Calc) → some_and (λ (c : Calc). not c.duplicates_allowed && false) calc ≡ false
-  by_calc None = refl
-  by_calc (Some c) = never (not c.duplicates_allowed) where
-    never : (b : Bool) → (b && false) ≡ false
-    never true = refl
-    never false = refl

@@ -3,7 +3,7 @@
 use Rattle.std.specs.Prelude.{ℕ, ◌+◌, [], ◌∷◌, Some}
 use Rattle.dbtg_schema.specs.Lists.{Lists}
 use Rattle.dbtg_cells.specs.declared.key.DbKey.{DbKey}
-use Rattle.dbtg_unit.specs.CellChecks.{insert_checks}
+use Rattle.dbtg_unit.specs.Checks.{insert_checks}
 use Rattle.dbtg_unit.specs.declared.edit.Edit.TheVariants.{ChangeOwner, RaiseVersion}
 use Rattle.dbtg_unit.specs.declared.edit.UnitEdit.TheVariants.{Move}
 use Rattle.dbtg_unit.specs.declared.unit.Unit.{Unit}

@@ -8,7 +8,7 @@ use Rattle.dbtg_cells.specs.declared.name.CellName.TheVariants.{Ring}
 use Rattle.dbtg_cells.specs.declared.ring.Occurrence.{Occurrence}
 use Rattle.dbtg_unit.specs.declared.edit.CellEdit.{CellEdit}
 use Rattle.dbtg_unit.specs.declared.unit.Unit.{Unit}
-pub use Rattle.dbtg_unit.specs.CellChecks.{joined_place}
+pub use Rattle.dbtg_unit.specs.Conditions.{joined_place}
 use Rattle.dbtg_unit.specs.CellNames.{place_of}
 use Rattle.dbtg_unit.specs.EditsOf.{placed_at}
 use Rattle.dbtg_unit.specs.Hands.{Hands}

@@ -1,28 +1,22 @@
 -- GET, KEEP and FREE, by the cells in hand.
 -- k is a key.
-use Rattle.std.specs.Prelude.{Bool, true, false, not, List, [], ◌∷◌, Some, None, is_some}
-use Rattle.dbtg_cells.specs.declared.key.DbKey.{DbKey}
+use Rattle.std.specs.Prelude.{Bool, true, false, [], Some, None}
 use Rattle.dbtg_unit.specs.declared.edit.UnitEdit.TheVariants.{Same, Keep, Forget, ForgetAll}
-use Rattle.dbtg_unit.specs.declared.unit.Cause.{Cause}
-use Rattle.dbtg_unit.specs.declared.unit.Cause.TheVariants.{Deleted}
 use Rattle.dbtg_unit.specs.declared.unit.Unit.{Unit}
+use Rattle.dbtg_unit.specs.Checks.{live_checks}
 use Rattle.dbtg_unit.specs.Hands.{Hands}
-use Rattle.dbtg_unit.specs.InHand.{items_in, stored_in, version_in}
+use Rattle.dbtg_unit.specs.InHand.{in_hand, items_in, version_in}
 use Rattle.dbtg_unit.specs.Prepared.{Plan}
 use Rattle.dbtg_unit.specs.Units.{noted}
 use Rattle.dbtg_plan.specs.Plans.{done_plan, on_current_plan}
 
--- the record k is deleted
-abbrev pub deleted_checks : Hands → DbKey → List (Bool × Cause)
-deleted_checks hands k = (not (is_some (stored_in hands k)), Deleted) ∷ []
-
 -- GET of the current of run-unit
 abbrev pub get_plan : Hands → Unit → Plan
-get_plan hands unit = on_current_plan unit.currency.run_unit (deleted_checks hands) (λ k. done_plan Same (Some k) (Some (items_in hands k)))
+get_plan hands unit = on_current_plan unit.currency.run_unit (live_checks (in_hand hands)) (λ k. done_plan Same (Some k) (Some (items_in hands k)))
 
 -- KEEP of the current of run-unit, at its version
 abbrev pub keep_plan : Hands → Unit → Plan
-keep_plan hands unit = on_current_plan unit.currency.run_unit (deleted_checks hands) (λ k. done_plan (Keep (noted k (version_in hands k) unit.kept)) None None)
+keep_plan hands unit = on_current_plan unit.currency.run_unit (live_checks (in_hand hands)) (λ k. done_plan (Keep (noted k (version_in hands k) unit.kept)) None None)
 
 -- FREE of all, or of the current of run-unit
 abbrev pub free_plan : Unit → Bool → Plan

@@ -2,7 +2,7 @@
 -- k is a key, s a set.
 use Rattle.std.specs.Prelude.{ℕ, ◌+◌, [], ◌∷◌, ◌++◌, None}
 use Rattle.dbtg_cells.specs.declared.key.DbKey.{DbKey}
-use Rattle.dbtg_unit.specs.CellChecks.{remove_checks}
+use Rattle.dbtg_unit.specs.Checks.{remove_checks}
 use Rattle.dbtg_unit.specs.declared.edit.Edit.TheVariants.{ChangeOwner, RaiseVersion, TakeOut}
 use Rattle.dbtg_unit.specs.declared.edit.UnitEdit.TheVariants.{Leave}
 use Rattle.dbtg_unit.specs.declared.unit.Unit.{Unit}

@@ -1,39 +1,39 @@
 -- STORE, read off the cells in hand.
 -- k is the key of the new record, s a set, t its record type, c the name of a cell.
-use Rattle.std.specs.Prelude.{◌≡◌, ℕ, Bool, true, false, ◌==◌, List, [], ◌∷◌, ◌++◌, Option, Some, None, is_some, if◌then◌else◌, option_map}
-use Rattle.std.specs.List.{flat_map, list_any}
+use Rattle.std.specs.Prelude.{◌≡◌, ℕ, Bool, true, false, ◌==◌, List, [], ◌∷◌, ◌++◌, Option, Some, None, if◌then◌else◌, option_map, unwrap_or}
+use Rattle.std.specs.List.{list_any}
 use Rattle.dbtg_schema.specs.Lists.{Lists}
-use Rattle.dbtg_schema.specs.Lookups.{first_cause}
+use Rattle.dbtg_schema.specs.Lookups.{first, first_cause}
 use Rattle.dbtg_schema.specs.Structure.{automatic_sets, owns}
-use Rattle.dbtg_cells.specs.declared.extent.Number.{Number}
 use Rattle.dbtg_cells.specs.declared.key.DbKey.{DbKey}
 use Rattle.dbtg_cells.specs.declared.key.Owner.{Owner}
 use Rattle.dbtg_cells.specs.declared.key.Owner.TheVariants.{Rec}
 use Rattle.dbtg_cells.specs.declared.key.Value.{Value}
 use Rattle.dbtg_cells.specs.declared.name.CellName.{CellName}
 use Rattle.dbtg_cells.specs.declared.name.CellName.TheVariants.{Extent, Ring}
-use Rattle.dbtg_unit.specs.CellChecks.{place_checks}
+use Rattle.dbtg_unit.specs.Checks.{place_checks, store_checks}
+use Rattle.dbtg_unit.specs.Conditions.{calc_taken}
+use Rattle.dbtg_cells.specs.Numbers.{is_free, numbers_where}
 use Rattle.dbtg_unit.specs.declared.edit.CellEdit.{CellEdit}
 use Rattle.dbtg_unit.specs.declared.edit.Edit.TheVariants.{OpenRing}
 use Rattle.dbtg_unit.specs.declared.edit.UnitEdit.TheVariants.{See}
 use Rattle.dbtg_unit.specs.declared.statement.Suppress.{Suppress}
 use Rattle.dbtg_unit.specs.declared.unit.Cause.{Cause}
-use Rattle.dbtg_unit.specs.declared.unit.Cause.TheVariants.{DuplicatesNotAllowed, NoRoom}
 use Rattle.dbtg_unit.specs.declared.unit.Status.TheVariants.{Done}
 use Rattle.dbtg_unit.specs.declared.unit.Unit.{Unit}
 use Rattle.dbtg_unit.specs.Base.{key_item}
 use Rattle.dbtg_unit.specs.CellNames.{place_of, slot_name}
 use Rattle.dbtg_unit.specs.EditsOf.{first_owners, joining_edits, store_edits}
 use Rattle.dbtg_unit.specs.Hands.{Hands}
-use Rattle.dbtg_unit.specs.InHand.{numbers_in, in_hand}
+use Rattle.dbtg_unit.specs.InHand.{numbers_in, in_hand, next_key_of}
 use Rattle.dbtg_unit.specs.Needs.{current_owner, ring_names, store_rings}
 use Rattle.dbtg_unit.specs.Prepared.{Plan}
 use Rattle.dbtg_unit.specs.Reserving.{CanTakeMember, OfHeld}
 use Rattle.dbtg_unit.specs.Units.{place_in}
-use Rattle.dbtg_plan.specs.Calc.{calc_taken_in, fresh_key}
+use Rattle.dbtg_plan.specs.Calc.{fresh_key}
 use Rattle.dbtg_plan.specs.Joining.{joined_place}
 use Rattle.dbtg_plan.specs.Missing.{first_missing}
-use Rattle.dbtg_plan.specs.Plans.{refusal, unless_refusal}
+use Rattle.dbtg_plan.specs.Plans.{unless_refusal}
 
 -- WHAT IT NEEDS
 
@@ -50,20 +50,14 @@ cells_of_key schema unit (Some k) true = []
 cells_of_key schema unit (Some k) false = store_rings schema unit k ++ slot_name k ∷ []
 
 -- its cells, by the numbers of its type
-abbrev pub store_cells_in : Lists → Unit → List Number → ℕ → List Value → List CellName
-store_cells_in schema unit numbers t items = Extent t ∷ cells_of_key schema unit (fresh_key numbers t) (calc_taken_in schema numbers t items None)
+abbrev pub store_cells_in : Lists → Unit → Hands → ℕ → List Value → List CellName
+store_cells_in schema unit hands t items = Extent t ∷ cells_of_key schema unit (fresh_key (numbers_in hands t) t) (calc_taken schema (in_hand hands) t items None)
 
 -- the first of them that is not in hand
 abbrev pub missing_of_store : Lists → Unit → Hands → ℕ → List Value → Option CellName
-missing_of_store schema unit hands t items = first_missing hands (store_cells_in schema unit (numbers_in hands t) t items)
+missing_of_store schema unit hands t items = first_missing hands (store_cells_in schema unit hands t items)
 
 -- WHAT IT DOES
-
--- the checks of a record that gets a key: its CALC items taken, then each automatic set
-abbrev pub store_checks_in : Lists → Unit → Hands → ℕ → List Value → List (Bool × Cause)
-store_checks_in schema unit hands t items =
-    (calc_taken_in schema (numbers_in hands t) t items None, DuplicatesNotAllowed)
-    ∷ flat_map (λ s. place_checks schema (in_hand hands) unit s (key_item schema s t items)) (automatic_sets schema t)
 
 -- k is stored, and seen
 abbrev pub stored_plan : Lists → Unit → List Value → Suppress → DbKey → Plan
@@ -75,15 +69,14 @@ stored_plan schema unit items suppress k =
       unit = See k (first_owners schema unit k.rtype) suppress;
     }
 
--- refused where there is no key
-abbrev pub key_plan : Lists → Unit → Hands → ℕ → List Value → Suppress → Option DbKey → Plan
-key_plan schema unit hands t items suppress None = refusal NoRoom
-key_plan schema unit hands t items suppress (Some k) = unless_refusal (first_cause (store_checks_in schema unit hands t items)) (stored_plan schema unit items suppress k)
+-- the key of the new record, where there is a number
+abbrev pub stored_key : Hands → ℕ → DbKey
+stored_key hands t = next_key_of (numbers_in hands t) t (unwrap_or (first (numbers_where is_free (numbers_in hands t))) 0)
 
--- all its cells are to be in hand
+-- STORE of a record of type t
 abbrev pub store_plan : Lists → Unit → Hands → ℕ → List Value → Suppress → Plan
 store_plan schema unit hands t items suppress =
-    if is_some (missing_of_store schema unit hands t items) then refusal NoRoom else key_plan schema unit hands t items suppress (fresh_key (numbers_in hands t) t)
+    unless_refusal (first_cause (store_checks schema (in_hand hands) unit t items)) (stored_plan schema unit items suppress (stored_key hands t))
 
 -- STEP BY STEP
 

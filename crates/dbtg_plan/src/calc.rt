@@ -1,15 +1,18 @@
 //! The CALC items of a record: whether another record has them, and which number a new one gets. Nothing here takes memory
 //! but the copies.
-ghost use Rattle.std.specs.Prelude.{◌≡◌, not, IfOk};
+ghost use Rattle.std.specs.Prelude.{◌≡◌, not, option_map, IfOk};
 ghost use Rattle.std.specs.List.{list_any, slice_index_or};
 ghost use Rattle.dbtg_cells.specs.Keys.{value_eq, values_eq};
 ghost use Rattle.dbtg_cells.specs.Numbers.{entry_of, has_values, is_number_left_out, numbers_where};
 ghost use Rattle.dbtg_schema.specs.Lookups.{some_and};
 ghost use Rattle.dbtg_unit.specs.Base.{calc_items, picked};
-ghost use Rattle.dbtg_plan.specs.Calc.{calc_taken_in, fresh_key};
+ghost use Rattle.dbtg_unit.specs.Conditions.{calc_taken};
+ghost use Rattle.dbtg_unit.specs.InHand.{in_hand};
+ghost use Rattle.dbtg_plan.specs.Calc.{fresh_key};
 
 use dbtg_cells::{DbKey, Extent, Value, same_value};
 use dbtg_schema::{ItemNo, RecordNo, Row, Schema};
+use dbtg_unit::{Held, numbers};
 use std::alloc::{AllocError, Global};
 
 fn is_item(value: &Value, items: &[Value], item: ItemNo) -> bool
@@ -72,21 +75,46 @@ fn any_has_items(
     false
 }
 
-/// Does a record have the CALC items of these, where their duplicates are not allowed, other than the one whose number is
-/// left out?
+fn number_of(key: Option<DbKey>) -> Option<u32>
+    ensures { result ≡ option_map (λ k. k.number) key }
+{
+    match key {
+        Some(key) => Some(key.number),
+        None => None,
+    }
+}
+
+// Does a record in hand of this type have the items with these numbers, other than the one that is left out?
+fn has_calc(
+    held: &Held,
+    rtype: RecordNo,
+    item_numbers: &[ItemNo],
+    items: &[Value],
+    left_out: Option<DbKey>,
+) -> bool
+    ensures { result ≡ (in_hand held.now).has_calc rtype (picked item_numbers.now items.now) left_out }
+{
+    match numbers(held, rtype) {
+        Some(extent) => any_has_items(extent, item_numbers, items, &number_of(left_out)),
+        None => false,
+    }
+}
+
+/// Does a record in hand have the CALC items of these, where their duplicates are not allowed, other than the one that is left
+/// out?
 pub(crate) fn is_calc_taken(
     schema: &Schema,
-    extent: &Extent,
+    held: &Held,
     rtype: RecordNo,
     items: &[Value],
-    left_out: &Option<u32>,
+    left_out: Option<DbKey>,
 ) -> bool
-    ensures { result ≡ calc_taken_in schema.now extent.now.numbers rtype items.now left_out.now }
+    ensures { result ≡ calc_taken schema.now (in_hand held.now) rtype items.now left_out }
 {
     match schema.calc_of(rtype) {
         Some(calc) => {
             !calc.duplicates_allowed
-                && any_has_items(extent, calc.items.as_slice(), items, left_out)
+                && has_calc(held, rtype, calc.items.as_slice(), items, left_out)
         }
         None => false,
     }

@@ -1,7 +1,7 @@
 //! INSERT: what it needs next, and what it does once it needs nothing more.
 ghost use Rattle.std.specs.Prelude.{◌≡◌, ℕ, [], ◌∷◌, Some, IfOk};
 ghost use Rattle.dbtg_schema.specs.Lookups.{first_cause};
-ghost use Rattle.dbtg_unit.specs.CellChecks.{insert_checks};
+ghost use Rattle.dbtg_unit.specs.Checks.{insert_checks};
 ghost use Rattle.dbtg_unit.specs.declared.statement.Statement.TheVariants.{Insert};
 ghost use Rattle.dbtg_unit.specs.Base.{Database, key_item};
 ghost use Rattle.dbtg_unit.specs.Checks.{refused_at_once};

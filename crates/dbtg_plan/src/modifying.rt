@@ -1,32 +1,30 @@
 //! MODIFY: what it needs next, and what it does once it needs nothing more.
-ghost use Rattle.std.specs.Prelude.{◌≡◌, ◌∷◌, ◌++◌, ℕ, not, [], Some, None, is_some, map, option_and_then, option_copied, slice_set, IfOk, if◌then◌else◌};
+ghost use Rattle.std.specs.Prelude.{◌≡◌, ◌&&◌, ◌∷◌, ◌++◌, ℕ, [], Some, None, map, option_and_then, slice_set, IfOk, if◌then◌else◌};
 ghost use Rattle.std.specs.List.{flat_map, list_any};
 ghost use Rattle.std.specs.Option.{option_to_list};
-ghost use Rattle.dbtg_schema.specs.Lookups.{at, first_cause, some_and};
+ghost use Rattle.dbtg_schema.specs.Lookups.{at, first_cause};
 ghost use Rattle.dbtg_schema.specs.Structure.{rekeyed_sets, set_numbers};
-ghost use Rattle.dbtg_cells.specs.Numbers.{entry_of, is_used};
 ghost use Rattle.dbtg_unit.specs.declared.statement.Statement.TheVariants.{Modify};
-ghost use Rattle.dbtg_unit.specs.Base.{Database};
-ghost use Rattle.dbtg_unit.specs.Checks.{refused_at_once};
+ghost use Rattle.dbtg_unit.specs.Base.{Database, key_item};
+ghost use Rattle.dbtg_unit.specs.Checks.{modify_checks, refused_at_once};
+ghost use Rattle.dbtg_unit.specs.Conditions.{calc_taken, changed_items, names_calc, refuses_equal};
 ghost use Rattle.dbtg_unit.specs.EditsOf.{slot_edit};
-ghost use Rattle.dbtg_unit.specs.Effect.{changed_items, names_calc, refuses_equal};
-ghost use Rattle.dbtg_unit.specs.InHand.{items_in};
+ghost use Rattle.dbtg_unit.specs.InHand.{in_hand, items_in};
 ghost use Rattle.dbtg_unit.specs.Making.{CanFinish, HaveNextVersions, MayPrepare};
 ghost use Rattle.dbtg_unit.specs.Needs.{cells_of, ring_names};
 ghost use Rattle.dbtg_unit.specs.Units.{place_in};
-ghost use Rattle.dbtg_plan.specs.Calc.{calc_taken_in};
 ghost use Rattle.dbtg_plan.specs.Missing.{first_missing};
-ghost use Rattle.dbtg_plan.specs.Modifying.{own_occurrence, calc_checks_in, calc_edits_in, is_rekeyed, is_replaced, modified_plan, modify_checks_in, modify_edits_in, modify_plan, replacing_edits_in, sort_key_taken};
+ghost use Rattle.dbtg_plan.specs.Modifying.{calc_edits_in, is_refused, is_rekeyed, modified_plan, modify_edits_in, modify_plan, replacing_edits_in};
 
 use crate::calc::{copy_calc, is_calc_taken};
 use crate::members::{copy_sort_key, next_version, owner_of, ring_name, slot_edit};
 use crate::missing::{missing, missing_ring, missing_slot};
 use crate::outcomes::refused;
-use dbtg_cells::{CellName, DbKey, Extent, Ring, Value, copy_items};
+use dbtg_cells::{CellName, DbKey, Owner, Value, copy_items};
 use dbtg_schema::{Duplicates, Order, RecordNo, Row, Schema, SetNo};
 use dbtg_unit::{
     Answer, Cause, CellEdit, Change, Edit, Held, Prepared, Status, Unit, UnitEdit, is_rekeyed_in,
-    names_calc, numbers, occurrence, own_refusal, set_count, stored,
+    names_calc, occurrence, own_refusal, set_count, stored,
 };
 use std::alloc::{AllocError, Global};
 
@@ -138,23 +136,6 @@ fn changed(
     }
 }
 
-// The ring in hand of the owner of a record.
-fn ring_with<'a>(held: &'a Held, set: SetNo, key: &DbKey) -> Option<&'a Ring>
-    ensures there { is_some result ≡ is_some (own_occurrence held.now set key.now) }
-    ensures value { option_and_then (λ r. r.occurrence) (option_copied result) ≡ own_occurrence held.now set key.now }
-{
-    match owner_of(held, set, key) {
-        Some(owner) => occurrence(held, set, &owner),
-        None => None,
-    }
-}
-
-fn is_replaced(schema: &Schema, held: &Held, changes: &[Change], key: &DbKey, set: SetNo) -> bool
-    ensures { result ≡ is_replaced schema.now held.now changes.now key.now set }
-{
-    is_rekeyed_in(schema, set, key.rtype, changes) && ring_with(held, set, key).is_some()
-}
-
 fn refuses_equal(order: Order) -> bool
     ensures { result ≡ refuses_equal order }
 {
@@ -176,8 +157,26 @@ fn position_in(schema: &Schema, unit: &Unit, set: SetNo) -> Option<DbKey>
     }
 }
 
-// With these items, does another member have the record's sort key in a set in which it is placed anew and equal keys are
-// refused?
+// Does another member of an owner's list in hand have the sort key that the record has with these items?
+fn has_key_beside(
+    alloc: Global,
+    schema: &Schema,
+    held: &Held,
+    set: SetNo,
+    owner: &Owner,
+    key: &DbKey,
+    items: &[Value],
+) -> Result<bool, AllocError>
+    ensures { IfOk result (λ taken. taken ≡ (in_hand held.now).has_sort_key set owner.now (Some key.now) (key_item schema.now set key.now.rtype items.now)) }
+{
+    let Some(ring) = occurrence(held, set, owner) else {
+        return Ok(false);
+    };
+    let sort_key = copy_sort_key(alloc, schema, set, key.rtype, items)?;
+    Ok(ring.has_sort_key(&sort_key, Some(*key)))
+}
+
+// Is the new sort key taken, where the set is sorted by an item that is named and refuses equal keys?
 fn is_key_taken(
     alloc: Global,
     schema: &Schema,
@@ -187,19 +186,18 @@ fn is_key_taken(
     items: &[Value],
     set: SetNo,
 ) -> Result<bool, AllocError>
-    ensures { IfOk result (λ taken. taken ≡ sort_key_taken schema.now held.now changes.now key.now items.now set) }
+    ensures { IfOk result (λ taken. taken ≡ is_refused schema.now held.now changes.now key.now items.now set) }
 {
-    if !is_replaced(schema, held, changes, key, set) {
+    if !is_rekeyed_in(schema, set, key.rtype, changes) {
         return Ok(false);
     }
-    let Some(ring) = ring_with(held, set, key) else {
-        return Ok(false);
-    };
     if !refuses_equal(schema.order_of(set)) {
         return Ok(false);
     }
-    let sort_key = copy_sort_key(alloc, schema, set, key.rtype, items)?;
-    Ok(ring.has_sort_key(&sort_key, Some(*key)))
+    match owner_of(held, set, key) {
+        Some(owner) => has_key_beside(alloc, schema, held, set, &owner, key, items),
+        None => Ok(false),
+    }
 }
 
 fn is_any_key_taken(
@@ -210,7 +208,7 @@ fn is_any_key_taken(
     key: &DbKey,
     items: &[Value],
 ) -> Result<bool, AllocError>
-    ensures { IfOk result (λ taken. taken ≡ list_any (sort_key_taken schema.now held.now changes.now key.now items.now) (set_numbers schema.now)) }
+    ensures { IfOk result (λ taken. taken ≡ list_any (is_refused schema.now held.now changes.now key.now items.now) (set_numbers schema.now)) }
 {
     for s in 0..set_count(schema) {
         if is_key_taken(alloc, schema, held, changes, key, items, SetNo::new(s))? {
@@ -220,37 +218,21 @@ fn is_any_key_taken(
     Ok(false)
 }
 
-fn extent_refusal(schema: &Schema, extent: &Extent, key: &DbKey, items: &[Value]) -> Option<Cause>
-    ensures { result ≡ first_cause ((not (some_and is_used (entry_of key.now.number extent.now.numbers)), Cause.Deleted) ∷ (calc_taken_in schema.now extent.now.numbers key.now.rtype items.now (Some key.now.number), Cause.DuplicatesNotAllowed) ∷ []) }
-{
-    if !extent.is_live(key.number) {
-        return Some(Cause::Deleted);
-    }
-    if is_calc_taken(schema, extent, key.rtype, items, &Some(key.number)) {
-        return Some(Cause::DuplicatesNotAllowed);
-    }
-    None
-}
-
-// Why the new CALC values are refused, where one is named.
-fn calc_refusal(
+// Are the new CALC values taken, where one is named?
+fn takes_calc(
     schema: &Schema,
     held: &Held,
     changes: &[Change],
     key: &DbKey,
     items: &[Value],
-) -> Option<Cause>
-    ensures { result ≡ first_cause (calc_checks_in schema.now held.now changes.now key.now items.now) }
+) -> bool
+    ensures { result ≡ (names_calc schema.now key.now.rtype changes.now && calc_taken schema.now (in_hand held.now) key.now.rtype items.now (Some key.now)) }
 {
-    if !names_calc(schema, key.rtype, changes) {
-        return None;
-    }
-    match numbers(held, key.rtype) {
-        Some(extent) => extent_refusal(schema, extent, key, items),
-        None => Some(Cause::Deleted),
-    }
+    names_calc(schema, key.rtype, changes)
+        && is_calc_taken(schema, held, key.rtype, items, Some(*key))
 }
 
+// Why the record does not get these items, which it has after the changes.
 fn refusal(
     alloc: Global,
     schema: &Schema,
@@ -260,15 +242,15 @@ fn refusal(
     key: &DbKey,
     items: &[Value],
 ) -> Result<Option<Cause>, AllocError>
-    ensures { IfOk result (λ cause. cause ≡ first_cause (modify_checks_in schema.now held.now unit.now changes.now key.now items.now)) }
+    requires { items.now ≡ changed_items changes.now (items_in held.now key.now) }
+    ensures { IfOk result (λ cause. cause ≡ first_cause (modify_checks schema.now (in_hand held.now) unit.now changes.now key.now)) }
 {
     let own = own_refusal(held, unit, key);
     if own.is_some() {
         return Ok(own);
     }
-    let calc = calc_refusal(schema, held, changes, key, items);
-    if calc.is_some() {
-        return Ok(calc);
+    if takes_calc(schema, held, changes, key, items) {
+        return Ok(Some(Cause::DuplicatesNotAllowed));
     }
     if is_any_key_taken(alloc, schema, held, changes, key, items)? {
         return Ok(Some(Cause::DuplicatesNotAllowed));
@@ -311,7 +293,7 @@ fn replacing_edit(
 ) -> Result<Option<CellEdit>, AllocError>
     ensures { IfOk result (λ edit. option_to_list edit ≡ replacing_edits_in schema.now held.now unit.now changes.now key.now items.now set) }
 {
-    if !is_replaced(schema, held, changes, key, set) {
+    if !is_rekeyed_in(schema, set, key.rtype, changes) {
         return Ok(None);
     }
     let Some(owner) = owner_of(held, set, key) else {

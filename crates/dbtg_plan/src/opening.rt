@@ -1,14 +1,12 @@
 //! OPEN and CLOSE: what is done with the usage cell of an area.
-ghost use Rattle.std.specs.Prelude.{◌≡◌, ◌||◌, IfOk, None};
+ghost use Rattle.std.specs.Prelude.{◌≡◌, IfOk, None};
 ghost use Rattle.std.specs.List.{list_any};
 ghost use Rattle.dbtg_unit.specs.Checks.{refused_at_once};
 ghost use Rattle.dbtg_unit.specs.Effect.{conflict};
 ghost use Rattle.dbtg_unit.specs.InHand.{users_in};
 ghost use Rattle.dbtg_unit.specs.Making.{CanFinish, MayPrepare, ShowsTheSame};
-ghost use Rattle.dbtg_plan.specs.Missing.{is_missing};
 ghost use Rattle.dbtg_plan.specs.Opening.{close_plan, mode_plan, open_plan};
 
-use crate::missing::is_missing;
 use crate::outcomes::refused;
 use dbtg_cells::{CellName, Mode};
 use dbtg_schema::{AreaNo, Row, Schema};
@@ -25,13 +23,6 @@ fn conflicts(held: &Held, area: AreaNo, mode: Mode) -> bool
         Some(usage) => usage.conflicts_with(mode),
         None => false,
     }
-}
-
-// Can it not be opened in this mode?
-fn is_closed_to(held: &Held, area: AreaNo, mode: Mode) -> bool
-    ensures { result ≡ (is_missing held.now (CellName.Usage area) || list_any (λ e. conflict e.1 mode) (users_in held.now area)) }
-{
-    is_missing(held, &CellName::Usage(area)) || conflicts(held, area, mode)
 }
 
 fn set_mode(
@@ -71,7 +62,7 @@ pub(crate) fn prepare_open(
     ensures shows { ShowsTheSame held.old held.new }
     ensures prepared { IfOk result (λ plan. CanFinish schema.now capacity unit.now held.new (Statement.OpenArea area mode) plan) }
 {
-    if is_closed_to(held, area, mode) {
+    if conflicts(held, area, mode) {
         return Ok(refused(alloc, Cause::UsageConflict));
     }
     reserve_user(held, &CellName::Usage(area))?;
@@ -95,9 +86,6 @@ pub(crate) fn prepare_close(
     requires passes { refused_at_once schema.now capacity unit.now (Statement.CloseArea area) ≡ None }
     ensures { IfOk result (λ plan. CanFinish schema.now capacity unit.now held.now (Statement.CloseArea area) plan) }
 {
-    if is_missing(held, &CellName::Usage(area)) {
-        return Ok(refused(alloc, Cause::AreaNotOpen));
-    }
     let edit = Edit::LeaveUser { unit: unit.number };
     set_mode(alloc, area, edit, None)
 }

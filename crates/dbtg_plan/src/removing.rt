@@ -1,7 +1,7 @@
 //! REMOVE: what it needs next, and what it does once it needs nothing more.
 ghost use Rattle.std.specs.Prelude.{◌≡◌, ℕ, [], ◌∷◌, ◌++◌, None, is_some, IfOk};
 ghost use Rattle.dbtg_schema.specs.Lookups.{first_cause};
-ghost use Rattle.dbtg_unit.specs.CellChecks.{remove_checks};
+ghost use Rattle.dbtg_unit.specs.Checks.{remove_checks};
 ghost use Rattle.dbtg_unit.specs.declared.statement.Statement.TheVariants.{Remove};
 ghost use Rattle.dbtg_unit.specs.Base.{Database};
 ghost use Rattle.dbtg_unit.specs.Checks.{refused_at_once};

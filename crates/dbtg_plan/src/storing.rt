@@ -1,10 +1,10 @@
 //! STORE: what it needs next, and what it does once it needs nothing more.
-ghost use Rattle.std.specs.Prelude.{◌≡◌, ℕ, ◌==◌, ◌++◌, [], ◌∷◌, is_none, if◌then◌else◌, IfOk, OnOk};
+ghost use Rattle.std.specs.Prelude.{◌≡◌, ℕ, ◌==◌, ◌++◌, [], ◌∷◌, false, is_none, if◌then◌else◌, IfOk, OnOk};
 ghost use Rattle.std.specs.List.{flat_map, list_any};
 ghost use Rattle.dbtg_cells.specs.declared.key.DbKey.{DbKey};
 ghost use Rattle.dbtg_schema.specs.Lookups.{first_cause};
 ghost use Rattle.dbtg_schema.specs.Structure.{automatic_sets, owns, set_numbers};
-ghost use Rattle.dbtg_unit.specs.CellChecks.{place_checks};
+ghost use Rattle.dbtg_unit.specs.Checks.{place_checks, store_checks};
 ghost use Rattle.dbtg_unit.specs.declared.statement.Statement.TheVariants.{Store};
 ghost use Rattle.dbtg_unit.specs.Base.{Database, key_item};
 ghost use Rattle.dbtg_unit.specs.CellNames.{place_of};
@@ -16,11 +16,11 @@ ghost use Rattle.dbtg_unit.specs.Making.{CanFinish, MayPrepare, ShowsTheSame};
 ghost use Rattle.dbtg_unit.specs.Needs.{cells_of, current_owner, ring_names, store_rings};
 ghost use Rattle.dbtg_unit.specs.Reserving.{KeepsOthers};
 ghost use Rattle.dbtg_unit.specs.Units.{place_in};
-ghost use Rattle.dbtg_plan.specs.Calc.{calc_taken_in, fresh_key};
+ghost use Rattle.dbtg_plan.specs.Calc.{fresh_key};
 ghost use Rattle.dbtg_plan.specs.Joining.{joined_place};
 ghost use Rattle.dbtg_plan.specs.Missing.{first_missing};
 ghost use Rattle.dbtg_plan.specs.Plans.{unless_refusal};
-ghost use Rattle.dbtg_plan.specs.Store.{HasRoom, first_owner, join_checks, joins_of, missing_of_store, openings_of, store_checks_in, store_plan, store_rings_in, stored_plan};
+ghost use Rattle.dbtg_plan.specs.Store.{HasRoom, first_owner, join_checks, joins_of, missing_of_store, openings_of, store_plan, store_rings_in, stored_plan};
 
 use crate::calc::{copy_calc, fresh_key, is_calc_taken};
 use crate::joining::{current_owner, joining_edit, make_room, place_refusal};
@@ -120,16 +120,6 @@ fn new_key(held: &Held, rtype: RecordNo) -> Option<DbKey>
     }
 }
 
-#[tactic(auto, using(crate::proofs::StoreSteps::none_taken))]
-fn is_taken(schema: &Schema, held: &Held, rtype: RecordNo, items: &[Value]) -> bool
-    ensures { result ≡ calc_taken_in schema.now (numbers_in held.now rtype) rtype items.now None }
-{
-    match numbers(held, rtype) {
-        Some(extent) => is_calc_taken(schema, extent, rtype, items, &None),
-        None => false,
-    }
-}
-
 fn missing_cell(
     schema: &Schema,
     unit: &Unit,
@@ -145,7 +135,7 @@ fn missing_cell(
     }
     match new_key(held, rtype) {
         Some(key) => {
-            if is_taken(schema, held, rtype, items) {
+            if is_calc_taken(schema, held, rtype, items, None) {
                 None
             } else {
                 missing_of_key(schema, unit, held, &key)
@@ -210,6 +200,7 @@ fn refusal_in_sets(
     Ok(None)
 }
 
+// Why a record that gets a number is not stored.
 fn refusal(
     alloc: Global,
     schema: &Schema,
@@ -218,9 +209,10 @@ fn refusal(
     rtype: RecordNo,
     items: &[Value],
 ) -> Result<Option<Cause>, AllocError>
-    ensures { IfOk result (λ cause. cause ≡ first_cause (store_checks_in schema.now unit.now held.now rtype items.now)) }
+    requires { (in_hand held.now).is_full rtype ≡ false }
+    ensures { IfOk result (λ cause. cause ≡ first_cause (store_checks schema.now (in_hand held.now) unit.now rtype items.now)) }
 {
-    if is_taken(schema, held, rtype, items) {
+    if is_calc_taken(schema, held, rtype, items, None) {
         return Ok(Some(Cause::DuplicatesNotAllowed));
     }
     refusal_in_sets(alloc, schema, unit, held, rtype, items)
@@ -427,8 +419,9 @@ fn plan_of_key(
     held: &mut Held,
     key: &DbKey,
 ) -> Result<Prepared, AllocError>
+    requires { (in_hand held.old).is_full rtype ≡ false }
     ensures same { ShowsTheSame held.old held.new }
-    ensures plan { IfOk result (λ plan. plan ≡ unless_refusal (first_cause (store_checks_in schema.now unit.now held.old rtype items.now)) (stored_plan schema.now unit.now items.now suppress key.now)) }
+    ensures plan { IfOk result (λ plan. plan ≡ unless_refusal (first_cause (store_checks schema.now (in_hand held.old) unit.now rtype items.now)) (stored_plan schema.now unit.now items.now suppress key.now)) }
     ensures rooms { IfOk result (λ plan. (k : DbKey) (s : ℕ) → plan.answer.key ≡ Some k → HasRoom schema.now unit.now held.new k s) }
 {
     if let Some(cause) = refusal(alloc, schema, unit, held, rtype, items.as_slice())? {
@@ -452,9 +445,6 @@ fn plan_store(
     ensures plan { IfOk result (λ plan. plan ≡ store_plan schema.now unit.now held.old rtype items.now suppress) }
     ensures rooms { IfOk result (λ plan. (k : DbKey) (s : ℕ) → plan.answer.key ≡ Some k → HasRoom schema.now unit.now held.new k s) }
 {
-    if missing_cell(schema, unit, rtype, items.as_slice(), held).is_some() {
-        return Ok(refused(alloc, Cause::NoRoom));
-    }
     match new_key(held, rtype) {
         Some(key) => plan_of_key(alloc, schema, unit, rtype, items, suppress, held, &key),
         None => Ok(refused(alloc, Cause::NoRoom)),

@@ -133,7 +133,7 @@ module _ (schema : Lists) (capacity : ℕ) (db : Database) (legal : Legal schema
   pub delete_cells_lie : (unit : Unit) (option : Erase) (k : DbKey) → k.rtype ≡ root → list_all (lies_in schema areas) (delete_cells schema capacity db unit option k) ≡ true
   delete_cells_lie unit option k e =
       cond_both (is_some (first_cause (own_checks (whole schema capacity db) unit k))) _ _ (λ cs. list_all (lies_in schema areas) cs ≡ true) (λ f. slot_lies)
-      (λ f. cond_both (is_plain option && has_members schema db k) _ _ (λ cs. list_all (lies_in schema areas) cs ≡ true)
+      (λ f. cond_both (is_plain option && has_members schema (whole schema capacity db) k) _ _ (λ cs. list_all (lies_in schema areas) cs ≡ true)
       (λ g. and_from _ _ slot_here (to_member_lie k here _ (all_each (λ s. owns schema s k.rtype) _ (λ s i. (of_filter (λ s. owns schema s k.rtype) s _ i).1))))
       (λ g. once_all (lies_in schema areas) [] (slot_name k ∷ own_rings schema k ++ flat_map (cells_of_doomed schema db) gone ++ outer_cells schema capacity db gone) all_lie))
     where

@@ -151,7 +151,7 @@ module _ (schema : Lists) (capacity : ℕ) (db : Database) (legal : Legal schema
   delete_cells_exist : (unit : Unit) (option : Erase) (k : DbKey) → has_slot schema capacity k ≡ true → all_exist schema capacity (delete_cells schema capacity db unit option k) ≡ true
   delete_cells_exist unit option k h =
       cond_both (is_some (first_cause (own_checks (whole schema capacity db) unit k))) _ _ (λ cs. all_exist schema capacity cs ≡ true) (λ f. and_from _ _ h refl)
-      (λ f. cond_both (is_plain option && has_members schema db k) _ _ (λ cs. all_exist schema capacity cs ≡ true)
+      (λ f. cond_both (is_plain option && has_members schema (whole schema capacity db) k) _ _ (λ cs. all_exist schema capacity cs ≡ true)
       (λ g. and_from _ _ h (rings_to_member_exist schema capacity db k h _ (all_each (λ s. owns schema s k.rtype) _ (λ s i. (of_filter (λ s. owns schema s k.rtype) s _ i).1))))
       (λ g. once_all (is_cell schema capacity) [] (slot_name k ∷ own_rings schema k ++ flat_map (cells_of_doomed schema db) gone ++ outer_cells schema capacity db gone) all_of_it))
     where

@@ -19,7 +19,9 @@ use Rattle.dbtg_cells.specs.Shown.{ExtentValue, RingValue}
 use Rattle.dbtg_unit.specs.Base.{Database, Record, is_live, items_of, key_at, live_keys, members_of, calc_items, sort_key}
 use Rattle.dbtg_unit.specs.CellNames.{place_of}
 use Rattle.dbtg_unit.specs.Cells.{cell}
+use Rattle.dbtg_cells.specs.Members.{is_left_out}
 use Rattle.dbtg_unit.specs.Effect.{free_number, new_key, calc_taken}
+use Rattle.dbtg_unit.specs.View.{whole}
 use Rattle.dbtg_unit.specs.Found.{has_type, with_calc}
 use Rattle.dbtg_unit.specs.Legal.{Legal}
 use Rattle.dbtg_unit.proofs.Determined.{extent_in, ring_in}
@@ -97,8 +99,8 @@ module _ (schema : Lists) (capacity : ℕ) (db eb : Database) (ldb : Legal schem
     pub new_same : (n : ℕ) → new_key db t n ≡ new_key eb t n
     new_same n = λ i. record { rtype = t; number = n; generation = last_same n i + 1 }
 
-    pub taken_same : (items : List Value) (left : DbKey → Bool) → calc_taken schema capacity db t items left ≡ calc_taken schema capacity eb t items left
-    taken_same items left = ap (λ ks. some_and (λ calc. not calc.duplicates_allowed && list_any (λ k. not (left k)) ks) (calc_of schema t)) (with_calc_same (calc_items schema t items))
+    pub taken_same : (items : List Value) (left : Option DbKey) → calc_taken schema (whole schema capacity db) t items left ≡ calc_taken schema (whole schema capacity eb) t items left
+    taken_same items left = ap (λ ks. some_and (λ calc. not calc.duplicates_allowed && list_any (λ k. not (is_left_out left k)) ks) (calc_of schema t)) (with_calc_same (calc_items schema t items))
 
   -- keys of another type pass no test of this one
   typed_same : (r t : ℕ) → (t ≡ r → live_keys capacity db t ≡ live_keys capacity eb t) → filter (has_type (Some r)) (live_keys capacity db t) ≡ filter (has_type (Some r)) (live_keys capacity eb t)

@@ -26,6 +26,7 @@ use Rattle.dbtg_unit.specs.Belongs.{IsUnitOf}
 use Rattle.dbtg_unit.specs.CellNames.{slot_name, place_of}
 use Rattle.dbtg_unit.specs.Cells.{cell}
 use Rattle.dbtg_unit.specs.Effect.{free_number, calc_taken}
+use Rattle.dbtg_unit.specs.View.{whole}
 use Rattle.dbtg_unit.specs.Fits.{if_named}
 use Rattle.dbtg_unit.specs.Found.{chosen, chosen_by_key, found_unless, has_type, is_lost, needs_position, with_calc}
 use Rattle.dbtg_unit.specs.Legal.{Legal}
@@ -120,12 +121,12 @@ module _ (schema : Lists) (capacity : ℕ) (db eb : Database) (ldb : Legal schem
   find_stable (NextDuplicate r) = next_duplicate r _ refl
   find_stable (Sorted v s) = sorted v s _ refl
 
-  store_stable : (t : ℕ) (items : List Value) → find p (Extent t ∷ store_cells schema unit capacity db t (free_number capacity db t) (calc_taken schema capacity db t items (λ k. false))) ≡ find p (Extent t ∷ store_cells schema unit capacity eb t (free_number capacity eb t) (calc_taken schema capacity eb t items (λ k. false)))
+  store_stable : (t : ℕ) (items : List Value) → find p (Extent t ∷ store_cells schema unit capacity db t (free_number capacity db t) (calc_taken schema (whole schema capacity db) t items None)) ≡ find p (Extent t ∷ store_cells schema unit capacity eb t (free_number capacity eb t) (calc_taken schema (whole schema capacity eb) t items None))
   store_stable t items = find_join p (Extent t ∷ []) _ _ (λ n.
       let c = alike_one (Extent t) n in
       let free = free_same schema capacity db eb ldb leb t c in
-      let taken = taken_same schema capacity db eb ldb leb t c items (λ k. false) in
-      ap (find p) (stored c (free_number capacity db t) (calc_taken schema capacity db t items (λ k. false)) ∙ λ i. store_cells schema unit capacity eb t (free i) (taken i)))
+      let taken = taken_same schema capacity db eb ldb leb t c items None in
+      ap (find p) (stored c (free_number capacity db t) (calc_taken schema (whole schema capacity db) t items None) ∙ λ i. store_cells schema unit capacity eb t (free i) (taken i)))
     where
       stored : (c : cell schema capacity db (Extent t) ≡ cell schema capacity eb (Extent t)) (n : Option ℕ) (b : Bool) → store_cells schema unit capacity db t n b ≡ store_cells schema unit capacity eb t n b
       stored c None b = refl

@@ -9,9 +9,11 @@ use Rattle.dbtg_schema.specs.Structure.{calc_of}
 use Rattle.dbtg_cells.specs.declared.key.DbKey.{DbKey}
 use Rattle.dbtg_cells.specs.declared.key.Value.{Value}
 use Rattle.dbtg_cells.specs.Keys.{values_eq}
+use Rattle.dbtg_cells.specs.Members.{is_left_out}
 use Rattle.dbtg_unit.specs.Base.{Database, is_live, items_of, is_member, calc_items, live_keys}
 use Rattle.dbtg_unit.specs.Found.{with_calc}
-use Rattle.dbtg_unit.specs.Effect.{calc_taken}
+use Rattle.dbtg_unit.specs.Conditions.{calc_taken}
+use Rattle.dbtg_unit.specs.View.{whole}
 use Rattle.dbtg_unit.specs.Legal.{Legal}
 use Rattle.dbtg_unit.proofs.KeyLemmas.{same_key, key_eq-refl}
 use Rattle.dbtg_unit.proofs.LegalParts.{unique_calc}
@@ -35,11 +37,11 @@ none_where_unique (Some c) taken h g = at (not c.duplicates_allowed) h g where
   at false h g = absurd (false≢true g)
 
 -- where a CALC key is not taken, no live record has it but those that are left out
-pub not_taken : (schema : Lists) (capacity : ℕ) (db : Database) (t : ℕ) (items : List Value) (left_out : DbKey → Bool) → Legal schema capacity db → calc_taken schema capacity db t items left_out ≡ false → unique_calc schema t ≡ true
-    → (x : DbKey) → is_live db x ≡ true → x.rtype ≡ t → left_out x ≡ false → values_eq (calc_items schema t (items_of db x)) (calc_items schema t items) ≡ false
-not_taken schema capacity db t items left_out legal free unique x live of_type stays =
+pub not_taken : (schema : Lists) (capacity : ℕ) (db : Database) (t : ℕ) (items : List Value) (left : Option DbKey) → Legal schema capacity db → calc_taken schema (whole schema capacity db) t items left ≡ false → unique_calc schema t ≡ true
+    → (x : DbKey) → is_live db x ≡ true → x.rtype ≡ t → is_left_out left x ≡ false → values_eq (calc_items schema t (items_of db x)) (calc_items schema t items) ≡ false
+not_taken schema capacity db t items left legal free unique x live of_type stays =
     false_from_ne_true _ (λ same. false≢true
-    (sym (none_where_unique (calc_of schema t) (list_any (λ k. not (left_out k)) (with_calc schema capacity db t (calc_items schema t items))) free unique)
-    ∙ any_member (λ k. not (left_out k)) (with_calc schema capacity db t (calc_items schema t items)) x
+    (sym (none_where_unique (calc_of schema t) (list_any (λ k. not (is_left_out left k)) (with_calc schema capacity db t (calc_items schema t items))) free unique)
+    ∙ any_member (λ k. not (is_left_out left k)) (with_calc schema capacity db t (calc_items schema t items)) x
     (keeps_member x (λ k. values_eq (calc_items schema t (items_of db k)) (calc_items schema t items)) (live_keys capacity db t) (subst (λ u. is_member x (live_keys capacity db u) ≡ true) of_type (in_member x (live_keys capacity db x.rtype) (live_in schema capacity db legal x live))) same)
     (not_from_false _ stays)))

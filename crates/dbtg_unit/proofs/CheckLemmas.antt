@@ -1,33 +1,9 @@
--- What a statement that passes its checks has passed, and what holds of an outcome whether refused or not.
+-- What a statement that passes its checks has passed.
 use Rattle.std.proofs.Common.{◌≡◌, refl, sym, ◌∙◌, ap, subst, ℕ, zero, suc, ◌+◌, ◌<◌, ◌≤◌, Bool, true, false, cond, List, [], ◌∷◌, ◌++◌, Option, Some, None, inl, inr, ⊎_elim, eqb, arith, map}
-use Rattle.std.specs.Prelude.{filter, Result, Ok, Err}
+use Rattle.std.specs.Prelude.{filter}
 use Rattle.std.specs.List.{list_any, flat_map, range_with_len}
 use Rattle.std.proofs.lemmas.Bool.{or_cases, or_left, or_right, cases_Bool, cond_both, false≢true, eqb-true, eqb-false}
-use Rattle.dbtg_cells.specs.declared.key.DbKey.{DbKey}
-use Rattle.dbtg_unit.specs.declared.unit.Unit.{Unit}
-use Rattle.dbtg_unit.specs.declared.unit.Cause.{Cause}
 use Rattle.dbtg_schema.specs.Lookups.{first_cause}
-use Rattle.dbtg_unit.specs.Base.{Database}
-use Rattle.dbtg_unit.specs.Effect.{Outcome, unless_refused, on_current, finding}
-
--- OUTCOMES
-
-module _ (Q : Database → Unit → Type 0) (db : Database) (unit : Unit) (now : Q db unit) where
-  pub unless_kept : (cause : Option Cause) (outcome : Outcome) → (cause ≡ None → Q outcome.database outcome.unit)
-      → Q (unless_refused db unit cause outcome).database (unless_refused db unit cause outcome).unit
-  unless_kept (Some cause) outcome f = now
-  unless_kept None outcome f = f refl
-
-  pub on_current_kept : (current : Option DbKey) (checks : DbKey → List (Bool × Cause)) (outcome : DbKey → Outcome)
-      → ((k : DbKey) → current ≡ Some k → first_cause (checks k) ≡ None → Q (outcome k).database (outcome k).unit)
-      → Q (on_current db unit current checks outcome).database (on_current db unit current checks outcome).unit
-  on_current_kept None checks outcome f = now
-  on_current_kept (Some k) checks outcome f = unless_kept (first_cause (checks k)) (outcome k) (f k refl)
-
-  pub finding_kept : (result : Result DbKey Cause) (after : DbKey → Unit) → ((k : DbKey) → result ≡ Ok k → Q db (after k))
-      → Q (finding db unit result after).database (finding db unit result after).unit
-  finding_kept (Ok k) after f = f k refl
-  finding_kept (Err cause) after f = now
 
 -- CHECKS
 

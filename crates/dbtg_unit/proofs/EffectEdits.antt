@@ -1,4 +1,5 @@
 -- The effect of a statement other than DELETE on the cells is its edits.
+use Rattle.dbtg_unit.specs.Checks.{live_checks}
 use Rattle.std.proofs.Common.{◌≡◌, refl, sym, ◌∙◌, ap, subst, ℕ, ◌≤◌, Bool, true, false, cond, not, ◌&&◌, List, [], ◌∷◌, ◌++◌, Option, Some, None, eqb, ltb}
 use Rattle.std.specs.Prelude.{is_none, is_some, unwrap_or, filter}
 use Rattle.std.specs.List.{list_any, range_with_len}
@@ -38,7 +39,7 @@ use Rattle.dbtg_unit.proofs.CheckLemmas.{passes, passes_check, passes-append, pa
 use Rattle.dbtg_unit.proofs.InsertCells.{insert_makes}
 use Rattle.dbtg_unit.proofs.LegalEffect.{passed, some_from, none_at, first_has}
 use Rattle.dbtg_unit.proofs.ModifyCells.{modify_makes}
-use Rattle.dbtg_unit.proofs.Outcomes.{of_unless, of_current, of_finding, of_effect}
+use Rattle.dbtg_unit.proofs.Outcomes.{of_unless, of_current, of_done, of_finding, of_effect}
 use Rattle.dbtg_unit.proofs.RemoveCells.{remove_makes}
 use Rattle.dbtg_unit.proofs.StoreCells.{store_makes}
 
@@ -92,10 +93,10 @@ module _ (schema : Lists) (capacity : ℕ) (db : Database) (unit : Unit) (legal 
       (at.0, at.1, ap (λ (p : Place). is_some (db.lists s p.owner)) (sym same) ∙ ap is_some list.1)
 
   pub store_found : (t : ℕ) (items : List Value) → list_any (λ s. is_none (place_in schema unit s)) (automatic_sets schema t) ≡ false
-      → first_cause (store_checks schema capacity db unit t items) ≡ None → StoreFound schema capacity db unit t
+      → first_cause (store_checks schema (whole schema capacity db) unit t items) ≡ None → StoreFound schema capacity db unit t
   store_found t items placed checks =
       let room = passes_check (is_none (free_number capacity db t)) NoRoom _ checks in
-      let unique = passes_check (calc_taken schema capacity db t items (λ k. false)) DuplicatesNotAllowed _ room.1 in
+      let unique = passes_check (calc_taken schema (whole schema capacity db) t items None) DuplicatesNotAllowed _ room.1 in
       let n = some_from (free_number capacity db t) room.0 in
       let number = unwrap_or (free_number capacity db t) 0 in
       let is : n.0 ≡ number = ap (λ (o : Option ℕ). unwrap_or o 0) (sym n.1) in
@@ -115,8 +116,8 @@ module _ (schema : Lists) (capacity : ℕ) (db : Database) (unit : Unit) (legal 
       → Edited (edits_of schema capacity db unit (Store t items suppress)) (effect_on_cells schema capacity db unit (Store t items suppress))
   of_store t items suppress placed =
       of_unless db unit (Edited (edits_of schema capacity db unit (Store t items suppress))) (no_refusal (edits_of schema capacity db unit (Store t items suppress)))
-      (first_cause (store_checks schema capacity db unit t items)) (stored schema capacity db unit (new_key db t (unwrap_or (free_number capacity db t) 0)) items suppress) made where
-        made : first_cause (store_checks schema capacity db unit t items) ≡ None → Edited (edits_of schema capacity db unit (Store t items suppress)) (stored schema capacity db unit (new_key db t (unwrap_or (free_number capacity db t) 0)) items suppress)
+      (first_cause (store_checks schema (whole schema capacity db) unit t items)) (stored schema capacity db unit (new_key db t (unwrap_or (free_number capacity db t) 0)) items suppress) made where
+        made : first_cause (store_checks schema (whole schema capacity db) unit t items) ≡ None → Edited (edits_of schema capacity db unit (Store t items suppress)) (stored schema capacity db unit (new_key db t (unwrap_or (free_number capacity db t) 0)) items suppress)
         made checks is_done lawful c =
             let found = store_found t items placed checks in
             store_makes schema capacity db unit (new_key db t (unwrap_or (free_number capacity db t) 0)) items legal found.counted refl found.unused found.stands lawful c
@@ -152,7 +153,7 @@ module _ (schema : Lists) (capacity : ℕ) (db : Database) (unit : Unit) (legal 
   of_modify : (t : ℕ) (changes : List Change) → Edited (edits_of schema capacity db unit (Modify t changes)) (effect_on_cells schema capacity db unit (Modify t changes))
   of_modify t changes =
       of_current db unit (Edited (edits_of schema capacity db unit (Modify t changes))) (no_refusal (edits_of schema capacity db unit (Modify t changes)))
-      unit.currency.run_unit (modify_checks schema capacity db unit changes) (modified schema capacity db unit changes)
+      unit.currency.run_unit (modify_checks schema (whole schema capacity db) unit changes) (modified schema capacity db unit changes)
       (λ k is checks is_done lawful c.
       let first = passes_check (not (is_live db k)) Deleted _ checks in
       modify_makes schema capacity db unit changes k legal (not-false _ first.0) lawful c
@@ -165,16 +166,16 @@ module _ (schema : Lists) (capacity : ℕ) (db : Database) (unit : Unit) (legal 
   on_cells (CloseArea a) other placed = of_close a
   on_cells (Find form suppress) other placed =
       of_finding db unit (Edited []) (no_refusal []) (found schema capacity db unit form) (λ k. seen schema capacity db unit k suppress) (λ k is is_done lawful c. refl)
-  on_cells (Get r) other placed = of_current db unit (Edited []) (no_refusal []) unit.currency.run_unit (λ k. (not (is_live db k), Deleted) ∷ []) (λ k. done db unit (Some k) (Some (items_of db k))) (λ k is checks is_done lawful c. refl)
+  on_cells (Get r) other placed = of_current db unit (Edited []) (no_refusal []) unit.currency.run_unit (live_checks (whole schema capacity db)) (λ k. done db unit (Some k) (Some (items_of db k))) (λ k is checks is_done lawful c. refl)
   on_cells (Store t items suppress) other placed = of_store t items suppress placed
   on_cells (Insert s) other placed = of_insert s placed
   on_cells (Remove s) other placed = of_remove s
   on_cells (Modify t changes) other placed = of_modify t changes
   on_cells (Delete option) other placed = absurd (false≢true (sym other))
   on_cells Keep other placed =
-      of_current db unit (Edited []) (no_refusal []) unit.currency.run_unit (λ k. (not (is_live db k), Deleted) ∷ []) (λ k. done db (record unit { kept = noted k (version_of db k) unit.kept }) None None) (λ k is checks is_done lawful c. refl)
+      of_current db unit (Edited []) (no_refusal []) unit.currency.run_unit (live_checks (whole schema capacity db)) (λ k. done db (record unit { kept = noted k (version_of db k) unit.kept }) None None) (λ k is checks is_done lawful c. refl)
   on_cells (Free true) other placed = λ is_done lawful c. refl
-  on_cells (Free false) other placed = of_current db unit (Edited []) (no_refusal []) unit.currency.run_unit (λ k. []) (λ k. done db (record unit { kept = forgotten k unit.kept }) None None) (λ k is checks is_done lawful c. refl)
+  on_cells (Free false) other placed = of_done db unit (Edited []) (no_refusal []) unit.currency.run_unit (λ k. done db (record unit { kept = forgotten k unit.kept }) None None) (λ k is is_done lawful c. refl)
 
 pub effect_is_its_edits : (schema : Lists) (capacity : ℕ) (db : Database) (unit : Unit) (statement : Statement) → is_delete statement ≡ false
     → Legal schema capacity db → Legal schema capacity (effect schema capacity db unit statement).database → (effect schema capacity db unit statement).answer.status ≡ Done

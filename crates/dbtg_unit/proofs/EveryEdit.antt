@@ -1,4 +1,5 @@
 -- The effect of a statement on the cells is its edits.
+use Rattle.dbtg_unit.specs.View.{whole}
 use Rattle.std.proofs.Common.{refl, sym, ◌∙◌, ap, ℕ, ◌&&◌, [], ◌∷◌}
 use Rattle.dbtg_schema.specs.Lists.{Lists}
 use Rattle.dbtg_unit.specs.declared.statement.Erase.{Erase}
@@ -19,9 +20,9 @@ module _ (schema : Lists) (capacity : ℕ) (db : Database) (unit : Unit) (legal 
   of_delete : (option : Erase) → Edited schema capacity db unit legal (edits_of schema capacity db unit (Delete option)) (effect_on_cells schema capacity db unit (Delete option))
   of_delete option =
       of_current db unit (Edited schema capacity db unit legal (edits_of schema capacity db unit (Delete option))) (no_refusal schema capacity db unit legal (edits_of schema capacity db unit (Delete option)))
-      unit.currency.run_unit (delete_checks schema capacity db unit option) (deleted schema capacity db unit option)
+      unit.currency.run_unit (delete_checks schema (whole schema capacity db) unit option) (deleted schema capacity db unit option)
       (λ k is checks is_done lawful c.
-      let own = alive schema capacity db unit legal k ((is_plain option && has_members schema db k, OwnerHasMembers) ∷ []) checks in
+      let own = alive schema capacity db unit legal k ((is_plain option && has_members schema (whole schema capacity db) k, OwnerHasMembers) ∷ []) checks in
       delete_makes schema capacity db unit option k legal own.0 lawful c
       ∙ ap (λ current. edited_at c (edits_of schema capacity db (record unit { currency = record unit.currency { run_unit = current } }) (Delete option)) (cell schema capacity db c)) (sym is))
 

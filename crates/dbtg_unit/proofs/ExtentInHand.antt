@@ -7,20 +7,26 @@ use Rattle.std.proofs.lemmas.Bool.Decides.{nat_tests}
 use Rattle.std.proofs.lemmas.List.Elements.{filter_agree}
 use Rattle.dbtg_schema.specs.Lists.{Lists}
 use Rattle.dbtg_schema.specs.Lookups.{first, some_and}
-use Rattle.dbtg_schema.specs.Structure.{calc_of}
 use Rattle.dbtg_cells.specs.declared.key.DbKey.{DbKey}
 use Rattle.dbtg_cells.specs.declared.key.Value.{Value}
 use Rattle.dbtg_cells.specs.declared.extent.Number.{Number}
 use Rattle.dbtg_cells.specs.declared.name.CellName.TheVariants.{Extent}
 use Rattle.dbtg_cells.specs.Keys.{key_eq, key_lt, values_eq}
+use Rattle.dbtg_cells.specs.Members.{is_left_out}
 use Rattle.dbtg_cells.specs.Numbers.{numbers_from, numbers_where, is_used, is_free, has_values, entry_of, last_of, is_number_left_out}
 use Rattle.dbtg_cells.specs.Shown.{ExtentValue}
 use Rattle.dbtg_unit.specs.Base.{Database, Record, is_live, items_of, key_at, live_keys, calc_items}
 use Rattle.dbtg_unit.specs.Cells.{cell, number_of}
-use Rattle.dbtg_unit.specs.Effect.{calc_taken, free_number, new_key}
+use Rattle.dbtg_unit.specs.Effect.{free_number, new_key}
+use Rattle.dbtg_unit.specs.Hands.{Hands}
 use Rattle.dbtg_unit.specs.Found.{with_calc}
-use Rattle.dbtg_unit.specs.InHand.{key_of, next_key_of, values_of_key}
+use Rattle.dbtg_unit.specs.InHand.{in_hand, key_of, next_key_of, numbers_in, values_of_key}
 use Rattle.dbtg_unit.specs.Legal.{Legal}
+use Rattle.dbtg_unit.specs.Local.{Agrees, holds}
+use Rattle.dbtg_unit.specs.View.{whole}
+use Rattle.dbtg_unit.specs.declared.unit.Unit.{Unit}
+use Rattle.dbtg_unit.proofs.InHandLemmas.{numbers_in_hand}
+use Rattle.dbtg_unit.proofs.SameView.{SameNumbers}
 use Rattle.dbtg_unit.proofs.KeyLemmas.{same_key, key_eq-refl}
 use Rattle.dbtg_unit.proofs.ReadingCells.{calc_at, calc_in, calc_reads, last_reads}
 
@@ -140,9 +146,6 @@ module _ (schema : Lists) (capacity : ℕ) (db : Database) (legal : Legal schema
   pub above_in_hand : (k : DbKey) → k.rtype ≡ t → (n : ℕ) → key_lt k (key_of numbers t n) ≡ nat_lt k.number n || (k.number == n && nat_lt k.generation (last_of n numbers))
   above_in_hand k is_t n = grind (arith, nat_tests, is_t)
 
-  pub below_in_hand : (k : DbKey) → k.rtype ≡ t → (n : ℕ) → key_lt (key_of numbers t n) k ≡ nat_lt n k.number || (n == k.number && nat_lt (last_of n numbers) k.generation)
-  below_in_hand k is_t n = grind (arith, nat_tests, is_t)
-
   module _ (k : DbKey) (is_t : k.rtype ≡ t) (live : is_live db k ≡ true) where
     generation_is : (n : ℕ) → k.number ≡ n → k.generation ≡ last_of n numbers
     generation_is n e = (legal.keys k live).4 ∙ (λ i. db.last (is_t i) (e i)) ∙ last_in_hand n
@@ -169,24 +172,26 @@ module _ (schema : Lists) (capacity : ℕ) (db : Database) (legal : Legal schema
     pub keys_behind_in_hand : (ns : List ℕ) → filter (key_lt k) (map (key_of numbers t) ns) ≡ map (key_of numbers t) (filter (nat_lt k.number) ns)
     keys_behind_in_hand ns = filter-map (key_lt k) (key_of numbers t) ns ∙ ap (map (key_of numbers t)) (filter_agree (λ n. key_lt k (key_of numbers t n)) (nat_lt k.number) behind_in_hand ns)
 
-  -- CALC VALUES THAT ARE TAKEN
+  -- CALC VALUES THAT A RECORD HAS
 
-  taken_unless : (items : List Value) (left : Option ℕ) (is_left_out : DbKey → Bool) → ((n : ℕ) → is_left_out (key_of numbers t n) ≡ is_number_left_out left n)
-      → calc_taken schema capacity db t items is_left_out
-      ≡ some_and (λ calc. not calc.duplicates_allowed && list_any (λ n. not (is_number_left_out left n)) (numbers_where (has_values (calc_items schema t items)) numbers)) (calc_of schema t)
-  taken_unless items left is_left_out h =
-      let any = ap (list_any (λ k. not (is_left_out k))) (with_calc_in_hand (calc_items schema t items))
-      ∙ any_made (λ k. not (is_left_out k)) (λ n. not (is_number_left_out left n)) (key_of numbers t) (λ n. ap not (h n)) (numbers_where (has_values (calc_items schema t items)) numbers) in
-      λ i. some_and (λ calc. not calc.duplicates_allowed && any i) (calc_of schema t)
+  has_unless : (values : List Value) (left : Option DbKey) → ((n : ℕ) → is_left_out left (key_of numbers t n) ≡ is_number_left_out (option_map (λ (k : DbKey). k.number) left) n)
+      → list_any (λ n. not (is_number_left_out (option_map (λ (k : DbKey). k.number) left) n)) (numbers_where (has_values values) numbers) ≡ (whole schema capacity db).has_calc t values left
+  has_unless values left h =
+      sym (ap (list_any (λ k. not (is_left_out left k))) (with_calc_in_hand values)
+      ∙ any_made (λ k. not (is_left_out left k)) (λ n. not (is_number_left_out (option_map (λ (k : DbKey). k.number) left) n)) (key_of numbers t) (λ n. ap not (h n)) (numbers_where (has_values values) numbers))
 
-  -- by any record
-  pub taken_in_hand : (items : List Value)
-      → calc_taken schema capacity db t items (λ k. false)
-      ≡ some_and (λ calc. not calc.duplicates_allowed && list_any (λ n. not (is_number_left_out None n)) (numbers_where (has_values (calc_items schema t items)) numbers)) (calc_of schema t)
-  taken_in_hand items = taken_unless items None (λ k. false) (λ n. refl)
+module _ (schema : Lists) (capacity : ℕ) (db : Database) (hands : Hands) (unit : Unit) (agrees : Agrees schema capacity db hands unit) (t : ℕ) (held : holds hands.cells (Extent t) ≡ true) where
+  -- its extent answers as the database does
+  pub same_numbers : SameNumbers (in_hand hands) (whole schema capacity db) t
+  same_numbers =
+      let are = numbers_in_hand schema capacity db hands unit agrees t held in
+      record {
+        is_full = ap is_none (sym (free_in_hand schema capacity db agrees.legal t (numbers_in hands t) are));
+        has_calc = λ values. has_unless schema capacity db agrees.legal t (numbers_in hands t) are values None (λ n. refl);
+      }
 
-  -- by another than a live record of the type
-  pub taken_by_another : (items : List Value) (k : DbKey) → k.rtype ≡ t → is_live db k ≡ true
-      → calc_taken schema capacity db t items (key_eq k)
-      ≡ some_and (λ calc. not calc.duplicates_allowed && list_any (λ n. not (is_number_left_out (Some k.number) n)) (numbers_where (has_values (calc_items schema t items)) numbers)) (calc_of schema t)
-  taken_by_another items k is_t live = taken_unless items (Some k.number) (key_eq k) (same_in_hand k is_t live)
+  -- also beside a live record of the type
+  pub same_calc_beside : (k : DbKey) → k.rtype ≡ t → is_live db k ≡ true → (values : List Value) → (in_hand hands).has_calc t values (Some k) ≡ (whole schema capacity db).has_calc t values (Some k)
+  same_calc_beside k is_t live values =
+      let are = numbers_in_hand schema capacity db hands unit agrees t held in
+      has_unless schema capacity db agrees.legal t (numbers_in hands t) are values (Some k) (same_in_hand schema capacity db agrees.legal t (numbers_in hands t) are k is_t live)

@@ -1,7 +1,8 @@
 -- Versions, generations and deleted keys only go forward.
+use Rattle.dbtg_unit.specs.View.{whole}
+use Rattle.dbtg_unit.specs.Checks.{open_checks}
 use Rattle.std.proofs.Common.{◌≡◌, refl, ◌∙◌, ap, ℕ, ◌+◌, ◌≤◌, Bool, true, false, cond, not, ◌&&◌, List, [], ◌∷◌, ◌++◌, Option, Some, None, arith, eqb}
 use Rattle.std.specs.Prelude.{◌==◌, is_some, option_map, unwrap_or, slice_set, if◌then◌else◌}
-use Rattle.std.specs.List.{list_any}
 use Rattle.std.proofs.lemmas.Bool.{and_parts, and_from, not-true, not_from_false, leb-true, le-leb, eqb-true, cond_both}
 use Rattle.dbtg_schema.specs.Lists.{Lists}
 use Rattle.dbtg_schema.specs.Lookups.{first_cause}
@@ -11,14 +12,13 @@ use Rattle.dbtg_cells.specs.Keys.{key_eq}
 use Rattle.dbtg_unit.specs.declared.statement.Statement.{Statement}
 use Rattle.dbtg_unit.specs.declared.statement.Statement.TheVariants.{OpenArea, CloseArea, Find, Get, Store, Insert, Remove, Modify, Delete, Keep, Free}
 use Rattle.dbtg_unit.specs.declared.unit.Unit.{Unit}
-use Rattle.dbtg_unit.specs.declared.unit.Cause.TheVariants.{UsageConflict}
 use Rattle.dbtg_unit.specs.Base.{Database, Record, is_live, items_of, is_member}
 use Rattle.dbtg_unit.specs.Doomed.{doomed}
 use Rattle.dbtg_unit.specs.Found.{found}
-use Rattle.dbtg_unit.specs.Effect.{Outcome, effect, effect_on_cells, done, raised, next_version, version_of, with_new, with_items, with_its_items, connected_in, stored, store_checks, new_key, free_number, conflict, changed_items}
+use Rattle.dbtg_unit.specs.Effect.{Outcome, effect, effect_on_cells, done, raised, next_version, version_of, with_new, with_items, with_its_items, connected_in, stored, store_checks, new_key, free_number, changed_items}
 use Rattle.dbtg_unit.specs.Forward.{is_spent, GoesForward}
 use Rattle.dbtg_unit.proofs.KeyLemmas.{same_key}
-use Rattle.dbtg_unit.proofs.Outcomes.{of_unless, of_current, of_finding, of_effect}
+use Rattle.dbtg_unit.proofs.Outcomes.{of_unless, of_current, of_done, of_finding, of_effect}
 
 -- the version in what is stored under a key
 abbrev version_in : Option Record → ℕ
@@ -97,14 +97,14 @@ module _ (schema : Lists) (capacity : ℕ) (db : Database) (unit : Unit) where
 
   on_cells : (statement : Statement) → Forward (effect_on_cells schema capacity db unit statement)
   on_cells (OpenArea a mode) =
-      of_unless db unit Forward (λ cause. same_forward db) (first_cause ((list_any (λ e. conflict e.1 mode) (db.usage a), UsageConflict) ∷ []))
+      of_unless db unit Forward (λ cause. same_forward db) (first_cause (open_checks (whole schema capacity db) a mode))
       (done (record db { usage = λ b. if b == a then db.usage b ++ (unit.number, mode) ∷ [] else db.usage b }) (record unit { modes = slice_set unit.modes a (Some mode) }) None None)
       (λ h. forward_from db _ (record { versions = λ k. omega arith; live = λ k h. h; last = λ t n. refl }))
   on_cells (CloseArea a) = forward_from db _ (record { versions = λ k. omega arith; live = λ k h. h; last = λ t n. refl })
   on_cells (Find form suppress) = of_finding db unit Forward (λ cause. same_forward db) (found schema capacity db unit form) _ (λ k h. same_forward db)
   on_cells (Get r) = of_current db unit Forward (λ cause. same_forward db) unit.currency.run_unit _ _ (λ k e h. same_forward db)
   on_cells (Store t items suppress) =
-      of_unless db unit Forward (λ cause. same_forward db) (first_cause (store_checks schema capacity db unit t items))
+      of_unless db unit Forward (λ cause. same_forward db) (first_cause (store_checks schema (whole schema capacity db) unit t items))
       (stored schema capacity db unit (new_key db t (unwrap_or (free_number capacity db t) 0)) items suppress)
       (λ h. let new = stored_forward schema db t (unwrap_or (free_number capacity db t) 0) items in record { versions = new.versions; generations = new.generations; spent = new.spent })
   on_cells (Insert s) =
@@ -136,7 +136,7 @@ module _ (schema : Lists) (capacity : ℕ) (db : Database) (unit : Unit) where
       }))
   on_cells Keep = of_current db unit Forward (λ cause. same_forward db) unit.currency.run_unit _ _ (λ k e h. same_forward db)
   on_cells (Free true) = same_forward db
-  on_cells (Free false) = of_current db unit Forward (λ cause. same_forward db) unit.currency.run_unit _ _ (λ k e h. same_forward db)
+  on_cells (Free false) = of_done db unit Forward (λ cause. same_forward db) unit.currency.run_unit _ (λ k e. same_forward db)
 
   pub each_goes_forward : (statement : Statement) → GoesForward db (effect schema capacity db unit statement).database
   each_goes_forward statement = of_effect db unit Forward (λ cause. same_forward db) schema capacity statement (λ h. on_cells statement)

@@ -17,8 +17,8 @@ use Rattle.dbtg_cells.specs.declared.cell.Cell.TheVariants.{Usage as UsageCell, 
 use Rattle.dbtg_cells.specs.declared.ring.Occurrence.{Occurrence}
 use Rattle.dbtg_cells.specs.declared.slot.Stored.{Stored}
 use Rattle.dbtg_cells.specs.Cells.{shown}
-use Rattle.dbtg_cells.specs.Keys.{option_value_eq, owner_eq}
-use Rattle.dbtg_cells.specs.Members.{keys_in, members_in}
+use Rattle.dbtg_cells.specs.Keys.{owner_eq}
+use Rattle.dbtg_cells.specs.Members.{has_sort_key, keys_in, members_in}
 use Rattle.dbtg_cells.specs.Shown.{CellValue, SlotValue, RingValue}
 use Rattle.dbtg_unit.specs.declared.unit.Unit.{Unit}
 use Rattle.dbtg_unit.specs.Base.{Database, Record, is_live, items_of, members_of, owner_of, sort_key}
@@ -209,9 +209,7 @@ module _ (schema : Lists) (capacity : ℕ) (db : Database) (hands : Hands) (unit
     same_occurrence = record {
       is_absent = same_none (db.lists s o) (occurrence_in hands s o) listed_in_hand;
       members = sym members_in_hand;
-      has_sort_key = λ v.
-          ap (list_any (λ (e : DbKey × Option Value). option_value_eq e.1 v)) entries_in_hand
-          ∙ any-map (λ k. (k, sort_key schema db s k)) (λ (e : DbKey × Option Value). option_value_eq e.1 v) (members_of db s o);
+      has_sort_key = λ left v. ap (list_any (has_sort_key left v)) entries_in_hand ∙ any-map (λ k. (k, sort_key schema db s k)) (has_sort_key left v) (members_of db s o);
     }
 
   -- EXTENTS AND USAGE LISTS

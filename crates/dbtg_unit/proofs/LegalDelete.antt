@@ -1,4 +1,5 @@
 -- DELETE keeps a database legal, in each of its forms.
+use Rattle.dbtg_unit.specs.View.{whole}
 use Rattle.std.proofs.Common.{◌≡◌, refl, sym, ◌∙◌, ap, subst, ℕ, Bool, true, false, cond, not, ◌&&◌, ◌||◌, List, [], ◌∷◌, length, Option, Some, None, inl, inr, ltb, arith}
 use Rattle.std.specs.Prelude.{is_some, option_map, unwrap_or, filter}
 use Rattle.std.specs.List.{list_any}
@@ -152,7 +153,7 @@ module _ (schema : Lists) (capacity : ℕ) (db : Database) (option : Erase) (k :
         no_drag x y = ap (λ (e : Erase). drags schema capacity db e x y) plain ∙ none (λ s. is_member y (members_of db s (Rec x))) (set_numbers schema)
 
   -- the owner of a fixed member that stays stays
-  owner_stays : (is_plain option && has_members schema db k) ≡ false → (s : ℕ) (o : Owner) (m : DbKey) → is_member m gone ≡ false → is_live db m ≡ true → is_fixed schema s m.rtype ≡ true → is_member m (members_of db s o) ≡ true → is_gone gone o ≡ false
+  owner_stays : (is_plain option && has_members schema (whole schema capacity db) k) ≡ false → (s : ℕ) (o : Owner) (m : DbKey) → is_member m gone ≡ false → is_live db m ≡ true → is_fixed schema s m.rtype ≡ true → is_member m (members_of db s o) ≡ true → is_gone gone o ≡ false
   owner_stays empty s System m n live fix h = refl
   owner_stays empty s (Rec j) m n live fix h =
       let number = set_number schema s m.rtype (legal.members s (Rec j) m h).1 in
@@ -177,7 +178,7 @@ module _ (schema : Lists) (capacity : ℕ) (db : Database) (option : Erase) (k :
         some_length [] h = h
         some_length (x ∷ xs) h = lt-ltb 0 (length (x ∷ xs)) (omega arith)
 
-  pub delete_legal : (unit : Unit) → (is_plain option && has_members schema db k) ≡ false → Legal schema capacity (deleted schema capacity db unit option k).database
+  pub delete_legal : (unit : Unit) → (is_plain option && has_members schema (whole schema capacity db) k) ≡ false → Legal schema capacity (deleted schema capacity db unit option k).database
   delete_legal unit empty =
       legal_raised schema capacity (λ x. not (is_member x gone) && list_any (λ s. list_any (λ o. is_member x (members_of db s (Rec o))) gone) (set_numbers schema)) after
       (record {

@@ -1,4 +1,7 @@
 -- Each statement keeps a database legal, and its unit a unit of it.
+use Rattle.dbtg_unit.specs.Effect.{Outcome}
+use Rattle.dbtg_unit.specs.Conditions.{refuses_equal, sort_key_taken}
+use Rattle.dbtg_unit.specs.Checks.{live_checks, open_checks}
 use Rattle.std.proofs.Common.{◌≡◌, refl, sym, ◌∙◌, ap, subst, ℕ, ◌<◌, Bool, true, false, cond, not, ◌&&◌, List, [], ◌∷◌, ◌++◌, length, Option, Some, None, eqb, ltb, arith, map, length-set}
 use Rattle.std.specs.Prelude.{is_some, is_none, unwrap_or, option_map, option_and_then, filter, slice_set}
 use Rattle.std.specs.List.{list_any, list_all, range_with_len}
@@ -6,7 +9,7 @@ use Rattle.std.proofs.lemmas.Bool.{and_parts, and_left, or_left, false≢true, t
 use Rattle.dbtg_schema.specs.Lists.{Lists}
 use Rattle.dbtg_schema.specs.Sound.{IsSound}
 use Rattle.dbtg_schema.specs.Lookups.{at, first, first_cause, some_and}
-use Rattle.dbtg_schema.specs.Structure.{automatic_sets, set_numbers, is_automatic, is_mandatory, member_clause, pictures, picture_of}
+use Rattle.dbtg_schema.specs.Structure.{automatic_sets, set_numbers, is_automatic, is_mandatory, member_clause, order_of, pictures, picture_of, rekeyed_sets}
 use Rattle.dbtg_schema.specs.declared.shape.Member.{Member}
 use Rattle.dbtg_cells.specs.declared.key.DbKey.{DbKey}
 use Rattle.dbtg_cells.specs.declared.key.Owner.{Owner}
@@ -30,16 +33,17 @@ use Rattle.dbtg_unit.specs.Doomed.{doomed}
 use Rattle.dbtg_unit.specs.Fits.{fits, is_type, values_fit, value_fits, suppress_fits, distinct_items}
 use Rattle.dbtg_unit.specs.Checks.{accepts_type, current_type, is_inserting_mandatory_automatic, is_opening_again, is_removing_mandatory, lacks_current, needs_current, refused_at_once}
 use Rattle.dbtg_unit.specs.View.{whole}
-use Rattle.dbtg_unit.specs.Effect.{calc_taken, changed_items, conflict, connected_in, delete_checks, deleted, done, effect, effect_on_cells, free_number, insert_checks, inserted, modified, modify_checks, moved, new_key, own_checks, place_checks, remove_checks, removed, renoted, replaced_sets, store_checks, stored, version_of, with_new, has_members, is_plain, names_calc}
+use Rattle.dbtg_unit.specs.Effect.{calc_taken, changed_items, conflict, connected_in, delete_checks, deleted, done, effect, effect_on_cells, free_number, insert_checks, inserted, modified, modify_checks, moved, new_key, own_checks, place_checks, remove_checks, removed, renoted, store_checks, stored, version_of, with_new, has_members, is_plain, names_calc}
 use Rattle.dbtg_unit.specs.Legal.{Legal, mode_in}
 use Rattle.dbtg_unit.specs.LegalWith.{IsUnitIn}
 use Rattle.dbtg_unit.proofs.KeyLemmas.{key_eq-refl}
-use Rattle.dbtg_unit.proofs.CheckLemmas.{any_number, finding_kept, has_number, number_passes, number_within, on_current_kept, passes, passes_check, passes-append, passes-each, passes-map, unless_kept}
+use Rattle.dbtg_unit.proofs.CheckLemmas.{any_number, has_number, number_passes, number_within, passes, passes_check, passes-append, passes-each, passes-map}
+use Rattle.dbtg_unit.proofs.Outcomes.{of_current, of_done, of_finding, of_unless}
 use Rattle.dbtg_unit.proofs.LegalConnect.{can_join}
 use Rattle.dbtg_unit.proofs.LegalParts.{is_fixed}
 use Rattle.dbtg_unit.proofs.LegalMoves.{insert_legal, remove_legal}
 use Rattle.dbtg_unit.proofs.LegalStore.{IsFresh, live_new, store_legal}
-use Rattle.dbtg_unit.proofs.LegalModify.{CanChange, key_refused, modify_legal}
+use Rattle.dbtg_unit.proofs.LegalModify.{CanChange, modify_legal}
 use Rattle.dbtg_unit.proofs.LegalDelete.{delete_legal}
 use Rattle.dbtg_unit.proofs.LegalOpen.{open_legal, open_agrees, open_others, open_users, close_legal, close_agrees, close_others, close_users}
 use Rattle.dbtg_unit.proofs.FoundLemmas.{found_live}
@@ -100,6 +104,9 @@ module _ (schema : Lists) (capacity : ℕ) (db : Database) (unit : Unit) (number
 
   abbrev Step : Database → Unit → Type 0
   Step new after = IsStep schema capacity db number new after
+
+  abbrev Left : Outcome → Type 0
+  Left outcome = Step outcome.database outcome.unit
 
   -- a step that leaves usage lists and modes
   quiet : (new : Database) (after : Unit) → Legal schema capacity new → new.usage ≡ db.usage → after.number ≡ unit.number → after.modes ≡ unit.modes → IsGood schema capacity after → Step new after
@@ -167,11 +174,11 @@ module _ (schema : Lists) (capacity : ℕ) (db : Database) (unit : Unit) (number
             record { in_schema = ltb-true t (length schema.types) there; low = omega arith; high = omega arith; unused = not-true _ q.0; unspent = ltb-true (db.last t n) 255 q.1; fit = fit }
 
   store_step : (t : ℕ) (its : List Value) (suppress : Suppress) → is_type schema t ≡ true → values_fit (pictures schema t) its ≡ true → lacks_current schema unit (Store t its suppress) ≡ false
-      → first_cause (store_checks schema capacity db unit t its) ≡ None
+      → first_cause (store_checks schema (whole schema capacity db) unit t its) ≡ None
       → Step (stored schema capacity db unit (new_key db t (unwrap_or (free_number capacity db t) 0)) its suppress).database (stored schema capacity db unit (new_key db t (unwrap_or (free_number capacity db t) 0)) its suppress).unit
   store_step t its suppress there fit placed checks =
       let room = passes_check (is_none (free_number capacity db t)) NoRoom _ checks in
-      let unique = passes_check (calc_taken schema capacity db t its (λ k. false)) DuplicatesNotAllowed _ room.1 in
+      let unique = passes_check (calc_taken schema (whole schema capacity db) t its None) DuplicatesNotAllowed _ room.1 in
       let n = unwrap_or (free_number capacity db t) 0 in
       let k = new_key db t n in
       let is_fresh = fresh t its there fit room.0 in
@@ -212,21 +219,22 @@ module _ (schema : Lists) (capacity : ℕ) (db : Database) (unit : Unit) (number
   remove_step : (s : ℕ) (k : DbKey) → is_fixed schema s k.rtype ≡ false → Step (removed db unit s k).database (removed db unit s k).unit
   remove_step s k free = quiet (removed db unit s k).database (removed db unit s k).unit (remove_legal schema capacity db unit s k legal free) refl refl refl (good-renoted (key_eq k) (removed db unit s k).database unit good)
 
-  modify_step : (changes : List Change) (k : DbKey) → list_all (λ c. some_and (λ p. value_fits p c.value) (picture_of schema k.rtype c.item)) changes ≡ true → first_cause (modify_checks schema capacity db unit changes k) ≡ None
+  modify_step : (changes : List Change) (k : DbKey) → list_all (λ c. some_and (λ p. value_fits p c.value) (picture_of schema k.rtype c.item)) changes ≡ true → first_cause (modify_checks schema (whole schema capacity db) unit changes k) ≡ None
       → Step (modified schema capacity db unit changes k).database (modified schema capacity db unit changes k).unit
   modify_step changes k fit checks =
       let items = changed_items changes (items_of db k) in
-      let refusing : ℕ → Bool × Cause = λ s. (key_refused schema capacity db changes k s, DuplicatesNotAllowed) in
-      let calc : Bool × Cause = (names_calc schema k.rtype changes && calc_taken schema capacity db k.rtype items (key_eq k), DuplicatesNotAllowed) in
-      let own = live_of k (calc ∷ map refusing (replaced_sets schema capacity db changes k)) checks in
-      let unique = passes calc (map refusing (replaced_sets schema capacity db changes k)) own.1 in
-      let can : CanChange schema capacity db changes k = record { fit = fit; calc_free = unique.0; key_free = λ s h. passes-map refusing (replaced_sets schema capacity db changes k) s h unique.1 } in
+      let named = rekeyed_sets schema k.rtype (map (λ c. c.item) changes) in
+      let refusing : ℕ → Bool × Cause = λ s. (refuses_equal (order_of schema s) && sort_key_taken schema (whole schema capacity db) k items s, DuplicatesNotAllowed) in
+      let calc : Bool × Cause = (names_calc schema k.rtype changes && calc_taken schema (whole schema capacity db) k.rtype items (Some k), DuplicatesNotAllowed) in
+      let own = live_of k (calc ∷ map refusing named) checks in
+      let unique = passes calc (map refusing named) own.1 in
+      let can : CanChange schema capacity db changes k = record { fit = fit; calc_free = unique.0; key_free = λ s h. passes-map refusing named s h unique.1 } in
       quiet (modified schema capacity db unit changes k).database (modified schema capacity db unit changes k).unit (modify_legal schema capacity db unit changes k legal own.0 schema_is can) refl refl refl
       (good-renoted (key_eq k) (modified schema capacity db unit changes k).database unit good)
 
-  delete_step : (option : Erase) (k : DbKey) → first_cause (delete_checks schema capacity db unit option k) ≡ None → Step (deleted schema capacity db unit option k).database (deleted schema capacity db unit option k).unit
+  delete_step : (option : Erase) (k : DbKey) → first_cause (delete_checks schema (whole schema capacity db) unit option k) ≡ None → Step (deleted schema capacity db unit option k).database (deleted schema capacity db unit option k).unit
   delete_step option k checks =
-      let empty = passes (is_plain option && has_members schema db k, OwnerHasMembers) [] (live_of k ((is_plain option && has_members schema db k, OwnerHasMembers) ∷ []) checks).1 in
+      let empty = passes (is_plain option && has_members schema (whole schema capacity db) k, OwnerHasMembers) [] (live_of k ((is_plain option && has_members schema (whole schema capacity db) k, OwnerHasMembers) ∷ []) checks).1 in
       let new = (deleted schema capacity db unit option k).database in
       let taken_out : DbKey → Bool = λ x. not (is_member x (doomed schema capacity db option k)) && list_any (λ s. list_any (λ o. is_member x (members_of db s (Rec o))) (doomed schema capacity db option k)) (set_numbers schema) in
       let after = good-renoted taken_out new unit good in
@@ -237,46 +245,42 @@ module _ (schema : Lists) (capacity : ℕ) (db : Database) (unit : Unit) (number
 
   -- THE WHOLE
 
-  -- the check of GET and KEEP
-  abbrev is_there : DbKey → List (Bool × Cause)
-  is_there k = (not (is_live db k), Deleted) ∷ []
-
   on_cells : (statement : Statement) → fits schema statement ≡ true → Passed schema unit statement → Step (effect_on_cells schema capacity db unit statement).database (effect_on_cells schema capacity db unit statement).unit
   on_cells (OpenArea a mode) fit p =
-      unless_kept Step db unit now (first_cause ((list_any (λ e. conflict e.1 mode) (db.usage a), UsageConflict) ∷ []))
+      of_unless db unit Left (λ cause. now) (first_cause (open_checks (whole schema capacity db) a mode))
       (done (record db { usage = λ b. cond (eqb b a) (db.usage b ++ (unit.number, mode) ∷ []) (db.usage b) }) (record unit { modes = slice_set unit.modes a (Some mode) }) None None)
       (λ h. open_step a mode (ltb-true a (length schema.areas) fit) p.opens (passes (list_any (λ e. conflict e.1 mode) (db.usage a), UsageConflict) [] h).0)
   on_cells (CloseArea a) fit p = close_step a (ltb-true a (length schema.areas) fit)
   on_cells (Find form suppress) fit p =
-      finding_kept Step db unit now (found schema capacity db unit form) (λ k. seen schema capacity db unit k suppress)
+      of_finding db unit Left (λ cause. now) (found schema capacity db unit form) (λ k. seen schema capacity db unit k suppress)
       (λ k e. quiet db (seen schema capacity db unit k suppress) legal refl refl refl (good-seen schema capacity unit good db k suppress legal (found_live schema capacity db unit legal form k e)))
-  on_cells (Get r) fit p = on_current_kept Step db unit now unit.currency.run_unit is_there (λ k. done db unit (Some k) (Some (items_of db k))) (λ k e h. now)
+  on_cells (Get r) fit p = of_current db unit Left (λ cause. now) unit.currency.run_unit (live_checks (whole schema capacity db)) (λ k. done db unit (Some k) (Some (items_of db k))) (λ k e h. now)
   on_cells (Store t its suppress) fit p =
       let f = and_parts (is_type schema t && values_fit (pictures schema t) its) (suppress_fits schema suppress) fit in
       let g = and_parts (is_type schema t) (values_fit (pictures schema t) its) f.0 in
-      unless_kept Step db unit now (first_cause (store_checks schema capacity db unit t its)) (stored schema capacity db unit (new_key db t (unwrap_or (free_number capacity db t) 0)) its suppress) (store_step t its suppress g.0 g.1 p.placed)
-  on_cells (Insert s) fit p = on_current_kept Step db unit now unit.currency.run_unit (insert_checks schema (whole schema capacity db) unit s) (inserted schema db unit s) (λ k e h. insert_step s k (accepted (Insert s) k e p.type_is) h)
-  on_cells (Remove s) fit p = on_current_kept Step db unit now unit.currency.run_unit (remove_checks (whole schema capacity db) unit s) (removed db unit s) (λ k e h. remove_step s k (free s k e p.leaves)) where
+      of_unless db unit Left (λ cause. now) (first_cause (store_checks schema (whole schema capacity db) unit t its)) (stored schema capacity db unit (new_key db t (unwrap_or (free_number capacity db t) 0)) its suppress) (store_step t its suppress g.0 g.1 p.placed)
+  on_cells (Insert s) fit p = of_current db unit Left (λ cause. now) unit.currency.run_unit (insert_checks schema (whole schema capacity db) unit s) (inserted schema db unit s) (λ k e h. insert_step s k (accepted (Insert s) k e p.type_is) h)
+  on_cells (Remove s) fit p = of_current db unit Left (λ cause. now) unit.currency.run_unit (remove_checks (whole schema capacity db) unit s) (removed db unit s) (λ k e h. remove_step s k (free s k e p.leaves)) where
     by_clause : (m : Option Member) → some_and is_mandatory (option_map (λ m. m.class) m) ≡ false → some_and (λ c. is_mandatory c.class && is_automatic c.class) m ≡ false
     by_clause None h = refl
     by_clause (Some m) h = and_left _ _ h
 
     free : (s : ℕ) (k : DbKey) → unit.currency.run_unit ≡ Some k → is_removing_mandatory schema unit (Remove s) ≡ false → is_fixed schema s k.rtype ≡ false
     free s k e h = by_clause (member_clause schema s k.rtype) (ap (λ (o : Option DbKey). some_and is_mandatory (option_and_then (λ t. option_map (λ m. m.class) (member_clause schema s t)) (option_map (λ (j : DbKey). j.rtype) o))) (sym e) ∙ h)
-  on_cells (Modify t changes) fit p = on_current_kept Step db unit now unit.currency.run_unit (modify_checks schema capacity db unit changes) (modified schema capacity db unit changes) (λ k e h.
+  on_cells (Modify t changes) fit p = of_current db unit Left (λ cause. now) unit.currency.run_unit (modify_checks schema (whole schema capacity db) unit changes) (modified schema capacity db unit changes) (λ k e h.
       let of_type = eqb-true k.rtype t (accepted (Modify t changes) k e p.type_is) in
       let f = and_parts (is_type schema t && distinct_items changes) (list_all (λ c. some_and (λ p. value_fits p c.value) (picture_of schema t c.item)) changes) fit in
       modify_step changes k (subst (λ u. list_all (λ c. some_and (λ p. value_fits p c.value) (picture_of schema u c.item)) changes ≡ true) (sym of_type) f.1) h)
-  on_cells (Delete option) fit p = on_current_kept Step db unit now unit.currency.run_unit (delete_checks schema capacity db unit option) (deleted schema capacity db unit option) (λ k e h. delete_step option k h)
-  on_cells Keep fit p = on_current_kept Step db unit now unit.currency.run_unit is_there (λ k. done db (record unit { kept = noted k (version_of db k) unit.kept }) None None) (λ k e h.
+  on_cells (Delete option) fit p = of_current db unit Left (λ cause. now) unit.currency.run_unit (delete_checks schema (whole schema capacity db) unit option) (deleted schema capacity db unit option) (λ k e h. delete_step option k h)
+  on_cells Keep fit p = of_current db unit Left (λ cause. now) unit.currency.run_unit (live_checks (whole schema capacity db)) (λ k. done db (record unit { kept = noted k (version_of db k) unit.kept }) None None) (λ k e h.
       let key = live_key schema capacity db legal k (not-false _ (passes (not (is_live db k), Deleted) [] h).0) in
       quiet db (record unit { kept = noted k (version_of db k) unit.kept }) legal refl refl refl
       (with_kept schema capacity unit good (noted k (version_of db k) unit.kept) (kept-noted schema capacity unit.kept (kept_of schema capacity unit good) k (version_of db k) key.key key.number)))
   on_cells (Free true) fit p = quiet db (record unit { kept = [] }) legal refl refl refl (with_kept schema capacity unit good [] (record { keys = refl; order = refl; numbers = refl }))
-  on_cells (Free false) fit p = on_current_kept Step db unit now unit.currency.run_unit (λ k. []) (λ k. done db (record unit { kept = forgotten k unit.kept }) None None) (λ k e h.
+  on_cells (Free false) fit p = of_done db unit Left (λ cause. now) unit.currency.run_unit (λ k. done db (record unit { kept = forgotten k unit.kept }) None None) (λ k e.
       quiet db (record unit { kept = forgotten k unit.kept }) legal refl refl refl
       (with_kept schema capacity unit good (forgotten k unit.kept) (kept-filtered schema capacity unit.kept (kept_of schema capacity unit good) (λ e. not (key_eq k e.0)))))
 
   pub effect_step : (statement : Statement) → fits schema statement ≡ true → Step (effect schema capacity db unit statement).database (effect schema capacity db unit statement).unit
   unfolding effect
-  effect_step statement fit = unless_kept Step db unit now (refused_at_once schema capacity unit statement) (effect_on_cells schema capacity db unit statement) (λ h. on_cells statement fit (passed schema capacity unit statement h))
+  effect_step statement fit = of_unless db unit Left (λ cause. now) (refused_at_once schema capacity unit statement) (effect_on_cells schema capacity db unit statement) (λ h. on_cells statement fit (passed schema capacity unit statement h))

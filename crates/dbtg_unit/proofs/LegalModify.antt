@@ -1,5 +1,5 @@
 -- MODIFY keeps a database legal.
-use Rattle.std.proofs.Common.{◌≡◌, refl, sym, ◌∙◌, ap, subst, ℕ, Bool, true, false, cond, not, ◌&&◌, List, [], Option, Some, None, inl, inr, map}
+use Rattle.std.proofs.Common.{◌≡◌, refl, sym, ◌∙◌, ap, subst, ℕ, Bool, true, false, cond, not, ◌&&◌, ◌||◌, List, [], ◌∷◌, Some, None, inl, inr, map}
 use Rattle.std.specs.Prelude.{is_some, option_map, option_and_then, unwrap_or, filter}
 use Rattle.std.specs.List.{list_any, list_all}
 use Rattle.std.proofs.lemmas.Bool.{and_parts, and_from, or_right, or_left, cases_Bool, false≢true, false_from_ne_true, not_from_false, not-true}
@@ -15,31 +15,28 @@ use Rattle.dbtg_cells.specs.Placed.{Spot, placed}
 use Rattle.dbtg_cells.specs.Keys.{key_eq, values_eq}
 use Rattle.dbtg_unit.specs.declared.statement.Change.{Change}
 use Rattle.dbtg_unit.specs.declared.unit.Unit.{Unit}
-use Rattle.dbtg_unit.specs.Base.{Database, Record, is_live, items_of, is_member, members_of, owner_of, calc_items, key_item, sort_key}
+use Rattle.dbtg_unit.specs.Base.{Database, Record, is_live, items_of, is_member, members_of, calc_items, key_item, sort_key}
 use Rattle.dbtg_unit.specs.Units.{place_in}
 use Rattle.dbtg_unit.specs.Fits.{value_fits, values_fit}
-use Rattle.dbtg_unit.specs.Effect.{calc_taken, changed_items, modified, names_calc, option_value_eq, refuses_equal, replaced_sets, with_items, with_its_items, without, joined}
+use Rattle.dbtg_unit.specs.Conditions.{calc_taken, changed_items, names_calc, refuses_equal, sort_key_taken}
+use Rattle.dbtg_unit.specs.Effect.{modified, option_value_eq, with_items, with_its_items, without, joined}
+use Rattle.dbtg_unit.specs.View.{whole}
 use Rattle.dbtg_unit.specs.Legal.{Legal}
 use Rattle.dbtg_unit.proofs.KeyLemmas.{same_key, key_eq-refl}
 use Rattle.dbtg_unit.proofs.ValueLemmas.{values-swap}
 use Rattle.dbtg_unit.proofs.LegalParts.{Rows, Rings, Sound, Stock, has_list, unique_calc, members_in, key_in, sound_of, uses_of, legal_raised}
 use Rattle.dbtg_unit.proofs.RingsLemmas.{filter-true, keeps_member, key-swap, member_kept, member-with_placed, rings_kept, rings_placed, spot_at, there, with_placed}
 use Rattle.dbtg_unit.proofs.LiveKeys.{owner_is}
-use Rattle.dbtg_unit.proofs.CheckLemmas.{has_number, number_kept}
+use Rattle.dbtg_unit.proofs.CheckLemmas.{has_number}
 use Rattle.dbtg_unit.proofs.CalcLemmas.{not_taken}
 use Rattle.dbtg_unit.proofs.ItemLemmas.{changed_fit, same_calc_items, same_key_item}
-
--- with its new items, k has the sort key of another member of the list that has it, in a set that refuses that
-abbrev pub key_refused : Lists → ℕ → Database → List Change → DbKey → ℕ → Bool
-key_refused schema capacity db changes k s =
-    let new = with_items db k (changed_items changes (items_of db k)) in
-    refuses_equal (order_of schema s) && list_any (λ x. option_value_eq (sort_key schema new s x) (sort_key schema new s k)) (without k (unwrap_or (option_map (members_of db s) (owner_of schema capacity db s k)) []))
 
 -- what the checks of a MODIFY have passed: each value of its picture, and no other record with the new CALC key, nor with a new sort key that is refused
 pub record CanChange (schema : Lists) (capacity : ℕ) (db : Database) (changes : List Change) (k : DbKey) : Type 0 where
   pub fit : list_all (λ c. some_and (λ p. value_fits p c.value) (picture_of schema k.rtype c.item)) changes ≡ true
-  pub calc_free : (names_calc schema k.rtype changes && calc_taken schema capacity db k.rtype (changed_items changes (items_of db k)) (key_eq k)) ≡ false
-  pub key_free : (s : ℕ) → has_number s (replaced_sets schema capacity db changes k) ≡ true → key_refused schema capacity db changes k s ≡ false
+  pub calc_free : (names_calc schema k.rtype changes && calc_taken schema (whole schema capacity db) k.rtype (changed_items changes (items_of db k)) (Some k)) ≡ false
+  pub key_free : (s : ℕ) → has_number s (rekeyed_sets schema k.rtype (map (λ c. c.item) changes)) ≡ true
+      → (refuses_equal (order_of schema s) && sort_key_taken schema (whole schema capacity db) k (changed_items changes (items_of db k)) s) ≡ false
 
 module _ (schema : Lists) (capacity : ℕ) (db : Database) (unit : Unit) (changes : List Change) (k : DbKey) (legal : Legal schema capacity db) (live : is_live db k ≡ true) where
   abbrev items : List Value
@@ -120,7 +117,7 @@ module _ (schema : Lists) (capacity : ℕ) (db : Database) (unit : Unit) (change
         clash j other live_j same unique eq =
             elim (cases_Bool (names_calc schema k.rtype changes)) [
               | inl named ↦
-                  absurd (false≢true (sym (not_taken schema capacity db k.rtype items (key_eq k) legal (and_free _ _ can.calc_free named) unique j live_j same other) ∙ (λ d. values_eq (calc_items schema (sym same d) (items_of db j)) (calc_items schema k.rtype items)) ∙ eq))
+                  absurd (false≢true (sym (not_taken schema capacity db k.rtype items (Some k) legal (and_free _ _ can.calc_free named) unique j live_j same other) ∙ (λ d. values_eq (calc_items schema (sym same d) (items_of db j)) (calc_items schema k.rtype items)) ∙ eq))
               | inr unnamed ↦
                   legal.calc k j live live_j (sym same) unique
                   (values-swap (calc_items schema j.rtype (items_of db j)) (calc_items schema k.rtype (items_of db k)) ((λ d. values_eq (calc_items schema j.rtype (items_of db j)) (sym (same_calc_items schema k.rtype changes (items_of db k) unnamed) d)) ∙ eq))
@@ -192,9 +189,27 @@ module _ (schema : Lists) (capacity : ℕ) (db : Database) (unit : Unit) (change
   free_again can s o h =
       let hs = and_parts _ _ h in
       let owner = owner_is schema capacity db legal s o k hs.1 in
-      let in_sets : has_number s (replaced_sets schema capacity db changes k) ≡ true = number_kept (λ r. is_some (owner_of schema capacity db r k)) s sets hs.0 (ap is_some owner) in
-      let list_is : members_in lists_less s o ≡ without k (unwrap_or (option_map (members_of db s) (owner_of schema capacity db s k)) []) = list_again s o h ∙ ap (λ (p : Option Owner). without k (unwrap_or (option_map (members_of db s) p) [])) (sym owner) in
-      ap (λ list. refuses_equal (order_of schema s) && list_any (λ x. option_value_eq (sort_key schema after s x) (sort_key schema after s k)) list) list_is ∙ can.key_free s in_sets
+      let taken : list_any equal (members_in lists_less s o) ≡ sort_key_taken schema (whole schema capacity db) k items s
+      = ap (list_any equal) (list_again s o h) ∙ as_before (members_of db s o) ∙ ap (some_and (λ p. list_any has_new (members_of db s p))) (sym owner) in
+      ap (λ b. refuses_equal (order_of schema s) && b) taken ∙ can.key_free s hs.0 where
+        equal : DbKey → Bool
+        equal x = option_value_eq (sort_key schema after s x) (sort_key schema after s k)
+
+        has_new : DbKey → Bool
+        has_new x = not (key_eq k x) && option_value_eq (sort_key schema db s x) (key_item schema s k.rtype items)
+
+        same : (x : DbKey) → key_eq k x ≡ false → equal x ≡ option_value_eq (sort_key schema db s x) (key_item schema s k.rtype items)
+        same x other = λ d. option_value_eq (key_item schema s x.rtype (items_other x other d)) (key_item schema s k.rtype (items_own d))
+
+        -- the others have the sort keys that they had
+        as_before : (list : List DbKey) → list_any equal (without k list) ≡ list_any has_new list
+        as_before [] = refl
+        as_before (x ∷ list) = elim (cases_Bool (key_eq k x)) [
+          | inl own ↦ ap (λ b. list_any equal (cond (not b) (x ∷ without k list) (without k list))) own ∙ as_before list
+              ∙ sym (ap (λ b. (not b && option_value_eq (sort_key schema db s x) (key_item schema s k.rtype items)) || list_any has_new list) own)
+          | inr other ↦ ap (λ b. list_any equal (cond (not b) (x ∷ without k list) (without k list))) other ∙ (λ d. same x other d || as_before list d)
+              ∙ sym (ap (λ b. (not b && option_value_eq (sort_key schema db s x) (key_item schema s k.rtype items)) || list_any has_new list) other)
+        ]
 
   rings_again : CanChange schema capacity db changes k → IsSound schema → Stock schema capacity (is_live after) (items_of after) db.last → Rings schema (is_live after) (items_of after) lists_again
   rings_again can good stock =

@@ -1,4 +1,5 @@
 -- STORE keeps a database legal.
+use Rattle.dbtg_unit.specs.View.{whole}
 use Rattle.std.proofs.Common.{Bool, ◌≡◌, refl, sym, ◌∙◌, ap, subst, ℕ, ◌+◌, ◌<◌, ◌≤◌, true, false, cond, ◌&&◌, ◌||◌, List, [], length, Option, Some, None, inl, inr, ⊎_elim, ◌⊎◌, eqb, arith}
 use Rattle.std.specs.Prelude.{is_some, is_none, option_map, option_and_then, unwrap_or, slice_get}
 use Rattle.std.specs.List.{find, list_any}
@@ -81,7 +82,7 @@ module _ (schema : Lists) (capacity : ℕ) (db : Database) (t n : ℕ) (its : Li
       let at : x ≡ key_at db t n = λ i. record { rtype = et i; number = en i; generation = (g ∙ (λ j. db.last (et j) (en j))) i } in
       false≢true (sym new.unused ∙ subst (λ (y : DbKey). is_live db y ≡ true) at h))
 
-  stock_after : calc_taken schema capacity db t its (λ x. false) ≡ false → Stock schema capacity (is_live after) (items_of after) after.last
+  stock_after : calc_taken schema (whole schema capacity db) t its None ≡ false → Stock schema capacity (is_live after) (items_of after) after.last
   stock_after free =
       record {
         keys = λ x h. ⊎_elim (λ same. subst (λ (y : DbKey). (y.rtype < length schema.types) × (0 < y.number) × (y.number ≤ capacity) × (0 < y.generation) × (y.generation ≡ after.last y.rtype y.number)) (same_key k x same) key_new) (λ old. key_old x old.1) (new_or_old x h);
@@ -124,7 +125,7 @@ module _ (schema : Lists) (capacity : ℕ) (db : Database) (t n : ℕ) (its : Li
             let type_i : i.rtype ≡ t = ap (λ (y : DbKey). y.rtype) (sym (same_key k i a)) in
             let type_j = same ∙ type_i in
             false≢true
-            (sym (not_taken schema capacity db t its (λ x. false) legal free (subst (λ u. unique_calc schema u ≡ true) type_i unique) j live type_j refl)
+            (sym (not_taken schema capacity db t its None legal free (subst (λ u. unique_calc schema u ≡ true) type_i unique) j live type_j refl)
             ∙ sym (λ d. values_eq (calc_items schema (type_j d) (items_after j b d)) (calc_items schema (type_i d) (items_new i a d)))
             ∙ eq)
 
@@ -193,7 +194,7 @@ module _ (schema : Lists) (capacity : ℕ) (db : Database) (t n : ℕ) (its : Li
         at_set None e h = absurd (false≢true h)
         at_set (Some set) e h = let low = slice_get_within schema.sets s set e in number_in s 0 (length schema.sets) (omega arith) (omega arith)
 
-  pub store_legal : (unit : Unit) → IsSound schema → calc_taken schema capacity db t its (λ x. false) ≡ false
+  pub store_legal : (unit : Unit) → IsSound schema → calc_taken schema (whole schema capacity db) t its None ≡ false
       → ((s : ℕ) → has_number s (automatic_sets schema t) ≡ true → is_none (place_in schema unit s) ≡ false)
       → ((s : ℕ) → has_number s (automatic_sets schema t) ≡ true → CanJoin schema db unit s (key_item schema s t its))
       → Legal schema capacity (connected_in schema after unit (automatic_sets schema t) k)

@@ -11,7 +11,6 @@ use Rattle.dbtg_cells.specs.declared.key.Owner.{Owner}
 use Rattle.dbtg_cells.specs.declared.name.CellName.{CellName}
 use Rattle.dbtg_cells.specs.declared.cell.Cell.{Cell}
 use Rattle.dbtg_cells.specs.Names.{name_eq}
-use Rattle.dbtg_unit.specs.declared.held.Need.{Need}
 use Rattle.dbtg_unit.specs.declared.held.Need.TheVariants.{Ready}
 use Rattle.dbtg_unit.specs.declared.statement.Change.{Change}
 use Rattle.dbtg_unit.specs.declared.statement.Statement.{Statement}
@@ -31,13 +30,10 @@ use Rattle.dbtg_schema.specs.Sound.{IsSound}
 use Rattle.dbtg_unit.specs.Belongs.{IsUnitOf, IsWithin}
 use Rattle.dbtg_unit.specs.Fits.{fits}
 use Rattle.dbtg_unit.proofs.LegalEffect.{effect_step}
-use Rattle.dbtg_unit.proofs.Outcomes.{of_current, of_finding}
+use Rattle.dbtg_unit.proofs.Outcomes.{of_current, of_done, of_finding}
 use Rattle.dbtg_unit.proofs.LiveKeys.{In, any_element}
 use Rattle.dbtg_unit.proofs.ReadingCells.{same_name}
 use Rattle.dbtg_unit.proofs.LocalStatements.{Stays, of_open, of_close, of_store, of_insert, of_remove, of_modify, of_delete}
-
-not_ready : {X : Type 0} (n : Need) → (Ready ≡ n → ⊥) → n ≡ Ready → X
-not_ready n h e = absurd (h (sym e))
 
 -- a statement is ready where no area and no cell is wanting and no guess is wrong
 pub ready_parts : (a : Option ℕ) (c : Option CellName) (stale : Bool) (owners : List (Option Owner)) → next_of a c stale owners ≡ Ready → (c ≡ None) × (stale ≡ false)
@@ -107,7 +103,7 @@ module _ (schema : Lists) (capacity : ℕ) (db : Database) (unit : Unit) (hands 
     stays (Delete option) passes fresh = of_delete schema capacity db unit hands.guesses legal option
     stays Keep passes fresh = of_current db unit (Stays schema capacity db unit hands.guesses legal Keep) (λ cause l c h. refl) unit.currency.run_unit _ _ (λ k e checks l c h. refl)
     stays (Free true) passes fresh = λ l c h. refl
-    stays (Free false) passes fresh = of_current db unit (Stays schema capacity db unit hands.guesses legal (Free false)) (λ cause l c h. refl) unit.currency.run_unit _ _ (λ k e checks l c h. refl)
+    stays (Free false) passes fresh = of_done db unit (Stays schema capacity db unit hands.guesses legal (Free false)) (λ cause l c h. refl) unit.currency.run_unit _ (λ k e l c h. refl)
 
   pub changes_only_its_cells : (statement : Statement) → Agrees schema capacity db hands unit → need schema capacity db unit hands statement ≡ Ready → Legal schema capacity (effect schema capacity db unit statement).database
       → (c : CellName) → holds hands.cells c ≡ false → cell schema capacity (effect schema capacity db unit statement).database c ≡ cell schema capacity db c

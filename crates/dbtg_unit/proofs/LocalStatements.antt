@@ -218,14 +218,14 @@ module _ (schema : Lists) (capacity : ℕ) (db : Database) (unit : Unit) (guesse
 
   pub of_store : (t : ℕ) (items : List Value) (suppress : Suppress) → Stays (Store t items suppress) (effect_on_cells schema capacity db unit (Store t items suppress))
   of_store t items suppress =
-      of_unless db unit (Stays (Store t items suppress)) (λ cause legal' c h. refl) (first_cause (store_checks schema capacity db unit t items))
+      of_unless db unit (Stays (Store t items suppress)) (λ cause legal' c h. refl) (first_cause (store_checks schema (whole schema capacity db) unit t items))
       (stored schema capacity db unit (new_key db t (unwrap_or (free_number capacity db t) 0)) items suppress)
       (λ checks legal' c h.
       let n = unwrap_or (free_number capacity db t) 0 in
       let k = new_key db t n in
       let rest = flat_map (λ s. place_checks schema (whole schema capacity db) unit s (key_item schema s t items)) (automatic_sets schema t) in
-      let first = passes (is_none (free_number capacity db t), NoRoom) ((calc_taken schema capacity db t items (λ k. false), DuplicatesNotAllowed) ∷ rest) checks in
-      let second = passes (calc_taken schema capacity db t items (λ k. false), DuplicatesNotAllowed) rest first.1 in
+      let first = passes (is_none (free_number capacity db t), NoRoom) ((calc_taken schema (whole schema capacity db) t items None, DuplicatesNotAllowed) ∷ rest) checks in
+      let second = passes (calc_taken schema (whole schema capacity db) t items None, DuplicatesNotAllowed) rest first.1 in
       let free : free_number capacity db t ≡ Some n = there (free_number capacity db t) first.0 in
       let names : List CellName = Extent t ∷ (store_rings schema unit k ++ slot_name k ∷ []) in
       let others : list_any (name_eq c) names ≡ false
@@ -244,14 +244,14 @@ module _ (schema : Lists) (capacity : ℕ) (db : Database) (unit : Unit) (guesse
   pub of_delete : (option : Erase) → Stays (Delete option) (effect_on_cells schema capacity db unit (Delete option))
   of_delete option =
       of_current db unit (Stays (Delete option)) (λ cause legal' c h. refl) unit.currency.run_unit _ _ (λ k e checks legal' c h.
-      let split = passes-append (own_checks (whole schema capacity db) unit k) ((is_plain option && has_members schema db k, OwnerHasMembers) ∷ []) checks in
+      let split = passes-append (own_checks (whole schema capacity db) unit k) ((is_plain option && has_members schema (whole schema capacity db) k, OwnerHasMembers) ∷ []) checks in
       let met = doomed_in_turn schema capacity db option k in
       let live = own_live k _ checks in
       let names = slot_name k ∷ own_rings schema k ++ flat_map (cells_of_doomed schema db) met ++ outer_cells schema capacity db met in
       let named : delete_cells_of schema capacity db unit option unit.currency.run_unit ≡ names_once [] names
       = ap (delete_cells_of schema capacity db unit option) e
       ∙ cond-false (is_some (first_cause (own_checks (whole schema capacity db) unit k))) (slot_name k ∷ []) _ (ap is_some split.0)
-      ∙ cond-false (is_plain option && has_members schema db k) _ _ (passes (is_plain option && has_members schema db k, OwnerHasMembers) [] split.1).0 in
+      ∙ cond-false (is_plain option && has_members schema (whole schema capacity db) k) _ _ (passes (is_plain option && has_members schema (whole schema capacity db) k, OwnerHasMembers) [] split.1).0 in
       let others : list_any (name_eq c) (names_once [] names) ≡ false = ap (list_any (name_eq c)) (sym named) ∙ h in
       let turn : (d : DbKey) → is_member d (doomed schema capacity db option k) ≡ true → In d met = λ d g. member_in d met (doomed_is_met schema capacity db legal option k live d g) in
       let of_one : (d : DbKey) (x : CellName) → is_member d (doomed schema capacity db option k) ≡ true → In x (cells_of_doomed schema db d) → c ≡ x → ⊥

@@ -1,20 +1,30 @@
 -- One plan, the effect of a statement on two databases, has one outcome in what is in hand.
-use Rattle.std.proofs.Common.{◌≡◌, sym, ◌∙◌, ap, ℕ, true}
+use Rattle.std.proofs.Common.{◌≡◌, sym, ◌∙◌, ap, ℕ, true, List}
 use Rattle.dbtg_schema.specs.Lists.{Lists}
 use Rattle.dbtg_schema.specs.Sound.{IsSound}
+use Rattle.dbtg_cells.specs.declared.cell.Cell.{Cell}
+use Rattle.dbtg_cells.specs.declared.name.CellName.{CellName}
 use Rattle.dbtg_unit.specs.declared.statement.Statement.{Statement}
 use Rattle.dbtg_unit.specs.declared.unit.Unit.{Unit}
 use Rattle.dbtg_unit.specs.Base.{Database}
 use Rattle.dbtg_unit.specs.Belongs.{IsUnitOf, IsWithin}
+use Rattle.dbtg_unit.specs.Cells.{cell}
 use Rattle.dbtg_unit.specs.Edits.{edited_at}
 use Rattle.dbtg_unit.specs.Effect.{effect}
 use Rattle.dbtg_unit.specs.Fits.{fits}
 use Rattle.dbtg_unit.specs.Hands.{Hands}
-use Rattle.dbtg_unit.specs.Local.{Agrees}
+use Rattle.dbtg_unit.specs.Local.{Agrees, AllAgree, holds}
 use Rattle.dbtg_unit.specs.Locality.{DoTheSame}
 use Rattle.dbtg_unit.specs.Making.{IsReady, MayPrepare}
 use Rattle.dbtg_unit.specs.Prepared.{IsEffect, Plan}
-use Rattle.dbtg_unit.proofs.AlikeReading.{held_alike}
+use Rattle.dbtg_unit.proofs.ReadingCells.{held_cell, held_is}
+
+-- a cell in hand is the same in two databases that agree with what is in hand
+held_alike : (schema : Lists) (capacity : ℕ) (db eb : Database) (cells : List (CellName × Cell)) → AllAgree schema capacity db cells → AllAgree schema capacity eb cells
+    → (c : CellName) → holds cells c ≡ true → cell schema capacity db c ≡ cell schema capacity eb c
+held_alike schema capacity db eb cells agree agree' c h =
+    let x = held_is cells c h in
+    sym (held_cell schema capacity db cells c x.0 agree x.1) ∙ held_cell schema capacity eb cells c x.0 agree' x.1
 
 -- what a plan of a statement is read from; to carry it out, there must be next versions too
 pub record MayPlan (schema : Lists) (capacity : ℕ) (unit : Unit) (hands : Hands) (statement : Statement) : Type 0 where

@@ -16,11 +16,10 @@ use Rattle.dbtg_cells.specs.declared.cell.Cell.{Cell}
 use Rattle.dbtg_cells.specs.declared.extent.Number.{Number}
 use Rattle.dbtg_cells.specs.declared.ring.Occurrence.{Occurrence}
 use Rattle.dbtg_cells.specs.declared.slot.Stored.{Stored}
-use Rattle.dbtg_cells.specs.declared.usage.Mode.{Mode}
 use Rattle.dbtg_cells.specs.Cells.{shown}
 use Rattle.dbtg_cells.specs.Keys.{owner_eq}
 use Rattle.dbtg_cells.specs.Names.{name_eq, place_eq}
-use Rattle.dbtg_cells.specs.Shown.{UsageValue, ExtentValue, RingValue, SlotValue}
+use Rattle.dbtg_cells.specs.Shown.{ExtentValue, RingValue, SlotValue}
 use Rattle.dbtg_unit.specs.Base.{Database, Record, is_live, key_at, members_of, calc_items, sort_key}
 use Rattle.dbtg_unit.specs.Units.{owners_of}
 use Rattle.dbtg_unit.specs.CellNames.{place_of}
@@ -29,7 +28,7 @@ use Rattle.dbtg_unit.specs.Hands.{cell_of}
 use Rattle.dbtg_unit.specs.Legal.{Legal, has_occurrence}
 use Rattle.dbtg_unit.specs.Local.{AllAgree, holds}
 use Rattle.dbtg_unit.proofs.KeyLemmas.{same_owner, owner_eq-refl}
-use Rattle.dbtg_unit.proofs.Determined.{usage_in, extent_in, ring_in, slot_in, record_in}
+use Rattle.dbtg_unit.proofs.Determined.{extent_in, ring_in, slot_in, record_in}
 use Rattle.dbtg_unit.proofs.LiveKeys.{latest, none_is}
 
 -- NAMES
@@ -126,10 +125,6 @@ no_calc : (m : Number) (g : ℕ) → eqb m.last g ≡ false → cond (eqb m.last
 no_calc m g h = ap (λ b. cond b m.calc None) h
 
 module _ (schema : Lists) (capacity : ℕ) (db : Database) (legal : Legal schema capacity db) where
-  pub usage_reads : (a : ℕ) (users : List (ℕ × Mode)) → UsageValue users ≡ cell schema capacity db (Usage a) → db.usage a ≡ users
-  unfolding cell
-  usage_reads a users h = sym (ap usage_in h)
-
   -- an owner who has an occurrence stands at its place
   standing : (s : ℕ) (o : Owner) → has_occurrence schema db s o ≡ true → owner_at db (place_of o) ≡ o
   standing s System h = refl

@@ -1,15 +1,14 @@
 -- Hands that show the same are as good as one another: they agree with the same databases, need the same, and read alike.
 -- c is the name of a cell, k a key, s a set, o an owner, t a record type, a an area, db a database.
 use Rattle.std.proofs.Common.{◌≡◌, refl, sym, ◌∙◌, ap, subst, ℕ, Bool, true, false, cond, not, ◌||◌, List, [], ◌∷◌, Option, Some, None, eqb}
-use Rattle.std.specs.Prelude.{⊤, is_some, option_and_then, option_map}
+use Rattle.std.specs.Prelude.{⊤, is_some, option_map}
 use Rattle.std.specs.List.{find, list_any}
 use Rattle.dbtg_schema.specs.Lists.{Lists}
 use Rattle.dbtg_cells.specs.declared.cell.Cell.{Cell}
 use Rattle.dbtg_cells.specs.declared.cell.Cell.TheVariants.{Usage as UsageCell, Extent as ExtentCell, Ring as RingCell, Slot as SlotCell}
-use Rattle.dbtg_cells.specs.declared.key.DbKey.{DbKey}
 use Rattle.dbtg_cells.specs.declared.key.Owner.{Owner}
 use Rattle.dbtg_cells.specs.declared.name.CellName.{CellName}
-use Rattle.dbtg_cells.specs.declared.name.CellName.TheVariants.{Usage, Extent, Ring}
+use Rattle.dbtg_cells.specs.declared.name.CellName.TheVariants.{Usage, Ring}
 use Rattle.dbtg_cells.specs.declared.slot.Stored.{Stored}
 use Rattle.dbtg_cells.specs.Cells.{shown}
 use Rattle.dbtg_cells.specs.Names.{name_eq}
@@ -19,30 +18,24 @@ use Rattle.dbtg_unit.specs.declared.held.Need.TheVariants.{Ready}
 use Rattle.dbtg_unit.specs.declared.statement.Statement.{Statement}
 use Rattle.dbtg_unit.specs.declared.unit.Unit.{Unit}
 use Rattle.dbtg_unit.specs.Base.{Database}
-use Rattle.dbtg_unit.specs.CellNames.{place_of, slot_name}
+use Rattle.dbtg_unit.specs.CellNames.{place_of}
 use Rattle.dbtg_unit.specs.Checks.{refused_at_once}
 use Rattle.dbtg_unit.specs.Cells.{cell}
 use Rattle.dbtg_unit.specs.Hands.{Hands, cell_of}
-use Rattle.dbtg_unit.specs.InHand.{numbers_in, numbers_of, of_owner, occurrence_in, occurrence_of, stored_in, stored_of, users_in, users_of}
+use Rattle.dbtg_unit.specs.InHand.{of_owner, occurrence_in, occurrence_of, users_in, users_of}
 use Rattle.dbtg_unit.specs.Local.{Agrees, AllAgree, holds}
 use Rattle.dbtg_unit.specs.Making.{HaveNextVersions, IsReady, MayPrepare, ShowsTheSame}
 use Rattle.dbtg_unit.specs.Needs.{areas_in_order, cells_of, is_stale, need, next_of, stale_owners}
 use Rattle.dbtg_unit.specs.Prepared.{values_of}
-use Rattle.dbtg_unit.proofs.InHandLemmas.{numbers_show, occurrence_shows, stored_shows, users_show}
-use Rattle.dbtg_unit.proofs.Determined.{extent_in, ring_in, slot_in, usage_in}
+use Rattle.dbtg_unit.proofs.InHandLemmas.{occurrence_shows, users_show}
+use Rattle.dbtg_unit.proofs.Determined.{ring_in, usage_in}
 use Rattle.dbtg_unit.proofs.MakingLemmas.{Held}
 
 abbrev pub Values : Type 0
 Values = List (CellName × CellValue)
 
-pub same-refl : (hands : Hands) → ShowsTheSame hands hands
-same-refl hands = record { areas = refl; cells = refl; guesses = refl }
-
 pub same-sym : {old new : Hands} → ShowsTheSame old new → ShowsTheSame new old
 same-sym same = record { areas = sym same.areas; cells = sym same.cells; guesses = sym same.guesses }
-
-pub same-trans : {a b c : Hands} → ShowsTheSame a b → ShowsTheSame b c → ShowsTheSame a c
-same-trans first second = record { areas = second.areas ∙ first.areas; cells = second.cells ∙ first.cells; guesses = second.guesses ∙ first.guesses }
 
 -- WHAT IS READ BY NAME
 
@@ -117,14 +110,8 @@ read_same read by_value shows (Some x) None e = absurd (cc)
 read_same read by_value shows (Some x) (Some y) e = let alike : shown x ≡ shown y = cc in shows x ∙ ap by_value alike ∙ sym (shows y)
 
 module _ (old new : Hands) (same : ShowsTheSame old new) where
-  pub stored_in-same : (k : DbKey) → stored_in new k ≡ stored_in old k
-  stored_in-same k = read_same (stored_of k.generation) (λ v. option_and_then (λ (r : Stored). cond (eqb r.generation k.generation) (Some r) None) (slot_in v)) (stored_shows k) _ _ (cell_of-same old new same (slot_name k))
-
   pub occurrence_in-same : (s : ℕ) (o : Owner) → occurrence_in new s o ≡ occurrence_in old s o
   occurrence_in-same s o = read_same (occurrence_of o) (λ v. of_owner o (ring_in v)) (occurrence_shows o) _ _ (cell_of-same old new same (Ring s (place_of o)))
-
-  pub numbers_in-same : (t : ℕ) → numbers_in new t ≡ numbers_in old t
-  numbers_in-same t = read_same numbers_of extent_in numbers_show _ _ (cell_of-same old new same (Extent t))
 
   pub users_in-same : (a : ℕ) → users_in new a ≡ users_in old a
   users_in-same a = read_same users_of usage_in users_show _ _ (cell_of-same old new same (Usage a))

@@ -1,5 +1,5 @@
 -- Values and sort keys are ordered.
-use Rattle.std.proofs.Common.{◌≡◌, refl, sym, ◌∙◌, ap, subst, ℕ, Bool, true, false, ◌&&◌, ◌||◌, List, [], ◌∷◌, Option, Some, None, arith, eqb, ltb, inl, inr, ⊎_elim}
+use Rattle.std.proofs.Common.{◌≡◌, refl, sym, ◌∙◌, ap, subst, ℕ, Bool, true, false, ◌&&◌, List, [], ◌∷◌, Option, Some, None, arith, eqb, inl, inr, ⊎_elim}
 use Rattle.std.proofs.lemmas.Bool.{and_parts, and_from, or_cases, or_parts, or_left, or_right, cases_Bool, false≢true, false_from_ne_true, ltb-true, ltb-false, lt-ltb, eqb-true, eqb-false, eq-eqb}
 use Rattle.dbtg_cells.specs.declared.key.Value.{Value}
 use Rattle.dbtg_cells.specs.declared.key.Value.TheVariants.{Num, Text}
@@ -9,9 +9,6 @@ use Rattle.dbtg_unit.specs.Placing.{comparable}
 
 nothing : {X : Type 0} → false ≡ true → X
 nothing h = absurd (false≢true h)
-
-bytes_step : (x y : ℕ) (xs ys : List ℕ) → (ltb x y || (eqb x y && bytes_lt xs ys)) ≡ true → bytes_lt (x ∷ xs) (y ∷ ys) ≡ true
-bytes_step x y xs ys h = h
 
 pub bytes_lt-trans : (a b c : List ℕ) → bytes_lt a b ≡ true → bytes_lt b c ≡ true → bytes_lt a c ≡ true
 bytes_lt-trans [] [] [] h g = h
@@ -62,9 +59,6 @@ value_lt-trans (Text a) (Num b) c h g = nothing h
 value_lt-irrefl : (a : Value) → value_lt a a ≡ true → ⊥
 value_lt-irrefl (Num a) h = let low = ltb-true a a h in absurd (omega arith)
 value_lt-irrefl (Text a) h = bytes_lt-irrefl a h
-
-pub value_lt-asym : (a b : Value) → value_lt a b ≡ true → value_lt b a ≡ false
-value_lt-asym a b h = false_from_ne_true _ (λ g. value_lt-irrefl a (value_lt-trans a b a h g))
 
 -- of two values of one kind that are not the same, one comes before the other
 pub value_lt-either : (a b : Value) → comparable (Some a) (Some b) ≡ true → value_eq a b ≡ false → value_lt a b ≡ false → value_lt b a ≡ true

@@ -1,6 +1,6 @@
 -- The database.
 -- k is a key, s a set, t a record type, n a number, o an owner, db a database.
-use Rattle.std.specs.Prelude.{ℕ, Bool, ◌&&◌, List, [], ◌∷◌, Option, Some, None, is_some, unwrap_or, option_map, option_and_then, map, filter, slice_index_or, if◌then◌else◌}
+use Rattle.std.specs.Prelude.{ℕ, Bool, not, ◌&&◌, nat_lt, List, [], ◌∷◌, Option, Some, None, is_some, unwrap_or, option_map, option_and_then, map, filter, slice_index_or, if◌then◌else◌}
 use Rattle.std.specs.List.{find, range_with_len}
 use Rattle.dbtg_schema.specs.Lists.{Lists}
 use Rattle.dbtg_cells.specs.declared.key.DbKey.{DbKey}
@@ -12,6 +12,7 @@ use Rattle.dbtg_schema.specs.declared.numbers.ItemNo.{ItemNo}
 use Rattle.dbtg_cells.specs.declared.usage.Mode.{Mode}
 pub use Rattle.dbtg_cells.specs.Keys.{is_member}
 use Rattle.dbtg_cells.specs.Keys.{owner_eq}
+use Rattle.dbtg_schema.specs.Lookups.{first}
 use Rattle.dbtg_schema.specs.Structure.{calc_of, is_system, member_clause, owner_type}
 
 -- a stored record
@@ -44,6 +45,10 @@ version_of db k = unwrap_or (option_map (λ r. r.version) (db.records k)) 0
 -- the latest key of a number
 abbrev pub key_at : Database → ℕ → ℕ → DbKey
 key_at db t n = record { rtype = t; number = n; generation = db.last t n }
+
+-- the least number of type t that no live record has and that is not spent
+abbrev pub free_number : ℕ → Database → ℕ → Option ℕ
+free_number capacity db t = first (filter (λ n. not (is_live db (key_at db t n)) && nat_lt (db.last t n) 255) (range_with_len 1 capacity))
 
 -- the live keys of type t, in key order
 abbrev pub live_keys : ℕ → Database → ℕ → List DbKey

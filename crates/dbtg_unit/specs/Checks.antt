@@ -1,155 +1,40 @@
--- The checks of a statement that need the unit alone.
--- s is a set, t and r record types, a an area, k a key, c a class or a change.
-use Rattle.std.specs.Prelude.{ℕ, Bool, true, false, not, ◌&&◌, ◌==◌, nat_lt, List, [], ◌∷◌, Option, Some, None, is_none, is_some, map, option_map, option_and_then, unwrap_or}
-use Rattle.std.specs.List.{list_any}
+-- Why a statement is refused: every check, in its order. The cause of the first that applies is the answer.
+-- First come the checks that need no cell, the same list for each statement; then those on what is stored, a line for each
+-- statement. They ask a view, so they stand once for a whole database and for the cells in hand.
+-- k is the current of run-unit, s a set, t a record type, a an area, v a sort key.
+use Rattle.std.specs.Prelude.{ℕ, Bool, not, ◌&&◌, ◌==◌, List, [], ◌∷◌, ◌++◌, Option, Some, None, is_none, is_some, map}
+use Rattle.std.specs.List.{flat_map, list_any}
 use Rattle.dbtg_schema.specs.Lists.{Lists}
-use Rattle.dbtg_schema.specs.declared.shape.Class.{Class}
+use Rattle.dbtg_schema.specs.Lookups.{at, first_cause, some_and}
+use Rattle.dbtg_schema.specs.Structure.{automatic_sets, order_of, rekeyed_sets}
 use Rattle.dbtg_cells.specs.declared.key.DbKey.{DbKey}
+use Rattle.dbtg_cells.specs.declared.key.Value.{Value}
+use Rattle.dbtg_cells.specs.declared.usage.Mode.{Mode}
+use Rattle.dbtg_cells.specs.Modes.{conflict}
 pub use Rattle.dbtg_cells.specs.Modes.{is_update}
-use Rattle.dbtg_unit.specs.declared.statement.Form.{Form}
-use Rattle.dbtg_unit.specs.declared.statement.Form.TheVariants.{Key, CurrentOfUnit, CurrentOfType, CurrentOfSet, CurrentOfArea, InSet, InArea, OwnerOf, Calc, NextDuplicate, Sorted}
+use Rattle.dbtg_unit.specs.declared.statement.Change.{Change}
+use Rattle.dbtg_unit.specs.declared.statement.Erase.{Erase}
 use Rattle.dbtg_unit.specs.declared.statement.Statement.{Statement}
 use Rattle.dbtg_unit.specs.declared.statement.Statement.TheVariants.{OpenArea, CloseArea, Find, Get, Store, Insert, Remove, Modify, Delete, Keep, Free}
-use Rattle.dbtg_unit.specs.declared.unit.Unit.{Unit}
 use Rattle.dbtg_unit.specs.declared.unit.Cause.{Cause}
-use Rattle.dbtg_unit.specs.declared.unit.Cause.TheVariants.{AreaNotOpen, NoSuchCurrent, UpdateModeNeeded, NoCurrentOfRunUnit, MandatoryAutomatic as MandatoryAutomaticSet, Mandatory, OtherRecordType, NoneSatisfies, AreaAlreadyOpen, NotKept}
-use Rattle.dbtg_schema.specs.Lookups.{at, some_and, first_cause}
-use Rattle.dbtg_unit.specs.Units.{place_in, key_of_place, kept_version}
-use Rattle.dbtg_unit.specs.Found.{needs_position}
-use Rattle.dbtg_schema.specs.Structure.{area_of, automatic_sets, erase_areas, home, is_automatic, is_mandatory, member_clause, rekeyed_sets, set_member_types}
+use Rattle.dbtg_unit.specs.declared.unit.Cause.TheVariants.{AlreadyMember, AreaAlreadyOpen, AreaNotOpen, ChangedByAnother, Deleted, DuplicatesNotAllowed, Mandatory, MandatoryAutomatic, NoCurrentOfRunUnit, NoRoom, NoSuchCurrent, NoneSatisfies, NotKept, NotMember, OtherRecordType, OwnerHasMembers, PositionLost, UpdateModeNeeded, UsageConflict}
+use Rattle.dbtg_unit.specs.declared.unit.Place.{Place}
+use Rattle.dbtg_unit.specs.declared.unit.Unit.{Unit}
+use Rattle.dbtg_unit.specs.Base.{key_item}
+pub use Rattle.dbtg_unit.specs.Conditions.{accepts_type, area_of_current, areas_of, changes_records, class_in, current_type, find_areas, find_lacks_current, frees_what_is_not_kept, is_beyond, is_inserting_mandatory_automatic, is_open_statement, is_opening_again, is_removing_mandatory, lacks_current, needs_current}
+use Rattle.dbtg_unit.specs.Conditions.{calc_taken, changed_items, has_members, is_plain, joined_place, names_calc, refuses_equal, sort_key_taken, uses_position}
+use Rattle.dbtg_unit.specs.Found.{is_lost}
+use Rattle.dbtg_unit.specs.Units.{kept_version}
+use Rattle.dbtg_unit.specs.View.{View}
 
--- the type of the current of run-unit
-abbrev pub current_type : Unit → Option ℕ
-current_type unit = option_map (λ k. k.rtype) unit.currency.run_unit
+-- WHAT NEEDS NO CELL
 
--- the area of a current, if there is one
-abbrev pub area_of_current : Lists → Option DbKey → List ℕ
-area_of_current schema None = []
-area_of_current schema (Some k) = area_of schema k.rtype ∷ []
-
--- the areas of a FIND
-abbrev pub find_areas : Lists → Unit → Form → List ℕ
-find_areas schema unit (Key k) = area_of schema k.rtype ∷ []
-find_areas schema unit CurrentOfUnit = area_of_current schema unit.currency.run_unit
-find_areas schema unit (CurrentOfType r) = area_of schema r ∷ []
-find_areas schema unit (CurrentOfSet s) = area_of_current schema (option_and_then key_of_place (place_in schema unit s))
-find_areas schema unit (CurrentOfArea a) = area_of_current schema (at unit.currency.areas a)
-find_areas schema unit (InSet which r s) = home schema s ∷ map (area_of schema) (unwrap_or (option_map (λ t. t ∷ []) r) (set_member_types schema s))
-find_areas schema unit (InArea which r a) = a ∷ []
-find_areas schema unit (OwnerOf s) = home schema s ∷ []
-find_areas schema unit (Calc r values) = area_of schema r ∷ []
-find_areas schema unit (NextDuplicate r) = area_of schema r ∷ []
-find_areas schema unit (Sorted value s) = home schema s ∷ map (area_of schema) (set_member_types schema s)
-
--- the areas of a statement
-abbrev pub areas_of : Lists → Unit → Statement → List ℕ
-areas_of schema unit (OpenArea a mode) = a ∷ []
-areas_of schema unit (CloseArea a) = a ∷ []
-areas_of schema unit (Find form suppress) = find_areas schema unit form
-areas_of schema unit (Get r) = area_of_current schema unit.currency.run_unit
-areas_of schema unit (Store r items suppress) = area_of schema r ∷ map (home schema) (automatic_sets schema r)
-areas_of schema unit (Insert s) = home schema s ∷ area_of_current schema unit.currency.run_unit
-areas_of schema unit (Remove s) = home schema s ∷ area_of_current schema unit.currency.run_unit
-areas_of schema unit (Modify r changes) = area_of schema r ∷ map (home schema) (rekeyed_sets schema r (map (λ c. c.item) changes))
-areas_of schema unit (Delete option) = unwrap_or (option_map (erase_areas schema) (current_type unit)) []
-areas_of schema unit Keep = area_of_current schema unit.currency.run_unit
-areas_of schema unit (Free all) = []
-
--- GET, INSERT, REMOVE, MODIFY, DELETE, KEEP, FREE without ALL and FIND CURRENT OF RUN-UNIT
-abbrev pub needs_current : Statement → Bool
-needs_current (OpenArea a mode) = false
-needs_current (CloseArea a) = false
-needs_current (Find CurrentOfUnit suppress) = true
-needs_current (Find form suppress) = false
-needs_current (Get r) = true
-needs_current (Store r items suppress) = false
-needs_current (Insert s) = true
-needs_current (Remove s) = true
-needs_current (Modify r changes) = true
-needs_current (Delete option) = true
-needs_current Keep = true
-needs_current (Free all) = not all
-
--- whether a statement that needs the current of run-unit may have one of type t
-abbrev pub accepts_type : Lists → Statement → ℕ → Bool
-accepts_type schema (Get (Some r)) t = t == r
-accepts_type schema (Modify r changes) t = t == r
-accepts_type schema (Insert s) t = is_some (member_clause schema s t)
-accepts_type schema (Remove s) t = is_some (member_clause schema s t)
-accepts_type schema _ t = true
-
--- the class of the current of run-unit in the set of an INSERT or REMOVE
-abbrev pub class_in : Lists → Unit → ℕ → Option Class
-class_in schema unit s = option_and_then (λ t. option_map (λ m. m.class) (member_clause schema s t)) (current_type unit)
-
--- an INSERT where STORE alone connects
-abbrev pub is_inserting_mandatory_automatic : Lists → Unit → Statement → Bool
-is_inserting_mandatory_automatic schema unit (Insert s) = some_and (λ c. is_mandatory c && is_automatic c) (class_in schema unit s)
-is_inserting_mandatory_automatic schema unit _ = false
-
--- a REMOVE where a member has to stay
-abbrev pub is_removing_mandatory : Lists → Unit → Statement → Bool
-is_removing_mandatory schema unit (Remove s) = some_and is_mandatory (class_in schema unit s)
-is_removing_mandatory schema unit _ = false
-
--- an OPEN of an area that the unit has open
-abbrev pub is_opening_again : Unit → Statement → Bool
-is_opening_again unit (OpenArea a mode) = is_some (at unit.modes a)
-is_opening_again unit _ = false
-
--- a FIND whose current is null
-abbrev pub find_lacks_current : Lists → Unit → Form → Bool
-find_lacks_current schema unit (Key k) = false
-find_lacks_current schema unit CurrentOfUnit = false
-find_lacks_current schema unit (CurrentOfType r) = is_none (at unit.currency.types r)
-find_lacks_current schema unit (CurrentOfSet s) = is_none (option_and_then key_of_place (place_in schema unit s))
-find_lacks_current schema unit (CurrentOfArea a) = is_none (at unit.currency.areas a)
-find_lacks_current schema unit (InSet which r s) = is_none (place_in schema unit s)
-find_lacks_current schema unit (InArea which r a) = needs_position which && is_none (at unit.currency.areas a)
-find_lacks_current schema unit (OwnerOf s) = is_none (place_in schema unit s)
-find_lacks_current schema unit (Calc r values) = false
-find_lacks_current schema unit (NextDuplicate r) = is_none (at unit.currency.types r)
-find_lacks_current schema unit (Sorted value s) = is_none (place_in schema unit s)
-
--- a current that the statement needs is null
-abbrev pub lacks_current : Lists → Unit → Statement → Bool
-lacks_current schema unit (Find form suppress) = find_lacks_current schema unit form
-lacks_current schema unit (Store r items suppress) = list_any (λ s. is_none (place_in schema unit s)) (automatic_sets schema r)
-lacks_current schema unit (Insert s) = is_none (place_in schema unit s)
-lacks_current schema unit _ = false
-
--- OPEN alone needs no open area
-abbrev pub is_open_statement : Statement → Bool
-is_open_statement (OpenArea a mode) = true
-is_open_statement _ = false
-
--- the statements that want an update mode
-abbrev pub changes_records : Statement → Bool
-changes_records (Store r items suppress) = true
-changes_records (Insert s) = true
-changes_records (Remove s) = true
-changes_records (Modify r changes) = true
-changes_records (Delete option) = true
-changes_records _ = false
-
--- a FIND KEY above the capacity
-abbrev pub is_beyond : ℕ → Statement → Bool
-is_beyond capacity (Find (Key k) suppress) = nat_lt capacity k.number
-is_beyond capacity _ = false
-
--- a FREE of a record that is not kept
-abbrev pub frees_what_is_not_kept : Unit → Statement → Bool
-frees_what_is_not_kept unit (Free false) = is_none (option_and_then (kept_version unit) unit.currency.run_unit)
-frees_what_is_not_kept unit _ = false
-
--- the first check that applies, of those that need no cell
-abbrev pub refused_at_once : Lists → ℕ → Unit → Statement → Option Cause
-refused_at_once schema capacity unit statement =
+abbrev pub checks_at_once : Lists → ℕ → Unit → Statement → List (Bool × Cause)
+checks_at_once schema capacity unit statement =
     let areas = areas_of schema unit statement in
-    first_cause (
     (needs_current statement && is_none unit.currency.run_unit, NoCurrentOfRunUnit)
     ∷ (some_and (λ t. not (accepts_type schema statement t)) (current_type unit), OtherRecordType)
-    ∷ (is_inserting_mandatory_automatic schema unit statement, MandatoryAutomaticSet)
+    ∷ (is_inserting_mandatory_automatic schema unit statement, MandatoryAutomatic)
     ∷ (is_removing_mandatory schema unit statement, Mandatory)
     ∷ (is_opening_again unit statement, AreaAlreadyOpen)
     ∷ (lacks_current schema unit statement, NoSuchCurrent)
@@ -157,4 +42,84 @@ refused_at_once schema capacity unit statement =
     ∷ (changes_records statement && list_any (λ a. not (some_and is_update (at unit.modes a))) areas, UpdateModeNeeded)
     ∷ (is_beyond capacity statement, NoneSatisfies)
     ∷ (frees_what_is_not_kept unit statement, NotKept)
-    ∷ [])
+    ∷ []
+
+-- the cause of the first that applies
+abbrev pub refused_at_once : Lists → ℕ → Unit → Statement → Option Cause
+refused_at_once schema capacity unit statement = first_cause (checks_at_once schema capacity unit statement)
+
+-- WHAT IS STORED
+
+-- OPEN of area a in a mode
+abbrev pub open_checks : View → ℕ → Mode → List (Bool × Cause)
+open_checks view a mode = (list_any (λ e. conflict e.1 mode) (view.users a), UsageConflict) ∷ []
+
+-- GET and KEEP
+abbrev pub live_checks : View → DbKey → List (Bool × Cause)
+live_checks view k = (not (view.is_live k), Deleted) ∷ []
+
+-- the record that is changed: deleted; kept, with another version than it has
+abbrev pub own_checks : View → Unit → DbKey → List (Bool × Cause)
+own_checks view unit k =
+    (not (view.is_live k), Deleted)
+    ∷ (some_and (λ n. not (n == view.version k)) (kept_version unit k), ChangedByAnother)
+    ∷ []
+
+-- a new member with this sort key into set s at a place: owner deleted, position lost, duplicates
+abbrev pub checks_at : Lists → View → ℕ → Place → Option Value → List (Bool × Cause)
+checks_at schema view s place v =
+    (view.is_absent s place.owner, Deleted)
+    ∷ (uses_position (order_of schema s) && is_lost place.at (view.members s place.owner), PositionLost)
+    ∷ (refuses_equal (order_of schema s) && view.has_sort_key s place.owner None v, DuplicatesNotAllowed)
+    ∷ []
+
+-- a new member with this sort key into the current occurrence of set s
+abbrev pub place_checks : Lists → View → Unit → ℕ → Option Value → List (Bool × Cause)
+place_checks schema view unit s = checks_at schema view s (joined_place schema unit s)
+
+-- STORE of a record of type t: no number, CALC items taken; then its place in each automatic set
+abbrev pub store_checks : Lists → View → Unit → ℕ → List Value → List (Bool × Cause)
+store_checks schema view unit t items =
+    (view.is_full t, NoRoom)
+    ∷ (calc_taken schema view t items None, DuplicatesNotAllowed)
+    ∷ flat_map (λ s. place_checks schema view unit s (key_item schema s t items)) (automatic_sets schema t)
+
+-- INSERT into set s: already a member; then the place
+abbrev pub insert_checks : Lists → View → Unit → ℕ → DbKey → List (Bool × Cause)
+insert_checks schema view unit s k =
+    own_checks view unit k ++ (is_some (view.owner s k), AlreadyMember) ∷ place_checks schema view unit s (key_item schema s k.rtype (view.items k))
+
+-- REMOVE out of set s: not a member
+abbrev pub remove_checks : View → Unit → ℕ → DbKey → List (Bool × Cause)
+remove_checks view unit s k = own_checks view unit k ++ (is_none (view.owner s k), NotMember) ∷ []
+
+-- MODIFY: new CALC items taken; then the new sort key taken, in each sorted set whose key item is named
+abbrev pub modify_checks : Lists → View → Unit → List Change → DbKey → List (Bool × Cause)
+modify_checks schema view unit changes k =
+    let items = changed_items changes (view.items k) in
+    own_checks view unit k
+    ++ (names_calc schema k.rtype changes && calc_taken schema view k.rtype items (Some k), DuplicatesNotAllowed)
+    ∷ map (λ s. (refuses_equal (order_of schema s) && sort_key_taken schema view k items s, DuplicatesNotAllowed)) (rekeyed_sets schema k.rtype (map (λ c. c.item) changes))
+
+-- DELETE: the plain form wants no members
+abbrev pub delete_checks : Lists → View → Unit → Erase → DbKey → List (Bool × Cause)
+delete_checks schema view unit option k = own_checks view unit k ++ (is_plain option && has_members schema view k, OwnerHasMembers) ∷ []
+
+-- the checks about a current, where there is one
+abbrev pub about : Option DbKey → (DbKey → List (Bool × Cause)) → List (Bool × Cause)
+about None checks = []
+about (Some k) checks = checks k
+
+-- the checks of each statement; those of a FIND stand with what it finds, in `Found`
+abbrev pub checks_on_cells : Lists → View → Unit → Statement → List (Bool × Cause)
+checks_on_cells schema view unit (OpenArea a mode) = open_checks view a mode
+checks_on_cells schema view unit (CloseArea a) = []
+checks_on_cells schema view unit (Find form suppress) = []
+checks_on_cells schema view unit (Get r) = about unit.currency.run_unit (live_checks view)
+checks_on_cells schema view unit (Store t items suppress) = store_checks schema view unit t items
+checks_on_cells schema view unit (Insert s) = about unit.currency.run_unit (insert_checks schema view unit s)
+checks_on_cells schema view unit (Remove s) = about unit.currency.run_unit (remove_checks view unit s)
+checks_on_cells schema view unit (Modify t changes) = about unit.currency.run_unit (modify_checks schema view unit changes)
+checks_on_cells schema view unit (Delete option) = about unit.currency.run_unit (delete_checks schema view unit option)
+checks_on_cells schema view unit Keep = about unit.currency.run_unit (live_checks view)
+checks_on_cells schema view unit (Free all) = []

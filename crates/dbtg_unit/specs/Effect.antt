@@ -1,7 +1,7 @@
 -- The effect of each statement on a database and a unit.
 -- k is a key, m a new member, o an owner, s a set, t a record type, n a number, a and b areas, db a database.
-use Rattle.std.specs.Prelude.{ℕ, ◌+◌, Bool, true, false, not, ◌&&◌, ◌==◌, nat_lt, List, [], ◌∷◌, ◌++◌, Option, Some, None, Result, Ok, Err, is_none, is_some, map, filter, length, slice_set, option_map, option_and_then, unwrap_or, if◌then◌else◌}
-use Rattle.std.specs.List.{list_any, range_with_len, flat_map}
+use Rattle.std.specs.Prelude.{ℕ, ◌+◌, Bool, true, false, not, ◌&&◌, ◌==◌, List, [], ◌∷◌, ◌++◌, Option, Some, None, Result, Ok, Err, is_some, map, filter, slice_set, option_map, option_and_then, unwrap_or, if◌then◌else◌}
+use Rattle.std.specs.List.{list_any}
 use Rattle.dbtg_schema.specs.Lists.{Lists}
 use Rattle.dbtg_schema.specs.declared.shape.Order.{Order}
 use Rattle.dbtg_schema.specs.declared.shape.Order.TheVariants.{First, Last, Next, Prior, Sorted}
@@ -16,7 +16,6 @@ use Rattle.dbtg_cells.specs.Keys.{key_eq, owner_eq}
 use Rattle.dbtg_cells.specs.Placed.{Spot, Front, Back, After, Before, Among, placed}
 use Rattle.dbtg_unit.specs.declared.statement.Change.{Change}
 use Rattle.dbtg_unit.specs.declared.statement.Erase.{Erase}
-use Rattle.dbtg_unit.specs.declared.statement.Erase.TheVariants.{Plain}
 use Rattle.dbtg_unit.specs.declared.statement.Statement.{Statement}
 use Rattle.dbtg_unit.specs.declared.statement.Statement.TheVariants.{OpenArea, CloseArea, Find, Get, Store, Insert, Remove, Modify, Delete, Keep, Free}
 use Rattle.dbtg_unit.specs.declared.statement.Suppress.{Suppress}
@@ -25,17 +24,18 @@ use Rattle.dbtg_unit.specs.declared.unit.Unit.{Unit}
 use Rattle.dbtg_unit.specs.declared.unit.Answer.{Answer}
 use Rattle.dbtg_unit.specs.declared.unit.Status.TheVariants.{Done, Refused}
 use Rattle.dbtg_unit.specs.declared.unit.Cause.{Cause}
-use Rattle.dbtg_unit.specs.declared.unit.Cause.TheVariants.{DuplicatesNotAllowed, NoRoom, NoCurrentOfRunUnit, Deleted, UsageConflict, OwnerHasMembers}
-use Rattle.dbtg_schema.specs.Lookups.{first, some_and, first_cause}
-pub use Rattle.dbtg_unit.specs.Base.{version_of}
-use Rattle.dbtg_unit.specs.Base.{Database, Record, is_live, items_of, key_at, members_of, is_member, owner_of, calc_items, key_item, sort_key}
+use Rattle.dbtg_unit.specs.declared.unit.Cause.TheVariants.{NoCurrentOfRunUnit}
+use Rattle.dbtg_schema.specs.Lookups.{some_and, first_cause}
+pub use Rattle.dbtg_unit.specs.Base.{free_number, version_of}
+use Rattle.dbtg_unit.specs.Base.{Database, Record, items_of, members_of, is_member, owner_of, sort_key}
 pub use Rattle.dbtg_unit.specs.View.{whole}
-pub use Rattle.dbtg_unit.specs.CellChecks.{uses_position, refuses_equal, own_checks, place_checks, insert_checks, remove_checks}
+pub use Rattle.dbtg_unit.specs.Conditions.{calc_taken, changed_items, has_members, is_plain, names_calc, refuses_equal, uses_position}
 use Rattle.dbtg_unit.specs.Units.{place_in, seen, forgotten, noted}
-use Rattle.dbtg_unit.specs.Found.{found, with_calc}
+use Rattle.dbtg_unit.specs.Found.{found}
 use Rattle.dbtg_unit.specs.Doomed.{doomed}
-use Rattle.dbtg_unit.specs.Checks.{refused_at_once}
-use Rattle.dbtg_schema.specs.Structure.{automatic_sets, calc_of, order_of, owns, rekeyed_sets, set_numbers}
+use Rattle.dbtg_unit.specs.Checks.{checks_on_cells, refused_at_once}
+pub use Rattle.dbtg_unit.specs.Checks.{delete_checks, insert_checks, modify_checks, own_checks, place_checks, remove_checks, store_checks}
+use Rattle.dbtg_schema.specs.Structure.{automatic_sets, order_of, owns, rekeyed_sets, set_numbers}
 
 -- what a statement leaves: a database, a unit, an answer
 pub record Outcome : Type 0 where
@@ -91,10 +91,6 @@ is_current_owner schema unit s o = some_and (λ place. owner_eq place.owner o) (
 
 -- STORE
 
--- the least number of type t that no live record has and that is not spent
-abbrev pub free_number : ℕ → Database → ℕ → Option ℕ
-free_number capacity db t = first (filter (λ n. not (is_live db (key_at db t n)) && nat_lt (db.last t n) 255) (range_with_len 1 capacity))
-
 -- the next generation of a number
 abbrev pub new_key : Database → ℕ → ℕ → DbKey
 new_key db t n = record { rtype = t; number = n; generation = db.last t n + 1 }
@@ -119,18 +115,6 @@ connected_in schema db unit sets m =
     record db {
       lists = λ s o. if list_any (λ s'. s' == s) sets && is_current_owner schema unit s o then option_map (joined schema db unit s m) (db.lists s o) else db.lists s o;
     }
-
--- a live record of type t with these CALC items, where their duplicates are not allowed, beside those that are left out
-abbrev pub calc_taken : Lists → ℕ → Database → ℕ → List Value → (DbKey → Bool) → Bool
-calc_taken schema capacity db t items is_left_out =
-    some_and (λ calc. not calc.duplicates_allowed && list_any (λ k. not (is_left_out k)) (with_calc schema capacity db t (calc_items schema t items))) (calc_of schema t)
-
--- no room; CALC values taken; then each automatic set
-abbrev pub store_checks : Lists → ℕ → Database → Unit → ℕ → List Value → List (Bool × Cause)
-store_checks schema capacity db unit t items =
-    (is_none (free_number capacity db t), NoRoom)
-    ∷ (calc_taken schema capacity db t items (λ k. false), DuplicatesNotAllowed)
-    ∷ flat_map (λ s. place_checks schema (whole schema capacity db) unit s (key_item schema s t items)) (automatic_sets schema t)
 
 -- the record added, connected in its automatic sets, and seen
 abbrev pub stored : Lists → ℕ → Database → Unit → DbKey → List Value → Suppress → Outcome
@@ -173,11 +157,6 @@ removed db unit s k =
 
 -- MODIFY
 
--- the items after the changes, one after another
-abbrev pub changed_items : List Change → List Value → List Value
-changed_items [] items = items
-changed_items (c ∷ changes) items = changed_items changes (slice_set items c.item c.value)
-
 -- the record with these items
 abbrev pub with_its_items : List Value → Record → Record
 with_its_items items r = record { items = items; version = r.version }
@@ -189,22 +168,6 @@ with_items db k items = record db { records = λ x. if key_eq k x then option_ma
 -- the sorted sets whose key item is named and in which k is connected
 abbrev pub replaced_sets : Lists → ℕ → Database → List Change → DbKey → List ℕ
 replaced_sets schema capacity db changes k = filter (λ s. is_some (owner_of schema capacity db s k)) (rekeyed_sets schema k.rtype (map (λ c. c.item) changes))
-
--- a change names a CALC item
-abbrev pub names_calc : Lists → ℕ → List Change → Bool
-names_calc schema t changes = some_and (λ calc. list_any (λ i. list_any (λ c. c.item == i) changes) calc.items) (calc_of schema t)
-
--- CALC values taken by another; then the sort key in each set where k has to be placed anew
-abbrev pub modify_checks : Lists → ℕ → Database → Unit → List Change → DbKey → List (Bool × Cause)
-modify_checks schema capacity db unit changes k =
-    let items = changed_items changes (items_of db k) in
-    let new = with_items db k items in
-    own_checks (whole schema capacity db) unit k
-    ++ (names_calc schema k.rtype changes && calc_taken schema capacity db k.rtype items (key_eq k), DuplicatesNotAllowed)
-    ∷ map (λ s.
-    let list = without k (unwrap_or (option_map (members_of db s) (owner_of schema capacity db s k)) []) in
-    (refuses_equal (order_of schema s) && list_any (λ x. option_value_eq (sort_key schema new s x) (sort_key schema new s k)) list, DuplicatesNotAllowed))
-    (replaced_sets schema capacity db changes k)
 
 -- k with its changed items, placed anew
 abbrev pub modified : Lists → ℕ → Database → Unit → List Change → DbKey → Outcome
@@ -220,20 +183,6 @@ modified schema capacity db unit changes k =
     done new (renoted (key_eq k) new unit) None None
 
 -- DELETE
-
--- the form that takes the record alone
-abbrev pub is_plain : Erase → Bool
-is_plain Plain = true
-is_plain _ = false
-
--- k owns a member in some set
-abbrev pub has_members : Lists → Database → DbKey → Bool
-has_members schema db k = list_any (λ s. nat_lt 0 (length (members_of db s (Rec k)))) (set_numbers schema)
-
--- the plain form wants no members
-abbrev pub delete_checks : Lists → ℕ → Database → Unit → Erase → DbKey → List (Bool × Cause)
-delete_checks schema capacity db unit option k =
-    own_checks (whole schema capacity db) unit k ++ (is_plain option && has_members schema db k, OwnerHasMembers) ∷ []
 
 -- the owner is one of the records that go
 abbrev pub is_gone : List DbKey → Owner → Bool
@@ -254,38 +203,37 @@ deleted schema capacity db unit option k =
 
 -- THE WHOLE
 
--- the statement is about the current of run-unit, which passes these checks
-abbrev pub on_current : Database → Unit → Option DbKey → (DbKey → List (Bool × Cause)) → (DbKey → Outcome) → Outcome
-on_current db unit None checks outcome = refused db unit NoCurrentOfRunUnit
-on_current db unit (Some k) checks outcome = unless_refused db unit (first_cause (checks k)) (outcome k)
-
 -- the outcome of a FIND
 abbrev pub finding : Database → Unit → Result DbKey Cause → (DbKey → Unit) → Outcome
 finding db unit (Ok k) after = done db (after k) (Some k) None
 finding db unit (Err cause) after = refused db unit cause
 
+-- what is done about a current, where there is one
+abbrev pub done_on_current : Database → Unit → Option DbKey → (DbKey → Outcome) → Outcome
+done_on_current db unit None outcome = refused db unit NoCurrentOfRunUnit
+done_on_current db unit (Some k) outcome = outcome k
+
+-- what a statement does that no check refuses
+abbrev pub done_on_cells : Lists → ℕ → Database → Unit → Statement → Outcome
+done_on_cells schema capacity db unit (OpenArea a mode) =
+    done (record db { usage = λ b. if b == a then db.usage b ++ (unit.number, mode) ∷ [] else db.usage b }) (record unit { modes = slice_set unit.modes a (Some mode) }) None None
+done_on_cells schema capacity db unit (CloseArea a) =
+    done (record db { usage = λ b. if b == a then filter (λ e. not (e.0 == unit.number)) (db.usage b) else db.usage b }) (record unit { modes = slice_set unit.modes a None }) None None
+done_on_cells schema capacity db unit (Find form suppress) = finding db unit (found schema capacity db unit form) (λ k. seen schema capacity db unit k suppress)
+done_on_cells schema capacity db unit (Get r) = done_on_current db unit unit.currency.run_unit (λ k. done db unit (Some k) (Some (items_of db k)))
+done_on_cells schema capacity db unit (Store t items suppress) = stored schema capacity db unit (new_key db t (unwrap_or (free_number capacity db t) 0)) items suppress
+done_on_cells schema capacity db unit (Insert s) = done_on_current db unit unit.currency.run_unit (inserted schema db unit s)
+done_on_cells schema capacity db unit (Remove s) = done_on_current db unit unit.currency.run_unit (removed db unit s)
+done_on_cells schema capacity db unit (Modify t changes) = done_on_current db unit unit.currency.run_unit (modified schema capacity db unit changes)
+done_on_cells schema capacity db unit (Delete option) = done_on_current db unit unit.currency.run_unit (deleted schema capacity db unit option)
+done_on_cells schema capacity db unit Keep = done_on_current db unit unit.currency.run_unit (λ k. done db (record unit { kept = noted k (version_of db k) unit.kept }) None None)
+done_on_cells schema capacity db unit (Free true) = done db (record unit { kept = [] }) None None
+done_on_cells schema capacity db unit (Free false) = done_on_current db unit unit.currency.run_unit (λ k. done db (record unit { kept = forgotten k unit.kept }) None None)
+
 -- the effect of a statement that no check without cells refuses
 abbrev pub effect_on_cells : Lists → ℕ → Database → Unit → Statement → Outcome
-effect_on_cells schema capacity db unit (OpenArea a mode) =
-    unless_refused db unit (first_cause ((list_any (λ e. conflict e.1 mode) (db.usage a), UsageConflict) ∷ []))
-    (done (record db { usage = λ b. if b == a then db.usage b ++ (unit.number, mode) ∷ [] else db.usage b }) (record unit { modes = slice_set unit.modes a (Some mode) }) None None)
-effect_on_cells schema capacity db unit (CloseArea a) =
-    done (record db { usage = λ b. if b == a then filter (λ e. not (e.0 == unit.number)) (db.usage b) else db.usage b }) (record unit { modes = slice_set unit.modes a None }) None None
-effect_on_cells schema capacity db unit (Find form suppress) =
-    finding db unit (found schema capacity db unit form) (λ k. seen schema capacity db unit k suppress)
-effect_on_cells schema capacity db unit (Get r) =
-    on_current db unit unit.currency.run_unit (λ k. (not (is_live db k), Deleted) ∷ []) (λ k. done db unit (Some k) (Some (items_of db k)))
-effect_on_cells schema capacity db unit (Store t items suppress) =
-    unless_refused db unit (first_cause (store_checks schema capacity db unit t items))
-    (stored schema capacity db unit (new_key db t (unwrap_or (free_number capacity db t) 0)) items suppress)
-effect_on_cells schema capacity db unit (Insert s) = on_current db unit unit.currency.run_unit (insert_checks schema (whole schema capacity db) unit s) (inserted schema db unit s)
-effect_on_cells schema capacity db unit (Remove s) = on_current db unit unit.currency.run_unit (remove_checks (whole schema capacity db) unit s) (removed db unit s)
-effect_on_cells schema capacity db unit (Modify t changes) = on_current db unit unit.currency.run_unit (modify_checks schema capacity db unit changes) (modified schema capacity db unit changes)
-effect_on_cells schema capacity db unit (Delete option) = on_current db unit unit.currency.run_unit (delete_checks schema capacity db unit option) (deleted schema capacity db unit option)
-effect_on_cells schema capacity db unit Keep =
-    on_current db unit unit.currency.run_unit (λ k. (not (is_live db k), Deleted) ∷ []) (λ k. done db (record unit { kept = noted k (version_of db k) unit.kept }) None None)
-effect_on_cells schema capacity db unit (Free true) = done db (record unit { kept = [] }) None None
-effect_on_cells schema capacity db unit (Free false) = on_current db unit unit.currency.run_unit (λ k. []) (λ k. done db (record unit { kept = forgotten k unit.kept }) None None)
+effect_on_cells schema capacity db unit statement =
+    unless_refused db unit (first_cause (checks_on_cells schema (whole schema capacity db) unit statement)) (done_on_cells schema capacity db unit statement)
 
 -- the effect of a statement on a database and a unit
 unfoldable pub effect : Lists → ℕ → Database → Unit → Statement → Outcome

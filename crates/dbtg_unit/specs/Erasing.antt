@@ -13,7 +13,8 @@ use Rattle.dbtg_schema.specs.Lookups.{first_cause}
 use Rattle.dbtg_unit.specs.Base.{Database, owners, members_of, is_member}
 use Rattle.dbtg_unit.specs.Doomed.{all_keys, takes}
 use Rattle.dbtg_unit.specs.View.{whole}
-use Rattle.dbtg_unit.specs.Effect.{own_checks, is_plain, has_members}
+use Rattle.dbtg_unit.specs.Checks.{own_checks}
+use Rattle.dbtg_unit.specs.Conditions.{has_members, is_plain}
 use Rattle.dbtg_unit.specs.CellNames.{slot_name, place_of}
 use Rattle.dbtg_schema.specs.Structure.{owns, set_numbers}
 use Rattle.dbtg_cells.specs.Names.{name_eq}
@@ -82,7 +83,7 @@ rings_to_member schema db k (s ∷ sets) =
 abbrev pub delete_cells : Lists → ℕ → Database → Unit → Erase → DbKey → List CellName
 delete_cells schema capacity db unit option k =
     if is_some (first_cause (own_checks (whole schema capacity db) unit k)) then slot_name k ∷ []
-    else if is_plain option && has_members schema db k then slot_name k ∷ rings_to_member schema db k (filter (λ s. owns schema s k.rtype) (set_numbers schema))
+    else if is_plain option && has_members schema (whole schema capacity db) k then slot_name k ∷ rings_to_member schema db k (filter (λ s. owns schema s k.rtype) (set_numbers schema))
     else (
     let gone = doomed_in_turn schema capacity db option k in
     names_once [] (slot_name k ∷ own_rings schema k ++ flat_map (cells_of_doomed schema db) gone ++ outer_cells schema capacity db gone))

@@ -1,8 +1,8 @@
 -- What is read off the cells in hand.
 -- k is a key, s a set, o an owner, t a record type, n a number, v a version, r a stored record, a an area, c the name of a cell.
-use Rattle.std.specs.Prelude.{ℕ, ◌+◌, ◌==◌, List, [], Option, Some, None, is_none, is_some, option_map, option_and_then, unwrap_or, if◌then◌else◌}
+use Rattle.std.specs.Prelude.{ℕ, ◌+◌, not, ◌==◌, List, [], Option, Some, None, is_none, is_some, option_map, option_and_then, unwrap_or, if◌then◌else◌}
 use Rattle.std.specs.List.{list_any}
-use Rattle.dbtg_schema.specs.Lookups.{at}
+use Rattle.dbtg_schema.specs.Lookups.{at, first}
 use Rattle.dbtg_cells.specs.declared.cell.Cell.{Cell}
 use Rattle.dbtg_cells.specs.declared.cell.Cell.TheVariants.{Usage as UsageCell, Extent as ExtentCell, Ring as RingCell, Slot as SlotCell}
 use Rattle.dbtg_cells.specs.declared.extent.Number.{Number}
@@ -13,9 +13,9 @@ use Rattle.dbtg_cells.specs.declared.ring.Occurrence.{Occurrence}
 use Rattle.dbtg_cells.specs.declared.slot.Stored.{Stored}
 use Rattle.dbtg_cells.specs.declared.usage.Mode.{Mode}
 use Rattle.dbtg_cells.specs.declared.key.Value.{Value}
-use Rattle.dbtg_cells.specs.Keys.{option_value_eq, owner_eq}
-use Rattle.dbtg_cells.specs.Members.{keys_in, members_in}
-use Rattle.dbtg_cells.specs.Numbers.{entry_of, last_of}
+use Rattle.dbtg_cells.specs.Keys.{owner_eq}
+use Rattle.dbtg_cells.specs.Members.{has_sort_key, keys_in, members_in}
+use Rattle.dbtg_cells.specs.Numbers.{entry_of, has_values, is_free, is_number_left_out, last_of, numbers_where}
 use Rattle.dbtg_unit.specs.CellNames.{place_of, slot_name}
 use Rattle.dbtg_unit.specs.Hands.{Hands, cell_of}
 use Rattle.dbtg_unit.specs.View.{View}
@@ -95,5 +95,9 @@ in_hand hands =
       owner = owner_in hands;
       is_absent = λ s o. is_none (occurrence_in hands s o);
       members = λ s o. keys_in (occurrence_in hands s o);
-      has_sort_key = λ s o v. list_any (λ e. option_value_eq e.1 v) (members_in (occurrence_in hands s o));
+      has_sort_key = λ s o left v. list_any (has_sort_key left v) (members_in (occurrence_in hands s o));
+      is_full = λ t. is_none (first (numbers_where is_free (numbers_in hands t)));
+      has_calc = λ t values left.
+          list_any (λ n. not (is_number_left_out (option_map (λ k. k.number) left) n)) (numbers_where (has_values values) (numbers_in hands t));
+      users = users_in hands;
     }

@@ -3,7 +3,7 @@ pub mod Units
 pub mod Found
 pub mod Doomed
 pub mod View
-pub mod CellChecks
+pub mod Conditions
 pub mod Checks
 pub mod Effect
 pub mod Cells

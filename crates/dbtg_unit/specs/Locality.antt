@@ -9,7 +9,6 @@ use Rattle.dbtg_unit.specs.declared.unit.Unit.{Unit}
 use Rattle.dbtg_unit.specs.Base.{Database}
 use Rattle.dbtg_unit.specs.Cells.{cell}
 use Rattle.dbtg_unit.specs.Belongs.{IsUnitOf, IsWithin}
-use Rattle.dbtg_unit.specs.Checks.{changes_records}
 use Rattle.dbtg_unit.specs.Effect.{Outcome, effect}
 use Rattle.dbtg_unit.specs.Fits.{fits}
 use Rattle.dbtg_unit.specs.Hands.{Hands}
@@ -29,10 +28,3 @@ pub record DoTheSame (schema : Lists) (capacity : ℕ) (hands : Hands) (o p : Ou
   pub answer : o.answer ≡ p.answer
   pub unit : o.unit ≡ p.unit
   pub cells : (c : CellName) → holds hands.cells c ≡ true → cell schema capacity o.database c ≡ cell schema capacity p.database c
-
--- what a statement that changes no record has in hand, once it is ready, determines its answer, its unit and the cells in hand
-abbrev pub ReadingIsDetermined : Type 0
-ReadingIsDetermined =
-    (schema : Lists) (capacity : ℕ) (db eb : Database) (hands : Hands) (unit : Unit) (statement : Statement)
-    → IsUnitOf schema unit → Agrees schema capacity db hands unit → Agrees schema capacity eb hands unit → changes_records statement ≡ false
-    → need schema capacity db unit hands statement ≡ Ready → DoTheSame schema capacity hands (effect schema capacity db unit statement) (effect schema capacity eb unit statement)

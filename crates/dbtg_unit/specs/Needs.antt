@@ -18,11 +18,13 @@ use Rattle.dbtg_unit.specs.declared.unit.Cause.{Cause}
 use Rattle.dbtg_unit.specs.declared.unit.Unit.{Unit}
 use Rattle.dbtg_unit.specs.Hands.{Hands}
 use Rattle.dbtg_schema.specs.Lookups.{at, some_and}
-use Rattle.dbtg_unit.specs.Base.{Database, is_live, owner_of}
+use Rattle.dbtg_unit.specs.Base.{Database, free_number, is_live, owner_of}
 use Rattle.dbtg_unit.specs.Units.{place_in, key_of_place}
 use Rattle.dbtg_unit.specs.Found.{found}
 use Rattle.dbtg_unit.specs.Checks.{areas_of, refused_at_once}
-use Rattle.dbtg_unit.specs.Effect.{free_number, new_key, calc_taken, names_calc}
+use Rattle.dbtg_unit.specs.Conditions.{calc_taken, names_calc}
+use Rattle.dbtg_unit.specs.Effect.{new_key}
+use Rattle.dbtg_unit.specs.View.{whole}
 use Rattle.dbtg_schema.specs.Structure.{automatic_sets, owns, rekeyed_sets, set_numbers, types_in}
 use Rattle.dbtg_cells.specs.Names.{name_eq}
 use Rattle.dbtg_unit.specs.CellNames.{slot_name, place_of}
@@ -86,7 +88,7 @@ cells_of schema capacity db unit guesses (CloseArea a) = Usage a ∷ []
 cells_of schema capacity db unit guesses (Find form suppress) = find_cells schema capacity db unit form
 cells_of schema capacity db unit guesses (Get r) = slot_names unit.currency.run_unit
 cells_of schema capacity db unit guesses (Store t items suppress) =
-    Extent t ∷ store_cells schema unit capacity db t (free_number capacity db t) (calc_taken schema capacity db t items (λ k. false))
+    Extent t ∷ store_cells schema unit capacity db t (free_number capacity db t) (calc_taken schema (whole schema capacity db) t items None)
 cells_of schema capacity db unit guesses (Insert s) = ring_names s (current_owner schema unit s) ++ slot_names unit.currency.run_unit
 cells_of schema capacity db unit guesses (Remove s) = ring_names s (at guesses s) ++ slot_names unit.currency.run_unit
 cells_of schema capacity db unit guesses (Modify t changes) =

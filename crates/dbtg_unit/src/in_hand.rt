@@ -1,7 +1,7 @@
 //! What is read off the cells in hand. Nothing here takes memory.
 ghost use Rattle.std.specs.Prelude.{◌≡◌, [], is_some, option_and_then, option_copied, option_map, unwrap_or};
 ghost use Rattle.dbtg_schema.specs.Lookups.{first_cause};
-ghost use Rattle.dbtg_unit.specs.CellChecks.{own_checks};
+ghost use Rattle.dbtg_unit.specs.Checks.{own_checks};
 ghost use Rattle.dbtg_unit.specs.CellNames.{place_of};
 ghost use Rattle.dbtg_unit.specs.InHand.{in_hand, numbers_in, occurrence_in, stored_in, users_in};
 

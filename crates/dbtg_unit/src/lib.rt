@@ -44,9 +44,8 @@ pub use kept::Kept;
 pub use laws::{
     cells_determine, delete_stays_in_its_areas, doomed_is_least, doomed_is_least_set,
     each_statement_goes_forward, each_statement_is_answered, effect_is_its_edits,
-    placing_keeps_order, reachable_types_are_least, reading_is_determined,
-    ready_statement_changes_only_its_cells, replay_goes_forward, replay_takes_one_more,
-    statements_determine_replay, versions_are_bounded,
+    placing_keeps_order, reachable_types_are_least, ready_statement_changes_only_its_cells,
+    replay_goes_forward, replay_takes_one_more, statements_determine_replay, versions_are_bounded,
 };
 pub use legality::{
     effect_keeps_legal, opening_is_legal, replay_keeps_legal, units_never_conflict,

@@ -297,7 +297,7 @@ module _ (c k : ℕ) (current : DbKey) (last : Option DbKey) where
   outcome_at free =
       unless_refused (shop_with k) (unit_at current last)
       (first_cause ((is_none free, NoRoom)
-      ∷ (calc_taken shop (suc c) (shop_with k) items (the_items (suc k)) (λ x. false), DuplicatesNotAllowed)
+      ∷ (calc_taken shop (whole shop (suc c) (shop_with k)) items (the_items (suc k)) None, DuplicatesNotAllowed)
       ∷ flat_map (λ s. place_checks shop (whole shop (suc c) (shop_with k)) (unit_at current last) s (key_item shop s items (the_items (suc k)))) (automatic_sets shop items)))
       (stored shop (suc c) (shop_with k) (unit_at current last) (new_key (shop_with k) items (unwrap_or free 0)) (the_items (suc k)) nothing)
 

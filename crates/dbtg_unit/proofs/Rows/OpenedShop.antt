@@ -1,5 +1,6 @@
 -- A shop that is opened, with a customer, an order and items in turn, at any capacity.
 -- c is one less than the capacity, which is at least 1.
+use Rattle.dbtg_unit.specs.View.{whole}
 use Rattle.std.proofs.Common.{◌≡◌, refl, sym, ◌∙◌, ap, subst, ℕ, zero, suc, ◌+◌, ◌≤◌, true, false, cond, ◌&&◌, List, [], ◌∷◌, ◌++◌, Option, Some, None, map, inl, inr, arith}
 use Rattle.std.specs.Prelude.{◌==◌, filter, is_some, option_map, unwrap_or, if◌then◌else◌}
 use Rattle.std.specs.List.{find, list_any}
@@ -31,7 +32,7 @@ use Rattle.dbtg_unit.proofs.Rows.Words.{by, customer_key, done as accepted, foun
 
 -- a STORE that no check refuses
 pub store_passes : (schema : Lists) (capacity : ℕ) (db : Database) (unit : Unit) (t : ℕ) (values : List Value) (suppress : Suppress) (n : ℕ)
-    → refused_at_once schema capacity unit (Store t values suppress) ≡ None → free_number capacity db t ≡ Some n → first_cause (store_checks schema capacity db unit t values) ≡ None
+    → refused_at_once schema capacity unit (Store t values suppress) ≡ None → free_number capacity db t ≡ Some n → first_cause (store_checks schema (whole schema capacity db) unit t values) ≡ None
     → effect schema capacity db unit (Store t values suppress) ≡ stored schema capacity db unit (new_key db t n) values suppress
 unfolding effect
 store_passes schema capacity db unit t values suppress n ready free passes =
@@ -78,7 +79,7 @@ module _ (c : ℕ) where
   no_order : live_keys (suc c) with_customer orders ≡ []
   no_order = none_in_range (is_live with_customer) (key_at with_customer orders) 1 (suc c) (λ j above below. refl)
 
-  not_taken : first_cause (store_checks shop (suc c) open_shop unit_open customers the_customer) ≡ None
+  not_taken : first_cause (store_checks shop (whole shop (suc c) open_shop) unit_open customers the_customer) ≡ None
   not_taken =
       ap (λ live. cond (list_any (λ k. true) (filter (λ k. values_eq (calc_items shop customers (items_of open_shop k)) (calc_items shop customers the_customer)) live)) (Some DuplicatesNotAllowed) None) nobody
 

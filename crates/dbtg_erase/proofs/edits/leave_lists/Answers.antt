@@ -9,5 +9,5 @@ use Rattle.dbtg_erase.proofs.edits.leave_lists.Goals as goal
 pub returns : goal.returns
 returns c =
     let past : length c.args.schema.now.sets ≤ c.loop-s.s = let count = c.set_count-s-end.ensures in let end = c.loop-s-test.false in omega arith in
-    edits_of_end c.args.held.now c.loop-s.edits _ (flat_map (λ s. ring_edits s (staying_owner c.args.gone.now (owner_in c.args.held.now s c.args.key.now)) (TakeOut c.args.key.now ∷ [])))
+    edits_of_end c.loop-s.edits _ (flat_map (λ s. ring_edits s (staying_owner c.args.gone.now (owner_in c.args.held.now s c.args.key.now)) (TakeOut c.args.key.now ∷ [])))
     (length c.args.schema.now.sets) c.loop-s.s past refl c.loop-s.invariant

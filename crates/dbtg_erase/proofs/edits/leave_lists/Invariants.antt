@@ -4,10 +4,9 @@ use Rattle.dbtg_schema.specs.Structure.{set_numbers}
 use Rattle.dbtg_unit.specs.declared.edit.Edit.TheVariants.{TakeOut}
 use Rattle.dbtg_unit.specs.EditsOf.{leaving_edits, ring_edits, staying_owner}
 use Rattle.dbtg_unit.specs.InHand.{owner_in}
-use Rattle.dbtg_erase.specs.ErasePlan.{edits_in_hand}
 use Rattle.dbtg_erase.proofs.edits.leave_lists.Given as goal
 
 abbrev pub invariant-loop-s : goal.invariant-loop-s
 invariant-loop-s l =
-    l.edits ++ edits_in_hand l.held (flat_map (λ s. ring_edits s (staying_owner l.gone (owner_in l.held s l.key)) (TakeOut l.key ∷ [])) (drop l.s (set_numbers l.schema)))
-    ≡ l.fn.edits ++ edits_in_hand l.held (leaving_edits l.schema (owner_in l.held) l.gone l.key)
+    l.edits ++ (flat_map (λ s. ring_edits s (staying_owner l.gone (owner_in l.held s l.key)) (TakeOut l.key ∷ [])) (drop l.s (set_numbers l.schema)))
+    ≡ l.fn.edits ++ (leaving_edits l.schema (owner_in l.held) l.gone l.key)

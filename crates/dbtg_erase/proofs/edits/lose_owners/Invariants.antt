@@ -5,10 +5,10 @@ use Rattle.dbtg_schema.specs.Structure.{set_numbers}
 use Rattle.dbtg_unit.specs.EditsOf.{lost_sets}
 use Rattle.dbtg_unit.specs.Effect.{is_gone}
 use Rattle.dbtg_unit.specs.InHand.{owner_in}
-use Rattle.dbtg_erase.specs.ErasePlan.{edits_in_hand, lose_owner}
+use Rattle.dbtg_erase.specs.ErasePlan.{lose_owner}
 use Rattle.dbtg_erase.proofs.edits.lose_owners.Given as goal
 
 abbrev pub invariant-loop-s : goal.invariant-loop-s
 invariant-loop-s l =
-    l.edits ++ edits_in_hand l.held (map (lose_owner l.key) (filter (λ s. some_and (is_gone l.gone) (owner_in l.held s l.key)) (drop l.s (set_numbers l.schema))))
-    ≡ l.fn.edits ++ edits_in_hand l.held (map (lose_owner l.key) (lost_sets l.schema (owner_in l.held) l.gone l.key))
+    l.edits ++ (map (lose_owner l.key) (filter (λ s. some_and (is_gone l.gone) (owner_in l.held s l.key)) (drop l.s (set_numbers l.schema))))
+    ≡ l.fn.edits ++ (map (lose_owner l.key) (lost_sets l.schema (owner_in l.held) l.gone l.key))

@@ -3,6 +3,7 @@ use Rattle.std.proofs.lemmas.Bool.{and_parts}
 use Rattle.dbtg_unit.specs.declared.statement.Statement.TheVariants.{Find}
 use Rattle.dbtg_unit.specs.Making.{CanFinish}
 use Rattle.dbtg_unit.specs.Prepared.{Plan}
+use Rattle.dbtg_unit.proofs.OnePlan.{may_plan}
 use Rattle.dbtg_plan.specs.Finding.{plan_of_found}
 use Rattle.dbtg_plan.proofs.FindPlans.{find_can_finish}
 use Rattle.dbtg_plan.proofs.finding.prepare_find.Goals as goal
@@ -18,4 +19,4 @@ returns c =
     let suppress = c.args.suppress.now in
     let is = c.plan_of_found.ensures ∙ ap (plan_of_found hands suppress) c.find_key-found.ensures in
     subst (λ (plan : Plan). CanFinish schema c.args.capacity unit hands (Find c.args.form.now suppress) plan) (sym is)
-    (find_can_finish schema c.args.capacity unit hands c.args.form.now suppress c.requires.may c.requires.passes)
+    (find_can_finish schema c.args.capacity unit hands c.args.form.now suppress (may_plan c.requires.may) c.requires.passes)

@@ -2,7 +2,7 @@ use Rattle.std.proofs.Common.{◌≡◌, sym, ◌∙◌, ap, subst, Option, Some
 use Rattle.dbtg_schema.specs.Lookups.{first_cause}
 use Rattle.dbtg_cells.specs.declared.key.DbKey.{DbKey}
 use Rattle.dbtg_unit.specs.InHand.{in_hand}
-use Rattle.dbtg_unit.specs.CellChecks.{insert_checks}
+use Rattle.dbtg_unit.specs.Checks.{insert_checks}
 use Rattle.dbtg_unit.specs.declared.statement.Statement.TheVariants.{Insert}
 use Rattle.dbtg_unit.specs.declared.unit.Cause.{Cause}
 use Rattle.dbtg_unit.specs.Making.{CanFinish}

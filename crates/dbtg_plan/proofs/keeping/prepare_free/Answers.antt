@@ -8,4 +8,4 @@ use Rattle.dbtg_plan.proofs.keeping.prepare_free.Goals as goal
 pub returns : goal.returns
 returns c =
     subst (λ (plan : Plan). CanFinish c.args.schema.now c.args.capacity c.args.unit.now c.args.held.now (Free c.args.all) plan) (sym c.free.ensures)
-    (free_finishes c.args.schema.now c.args.capacity c.args.unit.now c.args.held.now c.args.all c.requires.passes c.requires.may)
+    (free_finishes c.args.schema.now c.args.capacity c.args.unit.now c.args.held.now c.args.all c.requires.passes)

@@ -3,7 +3,7 @@ use Rattle.std.specs.Prelude.{is_some}
 use Rattle.std.specs.List.{flat_map}
 use Rattle.dbtg_schema.specs.Lookups.{first_cause}
 use Rattle.dbtg_unit.specs.InHand.{in_hand}
-use Rattle.dbtg_unit.specs.CellChecks.{place_checks}
+use Rattle.dbtg_unit.specs.Checks.{place_checks}
 use Rattle.dbtg_unit.specs.Base.{key_item}
 use Rattle.dbtg_unit.proofs.NumberLemmas.{numbers_end}
 use Rattle.dbtg_plan.specs.Store.{join_checks}

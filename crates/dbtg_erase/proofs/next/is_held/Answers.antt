@@ -1,8 +1,8 @@
 use Rattle.std.proofs.Common.{sym, ◌∙◌, ap}
 use Rattle.std.specs.Prelude.{is_some}
 use Rattle.std.specs.Option.{option_copied}
-use Rattle.dbtg_erase.proofs.EditLists.{held_by_name}
-use Rattle.dbtg_erase.proofs.edits.is_held.Goals as goal
+use Rattle.dbtg_erase.proofs.FirstNames.{held_by_name}
+use Rattle.dbtg_erase.proofs.next.is_held.Goals as goal
 
 pub returns-in-Some : goal.returns-in-Some
 returns-in-Some c = sym (ap (λ o. is_some (option_copied o)) c.in-Some.is) ∙ held_by_name c.args.held.now c.args.name.now (option_copied c.cell.result) c.cell.ensures
