@@ -1,13 +1,18 @@
--- The marked types are those that are reached, and touch the areas of a DELETE.
-use Rattle.std.proofs.Common.{◌≡◌, ℕ, zero, suc, ◌+◌, ◌<◌, Bool, true, false, cond, ◌&&◌, ◌||◌, ◌==◌, List, [], ◌∷◌, ◌++◌, length, map, refl, sym, ap, subst, ◌∙◌, arith}
-use Rattle.std.specs.Prelude.{filter, is_some, not}
+-- The marked types are those that are reached, and touch the areas of a DELETE; these areas are known to the schema.
+use Rattle.std.proofs.Common.{◌≡◌, ℕ, zero, suc, ◌+◌, ◌<◌, Bool, true, false, Some, cond, ◌&&◌, ◌||◌, ◌==◌, List, [], ◌∷◌, ◌++◌, length, map, refl, sym, ap, subst, ◌∙◌, inl, inr, arith}
+use Rattle.std.specs.Prelude.{◌⊎◌, Option, None, filter, is_some, nat_lt, not, option_map, slice_get, unwrap_or}
 use Rattle.std.specs.List.{list_any, list_all, range_with_len}
+use Rattle.std.proofs.lemmas.Bool.{and_from, lt-ltb}
+use Rattle.std.proofs.lemmas.List.Folds.{list_all-append}
 use Rattle.std.proofs.lemmas.List.FromFn.{length-range_with_len}
+use Rattle.std.proofs.lemmas.Option.{get_or_from_slice_get, same_Some, slice_get_within}
 use Rattle.dbtg_schema.specs.Lists.{Lists}
 use Rattle.dbtg_schema.specs.Lookups.{flatten}
 use Rattle.dbtg_schema.specs.Closure.{reached_in}
 use Rattle.dbtg_schema.specs.Structure.{owns, member_clause, set_numbers, home, area_of, areas_with_homes, erase_areas, reachable_types}
-use Rattle.dbtg_schema.specs.Erasing.{leads_to, is_home_of, touches, marked, is_next, is_touched}
+use Rattle.dbtg_schema.specs.declared.shape.RecordType.{RecordType}
+use Rattle.dbtg_schema.specs.WellFormed.{IsRecordType, IsSchema}
+use Rattle.dbtg_schema.specs.Erasing.{leads_to, is_home_of, touches, marked, is_next, is_touched, AreErased, AreErasedOfEach}
 
 any_filter : (q p : ℕ → Bool) (xs : List ℕ) → list_any q (filter p xs) ≡ list_any (λ x. p x && q x) xs
 any_filter q p [] = refl
@@ -90,3 +95,53 @@ off (false ∷ marks) (suc n) h = off marks n h
 pub all_rounds : (schema : Lists) (t k : ℕ) (marks : List Bool) → filter (marked marks) (types_of schema) ≡ reached_in (leads schema) (λ u. u == t) (types_of schema) k → k ≡ length schema.types → filter (marked marks) (types_of schema) ≡ reachable_types schema t
 all_rounds schema t k marks same e =
     subst (λ (n : ℕ). filter (marked marks) (types_of schema) ≡ reached_in (leads schema) (λ u. u == t) (types_of schema) n) (e ∙ sym (length-range_with_len 0 (length schema.types))) same
+
+-- an entry of a list with one more at its end
+either_of : {X : Type 0} (xs : List X) (x : X) (k : ℕ) (y : X) → slice_get (xs ++ x ∷ []) k ≡ Some y → (slice_get xs k ≡ Some y) ⊎ ((k ≡ length xs) × (x ≡ y))
+either_of [] x zero y is = inr (refl, same_Some x y is)
+either_of [] x (suc k) y is = absurd cc
+either_of (z ∷ xs) x zero y is = inl is
+either_of (z ∷ xs) x (suc k) y is = elim (either_of xs x k y is) [ inl h ↦ inl h | inr w ↦ inr (ap suc w.0, w.1) ]
+
+pub none_of_each : (schema : Lists) → AreErasedOfEach [] schema
+unfolding AreErasedOfEach
+none_of_each schema t marks is = absurd cc
+
+-- one record type more
+pub one_of_each : (schema : Lists) (each : List (List Bool)) (marks : List Bool) (t : ℕ) → length each ≡ t → AreErasedOfEach each schema → AreErased schema t marks → AreErasedOfEach (each ++ marks ∷ []) schema
+unfolding AreErasedOfEach
+one_of_each schema each marks t many right more u it is =
+    elim (either_of each marks u it is)
+    [ inl h ↦ right u it h
+    | inr w ↦ subst (λ (m : List Bool). AreErased schema u m) w.1 (subst (λ (n : ℕ). AreErased schema n marks) (sym (w.0 ∙ many)) more)
+    ]
+
+-- the areas of one of them
+pub of_one : (schema : Lists) (each : List (List Bool)) (t : ℕ) (marks : List Bool) → AreErasedOfEach each schema → slice_get each t ≡ Some marks → AreErased schema t marks
+unfolding AreErasedOfEach
+of_one schema each t marks right is = right t marks is
+
+module _ (schema : Lists) (limits : IsSchema schema) where
+  abbrev is_area : ℕ → Bool
+  is_area a = nat_lt a (length schema.areas)
+
+  area_of_type : (t : ℕ) (r : Option RecordType) → slice_get schema.types t ≡ r → unwrap_or (option_map (λ x. x.area) r) 0 < length schema.areas
+  area_of_type t None is = limits.some_area
+  area_of_type t (Some r) is =
+      (subst (IsRecordType schema) (get_or_from_slice_get schema.types t r r is) (limits.types t r (slice_get_within schema.types t r is))).area
+
+  type_known : (t : ℕ) → is_area (area_of schema t) ≡ true
+  type_known t = lt-ltb _ _ (area_of_type t (slice_get schema.types t) refl)
+
+  homes_known : (sets : List ℕ) → list_all is_area (map (home schema) sets) ≡ true
+  homes_known [] = refl
+  homes_known (s ∷ sets) = and_from _ _ (type_known _) (homes_known sets)
+
+  types_known : (ts : List ℕ) → list_all is_area (flatten (map (areas_with_homes schema) ts)) ≡ true
+  types_known [] = refl
+  types_known (t ∷ ts) =
+      list_all-append is_area (areas_with_homes schema t) _ ∙ and_from _ _ (and_from _ _ (type_known t) (homes_known _)) (types_known ts)
+
+  -- the areas of a DELETE are areas of the schema
+  pub erase_known : (t : ℕ) → list_all is_area (erase_areas schema t) ≡ true
+  erase_known t = types_known (reachable_types schema t)

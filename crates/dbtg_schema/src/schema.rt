@@ -1,6 +1,7 @@
 //! A schema, and what it says of its record types, sets and areas by their numbers. Look-ups take no memory.
 
-ghost use Rattle.std.specs.Prelude.{◌≡◌, ◌==◌, ◌≤◌, length, None, IfOk, map, IfErr, OnOk, option_map, slice_get};
+ghost use Rattle.std.specs.Prelude.{◌≡◌, ◌==◌, ◌≤◌, length, None, IfOk, IfSome, map, IfErr, OnOk, option_map, slice_get};
+ghost use Rattle.dbtg_schema.specs.Erasing.{AreErased};
 ghost use Rattle.dbtg_schema.specs.Lookups.{some_and};
 ghost use Rattle.dbtg_schema.specs.Words.{text_words};
 ghost use Rattle.dbtg_schema.specs.Forms.{labels, Derives};
@@ -18,6 +19,7 @@ ghost use Rattle.dbtg_schema.specs.Structure.{place_of, owner_type, is_system, o
 use crate::build::{areas, sets, text_of, types};
 use crate::copies::copy_all;
 use crate::entries::front;
+use crate::erasing::{AreaSet, areas_of_each};
 use crate::fault::SchemaFault;
 use crate::index::SchemaIndex;
 use crate::numbers::{AreaNo, ItemNo, RecordNo, SetNo};
@@ -37,6 +39,8 @@ pub struct Schema {
     types: Row<RecordType>,
     sets: Row<SetType>,
     index: SchemaIndex,
+    /// Of each record type the areas that a DELETE may reach; of none while they are worked out.
+    erased: Row<AreaSet>,
 }
 
 impl Model for Schema {
@@ -44,16 +48,17 @@ impl Model for Schema {
 
     ghost Value = { Lists };
 
+    ghost use Rattle.dbtg_schema.specs.Erasing.{AreErasedOfEach};
     ghost use Rattle.dbtg_schema.specs.NameIndexes.{IsSchemaIndex};
     ghost use Rattle.dbtg_schema.specs.WellFormed.{IsSchema};
 
     ghost view = { λ a. record { name = a.name; areas = a.areas; types = a.types; sets = a.sets } };
 
-    ghost invariant = { λ a. IsSchema (record { name = a.name; areas = a.areas; types = a.types; sets = a.sets }) × IsSchemaIndex a.index a.areas a.types a.sets };
+    ghost invariant = { λ a. IsSchema (record { name = a.name; areas = a.areas; types = a.types; sets = a.sets }) × IsSchemaIndex a.index a.areas a.types a.sets × AreErasedOfEach a.erased (record { name = a.name; areas = a.areas; types = a.types; sets = a.sets }) };
 }
 
-/// The schema of these lists, with the indexes of its names.
-fn indexed(
+/// The schema of these lists, with the indexes of its names, and the areas of its deletions.
+fn of_lists(
     alloc: Global,
     name: Row<u8>,
     areas: Row<Area>,
@@ -64,13 +69,16 @@ fn indexed(
     ensures { IfOk result (λ s. s ≡ record { name = name; areas = areas; types = types; sets = sets }) }
 {
     let index = SchemaIndex::of(alloc, areas.as_slice(), types.as_slice(), sets.as_slice())?;
-    Ok(Schema {
+    let mut schema = Schema {
         name,
         areas,
         types,
         sets,
         index,
-    })
+        erased: Row::of(Vec::new(alloc)),
+    };
+    schema.erased = areas_of_each(alloc, &schema)?;
+    Ok(schema)
 }
 
 /// The schema whose words these are.
@@ -83,7 +91,7 @@ fn from_words(alloc: Global, words: &[Labelled]) -> Result<Schema, AllocError>
     let areas = areas(alloc, words)?;
     let types = types(alloc, &areas, front(words, Role::SetEntry))?;
     let sets = sets(alloc, &types, words)?;
-    indexed(alloc, name, Row::of(areas), Row::of(types), Row::of(sets))
+    of_lists(alloc, name, Row::of(areas), Row::of(types), Row::of(sets))
 }
 
 impl Class {
@@ -153,6 +161,16 @@ impl Schema {
         ensures few { length result.now ≤ 16 }
     {
         self.sets.as_slice()
+    }
+
+    /// The areas that a DELETE of a record of this type may reach, where they are worked out.
+    pub(crate) fn areas_known(&self, rtype: RecordNo) -> Option<AreaSet>
+        ensures { IfSome result (λ areas. AreErased self.now rtype areas) }
+    {
+        match self.erased.get(rtype.index() as usize) {
+            Some(areas) => Some(*areas),
+            None => None,
+        }
     }
 
     /// What every schema keeps to: its limits, and that its numbers are in range.
@@ -248,7 +266,7 @@ impl Schema {
         let areas = Row::of(copy_all(alloc, self.areas.as_slice())?);
         let types = Row::of(copy_all(alloc, self.types.as_slice())?);
         let sets = Row::of(copy_all(alloc, self.sets.as_slice())?);
-        indexed(alloc, name, areas, types, sets)
+        of_lists(alloc, name, areas, types, sets)
     }
 
     /// The record type of this number, if there is one.

@@ -32,7 +32,6 @@ pub mod Kept
 pub mod Codes
 pub mod Seen
 pub mod Areas
-pub mod Reach
 pub mod StaysLegal
 pub mod Locality
 pub mod Prepared

@@ -1,21 +1,20 @@
 //! The areas of a statement: whether one of them has something, and the first that a unit has not in hand. Nothing
 //! here takes memory, since the areas are asked one by one.
-ghost use Rattle.std.specs.Prelude.{◌≡◌, ◌==◌, List, [], ◌∷◌, map, option_map, unwrap_or, is_some, ◌&&◌, filter, length};
+ghost use Rattle.std.specs.Prelude.{◌≡◌, ◌&&◌, List, [], ◌∷◌, length, map, option_map, unwrap_or};
 ghost use Rattle.std.specs.List.{list_any, range_with_len};
-ghost use Rattle.dbtg_schema.specs.Lookups.{flatten, some_and};
-ghost use Rattle.dbtg_schema.specs.Structure.{area_of, areas_with_homes, automatic_sets, erase_areas, home, is_automatic, member_clause, rekeyed_sets, set_member_types, set_numbers};
+ghost use Rattle.dbtg_schema.specs.Erasing.{marked};
+ghost use Rattle.dbtg_schema.specs.Lookups.{some_and};
+ghost use Rattle.dbtg_schema.specs.Structure.{area_of, automatic_sets, erase_areas, home, is_automatic, member_clause, rekeyed_sets, set_member_types, set_numbers};
 ghost use Rattle.dbtg_unit.specs.Areas.{asks};
-ghost use Rattle.dbtg_unit.specs.Reach.{is_marked};
 ghost use Rattle.dbtg_unit.specs.Checks.{area_of_current, areas_of, find_areas, is_update};
 
 use crate::changes::is_rekeyed_in;
-use crate::counts::{set_count, type_count};
+use crate::counts::{area_count, set_count, type_count};
 use crate::entries::entry_at;
-use crate::reach::reachable;
 use crate::statement::{Change, Form, Statement};
 use crate::unit::Unit;
 use dbtg_cells::DbKey;
-use dbtg_schema::{AreaNo, ItemNo, RecordNo, Schema, SetNo};
+use dbtg_schema::{AreaNo, AreaSet, ItemNo, RecordNo, Schema, SetNo};
 
 /// What is asked of an area.
 #[derive(Clone, Copy)]
@@ -154,46 +153,26 @@ fn ask_of_find(schema: &Schema, unit: &Unit, question: &Question, form: &Form) -
     }
 }
 
-// Of the homes of the sets in which this record type is a member type.
-#[tactic(auto, using(crate::proofs::NumberLemmas::numbers_next, crate::proofs::NumberLemmas::numbers_end))]
-fn ask_of_homes(schema: &Schema, unit: &Unit, question: &Question, rtype: RecordNo) -> bool
-    ensures { result ≡ list_any (asks unit.now.modes question.now) (map (home schema.now) (filter (λ s. is_some (member_clause schema.now s rtype)) (set_numbers schema.now))) }
+// Of an area, where it is in the set.
+fn ask_if_in(unit: &Unit, question: &Question, areas: &AreaSet, area: AreaNo) -> bool
+    ensures { result ≡ (marked areas.now area && asks unit.now.modes question.now area) }
 {
-    for s in 0..set_count(schema) {
-        let set = SetNo::new(s);
-        if schema.member_clause(set, rtype).is_some() && ask(unit, question, schema.home(set)) {
-            return true;
-        }
-    }
-    false
+    areas.contains(area) && ask(unit, question, area)
 }
 
-// Of the area of a record type and those homes.
-fn ask_of_type(schema: &Schema, unit: &Unit, question: &Question, rtype: RecordNo) -> bool
-    ensures { result ≡ list_any (asks unit.now.modes question.now) (areas_with_homes schema.now rtype) }
+// Of the areas in the set.
+fn ask_of_marked(schema: &Schema, unit: &Unit, question: &Question, areas: &AreaSet) -> bool
+    ensures { result ≡ list_any (λ a. marked areas.now a && asks unit.now.modes question.now a) (range_with_len 0 (length schema.now.areas)) }
 {
-    ask(unit, question, schema.area_of(rtype)) || ask_of_homes(schema, unit, question, rtype)
-}
-
-// Of the areas and homes of the marked record types.
-#[tactic(auto, using(crate::proofs::NumberLemmas::numbers_next, crate::proofs::NumberLemmas::numbers_end, crate::proofs::AreaLemmas::any_behind, crate::proofs::AreaLemmas::any_within))]
-fn ask_of_marked(schema: &Schema, unit: &Unit, question: &Question, marks: &[bool; 16]) -> bool
-    ensures { result ≡ list_any (asks unit.now.modes question.now) (flatten (map (areas_with_homes schema.now) (filter (is_marked marks.now) (range_with_len 0 (length schema.now.types))))) }
-{
-    for t in 0..type_count(schema) {
-        if marks[t as usize] && ask_of_type(schema, unit, question, RecordNo::new(t)) {
-            return true;
-        }
-    }
-    false
+    (0..area_count(schema)).any(|a| ask_if_in(unit, question, areas, AreaNo::new(a)))
 }
 
 // Of the areas of a DELETE of a record of this type.
 fn ask_of_erased(schema: &Schema, unit: &Unit, question: &Question, rtype: RecordNo) -> bool
     ensures { result ≡ list_any (asks unit.now.modes question.now) (erase_areas schema.now rtype) }
 {
-    let marks = reachable(schema, rtype);
-    ask_of_marked(schema, unit, question, &marks)
+    schema.is_well_formed();
+    ask_of_marked(schema, unit, question, &schema.erase_areas(rtype))
 }
 
 /// Does one of the areas of a statement have this?

@@ -24,7 +24,6 @@ mod order;
 mod owners;
 mod places;
 mod prepared;
-mod reach;
 mod reserving;
 mod see;
 mod statement;

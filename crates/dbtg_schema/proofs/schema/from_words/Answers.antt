@@ -30,7 +30,7 @@ sets-requires-clause-items_fit c =
     let types_same = c.deref-2.ensures.value ∙ c.in_ok-types.ensures ∙ ap (λ (ws : List Labelled). map (record_type_from c.deref.result.now) (entries role.RecordEntry ws)) c.front.ensures in
     subst (λ (ts : List RecordType). All (λ r. length r.items ≤ 16) ts) (sym types_same) (items_fit c.deref.result.now (entries role.RecordEntry (until role.SetEntry (views c.args.words.now))) c.requires.limits.items)
 
-pub indexed-requires : goal.indexed-requires
-indexed-requires c =
+pub of_lists-requires : goal.of_lists-requires
+of_lists-requires c =
     let same : ◌≡◌ {A = Lists} (record { name = c.in_ok-name.name; areas = c.of.result; types = c.of-2.result; sets = c.of-3.result }) (schema_of (views c.args.words.now)) = search rules in
     subst IsSchema (sym same) c.requires.sound

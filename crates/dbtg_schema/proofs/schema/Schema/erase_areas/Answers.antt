@@ -1,6 +1,8 @@
-use Rattle.std.proofs.Common.{◌∙◌, arith}
-use Rattle.dbtg_schema.proofs.Erasings.{touched}
+use Rattle.dbtg_schema.proofs.Erasings.{erase_known}
 use Rattle.dbtg_schema.proofs.schema.Schema.erase_areas.Goals as goal
 
-pub returns : goal.returns
-returns c = λ a h. c.loop-a.invariant.made a (omega (arith, h)) ∙ touched c.args.self.now c.args.rtype a c.reachable-marks.result c.reachable-marks.ensures
+pub returns-in-Some-clause-known : goal.returns-in-Some-clause-known
+returns-in-Some-clause-known c = erase_known c.args.self.now c.is_well_formed.ensures c.args.rtype
+
+pub returns-in-None-clause-known : goal.returns-in-None-clause-known
+returns-in-None-clause-known c = erase_known c.args.self.now c.is_well_formed.ensures c.args.rtype
