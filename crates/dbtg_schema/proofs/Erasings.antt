@@ -111,9 +111,9 @@ none_of_each schema t marks is = absurd cc
 pub one_of_each : (schema : Lists) (each : List (List Bool)) (marks : List Bool) (t : ℕ) → length each ≡ t → AreErasedOfEach each schema → AreErased schema t marks → AreErasedOfEach (each ++ marks ∷ []) schema
 unfolding AreErasedOfEach
 one_of_each schema each marks t many right more u it is =
-    elim (either_of each marks u it is)
-    [ inl h ↦ right u it h
-    | inr w ↦ subst (λ (m : List Bool). AreErased schema u m) w.1 (subst (λ (n : ℕ). AreErased schema n marks) (sym (w.0 ∙ many)) more)
+    elim (either_of each marks u it is) [
+      | inl h ↦ right u it h
+      | inr w ↦ subst (λ (m : List Bool). AreErased schema u m) w.1 (subst (λ (n : ℕ). AreErased schema n marks) (sym (w.0 ∙ many)) more)
     ]
 
 -- the areas of one of them

@@ -86,13 +86,7 @@ fn is_area_or_home(schema: &Schema, sets: u8, rtype: RecordNo, area: AreaNo) -> 
 }
 
 /// Is this type marked, and does it lead to that one?
-fn is_led_by(
-    schema: &Schema,
-    sets: u8,
-    marks: &[bool],
-    owner: RecordNo,
-    member: RecordNo,
-) -> bool
+fn is_led_by(schema: &Schema, sets: u8, marks: &[bool], owner: RecordNo, member: RecordNo) -> bool
     requires { sets ≡ length schema.now.sets }
     ensures { result ≡ (marked marks.now owner && leads_to schema.now owner member) }
 {

@@ -1,11 +1,15 @@
 //! The changes of single cells by which a statement does its work, and the change of its unit.
+ghost use Rattle.std.specs.Prelude.{◌≡◌, [], ◌∷◌, ◌++◌, OnOk};
+ghost use Rattle.dbtg_unit.specs.EditsOf.{ring_edits};
 
+use crate::in_hand::ring_name;
 use crate::kept::Kept;
 use crate::owners::Owners;
 use crate::statement::Suppress;
 use crate::unit::Place;
 use dbtg_cells::{CellName, DbKey, Mode, Owner, Value};
 use dbtg_schema::{AreaNo, Order, Row, SetNo};
+use std::alloc::AllocError;
 
 /// A change of one cell.
 #[derive(Drop)]
@@ -83,6 +87,24 @@ pub enum Edit {
 pub struct CellEdit {
     pub name: CellName,
     pub edit: Edit,
+}
+
+/// Adds the edit by which a record leaves the list of its owner in a set, where it has one.
+pub fn push_taking_out(
+    edits: &mut Row<CellEdit>,
+    set: SetNo,
+    owner: Option<Owner>,
+    key: &DbKey,
+) -> Result<(), AllocError>
+    ensures { OnOk result (edits.new ≡ edits.old ++ ring_edits set owner (Edit.TakeOut key.now ∷ [])) }
+{
+    if let Some(owner) = owner {
+        edits.push(CellEdit {
+            name: ring_name(set, &owner),
+            edit: Edit::TakeOut { key: *key },
+        })?;
+    }
+    Ok(())
 }
 
 /// The change of the unit, and of its guesses, that a statement makes.

@@ -3,15 +3,15 @@ ghost use Rattle.std.specs.Prelude.{◌≡◌, [], is_some, option_and_then, opt
 ghost use Rattle.dbtg_schema.specs.Lookups.{first_cause};
 ghost use Rattle.dbtg_unit.specs.Checks.{own_checks};
 ghost use Rattle.dbtg_unit.specs.CellNames.{place_of};
-ghost use Rattle.dbtg_unit.specs.InHand.{in_hand, numbers_in, occurrence_in, stored_in, users_in};
+ghost use Rattle.dbtg_unit.specs.InHand.{in_hand, numbers_in, occurrence_in, owner_in, stored_in, users_in};
 
 use crate::held::Held;
 use crate::unit::{Cause, Unit};
 use dbtg_cells::{Cell, CellName, DbKey, Extent, Owner, Ring, Stored, Usage, same_owner};
 use dbtg_schema::{AreaNo, RecordNo, SetNo};
 
-// How an owner names a ring.
-fn ring_name(set: SetNo, owner: &Owner) -> CellName
+/// The name of an owner's ring in a set.
+pub fn ring_name(set: SetNo, owner: &Owner) -> CellName
     ensures { result ≡ CellName.Ring set (place_of owner.now) }
 {
     match owner {
@@ -36,6 +36,19 @@ pub fn stored<'a>(held: &'a Held, key: &DbKey) -> Option<&'a Stored>
             None => None,
         },
         _ => None,
+    }
+}
+
+/// The owner of a record in a set, by its slot in hand.
+pub fn owner_of(held: &Held, set: SetNo, key: &DbKey) -> Option<Owner>
+    ensures { result ≡ owner_in held.now set key.now }
+{
+    match stored(held, key) {
+        Some(stored) => match stored.owners.as_slice().get(set.index() as usize) {
+            Some(owner) => *owner,
+            None => None,
+        },
+        None => None,
     }
 }
 

@@ -11,9 +11,10 @@ use Rattle.dbtg_schema.proofs.schema.of_lists.Goals as goal
 pub invariant_of-schema : goal.invariant_of-schema
 invariant_of-schema c =
     let lists : Lists = record { name = c.args.name; areas = c.args.areas; types = c.args.types; sets = c.args.sets } in
-    let index = c.in_ok-index.index in
-    (c.requires,
-    subst (λ (sets : List SetType). IsSchemaIndex index c.args.areas c.args.types sets) c.as_slice-3.ensures
-    (subst (λ (types : List RecordType). IsSchemaIndex index c.args.areas types c.as_slice-3.result.now) c.as_slice-2.ensures
-    (subst (λ (areas : List Area). IsSchemaIndex index areas c.as_slice-2.result.now c.as_slice-3.result.now) c.as_slice.ensures c.in_ok-index.ensures)),
-    subst (λ (each : List (List Bool)). AreErasedOfEach each lists) (sym (c.of-2.ensures ∙ c.new.ensures.items)) (none_of_each lists))
+    let index = c.in_ok-index.index in (
+      c.requires,
+      subst (λ (sets : List SetType). IsSchemaIndex index c.args.areas c.args.types sets) c.as_slice-3.ensures
+          (subst (λ (types : List RecordType). IsSchemaIndex index c.args.areas types c.as_slice-3.result.now) c.as_slice-2.ensures
+          (subst (λ (areas : List Area). IsSchemaIndex index areas c.as_slice-2.result.now c.as_slice-3.result.now) c.as_slice.ensures c.in_ok-index.ensures)),
+      subst (λ (each : List (List Bool)). AreErasedOfEach each lists) (sym (c.of-2.ensures ∙ c.new.ensures.items)) (none_of_each lists),
+    )
