@@ -3,19 +3,17 @@ ghost use Rattle.std.specs.Prelude.{◌≡◌, [], ◌∷◌, ◌++◌, filter, 
 ghost use Rattle.std.specs.List.{flat_map};
 ghost use Rattle.dbtg_schema.specs.Lookups.{some_and};
 ghost use Rattle.dbtg_schema.specs.Structure.{owns, set_numbers};
-ghost use Rattle.dbtg_unit.specs.declared.edit.Edit.TheVariants.{ChangeOwner, TakeOut, Vacate};
-ghost use Rattle.dbtg_unit.specs.CellNames.{place_of};
-ghost use Rattle.dbtg_unit.specs.EditsOf.{closing_edits, erasing_edits, leave_number, leaving_edits, left_behind, losing_edits, lost_sets, ring_edits, slot_edit, staying_owner};
+ghost use Rattle.dbtg_unit.specs.declared.edit.Edit.TheVariants.{ChangeOwner, Vacate};
+ghost use Rattle.dbtg_unit.specs.EditsOf.{closing_edits, erasing_edits, leave_number, leaving_edits, left_behind, losing_edits, lost_sets, slot_edit, staying_owner};
 ghost use Rattle.dbtg_unit.specs.Effect.{is_gone};
 ghost use Rattle.dbtg_unit.specs.InHand.{owner_in};
 ghost use Rattle.dbtg_erase.specs.ErasePlan.{close_ring, lose_owner};
 ghost use Rattle.dbtg_erase.specs.WorkList.{members_in_hand};
 
 use crate::keys::Keys;
-use crate::work_list::owner;
 use dbtg_cells::{CellName, DbKey, Owner};
 use dbtg_schema::{Row, Schema, SetNo};
-use dbtg_unit::{CellEdit, Edit, Held, set_count};
+use dbtg_unit::{CellEdit, Edit, Held, owner_of, push_taking_out, set_count};
 use std::alloc::{AllocError, Global};
 
 // Adds an edit of the slot of a key.
@@ -25,15 +23,6 @@ fn push_slot_edit(key: &DbKey, edit: Edit, edits: &mut Row<CellEdit>) -> Result<
     let name = CellName::Slot(key.rtype, key.number);
     edits.push(CellEdit { name, edit })?;
     Ok(())
-}
-
-pub(crate) fn ring_name(set: SetNo, owner: &Owner) -> CellName
-    ensures { result ≡ CellName.Ring set (place_of owner.now) }
-{
-    match owner {
-        Owner::System => CellName::Ring(set, None),
-        Owner::Rec(key) => CellName::Ring(set, Some((key.rtype, key.number))),
-    }
 }
 
 fn is_gone(gone: &Keys, owner: &Owner) -> bool
@@ -85,24 +74,6 @@ fn leave_numbers(gone: &[DbKey], edits: &mut Row<CellEdit>) -> Result<(), AllocE
     Ok(())
 }
 
-// Takes a record out of the list of an owner, where there is one.
-fn take_out(
-    set: SetNo,
-    owner: Option<Owner>,
-    key: &DbKey,
-    edits: &mut Row<CellEdit>,
-) -> Result<(), AllocError>
-    ensures { OnOk result (edits.new ≡ edits.old ++ ring_edits set owner (TakeOut key.now ∷ [])) }
-{
-    if let Some(owner) = owner {
-        edits.push(CellEdit {
-            name: ring_name(set, &owner),
-            edit: Edit::TakeOut { key: *key },
-        })?;
-    }
-    Ok(())
-}
-
 // Takes a record out of the lists of the owners that stay.
 #[tactic(auto, using(dbtg_unit::proofs::NumberLemmas::numbers_next, dbtg_unit::proofs::NumberLemmas::numbers_end, crate::proofs::EditLists::edits_append))]
 fn leave_lists(
@@ -116,7 +87,7 @@ fn leave_lists(
 {
     for s in 0..set_count(schema) {
         let set = SetNo::new(s);
-        take_out(set, staying(gone, owner(held, set, key)), key, edits)?;
+        push_taking_out(edits, set, staying(gone, owner_of(held, set, key)), key)?;
     }
     Ok(())
 }
@@ -200,7 +171,7 @@ fn lose_owner(
 ) -> Result<(), AllocError>
     ensures { OnOk result (edits.new ≡ edits.old ++ map (lose_owner key.now) (filter (λ s. some_and (is_gone gone.now) (owner_in held.now s key.now)) (set ∷ []))) }
 {
-    if is_lost(gone, owner(held, set, key)) {
+    if is_lost(gone, owner_of(held, set, key)) {
         push_slot_edit(key, Edit::ChangeOwner { set, owner: None }, edits)?;
     }
     Ok(())

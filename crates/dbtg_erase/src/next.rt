@@ -13,14 +13,14 @@ ghost use Rattle.dbtg_unit.specs.Needs.{areas_in_order, need, ring_names};
 ghost use Rattle.dbtg_erase.specs.NextCell.{first_missing, is_missing, least_name, nearer, need_of, next_cell_in, next_cell_of, next_of_gone, next_of_passed, outer_names, ring_of, stops_at};
 ghost use Rattle.dbtg_erase.specs.WorkList.{cells_of_gone, list_in, members_in_hand};
 
-use crate::edits::ring_name;
 use crate::keys::Keys;
 use crate::preparing::has_any;
-use crate::work_list::{gone, list, owner};
+use crate::work_list::{gone, list};
 use dbtg_cells::{CellName, DbKey, Owner, name_below};
 use dbtg_schema::{Schema, SetNo};
 use dbtg_unit::{
-    Erase, Held, Need, Statement, Unit, next_area, own_refusal, refused_at_once, set_count,
+    Erase, Held, Need, Statement, Unit, next_area, own_refusal, owner_of, refused_at_once,
+    ring_name, set_count,
 };
 use std::alloc::{AllocError, Global};
 
@@ -210,7 +210,7 @@ fn nearest_rings(
     let mut nearest = best;
     for s in 0..set_count(schema) {
         let set = SetNo::new(s);
-        nearest = nearest_ring(held, nearest, set, owner(held, set, key));
+        nearest = nearest_ring(held, nearest, set, owner_of(held, set, key));
     }
     nearest
 }

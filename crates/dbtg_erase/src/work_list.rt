@@ -6,13 +6,12 @@ ghost use Rattle.dbtg_schema.specs.Lookups.{some_and};
 ghost use Rattle.dbtg_schema.specs.Structure.{is_mandatory, member_clause};
 ghost use Rattle.dbtg_unit.specs.Doomed.{takes_member};
 ghost use Rattle.dbtg_unit.specs.Erasing.{with_those};
-ghost use Rattle.dbtg_unit.specs.InHand.{owner_in};
 ghost use Rattle.dbtg_erase.specs.WorkList.{elsewhere_in, gone_in, list_in, taken_in, taken_of_set};
 
 use crate::keys::Keys;
 use dbtg_cells::{DbKey, Owner, same_owner};
 use dbtg_schema::{Schema, SetNo};
-use dbtg_unit::{Erase, Held, occurrence, set_count, stored, type_count};
+use dbtg_unit::{Erase, Held, occurrence, owner_of, set_count, type_count};
 use std::alloc::{AllocError, Global};
 
 /// The members of a record's list of a set in hand.
@@ -27,19 +26,6 @@ pub(crate) fn list(
     match occurrence(held, set, &Owner::Rec(*key)) {
         Some(ring) => ring.keys(alloc),
         None => Ok(Vec::new(alloc)),
-    }
-}
-
-/// The owner of a record in a set, by its slot in hand.
-pub(crate) fn owner(held: &Held, set: SetNo, key: &DbKey) -> Option<Owner>
-    ensures { result ≡ owner_in held.now set key.now }
-{
-    match stored(held, key) {
-        Some(record) => match record.owners.as_slice().get(set.index() as usize) {
-            Some(owner) => *owner,
-            None => None,
-        },
-        None => None,
     }
 }
 
@@ -60,7 +46,7 @@ fn is_elsewhere(schema: &Schema, held: &Held, set: SetNo, own: &DbKey, member: &
 {
     for s in 0..set_count(schema) {
         let other = SetNo::new(s);
-        if is_other(other, owner(held, other, member), set, own) {
+        if is_other(other, owner_of(held, other, member), set, own) {
             return true;
         }
     }
