@@ -14,10 +14,9 @@ ghost use Rattle.dbtg_unit.specs.Needs.{current_owner};
 ghost use Rattle.dbtg_unit.specs.Reserving.{CanTakeMember, KeepsOthers, OfHeld};
 ghost use Rattle.dbtg_plan.specs.Joining.{joined_place, joining_edit};
 
-use crate::members::ring_name;
 use dbtg_cells::{CellName, DbKey, Owner, Ring, Value};
 use dbtg_schema::{Duplicates, Order, Schema, SetNo};
-use dbtg_unit::{Cause, CellEdit, Edit, Held, Place, Unit, occurrence, reserve_member};
+use dbtg_unit::{Cause, CellEdit, Edit, Held, Place, Unit, occurrence, reserve_member, ring_name};
 use std::alloc::AllocError;
 
 /// The current of a set; SYSTEM where there is none.

@@ -1,26 +1,15 @@
-//! A record in hand as a member of sets: its owner, its sort key, its next version; and how rings and slots are named.
+//! A record in hand as a member of sets: its sort key, its next version; and edits of its slot.
 ghost use Rattle.std.specs.Prelude.{◌≡◌, ◌+◌, IfOk};
 ghost use Rattle.dbtg_unit.specs.Base.{key_item};
-ghost use Rattle.dbtg_unit.specs.CellNames.{place_of};
 ghost use Rattle.dbtg_unit.specs.EditsOf.{slot_edit};
-ghost use Rattle.dbtg_unit.specs.InHand.{items_in, owner_in, version_in};
+ghost use Rattle.dbtg_unit.specs.InHand.{items_in, version_in};
 ghost use Rattle.dbtg_unit.specs.Making.{HaveNextVersions};
 
 use crate::calc::copy_item;
-use dbtg_cells::{CellName, DbKey, Owner, Value};
+use dbtg_cells::{CellName, DbKey, Value};
 use dbtg_schema::{RecordNo, Schema, SetNo};
 use dbtg_unit::{CellEdit, Edit, Held, stored};
 use std::alloc::{AllocError, Global};
-
-/// The name of an owner's ring in a set.
-pub(crate) fn ring_name(set: SetNo, owner: &Owner) -> CellName
-    ensures { result ≡ CellName.Ring set (place_of owner.now) }
-{
-    match owner {
-        Owner::System => CellName::Ring(set, None),
-        Owner::Rec(key) => CellName::Ring(set, Some((key.rtype, key.number))),
-    }
-}
 
 /// An edit of the slot of a key.
 pub(crate) fn slot_edit(key: &DbKey, edit: Edit) -> CellEdit
@@ -29,19 +18,6 @@ pub(crate) fn slot_edit(key: &DbKey, edit: Edit) -> CellEdit
     CellEdit {
         name: CellName::Slot(key.rtype, key.number),
         edit,
-    }
-}
-
-/// The owner of a record in hand in a set.
-pub(crate) fn owner_of(held: &Held, set: SetNo, key: &DbKey) -> Option<Owner>
-    ensures { result ≡ owner_in held.now set key.now }
-{
-    match stored(held, key) {
-        Some(stored) => match stored.owners.as_slice().get(set.index() as usize) {
-            Some(owner) => *owner,
-            None => None,
-        },
-        None => None,
     }
 }
 

@@ -12,13 +12,14 @@ ghost use Rattle.dbtg_unit.specs.Needs.{cells_of};
 ghost use Rattle.dbtg_plan.specs.Missing.{first_missing};
 ghost use Rattle.dbtg_plan.specs.Removing.{removing};
 
-use crate::members::{next_version, owner_of, ring_name, slot_edit};
+use crate::members::{next_version, slot_edit};
 use crate::missing::{missing_ring, missing_slot};
 use crate::outcomes::refused;
 use dbtg_cells::{CellName, DbKey, Owner};
 use dbtg_schema::{Row, Schema, SetNo};
 use dbtg_unit::{
-    Answer, Cause, CellEdit, Edit, Held, Prepared, Status, Unit, UnitEdit, own_refusal,
+    Answer, Cause, CellEdit, Edit, Held, Prepared, Status, Unit, UnitEdit, own_refusal, owner_of,
+    push_taking_out,
 };
 use std::alloc::{AllocError, Global};
 
@@ -53,24 +54,6 @@ fn refusal(unit: &Unit, set: SetNo, held: &Held, key: &DbKey) -> Option<Cause>
     None
 }
 
-// Out of the ring of its owner, where it has one.
-fn push_taking_out(
-    edits: &mut Vec<CellEdit>,
-    set: SetNo,
-    owner: Option<Owner>,
-    key: &DbKey,
-) -> Result<(), AllocError>
-    ensures { IfOk result (λ _. edits.new.items ≡ edits.old.items ++ ring_edits set owner (Edit.TakeOut key.now ∷ [])) }
-{
-    if let Some(owner) = owner {
-        edits.push(CellEdit {
-            name: ring_name(set, &owner),
-            edit: Edit::TakeOut { key: *key },
-        })?;
-    }
-    Ok(())
-}
-
 // Out of the ring, its owner, its version.
 fn edits_of(
     alloc: Global,
@@ -80,11 +63,11 @@ fn edits_of(
 ) -> Result<Row<CellEdit>, AllocError>
     ensures { IfOk result (λ edits. edits ≡ ring_edits set owner (Edit.TakeOut key.now ∷ []) ++ slot_edit key.now (Edit.ChangeOwner set None) ∷ slot_edit key.now Edit.RaiseVersion ∷ []) }
 {
-    let mut edits = Vec::new(alloc);
+    let mut edits = Row::of(Vec::new(alloc));
     push_taking_out(&mut edits, set, owner, key)?;
     edits.push(slot_edit(key, Edit::ChangeOwner { set, owner: None }))?;
     edits.push(slot_edit(key, Edit::RaiseVersion))?;
-    Ok(Row::of(edits))
+    Ok(edits)
 }
 
 fn removed(alloc: Global, set: SetNo, held: &Held, key: &DbKey) -> Result<Prepared, AllocError>

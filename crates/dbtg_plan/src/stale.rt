@@ -2,13 +2,12 @@
 ghost use Rattle.std.specs.Prelude.{◌≡◌, ◌==◌, ◌<◌, is_some, length, map};
 ghost use Rattle.std.specs.List.{list_any};
 ghost use Rattle.dbtg_schema.specs.Structure.{rekeyed_sets};
-ghost use Rattle.dbtg_unit.specs.InHand.{owner_in};
 ghost use Rattle.dbtg_unit.specs.Needs.{guessed_sets, is_wrong_guess};
 ghost use Rattle.dbtg_plan.specs.Stale.{need_of_guesses, need_of_owners, wrong_owner_in, wrong_owners_in};
 
 use dbtg_cells::{DbKey, Owner, same_owner};
 use dbtg_schema::{RecordNo, Schema, SetNo};
-use dbtg_unit::{Change, Held, Need, Owners, Statement, Unit, is_rekeyed_in, set_count, stored};
+use dbtg_unit::{Change, Held, Need, Owners, Statement, Unit, is_rekeyed_in, owner_of, set_count};
 
 // Is this one of the sets in which a MODIFY moves the record?
 fn is_moved_in(schema: &Schema, set: SetNo, rtype: RecordNo, changes: &[Change]) -> bool
@@ -30,19 +29,6 @@ fn is_guessed(schema: &Schema, unit: &Unit, statement: &Statement, set: SetNo) -
             is_moved_in(schema, set, *rtype, changes.as_slice())
         }
         _ => false,
-    }
-}
-
-// The owner of a record in a set, by its slot in hand.
-fn owner_in_hand(held: &Held, key: &DbKey, set: SetNo) -> Option<Owner>
-    ensures { result ≡ owner_in held.now set key.now }
-{
-    match stored(held, key) {
-        Some(record) => match record.owners.as_slice().get(set.index() as usize) {
-            Some(owner) => *owner,
-            None => None,
-        },
-        None => None,
     }
 }
 
@@ -69,7 +55,7 @@ fn wrong_owner(
     requires { set < length schema.now.sets }
     ensures { result ≡ wrong_owner_in held.now (guessed_sets schema.now unit.now statement.now) key.now set }
 {
-    let truth = owner_in_hand(held, key, set);
+    let truth = owner_of(held, set, key);
     let guess = held.guess(set);
     if is_guessed(schema, unit, statement, set) && is_wrong(&truth, &guess) {
         truth
