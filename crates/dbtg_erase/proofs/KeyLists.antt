@@ -35,10 +35,6 @@ brought_next taken n i order d below at =
 pub brought_ended : (taken : DbKey → List DbKey) (n i : ℕ) (order : List DbKey) → slice_get order i ≡ None → brought taken n i order ≡ order
 brought_ended taken n i order at = stable taken n i order (past i order at)
 
--- of two lists, those that pass
-pub with_those_filter : (p : DbKey → Bool) (order xs ys : List DbKey) → with_those order (filter p (xs ++ ys)) ≡ with_those (with_those order (filter p xs)) (filter p ys)
-with_those_filter p order xs ys = ap (with_those order) (filter_append p xs ys) ∙ with_those_append order (filter p xs) (filter p ys)
-
 pub append_nil : {X : Type 0} (xs : List X) → xs ++ [] ≡ xs
 append_nil [] = refl
 append_nil (x ∷ xs) = ap (λ ys. x ∷ ys) (append_nil xs)

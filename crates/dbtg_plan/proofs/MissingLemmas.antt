@@ -23,8 +23,5 @@ missing_or_held : (c : CellName) (cells : List (CellName × Cell)) → list_any 
 missing_or_held c [] = refl
 missing_or_held c (e ∷ es) = elim (name_eq c e.0) as (λ b. (b || list_any (λ e. name_eq c e.0) es) ≡ cond b true (holds es c)) [ true ↦ refl | false ↦ missing_or_held c es ]
 
-pub not_missing : (hands : Hands) (c : CellName) → holds hands.cells c ≡ true → is_missing hands c ≡ false
-not_missing hands c held = ap not (missing_or_held c hands.cells ∙ held)
-
 pub is_held : (hands : Hands) (c : CellName) → is_missing hands c ≡ false → holds hands.cells c ≡ true
 is_held hands c there = sym (missing_or_held c hands.cells) ∙ not-false _ there

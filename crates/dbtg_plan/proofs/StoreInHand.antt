@@ -28,7 +28,7 @@ use Rattle.dbtg_unit.specs.EditsOf.{first_owners}
 use Rattle.dbtg_unit.specs.Effect.{Outcome, calc_taken, connected_in, effect, free_number, new_key, store_checks, stored, unless_refused, with_new}
 use Rattle.dbtg_unit.specs.Guesses.{guesses_after}
 use Rattle.dbtg_unit.specs.Hands.{Hands}
-use Rattle.dbtg_unit.specs.InHand.{in_hand, next_key_of, numbers_in}
+use Rattle.dbtg_unit.specs.InHand.{in_hand, numbers_in}
 use Rattle.dbtg_unit.specs.Legal.{Legal}
 use Rattle.dbtg_unit.specs.Local.{Agrees, holds}
 use Rattle.dbtg_unit.specs.Needs.{cells_of, current_owner, ring_names, store_cells, store_rings}
@@ -174,25 +174,3 @@ module _ (schema : Lists) (capacity : ℕ) (unit : Unit) (hands : Hands) (t : �
     plan-is_effect =
         subst (λ (key : DbKey). IsEffect schema capacity db unit hands.guesses (Store t items suppress) (unless_refusal (first_cause (store_checks schema (in_hand hands) unit t items)) (stored_plan schema unit items suppress key)))
         (sym key-in_hand) (by-cause (first_cause (store_checks schema (in_hand hands) unit t items)) refl)
-
--- THE KEY
-
-none-some : {X Y : Type 0} {x : X} → ◌≡◌ {A = Option X} (Some x) None → Y
-none-some h = cc
-
-same-some : {X : Type 0} {x y : X} → ◌≡◌ {A = Option X} (Some x) (Some y) → x ≡ y
-same-some h = cc
-
--- where there is a key there is a number, and the key is its next
-pub key-there : (hands : Hands) (t : ℕ) (key : DbKey) → Some key ≡ fresh_key (numbers_in hands t) t → ((in_hand hands).is_full t ≡ false) × (key ≡ stored_key hands t)
-key-there hands t key = of (first (numbers_where is_free (numbers_in hands t))) where
-  of : (o : Option ℕ) → Some key ≡ option_map (next_key_of (numbers_in hands t) t) o → (is_none o ≡ false) × (key ≡ next_key_of (numbers_in hands t) t (unwrap_or o 0))
-  of None h = none-some h
-  of (Some n) h = (refl, same-some h)
-
--- and where there is none all numbers are in use or spent
-pub key-lacks : (hands : Hands) (t : ℕ) → None ≡ fresh_key (numbers_in hands t) t → (in_hand hands).is_full t ≡ true
-key-lacks hands t = of (first (numbers_where is_free (numbers_in hands t))) where
-  of : (o : Option ℕ) → None ≡ option_map (next_key_of (numbers_in hands t) t) o → is_none o ≡ true
-  of None h = refl
-  of (Some n) h = none-some (sym h)

@@ -1,9 +1,9 @@
 -- The steps of a STORE over the sets of a schema.
 -- s is a set, t a record type, i how many sets are behind.
-use Rattle.std.proofs.Common.{◌≡◌, ◌≢◌, refl, sym, ◌∙◌, ap, subst, ℕ, zero, suc, ◌+◌, ◌<◌, ◌≤◌, Bool, true, false, cond, ◌&&◌, List, [], ◌∷◌, ◌++◌, Option, Some, None, eqb, inl, inr, map, drop, length, append_assoc, append-nil, arith}
+use Rattle.std.proofs.Common.{◌≡◌, ◌≢◌, refl, sym, ◌∙◌, ap, ℕ, zero, suc, ◌+◌, ◌<◌, ◌≤◌, Bool, true, false, cond, List, [], ◌∷◌, ◌++◌, Option, Some, None, eqb, inl, inr, map, drop, length, append_assoc, append-nil, arith}
 use Rattle.std.specs.Prelude.{filter, is_some, option_and_then, replicate, slice_get}
 use Rattle.std.specs.List.{enumerate_from, find, flat_map, list_any, range_with_len}
-use Rattle.std.proofs.lemmas.Bool.{cases_Bool, eqb-false, eqb-true, false_from_ne_true, false≢true}
+use Rattle.std.proofs.lemmas.Bool.{cases_Bool, false_from_ne_true, false≢true}
 use Rattle.std.proofs.lemmas.List.Folds.{find-append}
 use Rattle.dbtg_schema.specs.Lists.{Lists}
 use Rattle.dbtg_schema.specs.Lookups.{first_cause, some_and}
@@ -15,20 +15,15 @@ use Rattle.dbtg_cells.specs.declared.key.Owner.TheVariants.{Rec}
 use Rattle.dbtg_cells.specs.declared.key.Value.{Value}
 use Rattle.dbtg_cells.specs.declared.name.CellName.{CellName}
 use Rattle.dbtg_cells.specs.declared.name.CellName.TheVariants.{Extent, Ring}
-use Rattle.dbtg_cells.specs.Names.{place_eq}
 use Rattle.dbtg_unit.specs.declared.edit.CellEdit.{CellEdit}
 use Rattle.dbtg_unit.specs.declared.edit.Edit.TheVariants.{EnterNumber, Fill, OpenRing}
 use Rattle.dbtg_unit.specs.declared.unit.Unit.{Unit}
 use Rattle.dbtg_unit.specs.Base.{calc_items, key_item}
-use Rattle.dbtg_unit.specs.CellNames.{place_of}
 use Rattle.dbtg_unit.specs.EditsOf.{first_owners, joining_edits, slot_edit, store_edits}
 use Rattle.dbtg_unit.specs.Hands.{Hands}
-use Rattle.dbtg_unit.specs.Reserving.{CanTakeMember, KeepsOthers}
 use Rattle.dbtg_unit.proofs.CheckLemmas.{number_within}
 use Rattle.dbtg_unit.proofs.EditLemmas.{has_number-filter, has_number-passes, has_number-range, has_number-unfiltered}
 use Rattle.dbtg_unit.proofs.NumberLemmas.{numbers_end}
-use Rattle.dbtg_unit.proofs.ReservingLemmas.{of_held-kept}
-use Rattle.dbtg_plan.specs.Joining.{joined_place}
 use Rattle.dbtg_plan.specs.Missing.{first_missing, is_missing}
 use Rattle.dbtg_plan.specs.Store.{HasRoom, openings_of}
 use Rattle.dbtg_plan.proofs.SetSteps.{first_cause-append, flat_step, or_first, or_second}
@@ -151,19 +146,6 @@ owners_before f (suc n) a = ap (λ ys. f a ∷ ys) (owners_before f n (a + 1))
 -- there is room in the sets that are behind
 abbrev pub RoomsBelow : Lists → Unit → Hands → DbKey → ℕ → Type 0
 RoomsBelow schema unit hands k i = (s : ℕ) → s < i → HasRoom schema unit hands k s
-
--- and in the next
-pub rooms_next : (schema : Lists) (unit : Unit) (old new : Hands) (k : DbKey) (i : ℕ) → RoomsBelow schema unit old k i
-    → KeepsOthers (Ring i (place_of (joined_place schema unit i).owner)) old.cells new.cells → HasRoom schema unit new k i → RoomsBelow schema unit new k (i + 1)
-rooms_next schema unit old new k i rooms keeps room s low =
-    elim (cases_Bool (eqb s i)) [
-      | inl e ↦ subst (λ (u : ℕ). HasRoom schema unit new k u) (sym (eqb-true s i e)) room
-      | inr e ↦
-          let other : s ≢ i = eqb-false s i e in
-          let below : s < i = omega arith in
-          λ joins. of_held-kept (CanTakeMember k) (Ring s (place_of (joined_place schema unit s).owner)) (Ring i (place_of (joined_place schema unit i).owner)) old.cells new.cells keeps
-          (ap (λ b. b && place_eq (place_of (joined_place schema unit s).owner) (place_of (joined_place schema unit i).owner)) e) (rooms s below joins)
-    ]
 
 -- a set that is not the schema's is joined by none
 pub rooms_all : (schema : Lists) (unit : Unit) (hands : Hands) (k : DbKey) (i : ℕ) → length schema.sets ≤ i → RoomsBelow schema unit hands k i → (s : ℕ) → HasRoom schema unit hands k s
