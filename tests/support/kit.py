@@ -67,7 +67,7 @@ def check_words(crates, name, root=ROOT):
     for it in below(crates, name):
         words += ["-L", f"dependency={os.path.dirname(rlib(it, root))}"]
     words += ["--antt-project", f"{kit()}/rattle/logic/antt-project.json", "--logic-built", f"{kit()}/logic_built"]
-    return [*words, "--links", f"{name}=", "--jobs", "1"]
+    return [*words, "--links", f"{name}="]
 
 
 def rlib(name, root=ROOT):

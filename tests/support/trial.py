@@ -20,24 +20,41 @@ PARTS = ("src", "specs", "proofs")
 
 
 class Lanes:
-    """As many checks at a time as there are lanes, each as nice as is said; counts the processor seconds that they took. A check
-    waits for memory while others run, and is what the system kills first where memory ends: then it runs again."""
+    """As many processes of checks at a time as there are lanes, each as nice as is said; counts the processor seconds that they
+    took. A check waits for memory while others run, and is what the system kills first where memory ends: then it runs again."""
 
     ROOM = 5_000_000_000
     RUNS = 3
 
     def __init__(self, count, nice=0):
-        self.free, self.lock, self.seconds, self.nice, self.running = threading.BoundedSemaphore(count), threading.Lock(), {}, nice, 0
+        self.count, self.nice, self.lock, self.news = count, nice, threading.Lock(), threading.Condition()
+        self.free, self.seconds, self.running = count, {}, 0
 
-    def run(self, crate, words, folder):
-        """Runs a command once a lane is free, and gives what it printed."""
-        with self.free:
+    def run(self, crate, words, folder, is_long=False):
+        """Runs a check once a lane is free, and gives what it printed. A long one takes all lanes that are free then: it may be
+        the last that others wait for."""
+        taken = self.take(self.count if is_long else 1)
+        try:
             for _ in range(self.RUNS):
                 self.wait_for_memory()
-                status, text = self.ran(crate, words, folder)
+                status, text = self.ran(crate, [*words, "--jobs", str(taken)], folder)
                 if status != -signal.SIGKILL:
                     break
-        return text
+            return text
+        finally:
+            self.give(taken)
+
+    def take(self, most):
+        with self.news:
+            self.news.wait_for(lambda: self.free > 0)
+            taken = min(most, self.free)
+            self.free -= taken
+            return taken
+
+    def give(self, taken):
+        with self.news:
+            self.free += taken
+            self.news.notify_all()
 
     def wait_for_memory(self):
         while self.running and kit.free_memory() < self.ROOM:
@@ -47,16 +64,16 @@ class Lanes:
         """Runs a command once, and gives how it ended and what it printed."""
         with tempfile.TemporaryFile("w+", errors="replace") as out:
             process = subprocess.Popen(words, cwd=folder, stdin=subprocess.DEVNULL, stdout=out, stderr=subprocess.STDOUT, preexec_fn=self.step_back)
-            self.count(1)
+            self.note(1)
             _, status, used = os.wait4(process.pid, 0)
-            self.count(-1)
+            self.note(-1)
             process.returncode = os.waitstatus_to_exitcode(status)
             with self.lock:
                 self.seconds[crate] = self.seconds.get(crate, 0) + used.ru_utime + used.ru_stime
             out.seek(0)
             return process.returncode, out.read()
 
-    def count(self, change):
+    def note(self, change):
         with self.lock:
             self.running += change
 
@@ -151,10 +168,11 @@ class Trial:
             for file, text in together(batch, self.sources).items():
                 with open(f"{copy}/{file}", "w", encoding="utf-8") as out:
                     out.write(text)
-            if not kept:
+            begins = bool(kept)
+            if not begins:
                 kept = f"{copy}/kept"
                 shutil.copytree(self.kept, kept, copy_function=linked)
-            text = self.lanes.run(self.crate, [*self.words, *self.asked(batch), "--incremental", kept], copy)
+            text = self.lanes.run(self.crate, [*self.words, *self.asked(batch), "--incremental", kept], copy, begins)
         self.log.write(f"=== {self.crate}: {' '.join(it.name for it in batch)}\n{text}\n")
         return Said(text, self.crate)
 
