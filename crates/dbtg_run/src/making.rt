@@ -86,6 +86,37 @@ fn newcomer(
     Ok(RunUnit::of(work))
 }
 
+// The units before their first statements, each at a seat that is cut off from the first. The last unit has the first seat: a seat
+// is for one thread, so the database keeps none.
+fn seat_units(
+    alloc: Global,
+    schema: &Schema,
+    board: &Board,
+    about: &About,
+    first: Chair,
+) -> Result<Vec<RunUnit>, AllocError>
+    requires same { about.now.schema.value ≡ schema.now }
+    requires sound { IsSound schema.now }
+    requires units { (1 ≤ about.now.units) × (about.now.units ≤ 8) }
+    requires keyed { board.now.shared.key ≡ about.now }
+    requires sized { IsSized about.now board.now.shared.table_id }
+    requires table { first.table_id ≡ board.now.shared.table_id }
+    requires seat { first.me ≡ (first_view about.now, []) }
+    ensures { IfOk result (λ units. units.items ≡ opening_views board.now.shared.table_id about.now about.now.units) }
+{
+    let mut rest = first;
+    let mut made = Vec::with_capacity(alloc, about.units as usize)?;
+    let last = about.units - 1;
+    for place in 0..last {
+        let seat = cut_off(&board.shared, &mut rest);
+        let unit = newcomer(alloc, schema, about, place + 1, seat)?;
+        made.push_reserved(unit);
+    }
+    let unit = newcomer(alloc, schema, about, about.units, rest)?;
+    made.push_reserved(unit);
+    Ok(made)
+}
+
 impl Database {
     /// A database of this schema before its first statement, and its run-units in the order of their numbers, which are from 1
     /// on. There are from 1 to 8 units. The capacity is the greatest number that a record of a type can have, and may be any.
@@ -106,17 +137,8 @@ impl Database {
             capacity,
             units,
         };
-        let (board, mut rest) = lay(alloc, &schema, &about)?;
-        let mut made = Vec::with_capacity(alloc, units as usize)?;
-        let last = units - 1;
-        for place in 0..last {
-            let seat = cut_off(&board.shared, &mut rest);
-            let unit = newcomer(alloc, &schema, &about, place + 1, seat)?;
-            made.push_reserved(unit);
-        }
-        // The last unit has the first seat: a seat is for one thread, so the database keeps none.
-        let unit = newcomer(alloc, &schema, &about, units, rest)?;
-        made.push_reserved(unit);
+        let (board, seat) = lay(alloc, &schema, &about)?;
+        let made = seat_units(alloc, &schema, &board, &about, seat)?;
         Ok((
             Database {
                 board,
