@@ -1,26 +1,10 @@
 //! Makes the public calls of a run of two scripts by moves, one after another, and each that tells of want of memory once more: so a run
 //! of which one growth of memory was refused ends as one of which none was. Prints what `dbtg check schema script.1 script.2` and
 //! `dbtg replay --moves moves schema script.1 script.2` do, and on standard error the call that met the refusal, or how a call was not
-//! as it must be. It stands in the place of the program's main file, beside its other files. See tests/refuse-calls.
+//! as it must be. It stands in the place of the program's main file, whose modules are put beside `hands`. See tests/refuse-calls.
 #![tactic(auto)]
 
-mod at_hand;
-mod capacity;
-mod check;
-mod command;
-mod explain;
-mod fault;
-mod files;
 mod hands;
-mod order;
-mod place;
-mod reading;
-mod reason;
-mod replay;
-mod source;
-mod texts;
-mod threads;
-mod turns;
 
 use check::check_bytes;
 use dbtg_schema::{Row, Schema, SchemaFault};
