@@ -1,5 +1,5 @@
 //! A warehouse: a database and the units of its two clerks, from the opening to the settlement.
-ghost use Rattle.std.specs.Prelude.{◌≡◌, ◌∷◌, [], All, IfOk, IfSome, OnOk};
+ghost use Rattle.std.specs.Prelude.{◌≡◌, ◌∷◌, [], All, IfOk, IfSome, IsOk, OnOk};
 ghost use Rattle.dbtg_schema.specs.Sound.{IsSound};
 ghost use Rattle.dbtg_run.specs.Settling.{IsSettled};
 ghost use Rattle.dbtg_run.specs.UnitView.{BelongsTo};
@@ -60,6 +60,24 @@ pub fn new_house(alloc: Global, text: &[u8]) -> Result<Warehouse, Stop>
     }
 }
 
+// Each clerk makes the statements of his text, the second when the first is done.
+fn open_both<R: Wait>(
+    rt: &R,
+    alloc: Global,
+    house: &mut Warehouse,
+    first_text: &[u8],
+    second_text: &[u8],
+) -> Result<(), Stop>
+    requires staffed { IsStaffed house.old }
+    ensures staffed { OnOk result (IsStaffed house.new) }
+    ensures same { OnOk result (house.new.db ≡ house.old.db) }
+    ensures first { OnOk result (HasOpened house.old.db.schema first_text.now house.old.first.journal house.new.first.journal) }
+    ensures second { OnOk result (HasOpened house.old.db.schema second_text.now house.old.second.journal house.new.second.journal) }
+{
+    open(rt, alloc, &house.db, &mut house.first, first_text)?;
+    open(rt, alloc, &house.db, &mut house.second, second_text)
+}
+
 /// Each clerk makes the statements of his text, the second when the first is done.
 pub fn open_house<R: Wait>(
     rt: &R,
@@ -74,14 +92,11 @@ pub fn open_house<R: Wait>(
     ensures first { IfOk result (λ opened. HasOpened house.db.schema first_text.now house.first.journal opened.first.journal) }
     ensures second { IfOk result (λ opened. HasOpened house.db.schema second_text.now house.second.journal opened.second.journal) }
 {
-    let Warehouse {
-        db,
-        mut first,
-        mut second,
-    } = house;
-    open(rt, alloc, &db, &mut first, first_text)?;
-    open(rt, alloc, &db, &mut second, second_text)?;
-    Ok(Warehouse { db, first, second })
+    let mut opened = house;
+    match open_both(rt, alloc, &mut opened, first_text, second_text) {
+        Ok(()) => Ok(opened),
+        Err(stop) => Err(stop),
+    }
 }
 
 // What a clerk comes back with: the unit, and whether all orders are filled.
@@ -117,6 +132,17 @@ fn side_by_side<R: Threads + Wait + Sync>(
     backs
 }
 
+// Both are done, or what stopped one of them.
+fn both(first: Result<(), Stop>, second: Result<(), Stop>) -> Result<(), Stop>
+    ensures first { OnOk result (IsOk first) }
+    ensures second { OnOk result (IsOk second) }
+{
+    match first {
+        Ok(()) => second,
+        Err(stop) => Err(stop),
+    }
+}
+
 /// Both clerks fill all their orders, side by side.
 pub fn fill_orders<R: Threads + Wait + Sync>(
     rt: &R,
@@ -133,10 +159,16 @@ pub fn fill_orders<R: Threads + Wait + Sync>(
 {
     let Warehouse { db, first, second } = house;
     let (one, other) = side_by_side(rt, alloc, &db, first, first_orders, second, second_orders);
-    let ((first, ran), (second, also_ran)) = (one, other);
-    ran?;
-    also_ran?;
-    Ok(Warehouse { db, first, second })
+    let done = both(one.1, other.1);
+    let filled = Warehouse {
+        db,
+        first: one.0,
+        second: other.0,
+    };
+    match done {
+        Ok(()) => Ok(filled),
+        Err(stop) => Err(stop),
+    }
 }
 
 /// Both clerks come back, and the database is settled.
