@@ -1,0 +1,29 @@
+-- What a settlement tells of the journals of two units.
+use Rattle.std.proofs.Common.{◌≡◌, ◌≢◌, ℕ, ◌+◌, ◌==◌, List, [], ◌∷◌, All, count_by, cond, eqb, inl, inr, refl, sym, subst, arith}
+use Rattle.dbtg_unit.specs.declared.unit.Entry.{Entry}
+use Rattle.dbtg_run.specs.declared.database.Database.{Database}
+use Rattle.dbtg_run.specs.declared.settled.Settled.{Settled}
+use Rattle.dbtg_run.specs.Settling.{IsSettled}
+use Rattle.dbtg_run.specs.UnitView.{UnitView}
+use Rattle.inventory_clerks.specs.declared.order.Order.{Order}
+use Rattle.inventory_clerks.specs.Orders.{IsFilled}
+use Rattle.inventory_clerks.specs.Staff.{HaveFilled}
+
+one_of_two : (a b : ℕ) → (0 + cond (eqb a 1) 1 0) + cond (eqb b 1) 1 0 ≡ 1 → a ≢ b
+one_of_two a b e same =
+    let g : (0 + cond (eqb b 1) 1 0) + cond (eqb b 1) 1 0 ≡ 1 = subst (λ (n : ℕ). (0 + cond (eqb n 1) 1 0) + cond (eqb b 1) 1 0 ≡ 1) same e in
+    absurd (omega arith)
+
+-- only one of two units has number 1
+apart : (u v : UnitView) → count_by (λ (w : UnitView). w.unit.number == 1) (u ∷ v ∷ []) ≡ 1 → u.unit.number ≢ v.unit.number
+apart u v once = one_of_two u.unit.number v.unit.number once
+
+pub have_filled : (db : Database) (u v : UnitView) (firsts seconds : List Order) (settled : Settled) → IsSettled db (u ∷ v ∷ []) settled
+    → All (IsFilled u.journal) firsts → All (IsFilled v.journal) seconds → HaveFilled firsts seconds settled
+have_filled db u v firsts seconds settled s p q = let two = s.count in record {
+  one = u.unit.number;
+  other = v.unit.number;
+  apart = apart u v (s.once 1 (omega arith) (omega arith));
+  by_one = subst (λ (j : List Entry). All (IsFilled j) firsts) (sym (s.journal u (inl refl))) p;
+  by_other = subst (λ (j : List Entry). All (IsFilled j) seconds) (sym (s.journal v (inr (inl refl)))) q;
+}

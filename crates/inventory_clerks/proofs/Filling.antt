@@ -1,0 +1,71 @@
+-- Journals that grow by statements, and the orders that are filled in them.
+use Rattle.std.proofs.Common.{◌≡◌, ℕ, zero, suc, ◌+◌, ◌<◌, ◌≤◌, List, [], ◌∷◌, ◌++◌, length, map, take, get_or, Some, refl, sym, ap, ◌∙◌, subst, arith, append_assoc, All}
+use Rattle.std.proofs.lemmas.List.{map-append, take_all, take_more}
+use Rattle.std.proofs.lemmas.List.Elements.{All-append}
+use Rattle.dbtg_unit.specs.declared.statement.Statement.{Statement}
+use Rattle.dbtg_unit.specs.declared.statement.Statement.TheVariants.{Get, Keep}
+use Rattle.dbtg_unit.specs.declared.unit.Answer.{Answer}
+use Rattle.dbtg_unit.specs.declared.unit.Entry.{Entry}
+use Rattle.dbtg_unit.specs.declared.unit.Status.TheVariants.{Done}
+use Rattle.dbtg_unit.specs.declared.unit.Unit.{Unit}
+use Rattle.dbtg_run.specs.declared.view.About.{About}
+use Rattle.dbtg_run.specs.Drawn.{IsDone}
+use Rattle.dbtg_run.specs.Kept.{entry}
+use Rattle.inventory_clerks.specs.Orders.{Begins, HasMade, HasRead, IsFilled, change_of, find_of, is_after, stock_shown}
+use Rattle.inventory_clerks.specs.declared.order.Order.{Order}
+
+append_none : (xs : List Entry) → xs ≡ xs ++ []
+append_none [] = refl
+append_none (x ∷ xs) = ap (λ l. x ∷ l) (append_none xs)
+
+-- an order that is filled stays so
+pub filled_more : (a b : List Entry) (order : Order) → Begins a b → IsFilled a order → IsFilled b order
+filled_more a b order p f = record {
+  before = f.before;
+  after = f.after ++ p.more;
+  read = f.read;
+  changed = f.changed;
+  stock = f.stock;
+  left = f.left;
+  has_read = f.has_read;
+  journal_is = p.is ∙ (ap (λ l. l ++ p.more) f.journal_is ∙ append_assoc f.read (f.changed ∷ f.after) p.more);
+  changed_is = f.changed_is;
+  left_is = f.left_is;
+  is_done = f.is_done;
+}
+
+pub none_made : (a : List Entry) → HasMade [] a a
+none_made a = record { made = []; journal = append_none a; statements = refl }
+
+pub one_made : (about : About) (script : List Statement) (a b c : List Entry) (u : Unit) (x : Statement) (answer : Answer)
+    → HasMade script a b → IsDone about b c u x answer → HasMade (script ++ x ∷ []) a c
+one_made about script a b c u x answer m D =
+    let e = entry (length D.before) u.number x answer in
+    record {
+      made = m.made ++ e ∷ [];
+      journal = D.journal ∙ (ap (λ l. l ++ e ∷ []) m.journal ∙ append_assoc a m.made (e ∷ []));
+      statements = map-append (λ (y : Entry). y.statement) m.made (e ∷ []) ∙ ap (λ l. l ++ x ∷ []) m.statements;
+    }
+
+-- one statement more of those in a list
+pub made_more : (about : About) (statements : List Statement) (i : ℕ) (a b c : List Entry) (u : Unit) (x : Statement) (answer : Answer)
+    → i < length statements → x ≡ get_or statements i x → HasMade (take i statements) a b → IsDone about b c u x answer → HasMade (take (i + 1) statements) a c
+made_more about statements i a b c u x answer below is m D =
+    subst (λ l. HasMade l a c) (sym (take_more statements i x below ∙ ap (λ y. take i statements ++ y ∷ []) (sym is))) (one_made about (take i statements) a b c u x answer m D)
+
+pub all_made : (statements : List Statement) (i : ℕ) (a b : List Entry) → length statements ≤ i → HasMade (take i statements) a b → HasMade statements a b
+all_made statements i a b end m = subst (λ l. HasMade l a b) (take_all i statements end) m
+
+all_one : (journal : List Entry) (order : Order) → IsFilled journal order → All (IsFilled journal) (order ∷ [])
+all_one journal order filled zero d below = filled
+all_one journal order filled (suc k) d below = absurd (omega arith)
+
+-- one order more of those in a list
+pub all_more : (a b : List Entry) (orders : List Order) (i : ℕ) (d : Order) → i < length orders → Begins a b → All (IsFilled a) (take i orders)
+    → IsFilled b (get_or orders i d) → All (IsFilled b) (take (i + 1) orders)
+all_more a b orders i d below grown all filled =
+    subst (All (IsFilled b)) (sym (take_more orders i d below))
+    (All-append (IsFilled b) (take i orders) (get_or orders i d ∷ []) (λ k e within. filled_more a b (get_or (take i orders) k e) grown (all k e within)) (all_one b (get_or orders i d) filled))
+
+pub all_filled : (journal : List Entry) (orders : List Order) (i : ℕ) → length orders ≤ i → All (IsFilled journal) (take i orders) → All (IsFilled journal) orders
+all_filled journal orders i end all = subst (All (IsFilled journal)) (take_all i orders end) all

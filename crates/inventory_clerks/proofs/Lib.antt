@@ -1,0 +1,5 @@
+mod Belonging
+mod Closing
+mod Crosses
+mod Filling
+mod Rounds

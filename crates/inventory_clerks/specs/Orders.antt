@@ -1,0 +1,88 @@
+-- What it is that an order is filled.
+use Rattle.std.specs.Prelude.{ℕ, zero, suc, ◌≡◌, ◌+◌, List, [], ◌∷◌, ◌++◌, Bool, true, false, Option, Some, None, map, slice_get}
+use Rattle.dbtg_cells.specs.declared.key.Value.{Value}
+use Rattle.dbtg_cells.specs.declared.key.Value.TheVariants.{Num, Text}
+use Rattle.dbtg_schema.specs.Lists.{Lists}
+use Rattle.dbtg_unit.specs.declared.statement.Statement.{Statement}
+use Rattle.dbtg_unit.specs.declared.statement.Statement.TheVariants.{Find, Get, Keep, Modify}
+use Rattle.dbtg_unit.specs.declared.statement.Form.TheVariants.{Calc}
+use Rattle.dbtg_unit.specs.declared.unit.Answer.{Answer}
+use Rattle.dbtg_unit.specs.declared.unit.Entry.{Entry}
+use Rattle.dbtg_unit.specs.declared.unit.Status.TheVariants.{Done}
+use Rattle.dbtg_script.specs.Statements.{script}
+use Rattle.inventory_clerks.specs.declared.order.Order.{Order}
+
+-- FIND CALC WARE RECORD USING CODE = code: WARE is record type 0
+abbrev pub find_of : ℕ → Statement
+find_of code = Find (Calc 0 (Num code ∷ [])) (record { types = false; areas = false; sets = 0 })
+
+-- MODIFY WARE STOCK = stock: STOCK is item 1
+abbrev pub change_of : ℕ → Statement
+change_of stock = Modify 0 (record { item = 1; value = Num stock } ∷ [])
+
+-- a value that is a number
+abbrev pub number_in : Option Value → Option ℕ
+number_in (Some (Num n)) = Some n
+number_in (Some (Text bytes)) = None
+number_in None = None
+
+-- the stock among items
+abbrev pub stock_in : Option (List Value) → Option ℕ
+stock_in (Some items) = number_in (slice_get items 1)
+stock_in None = None
+
+-- the stock that an answer shows
+abbrev pub stock_shown : Answer → Option ℕ
+stock_shown answer = stock_in answer.items
+
+-- what is there after an order: what was there, with what is brought and without what is taken
+abbrev pub is_after : Order → ℕ → ℕ → Type 0
+is_after order before after = after + order.taken ≡ before + order.brought
+
+-- the orders so often, one round behind another
+unfoldable pub rounds_of : ℕ → List Order → List Order
+rounds_of zero orders = []
+rounds_of (suc n) orders = rounds_of n orders ++ orders
+
+-- three statements of the unit, one directly behind another: the ware is found, kept, and then read, and this is its stock
+pub record HasRead (code stock : ℕ) (old new : List Entry) : Type 0 where
+  pub found : Entry
+  pub kept : Entry
+  pub got : Entry
+  pub journal : new ≡ old ++ found ∷ kept ∷ got ∷ []
+  pub found_is : found.statement ≡ find_of code
+  pub kept_is : kept.statement ≡ Keep
+  pub got_is : got.statement ≡ Get None
+  pub found_done : found.answer.status ≡ Done
+  pub kept_done : kept.answer.status ≡ Done
+  pub shown : stock_shown got.answer ≡ Some stock
+
+-- in the journal the ware is found, kept, read and then changed, one directly behind another: the change is done, and what it makes
+-- of the stock is what the order says of what was read
+pub record IsFilled (journal : List Entry) (order : Order) : Type 0 where
+  pub before : List Entry
+  pub after : List Entry
+  pub read : List Entry
+  pub changed : Entry
+  pub stock : ℕ
+  pub left : ℕ
+  pub has_read : HasRead order.code stock before read
+  pub journal_is : journal ≡ read ++ changed ∷ after
+  pub changed_is : changed.statement ≡ change_of left
+  pub left_is : is_after order stock left
+  pub is_done : changed.answer.status ≡ Done
+
+-- the list begins with the other
+pub record Begins (old new : List Entry) : Type 0 where
+  pub more : List Entry
+  pub is : new ≡ old ++ more
+
+-- the statements are made, one after another, and nothing else
+pub record HasMade (script : List Statement) (old new : List Entry) : Type 0 where
+  pub made : List Entry
+  pub journal : new ≡ old ++ made
+  pub statements : map (λ (e : Entry). e.statement) made ≡ script
+
+-- the statements of the text are made, one after another, and nothing else
+pub record HasOpened (schema : Lists) (text : List ℕ) (old new : List Entry) : Type 0 where
+  pub made : HasMade (script schema text) old new

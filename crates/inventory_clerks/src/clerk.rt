@@ -1,0 +1,184 @@
+//! A clerk: a run-unit on a thread of its own, which fills orders.
+ghost use Rattle.std.specs.Prelude.{◌≡◌, ◌≢◌, ◌↔◌, ◌≤◌, true, length, All, IfOk, OnErr, OnOk};
+ghost use Rattle.dbtg_unit.specs.Fits.{fits};
+ghost use Rattle.dbtg_unit.specs.declared.unit.Status.TheVariants.{Done};
+ghost use Rattle.dbtg_run.specs.Drawn.{IsDone};
+ghost use Rattle.dbtg_run.specs.Outcomes.{IfDone, IfNotDone};
+ghost use Rattle.dbtg_run.specs.UnitView.{BelongsTo};
+ghost use Rattle.inventory_clerks.specs.Orders.{Begins, HasOpened, HasRead, IsFilled};
+
+use crate::order::{Order, Stop, change, find, shown_stock, stock_after};
+use dbtg_run::{Database, Outcome, RunUnit};
+use dbtg_script::read_script;
+use dbtg_unit::{Answer, Cause, Statement, Status};
+use std::alloc::Global;
+use std::sync::Wait;
+use std::thread;
+
+/// How often a statement is tried before others go on.
+const TRIES: u32 = 16;
+
+// Makes a statement, again and again while the other clerk is in the way. `insist` of the library does the same.
+fn enter<R: Wait>(
+    rt: &R,
+    alloc: Global,
+    db: &Database,
+    unit: &mut RunUnit,
+    statement: &Statement,
+) -> Outcome
+    requires belongs { BelongsTo db.now unit.old }
+    requires fits { fits db.now.schema statement.now ≡ true }
+    ensures belongs { BelongsTo db.now unit.new }
+    ensures done { IfDone result (λ a. IsDone db.now.about unit.old.journal unit.new.journal unit.new.unit statement.now a) }
+    ensures unchanged { IfNotDone result (unit.new ≡ unit.old) }
+    ensures spent { (result ≡ Outcome.Spent) ↔ (65535 ≤ length unit.old.journal) }
+    ensures busy { result ≢ Outcome.Busy }
+{
+    'tries: for _ in rt.forever() {
+        let outcome = db.execute(alloc, unit, statement, TRIES);
+        if !outcome.is_busy() {
+            return outcome;
+        }
+        thread::yield_now();
+    }
+    unreachable!()
+}
+
+// Makes a statement, and gives its answer.
+fn make<R: Wait>(
+    rt: &R,
+    alloc: Global,
+    db: &Database,
+    unit: &mut RunUnit,
+    statement: &Statement,
+) -> Result<Answer, Stop>
+    requires belongs { BelongsTo db.now unit.old }
+    ensures belongs { BelongsTo db.now unit.new }
+    ensures done { IfOk result (λ a. IsDone db.now.about unit.old.journal unit.new.journal unit.new.unit statement.now a) }
+    ensures stopped { OnErr result (unit.new ≡ unit.old) }
+{
+    if !statement.fits(&db.schema) {
+        return Err(Stop::NoStatement);
+    }
+    match enter(rt, alloc, db, unit, statement) {
+        Outcome::Done(answer) => Ok(answer),
+        Outcome::Spent => Err(Stop::Spent),
+        Outcome::NoMemory => Err(Stop::NoMemory),
+        Outcome::Busy => unreachable!(),
+    }
+}
+
+// As `make`; a clerk stops at a statement that is refused.
+fn must<R: Wait>(
+    rt: &R,
+    alloc: Global,
+    db: &Database,
+    unit: &mut RunUnit,
+    statement: &Statement,
+) -> Result<Answer, Stop>
+    requires belongs { BelongsTo db.now unit.old }
+    ensures belongs { BelongsTo db.now unit.new }
+    ensures done { IfOk result (λ a. IsDone db.now.about unit.old.journal unit.new.journal unit.new.unit statement.now a) }
+    ensures status { IfOk result (λ a. a.status ≡ Done) }
+    ensures grown { Begins unit.old.journal unit.new.journal }
+{
+    let answer = make(rt, alloc, db, unit, statement)?;
+    match answer.status {
+        Status::Done => Ok(answer),
+        Status::Refused(_) => Err(Stop::Refused),
+    }
+}
+
+// The stock of a ware. It is kept before it is read, so that a change by the other clerk from then on is noticed.
+fn read_stock<R: Wait>(
+    rt: &R,
+    alloc: Global,
+    db: &Database,
+    unit: &mut RunUnit,
+    code: u16,
+) -> Result<u64, Stop>
+    requires belongs { BelongsTo db.now unit.old }
+    ensures belongs { BelongsTo db.now unit.new }
+    ensures read { IfOk result (λ stock. HasRead code stock unit.old.journal unit.new.journal) }
+    ensures grown { Begins unit.old.journal unit.new.journal }
+{
+    let found = find(alloc, code)?;
+    must(rt, alloc, db, unit, &found)?;
+    must(rt, alloc, db, unit, &Statement::Keep)?;
+    let answer = must(rt, alloc, db, unit, &Statement::Get(None))?;
+    match shown_stock(&answer) {
+        Some(stock) => Ok(stock),
+        None => Err(Stop::NoStatement),
+    }
+}
+
+// Fills an order: the ware is read and changed. Where the other clerk changed it in between, all is done again.
+fn fill<R: Wait>(
+    rt: &R,
+    alloc: Global,
+    db: &Database,
+    unit: &mut RunUnit,
+    order: Order,
+) -> Result<(), Stop>
+    requires belongs { BelongsTo db.now unit.old }
+    ensures belongs { BelongsTo db.now unit.new }
+    ensures filled { OnOk result (IsFilled unit.new.journal order) }
+    ensures grown { Begins unit.old.journal unit.new.journal }
+{
+    'again: for _ in rt.forever() {
+        let stock = read_stock(rt, alloc, db, unit, order.code)?;
+        let Some(left) = stock_after(order, stock) else {
+            return Err(Stop::NoStock);
+        };
+        let changed = change(alloc, left)?;
+        match make(rt, alloc, db, unit, &changed)?.status {
+            Status::Done => return Ok(()),
+            Status::Refused(Cause::ChangedByAnother) => thread::yield_now(),
+            Status::Refused(_) => return Err(Stop::Refused),
+        }
+    }
+    unreachable!()
+}
+
+/// A clerk fills his orders, one after another, and comes back.
+pub fn work<R: Wait>(
+    rt: &R,
+    alloc: Global,
+    db: &Database,
+    unit: RunUnit,
+    orders: &[Order],
+) -> (RunUnit, Result<(), Stop>)
+    requires belongs { BelongsTo db.now unit }
+    ensures belongs { BelongsTo db.now result.0 }
+    ensures filled { OnOk result.1 (All (IsFilled result.0.journal) orders.now) }
+{
+    let mut unit = unit;
+    'orders: for order in orders {
+        if let Err(stop) = fill(rt, alloc, db, &mut unit, *order) {
+            return (unit, Err(stop));
+        }
+    }
+    (unit, Ok(()))
+}
+
+/// Makes the statements of a text, one after another.
+#[tactic(auto, using(crate::proofs::Filling::none_made, crate::proofs::Filling::made_more, crate::proofs::Filling::all_made))]
+pub fn open<R: Wait>(
+    rt: &R,
+    alloc: Global,
+    db: &Database,
+    unit: &mut RunUnit,
+    text: &[u8],
+) -> Result<(), Stop>
+    requires belongs { BelongsTo db.now unit.old }
+    ensures belongs { BelongsTo db.now unit.new }
+    ensures made { OnOk result (HasOpened db.now.schema text.now unit.old.journal unit.new.journal) }
+{
+    let Ok(statements) = read_script(alloc, &db.schema, text) else {
+        return Err(Stop::NoStatement);
+    };
+    'statements: for statement in &statements {
+        must(rt, alloc, db, unit, statement)?;
+    }
+    Ok(())
+}

@@ -1,0 +1,186 @@
+//! A warehouse: a database and the units of its two clerks, from the opening to the settlement.
+ghost use Rattle.std.specs.Prelude.{◌≡◌, ◌∷◌, [], All, IfOk, IfSome, IsOk, OnOk};
+ghost use Rattle.dbtg_schema.specs.Sound.{IsSound};
+ghost use Rattle.dbtg_run.specs.Settling.{IsSettled};
+ghost use Rattle.dbtg_run.specs.UnitView.{BelongsTo};
+ghost use Rattle.inventory_clerks.specs.Orders.{HasOpened, IsFilled};
+ghost use Rattle.inventory_clerks.specs.Staff.{IsStaffed};
+
+use crate::clerk::{open, work};
+use crate::order::{Order, Stop};
+use crate::{CAPACITY, UNITS};
+use dbtg_run::{Database, RunUnit, Settled, settle};
+use dbtg_schema::Schema;
+use std::alloc::Global;
+use std::sync::Wait;
+use std::thread::{Threads, join};
+
+/// The database, and the units of both clerks.
+#[derive(Drop)]
+pub struct Warehouse {
+    pub db: Database,
+    pub first: RunUnit,
+    pub second: RunUnit,
+}
+
+// The two units of a database.
+#[tactic(auto, using(crate::proofs::Belonging::last_belongs, crate::proofs::Belonging::others_belong))]
+fn two_of(db: &Database, units: Vec<RunUnit>) -> Option<(RunUnit, RunUnit)>
+    requires belong { All (BelongsTo db.now) units.items }
+    ensures { IfSome result (λ two. BelongsTo db.now two.0 × BelongsTo db.now two.1) }
+{
+    let _about = &db.about;
+    let mut units = units;
+    let second = units.pop()?;
+    let first = units.pop()?;
+    Some((first, second))
+}
+
+// The database of a schema, and its two units.
+fn make_house(alloc: Global, schema: Schema) -> Result<Warehouse, Stop>
+    requires sound { IsSound schema }
+    ensures staffed { IfOk result IsStaffed }
+    ensures schema { IfOk result (λ house. house.db.schema ≡ schema) }
+{
+    let (db, units) = Database::make(alloc, schema, CAPACITY, UNITS)?;
+    match two_of(&db, units) {
+        Some((first, second)) => Ok(Warehouse { db, first, second }),
+        None => Err(Stop::NoUnit),
+    }
+}
+
+/// The warehouse of a schema's text, before the first statement.
+pub fn new_house(alloc: Global, text: &[u8]) -> Result<Warehouse, Stop>
+    ensures staffed { IfOk result IsStaffed }
+    ensures sound { IfOk result (λ house. IsSound house.db.schema) }
+{
+    match Schema::read(alloc, text) {
+        Ok(schema) => make_house(alloc, schema),
+        Err(_) => Err(Stop::NoStatement),
+    }
+}
+
+// Each clerk makes the statements of his text, the second when the first is done.
+fn open_both<R: Wait>(
+    rt: &R,
+    alloc: Global,
+    house: &mut Warehouse,
+    first_text: &[u8],
+    second_text: &[u8],
+) -> Result<(), Stop>
+    requires staffed { IsStaffed house.old }
+    ensures staffed { OnOk result (IsStaffed house.new) }
+    ensures same { OnOk result (house.new.db ≡ house.old.db) }
+    ensures first { OnOk result (HasOpened house.old.db.schema first_text.now house.old.first.journal house.new.first.journal) }
+    ensures second { OnOk result (HasOpened house.old.db.schema second_text.now house.old.second.journal house.new.second.journal) }
+{
+    open(rt, alloc, &house.db, &mut house.first, first_text)?;
+    open(rt, alloc, &house.db, &mut house.second, second_text)
+}
+
+/// Each clerk makes the statements of his text, the second when the first is done.
+pub fn open_house<R: Wait>(
+    rt: &R,
+    alloc: Global,
+    house: Warehouse,
+    first_text: &[u8],
+    second_text: &[u8],
+) -> Result<Warehouse, Stop>
+    requires staffed { IsStaffed house }
+    ensures staffed { IfOk result IsStaffed }
+    ensures same { IfOk result (λ opened. opened.db ≡ house.db) }
+    ensures first { IfOk result (λ opened. HasOpened house.db.schema first_text.now house.first.journal opened.first.journal) }
+    ensures second { IfOk result (λ opened. HasOpened house.db.schema second_text.now house.second.journal opened.second.journal) }
+{
+    let mut opened = house;
+    match open_both(rt, alloc, &mut opened, first_text, second_text) {
+        Ok(()) => Ok(opened),
+        Err(stop) => Err(stop),
+    }
+}
+
+// What a clerk comes back with: the unit, and whether all orders are filled.
+type Back = (RunUnit, Result<(), Stop>);
+
+// Both clerks fill their orders, each on a thread of his own.
+fn side_by_side<R: Threads + Wait + Sync>(
+    rt: &R,
+    alloc: Global,
+    db: &Database,
+    first: RunUnit,
+    first_orders: &[Order],
+    second: RunUnit,
+    second_orders: &[Order],
+) -> (Back, Back)
+    requires first { BelongsTo db.now first }
+    requires second { BelongsTo db.now second }
+    ensures belong { BelongsTo db.now result.0.0 × BelongsTo db.now result.1.0 }
+    ensures first { OnOk result.0.1 (All (IsFilled result.0.0.journal) first_orders.now) }
+    ensures second { OnOk result.1.1 (All (IsFilled result.1.0.journal) second_orders.now) }
+{
+    let backs = join(
+        rt,
+        move || -> Back
+            requires { BelongsTo db.now first }
+            ensures { BelongsTo db.entry.now result.0 × OnOk result.1 (All (IsFilled result.0.journal) first_orders.entry.now) }
+        { work(rt, alloc, db, first, first_orders) },
+        move || -> Back
+            requires { BelongsTo db.now second }
+            ensures { BelongsTo db.entry.now result.0 × OnOk result.1 (All (IsFilled result.0.journal) second_orders.entry.now) }
+        { work(rt, alloc, db, second, second_orders) },
+    );
+    backs
+}
+
+// Both are done, or what stopped one of them.
+fn both(first: Result<(), Stop>, second: Result<(), Stop>) -> Result<(), Stop>
+    ensures first { OnOk result (IsOk first) }
+    ensures second { OnOk result (IsOk second) }
+{
+    match first {
+        Ok(()) => second,
+        Err(stop) => Err(stop),
+    }
+}
+
+/// Both clerks fill all their orders, side by side.
+pub fn fill_orders<R: Threads + Wait + Sync>(
+    rt: &R,
+    alloc: Global,
+    house: Warehouse,
+    first_orders: &[Order],
+    second_orders: &[Order],
+) -> Result<Warehouse, Stop>
+    requires staffed { IsStaffed house }
+    ensures staffed { IfOk result IsStaffed }
+    ensures same { IfOk result (λ filled. filled.db ≡ house.db) }
+    ensures first { IfOk result (λ filled. All (IsFilled filled.first.journal) first_orders.now) }
+    ensures second { IfOk result (λ filled. All (IsFilled filled.second.journal) second_orders.now) }
+{
+    let Warehouse { db, first, second } = house;
+    let (one, other) = side_by_side(rt, alloc, &db, first, first_orders, second, second_orders);
+    let done = both(one.1, other.1);
+    let filled = Warehouse {
+        db,
+        first: one.0,
+        second: other.0,
+    };
+    match done {
+        Ok(()) => Ok(filled),
+        Err(stop) => Err(stop),
+    }
+}
+
+/// Both clerks come back, and the database is settled.
+#[tactic(auto, using(crate::proofs::Belonging::both_belong))]
+pub fn close_house(alloc: Global, house: Warehouse) -> Result<Settled, Stop>
+    requires staffed { IsStaffed house }
+    ensures { IfOk result (IsSettled house.db (house.first ∷ house.second ∷ [])) }
+{
+    let Warehouse { db, first, second } = house;
+    let units = Vec::from_array(alloc, [first, second])?;
+    match settle(alloc, db, units) {
+        Ok(settled) => Ok(settled),
+        Err(_) => Err(Stop::NoMemory),
+    }
+}
