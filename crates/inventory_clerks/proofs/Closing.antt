@@ -1,11 +1,13 @@
 -- What a settlement tells of the journals of two units.
 use Rattle.std.proofs.Common.{◌≡◌, ◌≢◌, ℕ, ◌+◌, ◌==◌, List, [], ◌∷◌, All, count_by, cond, eqb, inl, inr, refl, sym, subst, arith}
+use Rattle.std.specs.Prelude.{Result, Ok, Err, IfOk, IsOk, OnOk}
 use Rattle.dbtg_unit.specs.declared.unit.Entry.{Entry}
 use Rattle.dbtg_run.specs.declared.database.Database.{Database}
 use Rattle.dbtg_run.specs.declared.settled.Settled.{Settled}
 use Rattle.dbtg_run.specs.Settling.{IsSettled}
 use Rattle.dbtg_run.specs.UnitView.{UnitView}
 use Rattle.inventory_clerks.specs.declared.order.Order.{Order}
+use Rattle.inventory_clerks.specs.declared.order.Stop.{Stop}
 use Rattle.inventory_clerks.specs.Orders.{IsFilled}
 use Rattle.inventory_clerks.specs.Staff.{HaveFilled}
 
@@ -27,3 +29,14 @@ have_filled db u v firsts seconds settled s p q = let two = s.count in record {
   by_one = subst (λ (j : List Entry). All (IsFilled j) firsts) (sym (s.journal u (inl refl))) p;
   by_other = subst (λ (j : List Entry). All (IsFilled j) seconds) (sym (s.journal v (inr (inl refl)))) q;
 }
+
+-- what is said of a result where it is there, and it is there
+pub of_done : {T E P : Type 0} (r : Result T E) → IsOk r → OnOk r P → P
+of_done (Ok v) is p = p
+of_done (Err e) is p = absurd cc
+
+-- the same of a settlement that may not come
+pub if_settled : (db : Database) (u v : UnitView) (firsts seconds : List Order) (r : Result Settled Stop) → IfOk r (IsSettled db (u ∷ v ∷ []))
+    → All (IsFilled u.journal) firsts → All (IsFilled v.journal) seconds → IfOk r (HaveFilled firsts seconds)
+if_settled db u v firsts seconds (Ok settled) s p q = have_filled db u v firsts seconds settled s p q
+if_settled db u v firsts seconds (Err stop) s p q = tt
