@@ -8,3 +8,5 @@ mod SameRun
 mod MovesOfTurns
 mod OnThreads
 mod SavedTurns
+mod SessionSteps
+mod SessionTurns
