@@ -14,9 +14,8 @@ from concurrent.futures import ThreadPoolExecutor
 
 import kit
 from edits import BadEdit, Edit, Sources, edit_at, in_batches, together
+from kept import PARTS, Kept
 from verdicts import Said, Verdict, names_of
-
-PARTS = ("src", "specs", "proofs")
 
 
 class Lanes:
@@ -93,8 +92,9 @@ class Trial:
         self.crate, self.lanes, self.log = crate, lanes, log
         self.folder = f"{kit.ROOT}/crates/{crate}"
         self.kept, self.is_partial = kept if libraries else f"{self.folder}/out/incremental", False
-        self.sources, self.passed, self.failed = Sources(self.folder), 0, 0
-        self.words = [kit.rattle(), "check", *kit.check_words(kit.crates_of(), crate, libraries or kit.ROOT)]
+        self.sources, self.passed, self.failed, self.names = Sources(self.folder), 0, 0, []
+        self.libraries = libraries or kit.ROOT
+        self.words = [kit.rattle(), "check", *kit.check_words(kit.crates_of(), crate, self.libraries)]
 
     def files(self):
         """The edits that stand in tests/edits, and those that the kit's own gate tries too."""
@@ -103,6 +103,16 @@ class Trial:
             if os.path.isdir(folder):
                 found += [f"{folder}/{it}" for it in sorted(os.listdir(folder)) if it.endswith(".edit")]
         return found
+
+    def run_unless_kept(self, anew=False):
+        """Tries all edits, unless an earlier trial on this machine tried the same over the same, and passed."""
+        earlier = Kept(self.crate, self.libraries)
+        names = [] if anew else earlier.names()
+        for it in names:
+            self.tell(it, True, "as it has to be, by an earlier trial of the same on this machine")
+        if not names and not self.run().failed:
+            earlier.keep(self.names)
+        return self
 
     def run(self, only=None):
         """Tries all edits, or those whose names hold a word, and counts them."""
@@ -194,6 +204,7 @@ class Trial:
     def tell(self, name, is_well, words):
         with self.lanes.lock:
             self.passed, self.failed = self.passed + is_well, self.failed + (not is_well)
+            self.names.append(name)
             print(f"{'ok' if is_well else 'FAILED'} {self.crate}/{name}: {words}", flush=True)
 
 
