@@ -1,4 +1,4 @@
-"""Where a gate's minutes go: samples the processor time of the toolchain's processes, by crate and by what they do."""
+"""Where a gate's minutes go: the processor time of the toolchain's processes, by crate and by what they do, and that of each test."""
 
 import os
 import threading
@@ -14,7 +14,7 @@ class Minutes:
     gate has tried the first of the crate's must-fail edits: its check proves all that the edit does not touch."""
 
     def __init__(self, kept):
-        self.ticks, self.ended, self.kept, self.rooms = {}, threading.Event(), kept, {}
+        self.ticks, self.ended, self.kept, self.rooms, self.tests = {}, threading.Event(), kept, {}, {}
         self.thread = threading.Thread(target=self.watch, daemon=True)
         self.thread.start()
 
@@ -48,8 +48,12 @@ class Minutes:
             self.kept(crate, folder)
         rooms.add(room)
 
+    def note_test(self, name, seconds):
+        self.tests[name] = seconds / 60
+
     def table(self, edits):
-        """The lines of a table: a crate a line, with the minutes of its proof, its must-fail edits and its other edits."""
+        """The lines of a table: a crate a line, with the minutes of its proof, its must-fail edits and its other edits; then a test a
+        line. The last line sums them up."""
         self.ended.set()
         spent = {}
         for crate, kind, ticks in self.ticks.values():
@@ -58,7 +62,10 @@ class Minutes:
         for crate in kit.crates_of():
             row = spent.get((crate, "proof"), 0), spent.get((crate, "must-fail"), 0), edits.get(crate, 0) / 60
             lines.append(f"{crate:<18}{row[0]:>8.1f}{row[1]:>11.1f}{row[2]:>8.1f}")
-        return lines
+        sums = [sum(it for (_, kind), it in spent.items() if kind == wanted) for wanted in ("proof", "must-fail")]
+        lines.append(f"{'all crates':<18}{sums[0]:>8.1f}{sums[1]:>11.1f}{sum(edits.values()) / 60:>8.1f}")
+        lines += [f"{it:<29}{minutes:>8.1f}" for it, minutes in self.tests.items()]
+        return [*lines, f"{'all tests':<29}{sum(self.tests.values()):>8.1f}"]
 
 
 def kind_of(folder):
