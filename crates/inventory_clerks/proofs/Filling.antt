@@ -11,7 +11,7 @@ use Rattle.dbtg_unit.specs.declared.unit.Unit.{Unit}
 use Rattle.dbtg_run.specs.declared.view.About.{About}
 use Rattle.dbtg_run.specs.Drawn.{IsDone}
 use Rattle.dbtg_run.specs.Kept.{entry}
-use Rattle.inventory_clerks.specs.Orders.{Begins, HasMade, HasRead, IsFilled, change_of, find_of, is_after, stock_shown}
+use Rattle.inventory_clerks.specs.Orders.{Begins, HasMade, IsFilled}
 use Rattle.inventory_clerks.specs.declared.order.Order.{Order}
 
 append_none : (xs : List Entry) → xs ≡ xs ++ []
@@ -22,16 +22,17 @@ append_none (x ∷ xs) = ap (λ l. x ∷ l) (append_none xs)
 pub filled_more : (a b : List Entry) (order : Order) → Begins a b → IsFilled a order → IsFilled b order
 filled_more a b order p f = record {
   before = f.before;
-  after = f.after ++ p.more;
+  kept = f.kept;
   read = f.read;
   changed = f.changed;
+  after = f.after ++ p.more;
   stock = f.stock;
   left = f.left;
+  has_kept = f.has_kept;
   has_read = f.has_read;
-  journal_is = p.is ∙ (ap (λ l. l ++ p.more) f.journal_is ∙ append_assoc f.read (f.changed ∷ f.after) p.more);
-  changed_is = f.changed_is;
+  has_changed = f.has_changed;
   left_is = f.left_is;
-  is_done = f.is_done;
+  journal_is = p.is ∙ (ap (λ l. l ++ p.more) f.journal_is ∙ append_assoc f.changed f.after p.more);
 }
 
 pub none_made : (a : List Entry) → HasMade [] a a

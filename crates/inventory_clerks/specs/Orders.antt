@@ -44,33 +44,45 @@ unfoldable pub rounds_of : ℕ → List Order → List Order
 rounds_of zero orders = []
 rounds_of (suc n) orders = rounds_of n orders ++ orders
 
--- three statements of the unit, one directly behind another: the ware is found, kept, and then read, and this is its stock
-pub record HasRead (code stock : ℕ) (old new : List Entry) : Type 0 where
+-- two statements of the unit, one directly behind the other: the ware is found and kept
+pub record HasKept (code : ℕ) (old new : List Entry) : Type 0 where
   pub found : Entry
   pub kept : Entry
-  pub got : Entry
-  pub journal : new ≡ old ++ found ∷ kept ∷ got ∷ []
+  pub journal : new ≡ old ++ found ∷ kept ∷ []
   pub found_is : found.statement ≡ find_of code
   pub kept_is : kept.statement ≡ Keep
-  pub got_is : got.statement ≡ Get None
   pub found_done : found.answer.status ≡ Done
   pub kept_done : kept.answer.status ≡ Done
+
+-- a statement: the ware is read, and this is its stock
+pub record HasRead (stock : ℕ) (old new : List Entry) : Type 0 where
+  pub got : Entry
+  pub journal : new ≡ old ++ got ∷ []
+  pub got_is : got.statement ≡ Get None
   pub shown : stock_shown got.answer ≡ Some stock
+
+-- a statement: the stock of the ware is changed, and that is done
+pub record HasChanged (stock : ℕ) (old new : List Entry) : Type 0 where
+  pub changed : Entry
+  pub journal : new ≡ old ++ changed ∷ []
+  pub changed_is : changed.statement ≡ change_of stock
+  pub is_done : changed.answer.status ≡ Done
 
 -- in the journal the ware is found, kept, read and then changed, one directly behind another: the change is done, and what it makes
 -- of the stock is what the order says of what was read
 pub record IsFilled (journal : List Entry) (order : Order) : Type 0 where
   pub before : List Entry
-  pub after : List Entry
+  pub kept : List Entry
   pub read : List Entry
-  pub changed : Entry
+  pub changed : List Entry
+  pub after : List Entry
   pub stock : ℕ
   pub left : ℕ
-  pub has_read : HasRead order.code stock before read
-  pub journal_is : journal ≡ read ++ changed ∷ after
-  pub changed_is : changed.statement ≡ change_of left
+  pub has_kept : HasKept order.code before kept
+  pub has_read : HasRead stock kept read
+  pub has_changed : HasChanged left read changed
   pub left_is : is_after order stock left
-  pub is_done : changed.answer.status ≡ Done
+  pub journal_is : journal ≡ changed ++ after
 
 -- the list begins with the other
 pub record Begins (old new : List Entry) : Type 0 where

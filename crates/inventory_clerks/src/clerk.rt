@@ -5,7 +5,7 @@ ghost use Rattle.dbtg_unit.specs.declared.unit.Status.TheVariants.{Done};
 ghost use Rattle.dbtg_run.specs.Drawn.{IsDone};
 ghost use Rattle.dbtg_run.specs.Outcomes.{IfDone, IfNotDone};
 ghost use Rattle.dbtg_run.specs.UnitView.{BelongsTo};
-ghost use Rattle.inventory_clerks.specs.Orders.{Begins, HasOpened, HasRead, IsFilled};
+ghost use Rattle.inventory_clerks.specs.Orders.{Begins, HasChanged, HasKept, HasOpened, HasRead, IsFilled};
 
 use crate::order::{Order, Stop, change, find, shown_stock, stock_after};
 use dbtg_run::{Database, Outcome, RunUnit};
@@ -89,26 +89,84 @@ fn must<R: Wait>(
     }
 }
 
-// The stock of a ware. It is kept before it is read, so that a change by the other clerk from then on is noticed.
-fn read_stock<R: Wait>(
+// Finds a ware and keeps it, so that a change by the other clerk from then on is noticed.
+fn keep<R: Wait>(
     rt: &R,
     alloc: Global,
     db: &Database,
     unit: &mut RunUnit,
     code: u16,
-) -> Result<u64, Stop>
+) -> Result<(), Stop>
     requires belongs { BelongsTo db.now unit.old }
     ensures belongs { BelongsTo db.now unit.new }
-    ensures read { IfOk result (λ stock. HasRead code stock unit.old.journal unit.new.journal) }
+    ensures kept { OnOk result (HasKept code unit.old.journal unit.new.journal) }
     ensures grown { Begins unit.old.journal unit.new.journal }
 {
     let found = find(alloc, code)?;
     must(rt, alloc, db, unit, &found)?;
     must(rt, alloc, db, unit, &Statement::Keep)?;
+    Ok(())
+}
+
+// The stock of the ware that was found.
+fn read_stock<R: Wait>(
+    rt: &R,
+    alloc: Global,
+    db: &Database,
+    unit: &mut RunUnit,
+) -> Result<u64, Stop>
+    requires belongs { BelongsTo db.now unit.old }
+    ensures belongs { BelongsTo db.now unit.new }
+    ensures read { IfOk result (λ stock. HasRead stock unit.old.journal unit.new.journal) }
+    ensures grown { Begins unit.old.journal unit.new.journal }
+{
     let answer = must(rt, alloc, db, unit, &Statement::Get(None))?;
     match shown_stock(&answer) {
         Some(stock) => Ok(stock),
         None => Err(Stop::NoStatement),
+    }
+}
+
+// Changes the stock of the ware that was found, and says whether that was done: it is not where the other clerk changed it since it
+// was kept.
+fn change_stock<R: Wait>(
+    rt: &R,
+    alloc: Global,
+    db: &Database,
+    unit: &mut RunUnit,
+    left: u64,
+) -> Result<bool, Stop>
+    requires belongs { BelongsTo db.now unit.old }
+    ensures belongs { BelongsTo db.now unit.new }
+    ensures changed { IfOk result (λ done. done ≡ true → HasChanged left unit.old.journal unit.new.journal) }
+    ensures grown { Begins unit.old.journal unit.new.journal }
+{
+    let changed = change(alloc, left)?;
+    match make(rt, alloc, db, unit, &changed)?.status {
+        Status::Done => Ok(true),
+        Status::Refused(Cause::ChangedByAnother) => Ok(false),
+        Status::Refused(_) => Err(Stop::Refused),
+    }
+}
+
+// Tries to fill an order, and says whether it is filled.
+fn try_to_fill<R: Wait>(
+    rt: &R,
+    alloc: Global,
+    db: &Database,
+    unit: &mut RunUnit,
+    order: Order,
+) -> Result<bool, Stop>
+    requires belongs { BelongsTo db.now unit.old }
+    ensures belongs { BelongsTo db.now unit.new }
+    ensures filled { IfOk result (λ done. done ≡ true → IsFilled unit.new.journal order) }
+    ensures grown { Begins unit.old.journal unit.new.journal }
+{
+    keep(rt, alloc, db, unit, order.code)?;
+    let stock = read_stock(rt, alloc, db, unit)?;
+    match stock_after(order, stock) {
+        Some(left) => change_stock(rt, alloc, db, unit, left),
+        None => Err(Stop::NoStock),
     }
 }
 
@@ -126,16 +184,10 @@ fn fill<R: Wait>(
     ensures grown { Begins unit.old.journal unit.new.journal }
 {
     'again: for _ in rt.forever() {
-        let stock = read_stock(rt, alloc, db, unit, order.code)?;
-        let Some(left) = stock_after(order, stock) else {
-            return Err(Stop::NoStock);
-        };
-        let changed = change(alloc, left)?;
-        match make(rt, alloc, db, unit, &changed)?.status {
-            Status::Done => return Ok(()),
-            Status::Refused(Cause::ChangedByAnother) => thread::yield_now(),
-            Status::Refused(_) => return Err(Stop::Refused),
+        if try_to_fill(rt, alloc, db, unit, order)? {
+            return Ok(());
         }
+        thread::yield_now();
     }
     unreachable!()
 }
