@@ -1,7 +1,7 @@
 -- Units that belong to a database.
-use Rattle.std.proofs.Common.{◌≡◌, ℕ, zero, suc, ◌+◌, ◌<◌, List, [], ◌∷◌, ◌++◌, All, length, map, refl, sym, ap, ◌∙◌, subst, arith, get_or, length-append}
+use Rattle.std.proofs.Common.{◌≡◌, ℕ, zero, suc, List, [], ◌∷◌, ◌++◌, All, length, map, refl, sym, subst, arith, get_or, length-append}
 use Rattle.std.specs.List.{range_with_len}
-use Rattle.std.proofs.lemmas.List.{get_or-map, get_or_append_left, length-map}
+use Rattle.std.proofs.lemmas.List.{get_or_append_left}
 use Rattle.dbtg_run.specs.declared.database.Database.{Database}
 use Rattle.dbtg_run.specs.UnitView.{BelongsTo, UnitView, opening_view, opening_views}
 

@@ -1,6 +1,6 @@
 -- What a settlement tells of the journals of two units.
 use Rattle.std.proofs.Common.{◌≡◌, ◌≢◌, ℕ, ◌+◌, ◌==◌, List, [], ◌∷◌, All, count_by, cond, eqb, inl, inr, refl, sym, subst, arith}
-use Rattle.std.specs.Prelude.{Result, Ok, Err, IfOk, IsOk, OnOk}
+use Rattle.std.specs.Prelude.{Result, Ok, Err, IfOk, OnOk}
 use Rattle.dbtg_unit.specs.declared.unit.Entry.{Entry}
 use Rattle.dbtg_run.specs.declared.database.Database.{Database}
 use Rattle.dbtg_run.specs.declared.settled.Settled.{Settled}
@@ -31,9 +31,9 @@ have_filled db u v firsts seconds settled s p q = let two = s.count in record {
 }
 
 -- what is said of a result where it is there, and it is there
-pub of_done : {T E P : Type 0} (r : Result T E) → IsOk r → OnOk r P → P
-of_done (Ok v) is p = p
-of_done (Err e) is p = absurd cc
+pub of_ok : {T E P : Type 0} (r : Result T E) (v : T) → r ≡ Ok v → OnOk r P → P
+of_ok (Ok w) v is p = p
+of_ok (Err e) v is p = absurd cc
 
 -- the same of a settlement that may not come
 pub if_settled : (db : Database) (u v : UnitView) (firsts seconds : List Order) (r : Result Settled Stop) → IfOk r (IsSettled db (u ∷ v ∷ []))

@@ -1,22 +1,35 @@
 -- Journals that grow by statements, and the orders that are filled in them.
-use Rattle.std.proofs.Common.{◌≡◌, ℕ, zero, suc, ◌+◌, ◌<◌, ◌≤◌, List, [], ◌∷◌, ◌++◌, length, map, take, get_or, Some, refl, sym, ap, ◌∙◌, subst, arith, append_assoc, All}
+use Rattle.std.proofs.Common.{◌≡◌, ℕ, zero, suc, ◌+◌, ◌<◌, ◌≤◌, List, [], ◌∷◌, ◌++◌, length, take, get_or, refl, sym, ap, ◌∙◌, subst, arith, append_assoc, All}
 use Rattle.std.proofs.lemmas.List.{map-append, take_all, take_more}
 use Rattle.std.proofs.lemmas.List.Elements.{All-append}
 use Rattle.dbtg_unit.specs.declared.statement.Statement.{Statement}
-use Rattle.dbtg_unit.specs.declared.statement.Statement.TheVariants.{Get, Keep}
 use Rattle.dbtg_unit.specs.declared.unit.Answer.{Answer}
 use Rattle.dbtg_unit.specs.declared.unit.Entry.{Entry}
-use Rattle.dbtg_unit.specs.declared.unit.Status.TheVariants.{Done}
 use Rattle.dbtg_unit.specs.declared.unit.Unit.{Unit}
 use Rattle.dbtg_run.specs.declared.view.About.{About}
 use Rattle.dbtg_run.specs.Drawn.{IsDone}
 use Rattle.dbtg_run.specs.Kept.{entry}
-use Rattle.inventory_clerks.specs.Orders.{Begins, HasMade, IsFilled}
+use Rattle.inventory_clerks.specs.Orders.{Begins, HasKept, HasMade, HasRead, HasWritten, IsFilled, find_of}
 use Rattle.inventory_clerks.specs.declared.order.Order.{Order}
 
 append_none : (xs : List Entry) → xs ≡ xs ++ []
 append_none [] = refl
 append_none (x ∷ xs) = ap (λ l. x ∷ l) (append_none xs)
+
+-- the ware is found, kept, read and then changed: the order is filled
+pub filled_by : (order : Order) (stock : ℕ) (a b c d : List Entry) → HasKept (find_of order.code) a b → HasRead stock b c → HasWritten order stock c d → IsFilled d order
+filled_by order stock a b c d kept read written = record {
+  before = a;
+  kept = b;
+  read = c;
+  written = d;
+  after = [];
+  stock = stock;
+  has_kept = kept;
+  has_read = read;
+  has_written = written;
+  journal_is = append_none d;
+}
 
 -- an order that is filled stays so
 pub filled_more : (a b : List Entry) (order : Order) → Begins a b → IsFilled a order → IsFilled b order
@@ -24,15 +37,13 @@ filled_more a b order p f = record {
   before = f.before;
   kept = f.kept;
   read = f.read;
-  changed = f.changed;
+  written = f.written;
   after = f.after ++ p.more;
   stock = f.stock;
-  left = f.left;
   has_kept = f.has_kept;
   has_read = f.has_read;
-  has_changed = f.has_changed;
-  left_is = f.left_is;
-  journal_is = p.is ∙ (ap (λ l. l ++ p.more) f.journal_is ∙ append_assoc f.changed f.after p.more);
+  has_written = f.has_written;
+  journal_is = p.is ∙ (ap (λ l. l ++ p.more) f.journal_is ∙ append_assoc f.written f.after p.more);
 }
 
 pub none_made : (a : List Entry) → HasMade [] a a

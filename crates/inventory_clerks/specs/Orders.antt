@@ -1,5 +1,5 @@
 -- What it is that an order is filled.
-use Rattle.std.specs.Prelude.{ℕ, zero, suc, ◌≡◌, ◌+◌, List, [], ◌∷◌, ◌++◌, Bool, true, false, Option, Some, None, map, slice_get}
+use Rattle.std.specs.Prelude.{ℕ, zero, suc, ◌≡◌, ◌+◌, List, [], ◌∷◌, ◌++◌, false, Option, Some, None, map, slice_get}
 use Rattle.dbtg_cells.specs.declared.key.Value.{Value}
 use Rattle.dbtg_cells.specs.declared.key.Value.TheVariants.{Num, Text}
 use Rattle.dbtg_schema.specs.Lists.{Lists}
@@ -44,12 +44,12 @@ unfoldable pub rounds_of : ℕ → List Order → List Order
 rounds_of zero orders = []
 rounds_of (suc n) orders = rounds_of n orders ++ orders
 
--- two statements of the unit, one directly behind the other: the ware is found and kept
-pub record HasKept (code : ℕ) (old new : List Entry) : Type 0 where
+-- two statements of the unit, one directly behind the other: a record is found and kept
+pub record HasKept (finding : Statement) (old new : List Entry) : Type 0 where
   pub found : Entry
   pub kept : Entry
   pub journal : new ≡ old ++ found ∷ kept ∷ []
-  pub found_is : found.statement ≡ find_of code
+  pub found_is : found.statement ≡ finding
   pub kept_is : kept.statement ≡ Keep
   pub found_done : found.answer.status ≡ Done
   pub kept_done : kept.answer.status ≡ Done
@@ -61,12 +61,18 @@ pub record HasRead (stock : ℕ) (old new : List Entry) : Type 0 where
   pub got_is : got.statement ≡ Get None
   pub shown : stock_shown got.answer ≡ Some stock
 
--- a statement: the stock of the ware is changed, and that is done
-pub record HasChanged (stock : ℕ) (old new : List Entry) : Type 0 where
+-- a statement: this change, and it is done
+pub record HasChanged (changing : Statement) (old new : List Entry) : Type 0 where
   pub changed : Entry
   pub journal : new ≡ old ++ changed ∷ []
-  pub changed_is : changed.statement ≡ change_of stock
+  pub changed_is : changed.statement ≡ changing
   pub is_done : changed.answer.status ≡ Done
+
+-- a statement: the stock is changed to what the order leaves of it
+pub record HasWritten (order : Order) (stock : ℕ) (old new : List Entry) : Type 0 where
+  pub left : ℕ
+  pub left_is : is_after order stock left
+  pub changed : HasChanged (change_of left) old new
 
 -- in the journal the ware is found, kept, read and then changed, one directly behind another: the change is done, and what it makes
 -- of the stock is what the order says of what was read
@@ -74,15 +80,13 @@ pub record IsFilled (journal : List Entry) (order : Order) : Type 0 where
   pub before : List Entry
   pub kept : List Entry
   pub read : List Entry
-  pub changed : List Entry
+  pub written : List Entry
   pub after : List Entry
   pub stock : ℕ
-  pub left : ℕ
-  pub has_kept : HasKept order.code before kept
+  pub has_kept : HasKept (find_of order.code) before kept
   pub has_read : HasRead stock kept read
-  pub has_changed : HasChanged left read changed
-  pub left_is : is_after order stock left
-  pub journal_is : journal ≡ changed ++ after
+  pub has_written : HasWritten order stock read written
+  pub journal_is : journal ≡ written ++ after
 
 -- the list begins with the other
 pub record Begins (old new : List Entry) : Type 0 where

@@ -5,7 +5,7 @@ ghost use Rattle.dbtg_unit.specs.declared.unit.Status.TheVariants.{Done};
 ghost use Rattle.dbtg_run.specs.Drawn.{IsDone};
 ghost use Rattle.dbtg_run.specs.Outcomes.{IfDone, IfNotDone};
 ghost use Rattle.dbtg_run.specs.UnitView.{BelongsTo};
-ghost use Rattle.inventory_clerks.specs.Orders.{Begins, HasChanged, HasKept, HasOpened, HasRead, IsFilled};
+ghost use Rattle.inventory_clerks.specs.Orders.{Begins, HasChanged, HasKept, HasOpened, HasRead, HasWritten, IsFilled};
 
 use crate::order::{Order, Stop, change, find, shown_stock, stock_after};
 use dbtg_run::{Database, Outcome, RunUnit};
@@ -95,15 +95,14 @@ fn keep<R: Wait>(
     alloc: Global,
     db: &Database,
     unit: &mut RunUnit,
-    code: u16,
+    finding: &Statement,
 ) -> Result<(), Stop>
     requires belongs { BelongsTo db.now unit.old }
     ensures belongs { BelongsTo db.now unit.new }
-    ensures kept { OnOk result (HasKept code unit.old.journal unit.new.journal) }
+    ensures kept { OnOk result (HasKept finding.now unit.old.journal unit.new.journal) }
     ensures grown { Begins unit.old.journal unit.new.journal }
 {
-    let found = find(alloc, code)?;
-    must(rt, alloc, db, unit, &found)?;
+    must(rt, alloc, db, unit, finding)?;
     must(rt, alloc, db, unit, &Statement::Keep)?;
     Ok(())
 }
@@ -127,29 +126,57 @@ fn read_stock<R: Wait>(
     }
 }
 
-// Changes the stock of the ware that was found, and says whether that was done: it is not where the other clerk changed it since it
-// was kept.
-fn change_stock<R: Wait>(
-    rt: &R,
-    alloc: Global,
-    db: &Database,
-    unit: &mut RunUnit,
-    left: u64,
-) -> Result<bool, Stop>
-    requires belongs { BelongsTo db.now unit.old }
-    ensures belongs { BelongsTo db.now unit.new }
-    ensures changed { IfOk result (λ done. done ≡ true → HasChanged left unit.old.journal unit.new.journal) }
-    ensures grown { Begins unit.old.journal unit.new.journal }
+// Whether a change was done: it was not where the other clerk changed the record since it was kept.
+fn was_done(answer: &Answer) -> Result<bool, Stop>
+    ensures { IfOk result (λ done. done ≡ true → answer.now.status ≡ Done) }
 {
-    let changed = change(alloc, left)?;
-    match make(rt, alloc, db, unit, &changed)?.status {
+    match answer.status {
         Status::Done => Ok(true),
         Status::Refused(Cause::ChangedByAnother) => Ok(false),
         Status::Refused(_) => Err(Stop::Refused),
     }
 }
 
+// Changes the stock of the ware that was found, and says whether that was done.
+fn change_stock<R: Wait>(
+    rt: &R,
+    alloc: Global,
+    db: &Database,
+    unit: &mut RunUnit,
+    changing: &Statement,
+) -> Result<bool, Stop>
+    requires belongs { BelongsTo db.now unit.old }
+    ensures belongs { BelongsTo db.now unit.new }
+    ensures changed { IfOk result (λ done. done ≡ true → HasChanged changing.now unit.old.journal unit.new.journal) }
+    ensures grown { Begins unit.old.journal unit.new.journal }
+{
+    let answer = make(rt, alloc, db, unit, changing)?;
+    was_done(&answer)
+}
+
+// Writes what the order leaves of a stock that was read, and says whether that was done.
+fn write_stock<R: Wait>(
+    rt: &R,
+    alloc: Global,
+    db: &Database,
+    unit: &mut RunUnit,
+    order: Order,
+    stock: u64,
+) -> Result<bool, Stop>
+    requires belongs { BelongsTo db.now unit.old }
+    ensures belongs { BelongsTo db.now unit.new }
+    ensures written { IfOk result (λ done. done ≡ true → HasWritten order stock unit.old.journal unit.new.journal) }
+    ensures grown { Begins unit.old.journal unit.new.journal }
+{
+    let Some(left) = stock_after(order, stock) else {
+        return Err(Stop::NoStock);
+    };
+    let changing = change(alloc, left)?;
+    change_stock(rt, alloc, db, unit, &changing)
+}
+
 // Tries to fill an order, and says whether it is filled.
+#[tactic(auto, using(crate::proofs::Filling::filled_by))]
 fn try_to_fill<R: Wait>(
     rt: &R,
     alloc: Global,
@@ -162,12 +189,10 @@ fn try_to_fill<R: Wait>(
     ensures filled { IfOk result (λ done. done ≡ true → IsFilled unit.new.journal order) }
     ensures grown { Begins unit.old.journal unit.new.journal }
 {
-    keep(rt, alloc, db, unit, order.code)?;
+    let finding = find(alloc, order.code)?;
+    keep(rt, alloc, db, unit, &finding)?;
     let stock = read_stock(rt, alloc, db, unit)?;
-    match stock_after(order, stock) {
-        Some(left) => change_stock(rt, alloc, db, unit, left),
-        None => Err(Stop::NoStock),
-    }
+    write_stock(rt, alloc, db, unit, order, stock)
 }
 
 // Fills an order: the ware is read and changed. Where the other clerk changed it in between, all is done again.

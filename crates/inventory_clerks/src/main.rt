@@ -130,8 +130,11 @@ fn work_day<R: Threads + Wait + Sync>(
     ensures schema { IfOk result (λ settled. settled.schema ≡ house.db.schema) }
     ensures filled { IfOk result (HaveFilled first_orders.now second_orders.now) }
 {
-    let house = fill_orders(rt, alloc, house, first_orders, second_orders)?;
-    close_house(alloc, house)
+    let (house, filled) = fill_orders(rt, alloc, house, first_orders, second_orders);
+    match filled {
+        Ok(()) => close_house(alloc, house),
+        Err(stop) => Err(stop),
+    }
 }
 
 // The database at the end of the day.
@@ -207,8 +210,10 @@ fn report(alloc: Global, settled: &Settled) -> Result<Vec<u8>, AllocError>
 
 // What is printed of the day.
 fn day_text<R: Threads + Wait + Sync>(rt: &R, alloc: Global) -> Result<Vec<u8>, Stop> {
-    let settled = day(rt, alloc)?;
-    Ok(report(alloc, &settled)?)
+    match day(rt, alloc) {
+        Ok(settled) => Ok(report(alloc, &settled)?),
+        Err(stop) => Err(stop),
+    }
 }
 
 fn main(rt: HostRuntime) -> io::Result<ExitCode> {

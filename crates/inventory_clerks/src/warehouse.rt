@@ -143,31 +143,41 @@ fn both(first: Result<(), Stop>, second: Result<(), Stop>) -> Result<(), Stop>
     }
 }
 
-/// Both clerks fill all their orders, side by side.
+/// Both clerks fill all their orders, side by side. The warehouse comes back, and whether they did.
 pub fn fill_orders<R: Threads + Wait + Sync>(
     rt: &R,
     alloc: Global,
     house: Warehouse,
     first_orders: &[Order],
     second_orders: &[Order],
-) -> Result<Warehouse, Stop>
+) -> (Warehouse, Result<(), Stop>)
     requires staffed { IsStaffed house }
-    ensures staffed { IfOk result IsStaffed }
-    ensures same { IfOk result (λ filled. filled.db ≡ house.db) }
-    ensures first { IfOk result (λ filled. All (IsFilled filled.first.journal) first_orders.now) }
-    ensures second { IfOk result (λ filled. All (IsFilled filled.second.journal) second_orders.now) }
+    ensures staffed { IsStaffed result.0 }
+    ensures same { result.0.db ≡ house.db }
+    ensures first { OnOk result.1 (All (IsFilled result.0.first.journal) first_orders.now) }
+    ensures second { OnOk result.1 (All (IsFilled result.0.second.journal) second_orders.now) }
 {
     let Warehouse { db, first, second } = house;
-    let (one, other) = side_by_side(rt, alloc, &db, first, first_orders, second, second_orders);
-    let done = both(one.1, other.1);
-    let filled = Warehouse {
-        db,
-        first: one.0,
-        second: other.0,
-    };
-    match done {
-        Ok(()) => Ok(filled),
-        Err(stop) => Err(stop),
+    let ((first, one), (second, other)) = side_by_side(
+        rt,
+        alloc,
+        &db,
+        first,
+        first_orders,
+        second,
+        second_orders,
+    );
+    (Warehouse { db, first, second }, both(one, other))
+}
+
+// The database is settled, when all its units have come back.
+fn settle_all(alloc: Global, db: Database, units: Vec<RunUnit>) -> Result<Settled, Stop>
+    requires belong { All (BelongsTo db) units.items }
+    ensures { IfOk result (IsSettled db units.items) }
+{
+    match settle(alloc, db, units) {
+        Ok(settled) => Ok(settled),
+        Err(_) => Err(Stop::NoMemory),
     }
 }
 
@@ -178,9 +188,8 @@ pub fn close_house(alloc: Global, house: Warehouse) -> Result<Settled, Stop>
     ensures { IfOk result (IsSettled house.db (house.first ∷ house.second ∷ [])) }
 {
     let Warehouse { db, first, second } = house;
-    let units = Vec::from_array(alloc, [first, second])?;
-    match settle(alloc, db, units) {
-        Ok(settled) => Ok(settled),
+    match Vec::from_array(alloc, [first, second]) {
+        Ok(units) => settle_all(alloc, db, units),
         Err(_) => Err(Stop::NoMemory),
     }
 }

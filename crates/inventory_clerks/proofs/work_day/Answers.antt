@@ -1,7 +1,10 @@
-use Rattle.inventory_clerks.proofs.Closing.{if_settled}
+use Rattle.inventory_clerks.proofs.Closing.{if_settled, of_ok}
 use Rattle.inventory_clerks.proofs.work_day.Goals as goal
 
-pub returns-clause-filled : goal.returns-clause-filled
-returns-clause-filled g c =
-    let house = c.in_ok-house.house in
-    if_settled house.db house.first house.second c.args.first_orders.now c.args.second_orders.now c.close_house.result c.close_house.ensures c.in_ok-house.ensures.first c.in_ok-house.ensures.second
+pub returns-in-Ok-clause-filled : goal.returns-in-Ok-clause-filled
+returns-in-Ok-clause-filled g c =
+    let filled = c.fill_orders-house.result in
+    let house = filled.0 in
+    if_settled house.db house.first house.second c.args.first_orders.now c.args.second_orders.now c.close_house.result c.close_house.ensures
+    (of_ok filled.1 c.in-Ok.field-0 c.in-Ok.is c.fill_orders-house.ensures.first)
+    (of_ok filled.1 c.in-Ok.field-0 c.in-Ok.is c.fill_orders-house.ensures.second)
