@@ -12,18 +12,19 @@ import tempfile
 import kit
 
 PARTS = ("src", "specs", "proofs")
+# What judges an edit, in this folder.
+JUDGES = ("edits.py", "functions.py", "kept.py", "kit.py", "trial.py", "verdicts.py")
+
+
+def sum_of_file(path):
+    with open(path, "rb") as it:
+        return hashlib.sha256(it.read()).hexdigest()
 
 
 def sum_of_files(folder):
     """The sum of all files below a folder, with their names."""
-    found = hashlib.sha256()
-    for at, folders, names in os.walk(folder):
-        folders.sort()
-        for name in sorted(names):
-            path = f"{at}/{name}"
-            with open(path, "rb") as it:
-                found.update(repr((os.path.relpath(path, folder), hashlib.sha256(it.read()).hexdigest())).encode())
-    return found.hexdigest()
+    found = [f"{at}/{name}" for at, _, names in os.walk(folder) for name in names]
+    return hashlib.sha256(repr(sorted((os.path.relpath(it, folder), sum_of_file(it)) for it in found)).encode()).hexdigest()
 
 
 class Kept:
@@ -38,9 +39,9 @@ class Kept:
     def key(crate, libraries):
         version = subprocess.run(["rt", "version"], capture_output=True, text=True, check=True).stdout
         read = [f"{kit.ROOT}/crates/{crate}/{part}" for part in (*PARTS, "must-fail")]
-        read += [f"{kit.ROOT}/tests/edits/{crate}", f"{kit.ROOT}/tests/support"]
-        read += [kit.rlib(it, libraries) for it in kit.below(kit.crates_of(), crate)]
-        return hashlib.sha256(repr((version, kit.crates_of()[crate], [sum_of_files(it) for it in read])).encode()).hexdigest()
+        read += [f"{kit.ROOT}/tests/edits/{crate}", *(kit.rlib(it, libraries) for it in kit.below(kit.crates_of(), crate))]
+        judges = [sum_of_file(f"{os.path.dirname(__file__)}/{it}") for it in JUDGES]
+        return hashlib.sha256(repr((version, kit.crates_of()[crate], [sum_of_files(it) for it in read], judges)).encode()).hexdigest()
 
     def names(self):
         """The edits of an earlier trial of the same, or none."""
