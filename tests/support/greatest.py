@@ -1,5 +1,5 @@
-"""The greatest schemas, scripts, moves and turns that docs/profile allows, deep and wide ones, and those one above, each with how it must be
-answered."""
+"""The greatest schemas, scripts, moves and turns that docs/profile allows, deep and wide ones, those one below each limit and those one
+above, each with how it must be answered."""
 
 import os
 from dataclasses import dataclass, replace
@@ -92,8 +92,9 @@ def largest():
     return text
 
 
-def entries_up_to(limit, before, entry, out):
-    """A text with as many entries as there may be, and one with one more, whose last line is at fault."""
+def entries_up_to(limit, before, entry, fewer, out):
+    """Texts with one entry fewer than there may be, with as many, and with one more, whose last line is at fault."""
+    yield schema(before + "".join(entry(it) for it in range(limit - 1)), fewer)
     yield schema(before + "".join(entry(it) for it in range(limit)), out)
     text = before + "".join(entry(it) for it in range(limit + 1))
     at = (before + "".join(entry(it) for it in range(limit))).count("\n") + 1
@@ -102,34 +103,38 @@ def entries_up_to(limit, before, entry, out):
 
 def schemas():
     one = START + record("R")
+    yield schema(filled(one, 65_535), counts(1, 1, 0))
     yield schema(filled(one, 65_536), counts(1, 1, 0))
     yield schema(filled(one, 65_537), err="2 line 1")
     yield schema("\x01" * 65_537, err="2 line 1")
     yield schema("\n" * 65_536, err="3 line 65536")
     yield schema(largest(), counts(8, 16, 16))
-    yield schema("SCHEMA NAME IS S.\n" + "".join(AREA.format(f"A{it}") for it in range(8)) + record("R"), counts(8, 1, 0))
+    for areas in (7, 8):
+        yield schema("SCHEMA NAME IS S.\n" + "".join(AREA.format(f"A{it}") for it in range(areas)) + record("R"), counts(areas, 1, 0))
     yield schema("SCHEMA NAME IS S.\n" + "".join(AREA.format(f"A{it}") for it in range(9)), err="16 line 10")
-    yield from entries_up_to(16, START, lambda it: record(f"R{it}"), counts(1, 16, 0))
-    yield from entries_up_to(16, START + RECORD.format("R"), lambda it: ITEM.format(f"I{it}"), counts(1, 1, 0))
+    yield from entries_up_to(16, START, lambda it: record(f"R{it}"), counts(1, 15, 0), counts(1, 16, 0))
+    yield from entries_up_to(16, START + RECORD.format("R"), lambda it: ITEM.format(f"I{it}"), counts(1, 1, 0), counts(1, 1, 0))
     two = START + record("R") + record("Q")
-    yield from entries_up_to(16, two, lambda it: a_set(f"S{it}", "R", ["Q"]), counts(1, 2, 16))
+    yield from entries_up_to(16, two, lambda it: a_set(f"S{it}", "R", ["Q"]), counts(1, 2, 15), counts(1, 2, 16))
     six = START + "".join(record(f"R{it}") for it in range(6)) + "SET NAME IS S0; ORDER IS LAST; OWNER IS R5.\n"
-    yield from entries_up_to(4, six, lambda it: f"MEMBER IS R{it} OPTIONAL MANUAL.\n", counts(1, 6, 1))
+    yield from entries_up_to(4, six, lambda it: f"MEMBER IS R{it} OPTIONAL MANUAL.\n", counts(1, 6, 1), counts(1, 6, 1))
     yield from names_and_pictures()
     yield from deep_and_wide()
 
 
 def names_and_pictures():
-    for picture in ("9(18)", "9" * 18, "X(64)", "X" * 64, "9(01)"):
+    for picture in ("9(17)", "9" * 17, "9(18)", "9" * 18, "X(63)", "X" * 63, "X(64)", "X" * 64, "9(01)"):
         yield schema(START + RECORD.format("R") + f"02 I PICTURE IS {picture}.\n", counts(1, 1, 0))
     for picture in ("9(19)", "9" * 19, "X(65)", "X" * 65, "9(001)", "X(0)", "9" * 60_000):
         yield schema(START + RECORD.format("R") + f"02 I PICTURE IS {picture}.\n", err="11 line 4")
-    yield schema(START + record("R" * 30), counts(1, 1, 0))
+    for length in (29, 30):
+        yield schema(START + record("R" * length), counts(1, 1, 0))
     yield schema(START + record("R" * 31), err="4 line 3")
     yield schema("SCHEMA NAME IS " + "S" * 65_000, err="4 line 1")
     calc = "RECORD NAME IS R; LOCATION MODE IS CALC USING {} DUPLICATES ARE ALLOWED; WITHIN A0.\n"
     items = "".join(ITEM.format(it) for it in "ABCDE")
-    yield schema(START + calc.format("A B C D") + items, counts(1, 1, 0))
+    for calc_items in ("A B C", "A B C D"):
+        yield schema(START + calc.format(calc_items) + items, counts(1, 1, 0))
     yield schema(START + calc.format("A B C D E") + items, err="16 line 3")
 
 
@@ -145,14 +150,17 @@ def deep_and_wide():
 
 
 def scripts():
+    yield script(("* " + "x" * 997 + "\n") * 1048 + "\n" * 575, 0)
     yield script(("* " + "x" * 997 + "\n") * 1048 + "\n" * 576, 0)
     yield script(("* " + "x" * 997 + "\n") * 1048 + "\n" * 577, err="14 line 1")
     yield script("\x01" * 1_048_577, err="14 line 1")
     yield script("\n" * 1_048_576, 0)
+    yield script("GET\n" * 65_534, 65_534)
     yield script("GET\n" * 65_535, 65_535)
     yield script("GET\n" * 65_535 + "* no statement\n\n", 65_535)
     yield script("GET\n" * 65_536, err="14 line 65536")
     yield script("GET\n" * 65_535 + "FETCH\n", err="14 line 65536")
+    yield script("GET" + " " * 996, 1)
     yield script("GET" + " " * 997, 1)
     yield script("GET" + " " * 998, err="1 line 1")
     yield script("GET" + " " * 997 + ".\r\n", 1)
@@ -164,8 +172,10 @@ def scripts():
 def all_moves():
     one = "M" * 7 + "M" * 13 + "M" * 7 + "M" * 7
     yield moves("1*1000000", one + "I" * (1_000_000 - len(one)), end=text_of(f"{CARD}/stdout"))
+    yield moves("9 " * 999_999, "I" * 999_999)
     yield moves("9 " * 1_000_000, "I" * 1_000_000)
     yield moves("Q1\n" * 1_000_000, "I" * 1_000_000)
+    yield moves("9*999999", "I" * 999_999)
     yield moves("9*999999 " + "9", "I" * 1_000_000)
     yield moves("9 " * 1_000_001, err="2 word 1000001")
     yield moves("9*1000000 9*1000000", err="2 word 2")
@@ -177,6 +187,8 @@ def all_moves():
 
 def all_turns():
     yield turns("1*1000000", text_of(f"{CARD}/stdout"))
+    yield turns("9 " * 999_999)
+    yield turns("9*999999")
     yield turns("9 " * 1_000_000)
     yield turns("9 " * 1_000_001, err="2 word 1000001")
     yield turns("9*1000001", err="1 word 1")

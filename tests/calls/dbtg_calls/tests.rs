@@ -6,6 +6,7 @@ mod copies;
 mod deletes;
 mod finishing;
 mod fits;
+mod limits;
 mod naming;
 mod printed;
 mod refusals;

@@ -9,7 +9,7 @@ use dbtg_unit::Move;
 use std::test::*;
 
 // The number of the fault and its line; (0, 0) where the script is read and each of its statements fits the schema.
-fn verdict(rt: &HostRuntime, schema: &Schema, script: &[u8]) -> (u8, u64) {
+pub(super) fn verdict(rt: &HostRuntime, schema: &Schema, script: &[u8]) -> (u8, u64) {
     match read_script(rt.alloc(), schema, script) {
         Ok(statements) => {
             for statement in &statements {
@@ -104,7 +104,7 @@ fn a_script_has_65535_statements(rt: HostRuntime) {
 }
 
 // The number of the fault and its word; (0, n) where n moves are read.
-fn moves_verdict(rt: &HostRuntime, text: &[u8]) -> (u8, u64) {
+pub(super) fn moves_verdict(rt: &HostRuntime, text: &[u8]) -> (u8, u64) {
     match read_moves(rt.alloc(), text) {
         Ok(moves) => (0, moves.len() as u64),
         Err(MovesFault::Refused { word, cause }) => (cause.number(), word),
@@ -139,7 +139,7 @@ fn moves_are_those_of_the_words(rt: HostRuntime) {
 }
 
 // The number of the fault and its word; (0, n) where n turns are read.
-fn turns_verdict(rt: &HostRuntime, text: &[u8]) -> (u8, u64) {
+pub(super) fn turns_verdict(rt: &HostRuntime, text: &[u8]) -> (u8, u64) {
     match read_turns(rt.alloc(), text) {
         Ok(units) => (0, units.len() as u64),
         Err(TurnsFault::Refused { word, cause }) => (cause.number(), word),
