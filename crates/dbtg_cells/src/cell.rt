@@ -1,6 +1,4 @@
 //! The four kinds of cell.
-ghost use Rattle.std.specs.Prelude.{◌≡◌, None};
-
 use crate::extent::Extent;
 use crate::ring::Ring;
 use crate::slot::Slot;
@@ -17,9 +15,7 @@ pub enum Cell {
 
 impl Default for Cell {
     /// A vacant slot, which takes no memory.
-    fn default() -> Self
-        ensures { result ≡ Cell.Slot None }
-    {
+    fn default() -> Self {
         Cell::Slot(Slot::vacant())
     }
 }

@@ -16,10 +16,7 @@ pub enum CellName {
 }
 
 impl Default for CellName {
-    /// The usage cell of the first area.
-    fn default() -> Self
-        ensures { result ≡ CellName.Usage 0 }
-    {
+    fn default() -> Self {
         CellName::Usage(AreaNo::new(0))
     }
 }

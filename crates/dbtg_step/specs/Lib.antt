@@ -13,7 +13,6 @@ pub mod Parts
 pub mod Events
 pub mod NeedOrder
 pub mod CoreSteps
-pub mod Core
 pub mod Runs
 pub mod Openings
 pub mod Imaging
