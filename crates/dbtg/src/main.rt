@@ -10,7 +10,6 @@ mod explain;
 mod fault;
 mod files;
 mod order;
-mod outcomes;
 mod place;
 mod reading;
 mod reason;
@@ -22,13 +21,12 @@ mod turns;
 
 use check::check;
 use clap::error::ErrorKind;
-use command::{Call, OutcomesCall, TurnsCall, call_of};
+use command::{Call, TurnsCall, call_of};
 use draw::{Form, draw};
 use explain::{Topic, explained};
 use fault::{Fault, status_of};
 use files::{Files, Paths};
 use order::Order;
-use outcomes::print_outcomes;
 use reason::reason;
 use replay::replay;
 use std::io::{self, Write};
@@ -135,16 +133,6 @@ fn print_turns(rt: &HostRuntime, call: &TurnsCall) -> ExitCode {
     print_or_tell(rt, given, &paths, call.explains)
 }
 
-fn tell_outcomes(rt: &HostRuntime, call: &OutcomesCall) -> ExitCode {
-    let paths = paths_of(call.schema, call.scripts.as_slice(), Order::Serial);
-    let files = Files {
-        reader: rt,
-        paths: &paths,
-    };
-    let given = print_outcomes(rt.alloc(), &files, call.capacity, call.answers, call.limit);
-    print_or_tell(rt, given, &paths, call.explains)
-}
-
 fn paths_of<'a>(schema: &'a str, scripts: &'a [&'a str], order: Order<&'a str>) -> Paths<'a> {
     Paths {
         schema,
@@ -175,7 +163,6 @@ fn carry_out<R: Threads + Wait + Sync>(rt: &HostRuntime, threads: &R, call: &Cal
             print_replay(rt, &paths, *capacity, *explains)
         }
         Call::Turns(call) => print_turns(rt, call),
-        Call::Outcomes(call) => tell_outcomes(rt, call),
         Call::Threads {
             explains,
             capacity,

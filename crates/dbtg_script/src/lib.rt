@@ -32,7 +32,6 @@ pub use laws::{
     different_units_print_differently,
 };
 pub use moves::{MovesCause, MovesFault, read_moves};
-pub use print::{push_number, push_status};
 pub use reader::read_script;
 pub use sizes::{push_run, push_schema_line, push_script_line};
 pub use spelling::{is_number, number};
