@@ -11,4 +11,3 @@ mod SavedTurns
 mod SessionSteps
 mod SessionTurns
 mod ShellReplies
-mod Pictures

@@ -12,4 +12,3 @@ pub mod FaultyWord
 pub mod Drawing
 pub mod Asking
 pub mod Sessions
-pub mod Picturing

@@ -1,3 +1,0 @@
-mod HistoryShown
-mod LinesGrow
-mod ThreeParts
