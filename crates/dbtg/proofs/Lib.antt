@@ -8,6 +8,3 @@ mod SameRun
 mod MovesOfTurns
 mod OnThreads
 mod SavedTurns
-mod SessionSteps
-mod SessionTurns
-mod ShellReplies

@@ -19,6 +19,3 @@ pub mod Roles
 pub mod FittingItems
 pub mod FittingFinds
 pub mod FittingStatements
-mod Beside
-pub mod LineBehind
-mod EchoedLines

@@ -17,4 +17,3 @@ pub mod Moves
 pub mod Turns
 pub mod WordTexts
 pub mod Laws
-pub mod Echo
