@@ -24,15 +24,16 @@ class Lanes:
 
     ROOM = 5_000_000_000
     RUNS = 3
+    LONG = 2
 
     def __init__(self, count, nice=0):
         self.count, self.nice, self.lock, self.news = count, nice, threading.Lock(), threading.Condition()
         self.free, self.seconds, self.running = count, {}, 0
 
     def run(self, crate, words, folder, is_long=False):
-        """Runs a check once a lane is free, and gives what it printed. A long one takes all lanes that are free then: it may be
-        the last that others wait for."""
-        taken = self.take(self.count if is_long else 1)
+        """Runs a check once a lane is free, and gives what it printed. A long one takes a second lane, if one is free then: more
+        would wait unused while it comes to its last function."""
+        taken = self.take(self.LONG if is_long else 1)
         try:
             for _ in range(self.RUNS):
                 self.wait_for_memory()
