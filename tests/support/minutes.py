@@ -33,7 +33,7 @@ class Minutes:
         if "--crate-name" not in words:
             return
         crate, room = words[words.index("--crate-name") + 1], os.readlink(f"/proc/{process}/cwd")
-        kind = kind_of(room)
+        kind = kind_of(room, crate)
         with open(f"/proc/{process}/stat", encoding="utf-8", errors="replace") as it:
             fields = it.read().rpartition(")")[2].split()
         if kind:
@@ -68,8 +68,8 @@ class Minutes:
         return [*lines, f"{'all tests':<29}{sum(self.tests.values()):>8.1f}"]
 
 
-def kind_of(folder):
-    """What a check in this folder does, if it is the gate's."""
-    if folder.startswith(f"{kit.ROOT}/crates/"):
+def kind_of(folder, crate):
+    """What a check of the crate in this folder does, if it is the gate's, or that of the run ahead of it, which proves a copy."""
+    if folder.endswith(f"/crates/{crate}"):
         return "proof"
     return "must-fail" if "/rt-edit-" in folder else None
