@@ -8,3 +8,6 @@ mod SameRun
 mod MovesOfTurns
 mod OnThreads
 mod SavedTurns
+mod SessionSteps
+mod SessionTurns
+mod ShellReplies

@@ -10,3 +10,5 @@ pub mod Files
 pub mod Explaining
 pub mod FaultyWord
 pub mod Drawing
+pub mod Asking
+pub mod Sessions

@@ -1,6 +1,6 @@
 //! The words of the command, read by `clap`.
 
-use crate::capacity::capacity_of;
+use crate::capacity::{capacity_of, units_of};
 use crate::draw::Form;
 use crate::explain::{Topic, topic_of};
 use crate::files::STANDARD_INPUT;
@@ -19,6 +19,7 @@ pub enum Call<'a> {
     },
     Replay {
         explains: bool,
+        echo: bool,
         capacity: u16,
         order: Order<&'a str>,
         schema: &'a str,
@@ -41,6 +42,7 @@ pub enum Call<'a> {
         scripts: Vec<&'a str>,
     },
     Explain(Topic),
+    Shell(ShellCall<'a>),
 }
 
 /// What is wanted: the moves that turns stand for.
@@ -51,6 +53,14 @@ pub struct TurnsCall<'a> {
     pub turns: &'a str,
     pub schema: &'a str,
     pub scripts: Vec<&'a str>,
+}
+
+/// What the shell is asked for; `schema` is a path.
+#[derive(Clone, Copy)]
+pub struct ShellCall<'a> {
+    pub capacity: u16,
+    pub units: u16,
+    pub schema: &'a str,
 }
 
 fn schema_word<'a>(alloc: Global) -> Arg<'a> {
@@ -125,13 +135,18 @@ fn explain_command<'a>(alloc: Global, name: &'a str) -> Result<Command<'a>, Allo
         )
 }
 
-fn capacity_option<'a>(alloc: Global) -> Arg<'a> {
-    Arg::new(alloc, "capacity")
-        .long("capacity")
+fn number_option<'a>(alloc: Global, name: &'a str, usual: &'a str, help: &'a str) -> Arg<'a> {
+    Arg::new(alloc, name)
+        .long(name)
         .value_name("N")
-        .default_value("100")
+        .default_value(usual)
         .action(ArgAction::Set)
-        .help("How many numbers each record type has, 1 to 1000")
+        .help(help)
+}
+
+fn capacity_option<'a>(alloc: Global) -> Arg<'a> {
+    let help = "How many numbers each record type has, 1 to 1000";
+    number_option(alloc, "capacity", "100", help)
 }
 
 fn moves_option<'a>(alloc: Global) -> Arg<'a> {
@@ -155,6 +170,13 @@ fn turns_option<'a>(alloc: Global) -> Result<Arg<'a>, AllocError> {
         .conflicts_with("moves")
 }
 
+fn echo_option<'a>(alloc: Global) -> Arg<'a> {
+    Arg::new(alloc, "echo")
+        .long("echo")
+        .action(ArgAction::SetTrue)
+        .help("Prints each answer with its statement in front [default: the answers alone]")
+}
+
 // The command `replay`, by the name that its usage shows.
 fn replay_command<'a>(alloc: Global, name: &'a str) -> Result<Command<'a>, AllocError> {
     Command::new(alloc, name)
@@ -165,6 +187,7 @@ fn replay_command<'a>(alloc: Global, name: &'a str) -> Result<Command<'a>, Alloc
         .arg(capacity_option(alloc))?
         .arg(moves_option(alloc))?
         .arg(turns_option(alloc)?)?
+        .arg(echo_option(alloc))?
         .arg(explain_option(alloc))?
         .arg(schema_word(alloc))?
         .arg(script_words(
@@ -221,6 +244,16 @@ fn threads_command<'a>(alloc: Global, name: &'a str) -> Result<Command<'a>, Allo
         ))
 }
 
+// The command `shell`, by the name that its usage shows.
+fn shell_command<'a>(alloc: Global, name: &'a str) -> Result<Command<'a>, AllocError> {
+    Command::new(alloc, name)
+        .about("Reads statements from standard input, and answers each at once")
+        .after_help("Example: dbtg shell shop.schema; .help shows what can be asked there")
+        .arg(capacity_option(alloc))?
+        .arg(number_option(alloc, "units", "2", "How many units there are, 1 to 8"))?
+        .arg(schema_word(alloc).help("The file of the schema"))
+}
+
 /// The command with all that it can be asked.
 pub fn command<'a>(alloc: Global) -> Result<Command<'a>, AllocError> {
     Command::new(alloc, "dbtg")
@@ -237,7 +270,8 @@ pub fn command<'a>(alloc: Global) -> Result<Command<'a>, AllocError> {
         .subcommand(turns_command(alloc, "turns")?)?
         .subcommand(threads_command(alloc, "threads")?)?
         .subcommand(draw_command(alloc, "draw")?)?
-        .subcommand(explain_command(alloc, "explain")?)
+        .subcommand(explain_command(alloc, "explain")?)?
+        .subcommand(shell_command(alloc, "shell")?)
 }
 
 fn words_of<'a>(
@@ -337,6 +371,7 @@ fn replay_call<'a>(alloc: Global, given: &ArgMatches<'a>) -> Result<Call<'a>, Er
     check_inputs(&mut command, schema, scripts.as_slice(), order_path(order))?;
     Ok(Call::Replay {
         explains: given.get_flag("explain"),
+        echo: given.get_flag("echo"),
         capacity,
         order,
         schema,
@@ -413,6 +448,39 @@ fn explain_call<'a>(alloc: Global, given: &ArgMatches<'a>) -> Result<Call<'a>, E
     }
 }
 
+fn units_wanted<'a>(
+    alloc: Global,
+    command: &mut Command<'a>,
+    matches: &ArgMatches,
+) -> Result<u16, Error> {
+    let word = matches.get_str("units").unwrap_or("");
+    if let Some(units) = units_of(word) {
+        return Ok(units);
+    }
+    let told = format!(in alloc;
+        "invalid value '{word}' for '--units <N>': a whole number from 1 to 8 is wanted"
+    )?;
+    Err(command.error(ErrorKind::ValueValidation, told.as_str())?)
+}
+
+fn shell_call<'a>(alloc: Global, given: &ArgMatches<'a>) -> Result<ShellCall<'a>, Error> {
+    let mut command = shell_command(alloc, "dbtg shell")?;
+    let capacity = capacity_wanted(alloc, &mut command, given)?;
+    let units = units_wanted(alloc, &mut command, given)?;
+    let schema = given.get_str("schema").unwrap_or("");
+    if schema == STANDARD_INPUT {
+        return Err(command.error(
+            ErrorKind::ArgumentConflict,
+            "the argument '-' cannot be used: the shell reads statements from standard input",
+        )?);
+    }
+    Ok(ShellCall {
+        capacity,
+        units,
+        schema,
+    })
+}
+
 /// What the words ask for. `Err` has the text that answers other words, and help.
 pub fn call_of<'a>(alloc: Global, words: &'a [String]) -> Result<Call<'a>, Error> {
     let matches = command(alloc)?.try_get_matches_from(words)?;
@@ -423,6 +491,7 @@ pub fn call_of<'a>(alloc: Global, words: &'a [String]) -> Result<Call<'a>, Error
         Some(("threads", given)) => threads_call(alloc, given),
         Some(("draw", given)) => Ok(draw_call(alloc, given)),
         Some(("explain", given)) => explain_call(alloc, given),
+        Some(("shell", given)) => Ok(Call::Shell(shell_call(alloc, given)?)),
         _ => Err(Error::from(AllocError)),
     }
 }

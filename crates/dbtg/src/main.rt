@@ -14,6 +14,7 @@ mod place;
 mod reading;
 mod reason;
 mod replay;
+mod shell;
 mod source;
 mod texts;
 mod threads;
@@ -21,19 +22,22 @@ mod turns;
 
 use check::check;
 use clap::error::ErrorKind;
-use command::{Call, TurnsCall, call_of};
+use command::{Call, ShellCall, TurnsCall, call_of};
 use draw::{Form, draw};
 use explain::{Topic, explained};
 use fault::{Fault, status_of};
 use files::{Files, Paths};
 use order::Order;
 use reason::reason;
-use replay::replay;
+use replay::{check_count, replay};
+use shell::session::Session;
+use shell::{Broken, converse};
 use std::io::{self, Write};
 use std::process::ExitCode;
 use std::sync::Wait;
 use std::thread::Threads;
 use std::{env, fs};
+use texts::read_schema;
 use threads::{OnThreads, run_on_threads};
 use turns::moves_for_turns;
 
@@ -88,9 +92,16 @@ fn print_drawing(rt: &HostRuntime, paths: &Paths, form: Form, explains: bool) ->
     print_or_tell(rt, draw(rt.alloc(), &files, form), paths, explains)
 }
 
-fn print_replay(rt: &HostRuntime, paths: &Paths, capacity: u16, explains: bool) -> ExitCode {
+fn print_replay(
+    rt: &HostRuntime,
+    paths: &Paths,
+    capacity: u16,
+    echo: bool,
+    explains: bool,
+) -> ExitCode {
     let files = Files { reader: rt, paths };
-    print_or_tell(rt, replay(rt.alloc(), &files, capacity), paths, explains)
+    let given = replay(rt.alloc(), &files, capacity, echo);
+    print_or_tell(rt, given, paths, explains)
 }
 
 fn print_threads<R: Threads + Wait + Sync>(
@@ -154,13 +165,14 @@ fn carry_out<R: Threads + Wait + Sync>(rt: &HostRuntime, threads: &R, call: &Cal
         ),
         Call::Replay {
             explains,
+            echo,
             capacity,
             order,
             schema,
             scripts,
         } => {
             let paths = paths_of(*schema, scripts.as_slice(), *order);
-            print_replay(rt, &paths, *capacity, *explains)
+            print_replay(rt, &paths, *capacity, *echo, *explains)
         }
         Call::Turns(call) => print_turns(rt, call),
         Call::Threads {
@@ -183,6 +195,38 @@ fn carry_out<R: Threads + Wait + Sync>(rt: &HostRuntime, threads: &R, call: &Cal
             print_drawing(rt, &paths, *form, *explains)
         }
         Call::Explain(topic) => print_topic(rt, topic),
+        Call::Shell(call) => run_shell(rt, call),
+    }
+}
+
+// The fault of the schema is told with its word.
+fn run_shell(rt: &HostRuntime, call: &ShellCall) -> ExitCode {
+    let paths = paths_of(call.schema, &[], Order::Serial);
+    let files = Files {
+        reader: rt,
+        paths: &paths,
+    };
+    if let Err(fault) = check_count(call.units as usize) {
+        return told_of(rt, &fault, &paths, true);
+    }
+    let known = match read_schema(rt.alloc(), &files) {
+        Ok(known) => known,
+        Err(fault) => return told_of(rt, &fault, &paths, true),
+    };
+    match Session::opening(rt.alloc(), &known, call.capacity, call.units as u8) {
+        Ok(session) => end_of(rt, converse(rt, session, call)),
+        Err(_) => told(rt, &Fault::Memory),
+    }
+}
+
+fn end_of(rt: &HostRuntime, ended: Result<(), Broken>) -> ExitCode {
+    match ended {
+        Ok(()) => ExitCode::SUCCESS,
+        Err(Broken::NotWritten) => not_written(rt),
+        Err(Broken::NotRead) => {
+            let _ = eprintln!(rt; "cannot read standard input");
+            ExitCode::FAILURE
+        }
     }
 }
 
