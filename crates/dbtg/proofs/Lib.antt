@@ -11,3 +11,4 @@ mod SavedTurns
 mod SessionSteps
 mod SessionTurns
 mod ShellReplies
+mod Pictures

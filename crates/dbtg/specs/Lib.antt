@@ -12,3 +12,4 @@ pub mod FaultyWord
 pub mod Drawing
 pub mod Asking
 pub mod Sessions
+pub mod Picturing

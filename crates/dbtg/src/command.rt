@@ -26,6 +26,7 @@ pub enum Call<'a> {
         scripts: Vec<&'a str>,
     },
     Turns(TurnsCall<'a>),
+    Timeline(TimelineCall<'a>),
     /// `saved` is where the turns of the run go.
     Threads {
         explains: bool,
@@ -61,6 +62,17 @@ pub struct ShellCall<'a> {
     pub capacity: u16,
     pub units: u16,
     pub schema: &'a str,
+}
+
+/// What is wanted: the picture of an interleaving, as SVG or as plain text.
+#[derive(Drop)]
+pub struct TimelineCall<'a> {
+    pub explains: bool,
+    pub capacity: u16,
+    pub svg: bool,
+    pub order: Order<&'a str>,
+    pub schema: &'a str,
+    pub scripts: Vec<&'a str>,
 }
 
 fn schema_word<'a>(alloc: Global) -> Arg<'a> {
@@ -101,11 +113,11 @@ fn check_command<'a>(alloc: Global, name: &'a str) -> Result<Command<'a>, AllocE
         ))
 }
 
-fn svg_option<'a>(alloc: Global) -> Arg<'a> {
+fn svg_option<'a>(alloc: Global, help: &'a str) -> Arg<'a> {
     Arg::new(alloc, "svg")
         .long("svg")
         .action(ArgAction::SetTrue)
-        .help("Draws as SVG, with a layout of its own [default: the language of Graphviz]")
+        .help(help)
 }
 
 // The command `draw`, by the name that its usage shows.
@@ -113,7 +125,10 @@ fn draw_command<'a>(alloc: Global, name: &'a str) -> Result<Command<'a>, AllocEr
     Command::new(alloc, name)
         .about("Prints the diagram of a schema: record types, and the sets from owner to member")
         .after_help("Examples: dbtg draw --svg shop.schema, dbtg draw shop.schema | dot -Tpng")
-        .arg(svg_option(alloc))?
+        .arg(svg_option(
+            alloc,
+            "Draws as SVG, with a layout of its own [default: the language of Graphviz]",
+        ))?
         .arg(explain_option(alloc))?
         .arg(schema_word(alloc))
 }
@@ -217,6 +232,25 @@ fn turns_command<'a>(alloc: Global, name: &'a str) -> Result<Command<'a>, AllocE
         ))
 }
 
+// The command `timeline`, by the name that its usage shows.
+fn timeline_command<'a>(alloc: Global, name: &'a str) -> Result<Command<'a>, AllocError> {
+    Command::new(alloc, name)
+        .about("Prints a picture of an interleaving: a lane for each unit, event by event")
+        .after_help(
+            "Example: dbtg timeline --moves shop.moves shop.schema unit1.script unit2.script",
+        )
+        .arg(capacity_option(alloc))?
+        .arg(moves_option(alloc))?
+        .arg(turns_option(alloc)?)?
+        .arg(svg_option(alloc, "Draws as SVG [default: plain text]"))?
+        .arg(explain_option(alloc))?
+        .arg(schema_word(alloc))?
+        .arg(script_words(
+            alloc,
+            "Files of the scripts of units 1, 2, ..: 1 to 8 of them; - for standard input, once",
+        ))
+}
+
 fn save_turns_option<'a>(alloc: Global) -> Arg<'a> {
     Arg::new(alloc, "save-turns")
         .long("save-turns")
@@ -268,6 +302,7 @@ pub fn command<'a>(alloc: Global) -> Result<Command<'a>, AllocError> {
         .subcommand(check_command(alloc, "check")?)?
         .subcommand(replay_command(alloc, "replay")?)?
         .subcommand(turns_command(alloc, "turns")?)?
+        .subcommand(timeline_command(alloc, "timeline")?)?
         .subcommand(threads_command(alloc, "threads")?)?
         .subcommand(draw_command(alloc, "draw")?)?
         .subcommand(explain_command(alloc, "explain")?)?
@@ -395,6 +430,23 @@ fn turns_call<'a>(alloc: Global, given: &ArgMatches<'a>) -> Result<Call<'a>, Err
     }))
 }
 
+fn timeline_call<'a>(alloc: Global, given: &ArgMatches<'a>) -> Result<Call<'a>, Error> {
+    let schema = given.get_str("schema").unwrap_or("");
+    let scripts = words_of(alloc, given, "scripts")?;
+    let order = order_wanted(given);
+    let mut command = timeline_command(alloc, "dbtg timeline")?;
+    let capacity = capacity_wanted(alloc, &mut command, given)?;
+    check_inputs(&mut command, schema, scripts.as_slice(), order_path(order))?;
+    Ok(Call::Timeline(TimelineCall {
+        explains: given.get_flag("explain"),
+        capacity,
+        svg: given.get_flag("svg"),
+        order,
+        schema,
+        scripts,
+    }))
+}
+
 // Standard input is read, and no turns go there.
 fn check_saved<'a>(command: &mut Command<'a>, saved: Option<&str>) -> Result<(), Error> {
     if !matches!(saved, Some("-")) {
@@ -488,6 +540,7 @@ pub fn call_of<'a>(alloc: Global, words: &'a [String]) -> Result<Call<'a>, Error
         Some(("check", given)) => check_call(alloc, given),
         Some(("replay", given)) => replay_call(alloc, given),
         Some(("turns", given)) => turns_call(alloc, given),
+        Some(("timeline", given)) => timeline_call(alloc, given),
         Some(("threads", given)) => threads_call(alloc, given),
         Some(("draw", given)) => Ok(draw_call(alloc, given)),
         Some(("explain", given)) => explain_call(alloc, given),

@@ -18,11 +18,12 @@ mod shell;
 mod source;
 mod texts;
 mod threads;
+mod timeline;
 mod turns;
 
 use check::check;
 use clap::error::ErrorKind;
-use command::{Call, ShellCall, TurnsCall, call_of};
+use command::{Call, ShellCall, TimelineCall, TurnsCall, call_of};
 use draw::{Form, draw};
 use explain::{Topic, explained};
 use fault::{Fault, status_of};
@@ -39,6 +40,7 @@ use std::thread::Threads;
 use std::{env, fs};
 use texts::read_schema;
 use threads::{OnThreads, run_on_threads};
+use timeline::timeline;
 use turns::moves_for_turns;
 
 fn told(rt: &HostRuntime, fault: &Fault) -> ExitCode {
@@ -144,6 +146,16 @@ fn print_turns(rt: &HostRuntime, call: &TurnsCall) -> ExitCode {
     print_or_tell(rt, given, &paths, call.explains)
 }
 
+fn print_timeline(rt: &HostRuntime, call: &TimelineCall) -> ExitCode {
+    let paths = paths_of(call.schema, call.scripts.as_slice(), call.order);
+    let files = Files {
+        reader: rt,
+        paths: &paths,
+    };
+    let given = timeline(rt.alloc(), &files, call.capacity, call.svg);
+    print_or_tell(rt, given, &paths, call.explains)
+}
+
 fn paths_of<'a>(schema: &'a str, scripts: &'a [&'a str], order: Order<&'a str>) -> Paths<'a> {
     Paths {
         schema,
@@ -175,6 +187,7 @@ fn carry_out<R: Threads + Wait + Sync>(rt: &HostRuntime, threads: &R, call: &Cal
             print_replay(rt, &paths, *capacity, *echo, *explains)
         }
         Call::Turns(call) => print_turns(rt, call),
+        Call::Timeline(call) => print_timeline(rt, call),
         Call::Threads {
             explains,
             capacity,

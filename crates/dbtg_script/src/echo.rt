@@ -15,7 +15,7 @@ use std::alloc::{AllocError, Global};
 const WIDEST: usize = 60;
 
 /// The lines of a script that hold a statement, trimmed.
-fn statement_lines<'a>(alloc: Global, text: &'a [u8]) -> Result<Row<&'a [u8]>, AllocError>
+pub fn statement_lines<'a>(alloc: Global, text: &'a [u8]) -> Result<Row<&'a [u8]>, AllocError>
     ensures { IfOk result (λ found. map (λ l. l.now) found ≡ statement_lines text.now) }
 {
     let mut found = Vec::new(alloc);

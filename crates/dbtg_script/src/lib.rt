@@ -25,6 +25,7 @@ mod turns;
 mod values;
 mod word_texts;
 
+pub use echo::statement_lines;
 pub use fault::{Cause, LineFault, ScriptFault};
 pub use image::{image_text, moves_text};
 pub use laws::{
