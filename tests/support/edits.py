@@ -9,6 +9,7 @@ import re
 
 from functions import declared_in, functions_of, module_of
 from kit import text_of
+from stand_ins import BODY
 
 
 class BadEdit(Exception):
@@ -130,18 +131,20 @@ def alone_of_its_name(body, was, function):
     return body
 
 
-def together(edits, sources):
-    """The texts of all files that the edits change, when they are applied together."""
+def together(edits, sources, stand_ins):
+    """The texts of all files that the edits change, or in which others stand in, when the edits are applied together."""
     texts = {}
-    for file in {file for it in edits for file in it.texts}:
+    for file in {*(file for it in edits for file in it.texts), *stand_ins.files()}:
         whole = [it.texts[file] for it in edits if it.elsewhere and file in it.texts]
-        texts[file] = whole[0] if whole else "".join(part for part, _ in parts_of(edits, file, sources))
+        texts[file] = whole[0] if whole else "".join(part for part, _ in parts_of(edits, file, sources, stand_ins))
     return texts
 
 
-def parts_of(edits, file, sources):
+def parts_of(edits, file, sources, stand_ins):
     """The parts of a file's text under the edits, in their order: each with the edit that wrote it, or with none."""
-    written = sorted((f.opens, f.end, body, it) for it in edits for (at, f), body in it.bodies.items() if at == file)
+    written = [(f.opens, f.end, body, it) for it in edits for (at, f), body in it.bodies.items() if at == file]
+    written += [(f.opens, f.end, BODY, None) for f in stand_ins.functions(file)]
+    written.sort(key=lambda it: it[0])
     text, at = sources.text(file), 0
     for opens, end, body, edit in written:
         yield text[at:opens], None
@@ -150,10 +153,10 @@ def parts_of(edits, file, sources):
     yield text[at:], None
 
 
-def edit_at(edits, file, line, sources):
+def edit_at(edits, file, line, sources, stand_ins):
     """The edit that wrote a line of a file."""
     passed = 1
-    for part, edit in parts_of(edits, file, sources):
+    for part, edit in parts_of(edits, file, sources, stand_ins):
         passed += part.count("\n")
         if line < passed or line == passed and edit:
             return edit

@@ -13,7 +13,7 @@ import kit
 
 PARTS = ("src", "specs", "proofs")
 # What judges an edit, in this folder.
-JUDGES = ("edits.py", "functions.py", "kept.py", "kit.py", "trial.py", "verdicts.py")
+JUDGES = ("edits.py", "functions.py", "kept.py", "kit.py", "stand_ins.py", "trial.py", "verdicts.py")
 
 
 def sum_of_file(path):

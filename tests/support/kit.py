@@ -54,9 +54,9 @@ def kit_uses(name):
     return re.findall(r"^dep (\w+)$", text_of(f"{kit()}/rlibs/{name}.rlib/format"), re.M)
 
 
-def check_words(crates, name, root=ROOT):
+def check_words(crates, name, root=ROOT, links=""):
     """The words of `rattle check` over the built libraries below a crate, which lie below `root`, to be run in its folder or in a
-    copy of it."""
+    copy of it; `links` says what a copy is linked with that declares a foreign function."""
     words = ["--crate-name", name, root_file(f"{ROOT}/crates/{name}")]
     for it in ["std", *(it for it in crates[name] if it not in crates)]:
         words += ["--extern", f"{it}={kit()}/rlibs/{it}.rlib"]
@@ -67,7 +67,7 @@ def check_words(crates, name, root=ROOT):
     for it in below(crates, name):
         words += ["-L", f"dependency={os.path.dirname(rlib(it, root))}"]
     words += ["--antt-project", f"{kit()}/rattle/logic/antt-project.json", "--logic-built", f"{kit()}/logic_built"]
-    return [*words, "--links", f"{name}="]
+    return [*words, "--links", f"{name}={links}"]
 
 
 def rlib(name, root=ROOT):

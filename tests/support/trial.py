@@ -1,7 +1,7 @@
 """Tries the edits of a crate: as many in one check as change different functions of it, since functions are proved one by one
 against the contracts of the others. An edit passes only where a goal of the function that it changes is not proved. Over a crate that
-was proved before, a check proves anew what is changed; over nothing, it is asked for the functions that are changed, and proves with
-them only what they call."""
+was proved before, a check proves anew what is changed; over nothing, it is asked for the functions that are changed, and others stand
+in for those that no edit changes."""
 
 import os
 import shutil
@@ -15,6 +15,7 @@ from concurrent.futures import ThreadPoolExecutor
 import kit
 from edits import BadEdit, Edit, Sources, edit_at, in_batches, together
 from kept import PARTS, Kept
+from stand_ins import StandIns
 from verdicts import Said, Verdict, names_of
 
 
@@ -95,7 +96,6 @@ class Trial:
         self.kept, self.is_partial = kept if libraries else f"{self.folder}/out/incremental", False
         self.sources, self.passed, self.failed, self.names = Sources(self.folder), 0, 0, []
         self.libraries = libraries or kit.ROOT
-        self.words = [kit.rattle(), "check", *kit.check_words(kit.crates_of(), crate, self.libraries)]
 
     def files(self):
         """The edits that stand in tests/edits, and those that the kit's own gate tries too."""
@@ -122,9 +122,12 @@ class Trial:
             if not edits:
                 return self
             batches, again = in_batches(edits), []
-            if not self.kept or not os.path.isdir(self.kept):
-                # The first check proves what the functions that are changed call, and the others begin with that.
-                self.kept, self.is_partial = f"{self.room}/kept", True
+            self.is_partial = not self.kept or not os.path.isdir(self.kept)
+            self.stand_ins = StandIns(self.folder, self.sources, edits, self.is_partial)
+            self.words = kit.check_words(kit.crates_of(), self.crate, self.libraries, self.stand_ins.links())
+            if self.is_partial:
+                # The first check proves all functions that some edit changes, and the others begin with that.
+                self.kept = f"{self.room}/kept"
                 os.mkdir(self.kept)
                 again = self.judged(batches.pop(0), self.kept)
             again += self.side_by_side(batches)
@@ -157,7 +160,7 @@ class Trial:
 
     def without_blamed(self, batch, said, kept):
         """What does not parse or has wrong types ends a check early: the others are tried without the edits that it blames."""
-        blamed = {edit_at(batch, file, line, self.sources) for file, line in said.front_errors()}
+        blamed = {edit_at(batch, file, line, self.sources, self.stand_ins) for file, line in said.front_errors()}
         rest = [it for it in batch if it not in blamed]
         if len(rest) in (0, len(batch)):
             return batch
@@ -176,14 +179,16 @@ class Trial:
             for part in PARTS:
                 if os.path.isdir(f"{self.folder}/{part}"):
                     shutil.copytree(f"{self.folder}/{part}", f"{copy}/{part}")
-            for file, text in together(batch, self.sources).items():
+            for file, text in together(batch, self.sources, self.stand_ins).items():
                 with open(f"{copy}/{file}", "w", encoding="utf-8") as out:
                     out.write(text)
+            self.stand_ins.enter(copy)
             begins = bool(kept)
             if not begins:
                 kept = f"{copy}/kept"
                 shutil.copytree(self.kept, kept, copy_function=linked)
-            text = self.lanes.run(self.crate, [*self.words, *self.asked(batch), "--incremental", kept], copy, begins)
+            words = [kit.rattle(), "check", *self.words, *self.asked(batch), "--incremental", kept]
+            text = self.lanes.run(self.crate, words, copy, begins)
         self.log.write(f"=== {self.crate}: {' '.join(it.name for it in batch)}\n{text}\n")
         return Said(text, self.crate)
 

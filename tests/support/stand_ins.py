@@ -1,0 +1,72 @@
+"""Stand-ins for the functions of a crate that no edit changes. A function is proved against the contracts of those that it calls, so
+it matters nothing how these are done: in the copy that a trial checks, the body of each function that no edit changes gives way to a
+call that never returns, by the word of a foreign function that promises what is false. Such a body meets any contract at once. What an
+edit changes is proved, or refused, as in the crate itself."""
+
+import os
+
+from functions import module_of
+from kit import root_file
+
+FILE = "src/stand_in.rt"
+TEXT = """unsafe extern "C" {
+    safe fn falsity() -> u8
+        ensures { ⊥ };
+}
+
+pub fn never_returns() -> ! {
+    let _ = falsity();
+    unreachable!()
+}
+"""
+BODY = "{ crate::stand_in::never_returns() }"
+# The files of a proof by hand, in the folder of its function.
+BY_HAND = ("Answers.antt", "Invariants.antt", "Proof.antt")
+
+
+class StandIns:
+    """Those of one crate, for a trial of these edits; none where an edit changes what is stated or how it is proved."""
+
+    def __init__(self, folder, sources, edits, are_wanted):
+        self.folder, self.sources = folder, sources
+        self.changed = {it for edit in edits for it in edit.bodies}
+        self.whole = {file for edit in edits if edit.elsewhere for file in edit.texts}
+        self.are_none = not are_wanted or any(not file.startswith("src/") for edit in edits for file in edit.texts)
+
+    def functions(self, file):
+        """The functions of a file for which others stand in."""
+        if self.are_none or file in self.whole:
+            return []
+        return [it for it in self.sources.functions(file) if (file, it) not in self.changed]
+
+    def files(self):
+        """The source files in which others stand in, as paths in the crate."""
+        found = (f"{at}/{name}" for at, _, names in os.walk(f"{self.folder}/src") for name in names if name.endswith(".rt"))
+        return [] if self.are_none else [os.path.relpath(it, self.folder) for it in found]
+
+    def links(self):
+        """What a copy with stand-ins is said to be linked with."""
+        return "" if self.are_none else "stand_in"
+
+    def enter(self, copy):
+        """Declares the module of stand-ins in a copy whose files have them, and takes away what proved the bodies that are gone."""
+        if self.are_none:
+            return
+        root = f"{copy}/{root_file(self.folder)}"
+        with open(root, "a", encoding="utf-8") as out:
+            out.write("\nmod stand_in;\n")
+        with open(f"{copy}/{FILE}", "w", encoding="utf-8") as out:
+            out.write(TEXT)
+        for file in self.files():
+            for function in self.functions(file):
+                self.drop_proof(copy, file, function)
+
+    def drop_proof(self, copy, file, function):
+        module = module_of(file)
+        own = function.path(module, self.sources.declared())
+        closures = "::".join(filter(None, [module, "fn", function.owner, function.name]))
+        for place in (own, closures):
+            for at, _, names in os.walk(f"{copy}/proofs/{place.replace('::', '/')}"):
+                for name in names:
+                    if name in BY_HAND:
+                        os.remove(f"{at}/{name}")
