@@ -1,4 +1,4 @@
--- The capacity and the number of units, as the command's words say them.
+-- The capacity, the number of units and the limit of states, as the command's words say them.
 use Rattle.std.specs.Prelude.{ℕ, ◌&&◌, nat_le, List, Option, Some, None, if◌then◌else◌}
 use Rattle.dbtg_script.specs.Spelling.{is_number, number}
 
@@ -13,3 +13,7 @@ capacity_in word = count_in 1000 word
 -- digits alone, 1 to 8
 abbrev pub units_in : List ℕ → Option ℕ
 units_in word = count_in 8 word
+
+-- digits alone, 1 to 1,000,000,000
+abbrev pub limit_in : List ℕ → Option ℕ
+limit_in word = count_in 1000000000 word

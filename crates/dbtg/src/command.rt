@@ -1,6 +1,6 @@
 //! The words of the command, read by `clap`.
 
-use crate::capacity::{capacity_of, units_of};
+use crate::capacity::{capacity_of, limit_of, units_of};
 use crate::draw::Form;
 use crate::explain::{Topic, topic_of};
 use crate::files::STANDARD_INPUT;
@@ -27,6 +27,7 @@ pub enum Call<'a> {
     },
     Turns(TurnsCall<'a>),
     Timeline(TimelineCall<'a>),
+    Outcomes(OutcomesCall<'a>),
     /// `saved` is where the turns of the run go.
     Threads {
         explains: bool,
@@ -71,6 +72,17 @@ pub struct TimelineCall<'a> {
     pub capacity: u16,
     pub svg: bool,
     pub order: Order<&'a str>,
+    pub schema: &'a str,
+    pub scripts: Vec<&'a str>,
+}
+
+/// What is wanted: all that can come out. With `answers` results are also told apart by the answers that units get.
+#[derive(Drop)]
+pub struct OutcomesCall<'a> {
+    pub explains: bool,
+    pub capacity: u16,
+    pub limit: u64,
+    pub answers: bool,
     pub schema: &'a str,
     pub scripts: Vec<&'a str>,
 }
@@ -251,6 +263,36 @@ fn timeline_command<'a>(alloc: Global, name: &'a str) -> Result<Command<'a>, All
         ))
 }
 
+// The command `outcomes`, by the name that its usage shows.
+fn outcomes_command<'a>(alloc: Global, name: &'a str) -> Result<Command<'a>, AllocError> {
+    Command::new(alloc, name)
+        .about(
+            "Prints all that can come out when scripts run at the same time, each with an order that shows it",
+        )
+        .after_help("Example: dbtg outcomes shop.schema unit1.script unit2.script")
+        .arg(capacity_option(alloc))?
+        .arg(number_option(
+            alloc,
+            "limit",
+            "1000000",
+            "How many states may come before it gives up, 1 to 1000000000",
+        ))?
+        .arg(
+            Arg::new(alloc, "answers")
+                .long("answers")
+                .action(ArgAction::SetTrue)
+                .help(
+                    "Tells results apart also by the answers of each unit [default: by what is printed behind -- alone]",
+                ),
+        )?
+        .arg(explain_option(alloc))?
+        .arg(schema_word(alloc))?
+        .arg(script_words(
+            alloc,
+            "Files of the scripts of units 1, 2, ..: 1 to 8 of them; - for standard input, once",
+        ))
+}
+
 fn save_turns_option<'a>(alloc: Global) -> Arg<'a> {
     Arg::new(alloc, "save-turns")
         .long("save-turns")
@@ -303,6 +345,7 @@ pub fn command<'a>(alloc: Global) -> Result<Command<'a>, AllocError> {
         .subcommand(replay_command(alloc, "replay")?)?
         .subcommand(turns_command(alloc, "turns")?)?
         .subcommand(timeline_command(alloc, "timeline")?)?
+        .subcommand(outcomes_command(alloc, "outcomes")?)?
         .subcommand(threads_command(alloc, "threads")?)?
         .subcommand(draw_command(alloc, "draw")?)?
         .subcommand(explain_command(alloc, "explain")?)?
@@ -328,19 +371,34 @@ fn capacity_wanted<'a>(
     let word = matches.get_str("capacity").unwrap_or("");
     match capacity_of(word) {
         Some(capacity) => Ok(capacity),
-        None => Err(no_capacity(alloc, command, word)?),
+        None => Err(no_number(alloc, command, word, "capacity", 1000)?),
     }
 }
 
-fn no_capacity<'a>(
+// Another word stands where a whole number is wanted.
+fn no_number<'a>(
     alloc: Global,
     command: &mut Command<'a>,
     word: &str,
+    option: &str,
+    most: u64,
 ) -> Result<Error, AllocError> {
     let told = format!(in alloc;
-        "invalid value '{word}' for '--capacity <N>': a whole number from 1 to 1000 is wanted"
+        "invalid value '{word}' for '--{option} <N>': a whole number from 1 to {most} is wanted"
     )?;
     command.error(ErrorKind::ValueValidation, told.as_str())
+}
+
+fn limit_wanted<'a>(
+    alloc: Global,
+    command: &mut Command<'a>,
+    matches: &ArgMatches,
+) -> Result<u64, Error> {
+    let word = matches.get_str("limit").unwrap_or("");
+    match limit_of(word) {
+        Some(limit) => Ok(limit),
+        None => Err(no_number(alloc, command, word, "limit", 1_000_000_000)?),
+    }
 }
 
 /// How often standard input is asked for.
@@ -447,6 +505,23 @@ fn timeline_call<'a>(alloc: Global, given: &ArgMatches<'a>) -> Result<Call<'a>, 
     }))
 }
 
+fn outcomes_call<'a>(alloc: Global, given: &ArgMatches<'a>) -> Result<Call<'a>, Error> {
+    let schema = given.get_str("schema").unwrap_or("");
+    let scripts = words_of(alloc, given, "scripts")?;
+    let mut command = outcomes_command(alloc, "dbtg outcomes")?;
+    let capacity = capacity_wanted(alloc, &mut command, given)?;
+    let limit = limit_wanted(alloc, &mut command, given)?;
+    check_inputs(&mut command, schema, scripts.as_slice(), "")?;
+    Ok(Call::Outcomes(OutcomesCall {
+        explains: given.get_flag("explain"),
+        capacity,
+        limit,
+        answers: given.get_flag("answers"),
+        schema,
+        scripts,
+    }))
+}
+
 // Standard input is read, and no turns go there.
 fn check_saved<'a>(command: &mut Command<'a>, saved: Option<&str>) -> Result<(), Error> {
     if !matches!(saved, Some("-")) {
@@ -541,6 +616,7 @@ pub fn call_of<'a>(alloc: Global, words: &'a [String]) -> Result<Call<'a>, Error
         Some(("replay", given)) => replay_call(alloc, given),
         Some(("turns", given)) => turns_call(alloc, given),
         Some(("timeline", given)) => timeline_call(alloc, given),
+        Some(("outcomes", given)) => outcomes_call(alloc, given),
         Some(("threads", given)) => threads_call(alloc, given),
         Some(("draw", given)) => Ok(draw_call(alloc, given)),
         Some(("explain", given)) => explain_call(alloc, given),

@@ -10,6 +10,7 @@ mod explain;
 mod fault;
 mod files;
 mod order;
+mod outcomes;
 mod place;
 mod reading;
 mod reason;
@@ -23,12 +24,13 @@ mod turns;
 
 use check::check;
 use clap::error::ErrorKind;
-use command::{Call, ShellCall, TimelineCall, TurnsCall, call_of};
+use command::{Call, OutcomesCall, ShellCall, TimelineCall, TurnsCall, call_of};
 use draw::{Form, draw};
 use explain::{Topic, explained};
 use fault::{Fault, status_of};
 use files::{Files, Paths};
 use order::Order;
+use outcomes::print_outcomes;
 use reason::reason;
 use replay::{check_count, replay};
 use shell::session::Session;
@@ -156,6 +158,16 @@ fn print_timeline(rt: &HostRuntime, call: &TimelineCall) -> ExitCode {
     print_or_tell(rt, given, &paths, call.explains)
 }
 
+fn tell_outcomes(rt: &HostRuntime, call: &OutcomesCall) -> ExitCode {
+    let paths = paths_of(call.schema, call.scripts.as_slice(), Order::Serial);
+    let files = Files {
+        reader: rt,
+        paths: &paths,
+    };
+    let given = print_outcomes(rt.alloc(), &files, call.capacity, call.answers, call.limit);
+    print_or_tell(rt, given, &paths, call.explains)
+}
+
 fn paths_of<'a>(schema: &'a str, scripts: &'a [&'a str], order: Order<&'a str>) -> Paths<'a> {
     Paths {
         schema,
@@ -188,6 +200,7 @@ fn carry_out<R: Threads + Wait + Sync>(rt: &HostRuntime, threads: &R, call: &Cal
         }
         Call::Turns(call) => print_turns(rt, call),
         Call::Timeline(call) => print_timeline(rt, call),
+        Call::Outcomes(call) => tell_outcomes(rt, call),
         Call::Threads {
             explains,
             capacity,

@@ -33,8 +33,8 @@ pub fn check_count(count: usize) -> Result<(), Fault>
     }
 }
 
-// Answers, image and units, behind a text; with the scripts' texts the statement of each answer beside it.
-fn push_given(
+/// Answers, image and units, behind a text; with the scripts' texts the statement of each answer beside it.
+pub fn push_given(
     alloc: Global,
     out: &mut Vec<u8>,
     schema: &Schema,

@@ -34,6 +34,7 @@ pub use laws::{
     different_units_print_differently, echoed_lines_say_their_statements,
 };
 pub use moves::{MovesCause, MovesFault, read_moves};
+pub use print::{push_number, push_status};
 pub use reader::{read_script, read_script_line};
 pub use sizes::{push_echoed_run, push_run, push_schema_line, push_script_line};
 pub use spelling::{is_number, number};

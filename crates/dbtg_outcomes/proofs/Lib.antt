@@ -1,0 +1,17 @@
+pub mod Weights
+pub mod Gathered
+pub mod Entries
+pub mod Behind
+pub mod Ranges
+pub mod Begun
+pub mod SameImages
+pub mod SameStates
+pub mod Layers
+pub mod States
+pub mod Members
+pub mod Histories
+pub mod Runs
+pub mod Noted
+pub mod Nexts
+pub mod Searched
+pub mod Rising

@@ -1,0 +1,11 @@
+pub mod Counted
+pub mod Gathered
+pub mod Given
+pub mod Groups
+pub mod Grouped
+pub mod Orders
+pub mod Outcomes
+pub mod Results
+pub mod Search
+pub mod Spelling
+pub mod Statuses
