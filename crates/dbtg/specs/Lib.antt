@@ -13,3 +13,4 @@ pub mod Drawing
 pub mod Asking
 pub mod Sessions
 pub mod Picturing
+pub mod Listing

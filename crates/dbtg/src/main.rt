@@ -5,6 +5,7 @@ mod at_hand;
 mod capacity;
 mod check;
 mod command;
+mod copies;
 mod draw;
 mod explain;
 mod fault;

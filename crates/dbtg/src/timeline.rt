@@ -9,6 +9,7 @@ ghost use Rattle.dbtg.specs.Picturing.{IsPictured, TimelineHeld, picture, serial
 ghost use Rattle.dbtg.specs.Refusals.{is_count};
 ghost use Rattle.dbtg.specs.Sources.{ReadSchema, ToldOfRun};
 
+use crate::copies::copy_scripts;
 use crate::fault::Fault;
 use crate::order::OrderKind;
 use crate::replay::check_count;
@@ -20,29 +21,6 @@ use dbtg_step::{Turned, run_turns};
 use dbtg_timeline::{Event, timeline_svg, timeline_text, watch};
 use dbtg_unit::{Move, Statement};
 use std::alloc::{AllocError, Global};
-
-fn copy_script(alloc: Global, script: &Row<Statement>) -> Result<Row<Statement>, AllocError>
-    ensures { IfOk result (λ copy. copy ≡ script.now) }
-{
-    let mut copy = Vec::new(alloc);
-    for statement in script.as_slice() {
-        copy.push(statement.copy(alloc)?)?;
-    }
-    Ok(Row::of(copy))
-}
-
-fn copy_scripts(
-    alloc: Global,
-    scripts: &Row<Row<Statement>>,
-) -> Result<Row<Row<Statement>>, AllocError>
-    ensures { IfOk result (λ copies. copies ≡ scripts.now) }
-{
-    let mut copies = Vec::new(alloc);
-    for script in scripts.as_slice() {
-        copies.push(copy_script(alloc, script)?)?;
-    }
-    Ok(Row::of(copies))
-}
 
 fn push_turns(turns: &mut Vec<u8>, unit: u8, count: usize) -> Result<(), AllocError>
     ensures { OnOk result (turns.new.items ≡ turns.old.items ++ replicate count unit) }
@@ -158,7 +136,7 @@ fn picture_of_turns(
     requires fit { scripts_fit schema.now scripts.statements ≡ true }
     ensures { IfOk result (λ out. IsPictured schema.now capacity scripts.statements scripts.texts svg (StandFor schema.now capacity scripts.statements turns.now) out.items) }
 {
-    let copies = copy_scripts(alloc, &scripts.statements)?;
+    let copies = copy_scripts(alloc, scripts.statements.as_slice())?;
     let moves = moves_of_turns(alloc, schema, capacity, copies, turns)?;
     picture_of_moves(alloc, schema, capacity, scripts, svg, moves.as_slice())
 }
