@@ -1,6 +1,6 @@
 -- Orders that are begun: their first statements, and what is left.
 -- o, p are orders, s a statement with its unit, u, v are units, x is a statement, n how many statements are made, k how many are left.
-use Rattle.std.proofs.Common.{◌≡◌, refl, sym, ◌∙◌, ap, subst, ℕ, zero, suc, ◌+◌, ◌-◌, ◌<◌, ◌≤◌, Bool, true, false, List, [], ◌∷◌, ◌++◌, length, map, Option, Some, None, inl, inr, ⊎_elim, ◌⊎◌, arith, append_assoc, append-nil}
+use Rattle.std.proofs.Common.{◌≡◌, refl, sym, ◌∙◌, ap, subst, ℕ, zero, suc, ◌+◌, ◌-◌, ◌<◌, ◌≤◌, Bool, true, false, List, [], ◌∷◌, ◌++◌, length, Option, Some, None, inl, inr, arith, append_assoc, append-nil}
 use Rattle.std.specs.Prelude.{◌==◌, filter, flat_map, option_and_then, option_map, option_to_list, slice_get, if◌then◌else◌}
 use Rattle.std.specs.List.{range_with_len}
 use Rattle.std.proofs.lemmas.Bool.{cases_lt, eq-eqb, ne_eqb}
@@ -25,7 +25,7 @@ flat-alike : {X Y : Type 0} (f g : X → List Y) (xs : List X) → ((x : X) → 
 flat-alike f g [] h = refl
 flat-alike f g (x ∷ xs) h = λ i. h x i ++ flat-alike f g xs h i
 
-get-at : {X : Type 0} (xs : List X) (k : ℕ) → k < length xs → (x : X) × (slice_get xs k ≡ Some x)
+pub get-at : {X : Type 0} (xs : List X) (k : ℕ) → k < length xs → (x : X) × (slice_get xs k ≡ Some x)
 get-at [] k h = absurd (omega arith)
 get-at (x ∷ xs) zero h = (x, refl)
 get-at (x ∷ xs) (suc k) h = get-at xs k (omega arith)
@@ -88,6 +88,30 @@ left-more (suc j) u (s ∷ scripts) o v script x e f g =
     let own = made-other u v o x (λ i. omega arith) in
     omega arith
 
+-- nothing is left where each unit has made its script
+pub none-left : (u : ℕ) (scripts : List (List Statement)) (o : List (ℕ × Statement)) → ((j : ℕ) (script : List Statement) → slice_get scripts j ≡ Some script → made (u + j) o ≡ length script) → left u scripts o ≡ 0
+unfolding left
+none-left u [] o h = refl
+none-left u (s ∷ scripts) o h =
+    let first : u ≡ u + 0 = omega arith in
+    let here : made u o ≡ length s = ap (λ v. made v o) first ∙ h 0 s refl in
+    let rest = none-left (suc u) scripts o (λ j script e. let next : suc u + j ≡ u + suc j = omega arith in ap (λ v. made v o) next ∙ h (suc j) script e) in
+    omega arith
+
+pub all-made : (j u : ℕ) (scripts : List (List Statement)) (o : List (ℕ × Statement)) (script : List Statement) → left u scripts o ≡ 0 → slice_get scripts j ≡ Some script → length script ≤ made (u + j) o
+unfolding left
+all-made j u [] o script e f = absurd (cc)
+all-made zero u (s ∷ scripts) o script e f =
+    let same : s ≡ script = cc in
+    let long : length s ≡ length script = ap length same in
+    let first : made u o ≡ made (u + 0) o = ap (λ v. made v o) (omega arith) in
+    omega arith
+all-made (suc j) u (s ∷ scripts) o script e f =
+    let none : left (suc u) scripts o ≡ 0 = omega arith in
+    let next : made (suc u + j) o ≡ made (u + suc j) o = ap (λ v. made v o) (omega arith) in
+    let rest = all-made j (suc u) scripts o script none f in
+    omega arith
+
 -- a script of which a statement is left
 pub record IsLeft (u : ℕ) (scripts : List (List Statement)) (o : List (ℕ × Statement)) : Type 0 where
   pub place : ℕ
@@ -131,7 +155,7 @@ module _ (scripts : List (List Statement)) where
     pub unit : In s.0 (range_with_len 1 (length scripts))
     pub next : next_of scripts o s.0 ≡ Some s.1
 
-  by-next : (o : List (ℕ × Statement)) (u : ℕ) (next : Option Statement) (e : List (ℕ × Statement)) → In e (option_to_list (option_map (λ x. o ++ (u, x) ∷ []) next)) → (x : Statement) × (next ≡ Some x) × (o ++ (u, x) ∷ [] ≡ e)
+  pub by-next : (o : List (ℕ × Statement)) (u : ℕ) (next : Option Statement) (e : List (ℕ × Statement)) → In e (option_to_list (option_map (λ x. o ++ (u, x) ∷ []) next)) → (x : Statement) × (next ≡ Some x) × (o ++ (u, x) ∷ [] ≡ e)
   by-next o u None e i = absurd i
   by-next o u (Some x) e (inl h) = (x, refl, h)
   by-next o u (Some x) e (inr h) = absurd h
@@ -177,11 +201,13 @@ module _ (scripts : List (List Statement)) where
       let at = left-some 1 scripts o n e in
       let low = slice_get_within scripts at.place at.script at.script_is in
       let u : 1 + at.place ≡ suc at.place = omega arith in
-      let next : slice_get at.script (made (suc at.place) o) ≡ Some at.next = ap (λ w. slice_get at.script (made w o)) (sym u) ∙ at.next_is in
-      ((suc at.place, at.next), record {
-        unit = in_range (length scripts) 1 (suc at.place) (omega arith) (omega arith);
-        next = ap (λ (f : Option (List Statement)). option_and_then (λ script. slice_get script (made (suc at.place) o)) f) at.script_is ∙ next;
-      })
+      let next : slice_get at.script (made (suc at.place) o) ≡ Some at.next = ap (λ w. slice_get at.script (made w o)) (sym u) ∙ at.next_is in (
+        (suc at.place, at.next),
+        record {
+          unit = in_range (length scripts) 1 (suc at.place) (omega arith) (omega arith);
+          next = ap (λ (f : Option (List Statement)). option_and_then (λ script. slice_get script (made (suc at.place) o)) f) at.script_is ∙ next;
+        },
+      )
 
   none-begun : (o : List (ℕ × Statement)) → In o (completed scripts zero []) → left 1 scripts o + 0 ≡ count_statements scripts
   unfolding completed
@@ -217,7 +243,7 @@ module _ (scripts : List (List Statement)) where
       let count : k + suc n ≡ suc k + n = omega arith in
       record { rest = next.0 ∷ further.rest; begun_with = subst (λ (c : ℕ). In (o ++ next.0 ∷ further.rest) (completed scripts c [])) count (subst (λ (p : List (ℕ × Statement)). In p (completed scripts (k + suc n) [])) (append_assoc o (next.0 ∷ []) further.rest) further.begun_with) }
 
-  completed-begins : (k : ℕ) (o e : List (ℕ × Statement)) → In e (completed scripts k o) → (r : List (ℕ × Statement)) × (o ++ r ≡ e)
+  pub completed-begins : (k : ℕ) (o e : List (ℕ × Statement)) → In e (completed scripts k o) → (r : List (ℕ × Statement)) × (o ++ r ≡ e)
   unfolding completed
   completed-begins zero o e (inl h) = ([], append-nil o ∙ h)
   completed-begins zero o e (inr h) = absurd h

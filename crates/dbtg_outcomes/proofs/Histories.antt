@@ -1,8 +1,8 @@
 -- Histories of the sequential database, beside the orders of their statements.
 -- es are entries, u is a unit, n is how many units there are.
-use Rattle.std.proofs.Common.{◌≡◌, refl, sym, ◌∙◌, ap, subst, ℕ, zero, suc, ◌+◌, ◌-◌, ◌<◌, ◌≤◌, Bool, true, false, List, [], ◌∷◌, ◌++◌, length, map, Option, Some, None, arith, inl, inr, ⊎_elim, slice_get, slice_set}
+use Rattle.std.proofs.Common.{◌≡◌, refl, sym, ◌∙◌, ap, subst, ℕ, zero, suc, ◌+◌, ◌-◌, ◌<◌, ◌≤◌, true, false, List, [], ◌∷◌, ◌++◌, length, map, Option, Some, None, arith, slice_get, slice_set}
 use Rattle.std.specs.Prelude.{◌==◌, filter, option_map, option_to_list, if◌then◌else◌}
-use Rattle.std.specs.List.{list_all, range_with_len}
+use Rattle.std.specs.List.{range_with_len}
 use Rattle.std.proofs.lemmas.List.{length-map}
 use Rattle.dbtg_schema.specs.Lists.{Lists}
 use Rattle.dbtg_script.specs.Texts.{answers_text}
@@ -13,11 +13,11 @@ use Rattle.dbtg_unit.specs.declared.unit.Unit as unit
 use Rattle.dbtg_unit.specs.Effect.{Outcome, effect}
 use Rattle.dbtg_unit.specs.Fits.{fits}
 use Rattle.dbtg_unit.specs.Units.{opening_unit}
-use Rattle.dbtg_unit.specs.Replay.{AnswersHold, IsHistoryOf, State, after_entry, after_outcome, entries_of, opening_state, outcome_of, unit_of}
+use Rattle.dbtg_unit.specs.Replay.{AnswersHold, IsHistoryOf, State, after_entry, after_outcome, entries_of, opening_state, outcome_of}
 use Rattle.dbtg_unit.specs.Replaying.{statements_of}
-use Rattle.dbtg_unit.proofs.LiveKeys.{In, all_at}
+use Rattle.dbtg_unit.proofs.LiveKeys.{all_at}
 use Rattle.dbtg_outcomes.specs.Orders.{made}
-use Rattle.dbtg_outcomes.specs.Results.{Meeting, answers_told, entries_in, entry_in, unit_answers, units_of, untimed}
+use Rattle.dbtg_outcomes.specs.Results.{Meeting, answers_told, entries_in, unit_answers, units_of, untimed}
 use Rattle.dbtg_outcomes.proofs.States.{get-in}
 
 -- a unit has made as many statements as it has entries
@@ -74,7 +74,7 @@ module _ (schema : Lists) (capacity : ℕ) where
   unit-there state zero x answer h = absurd (cc)
   unit-there state (suc n) x answer h = (omega arith, unit-below (λ unit. effect schema capacity state.database unit x) answer state.units n h)
 
-  units-within : (state : State) (es : List Entry) (i : ℕ) (e : Entry) → AnswersHold schema capacity state es → slice_get es i ≡ Some e → (0 < e.unit) × (e.unit ≤ length state.units)
+  pub units-within : (state : State) (es : List Entry) (i : ℕ) (e : Entry) → AnswersHold schema capacity state es → slice_get es i ≡ Some e → (0 < e.unit) × (e.unit ≤ length state.units)
   unfolding AnswersHold
   units-within state [] i e h g = absurd (cc)
   units-within state (f ∷ es) zero e h g =
@@ -106,11 +106,12 @@ entry-of-history schema capacity n es i e h at =
     record { numbered = unit.0; within = subst (λ k. e.unit ≤ k) count unit.1; fitting = all_at (λ (e : Entry). fits schema e.statement) e es h.fitting (get-in es i e at) }
 
 module _ (m : Meeting) where
-  map-units : (us : List ℕ) (es : List Entry) → IsHistoryOf m.schema m.capacity (length m.scripts) es → map (λ u. answers_text m.schema (map untimed (entries_of u es))) us ≡ map (unit_answers m (statements_of es)) us
+  -- the answers of units as they are printed
+  pub map-units : (us : List ℕ) (es : List Entry) → AnswersHold m.schema m.capacity (opening_state m.schema (length m.scripts)) es → map (λ u. answers_text m.schema (map untimed (entries_of u es))) us ≡ map (unit_answers m (statements_of es)) us
   map-units [] es h = refl
   map-units (u ∷ us) es h =
-      let entries : entries_of u (entries_in m.schema m.capacity (opening_state m.schema (length m.scripts)) (statements_of es)) ≡ map untimed (entries_of u es) = ap (entries_of u) (entries-are m.schema m.capacity (opening_state m.schema (length m.scripts)) es h.answers_hold) ∙ entries-untimed u es in
+      let entries : entries_of u (entries_in m.schema m.capacity (opening_state m.schema (length m.scripts)) (statements_of es)) ≡ map untimed (entries_of u es) = ap (entries_of u) (entries-are m.schema m.capacity (opening_state m.schema (length m.scripts)) es h) ∙ entries-untimed u es in
       λ i. answers_text m.schema (sym entries i) ∷ map-units us es h i
 
   pub told-is : (es : List Entry) → m.tells ≡ true → IsHistoryOf m.schema m.capacity (length m.scripts) es → map (λ u. answers_text m.schema (map untimed (entries_of u es))) (units_of m) ≡ answers_told m (statements_of es)
-  told-is es t h = map-units (units_of m) es h ∙ sym (rw t refl)
+  told-is es t h = map-units (units_of m) es h.answers_hold ∙ sym (rw t refl)

@@ -1,35 +1,18 @@
 -- Layers of a search among orders: the states after so many statements, each with its first order and the number of its orders.
 -- m is a meeting, o, p, q are orders, ws are orders with weights, n is how many statements are made.
-use Rattle.std.proofs.Common.{◌≡◌, refl, sym, ◌∙◌, ap, subst, ℕ, zero, suc, ◌+◌, true, false, ◌&&◌, List, [], ◌∷◌, ◌++◌, length, map, Option, Some, None, ◌<◌, ◌≤◌, ◌^◌, inl, inr, ◌⊎◌, arith, append_assoc, append-nil, slice_get, slice_set}
-use Rattle.std.specs.Prelude.{flat_map, option_and_then}
-use Rattle.std.specs.Bool.{⊤}
-use Rattle.std.specs.List.{list_all}
+use Rattle.std.proofs.Common.{◌≡◌, refl, sym, ◌∙◌, ap, subst, ℕ, zero, suc, ◌+◌, true, false, List, [], ◌∷◌, ◌++◌, length, map, Option, Some, None, ◌<◌, ◌≤◌, ◌^◌, inl, inr, ◌⊎◌, arith, slice_get, slice_set}
 use Rattle.std.specs.Str.{bytes_eq}
-use Rattle.std.proofs.lemmas.Bool.{cases_Bool, cases_lt, le-ltb, lt-ltb, and_from, and_parts, or_parts, true≢false}
-use Rattle.std.proofs.lemmas.List.Folds.{list_all-append}
+use Rattle.std.proofs.lemmas.Bool.{cases_Bool, cases_lt, le-ltb, lt-ltb, or_parts, true≢false}
 use Rattle.std.proofs.lemmas.Slice.Eq.{bytes_eq-Decides}
-use Rattle.dbtg_schema.specs.Sound.{IsSound}
 use Rattle.dbtg_unit.specs.declared.statement.Statement.{Statement}
-use Rattle.dbtg_unit.specs.declared.unit.Entry.{Entry}
-use Rattle.dbtg_unit.specs.declared.unit.Status.TheVariants.{Done}
-use Rattle.dbtg_unit.specs.Fits.{fits}
-use Rattle.dbtg_unit.specs.Legal.{Legal}
-use Rattle.dbtg_unit.specs.Replay.{IsHistoryOf, State, opening_state, replay}
-use Rattle.dbtg_unit.specs.Replaying.{statements_of}
-use Rattle.dbtg_unit.proofs.LegalHistory.{opening_is_legal, replay_keeps_legal}
-use Rattle.dbtg_unit.proofs.LiveKeys.{In, all_at, of_flat_map}
-use Rattle.dbtg_unit.proofs.ReplayLemmas.{statements_determine}
-use Rattle.dbtg_step.specs.SequentialDatabase.{unit_at}
 use Rattle.dbtg_outcomes.specs.declared.groups.Group.{Group}
 use Rattle.dbtg_outcomes.specs.Counted.{counted}
-use Rattle.dbtg_outcomes.specs.Grouped.{HasMore, IsAdded, keys_of, sum_of}
-use Rattle.dbtg_outcomes.specs.Groups.{among, groups}
-use Rattle.dbtg_outcomes.specs.Orders.{completed, count_statements, extended, next_of, orders}
-use Rattle.dbtg_outcomes.specs.Results.{Meeting, result_text, state_key, state_of, units_of}
-use Rattle.dbtg_outcomes.proofs.Begun.{IsNext, begun, completed-last, ext, of-ext}
+use Rattle.dbtg_outcomes.specs.Grouped.{IsAdded, keys_of, sum_of}
+use Rattle.dbtg_outcomes.specs.Groups.{among}
+use Rattle.dbtg_outcomes.specs.Orders.{orders}
+use Rattle.dbtg_outcomes.specs.Results.{Meeting}
 use Rattle.dbtg_outcomes.specs.Gathered.{enter}
 use Rattle.dbtg_outcomes.specs.Search.{AreHeld, IsHeld, Stand}
-use Rattle.dbtg_outcomes.proofs.SameStates.{SameState, next-states, result-same, same-key}
 use Rattle.dbtg_outcomes.proofs.Weights.{Apart}
 
 -- NUMBERS OF ORDERS

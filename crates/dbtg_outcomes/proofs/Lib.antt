@@ -13,5 +13,12 @@ pub mod Histories
 pub mod Runs
 pub mod Noted
 pub mod Nexts
+pub mod Extending
+pub mod Counts
 pub mod Searched
 pub mod Rising
+pub mod Entered
+pub mod Results
+pub mod Mixed
+pub mod Merges
+pub mod ComesOut

@@ -1,8 +1,8 @@
 -- What a list contains.
-use Rattle.std.proofs.Common.{◌≡◌, refl, sym, ◌∙◌, ap, subst, ℕ, zero, suc, ◌+◌, ◌<◌, List, [], ◌∷◌, ◌++◌, length, take, map, Option, Some, arith, inl, inr, ◌⊎◌, ⊎_elim, slice_get}
-use Rattle.std.specs.Prelude.{Contains, flat_map}
+use Rattle.std.proofs.Common.{◌≡◌, ◌∙◌, ap, ℕ, zero, suc, ◌+◌, ◌<◌, List, [], ◌∷◌, ◌++◌, length, take, Some, arith, inl, inr, slice_get}
+use Rattle.std.specs.Prelude.{Contains}
 use Rattle.std.specs.List.{slice_index_or}
-use Rattle.dbtg_unit.proofs.LiveKeys.{In, in_left, in_right, of_append}
+use Rattle.dbtg_unit.proofs.LiveKeys.{In}
 
 pub contains-in : {X : Type 0} (xs : List X) (x : X) → Contains xs x → In x xs
 contains-in xs x c = by xs x c.0 c.1 c.2 where

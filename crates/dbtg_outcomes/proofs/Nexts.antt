@@ -1,6 +1,6 @@
 -- The next statement of a unit, as a search finds and enters it.
 -- m is a meeting, u is a unit, x is a statement, es are entries.
-use Rattle.std.proofs.Common.{append-nil, ◌≡◌, refl, sym, ◌∙◌, ap, subst, ℕ, zero, suc, ◌+◌, ◌-◌, ◌<◌, ◌≤◌, true, List, [], ◌∷◌, ◌++◌, length, map, Option, Some, None, get_or, arith, slice_get}
+use Rattle.std.proofs.Common.{append-nil, ◌≡◌, refl, sym, ◌∙◌, ap, subst, ℕ, zero, suc, ◌+◌, ◌-◌, ◌<◌, ◌≤◌, true, List, [], ◌∷◌, ◌++◌, length, Option, Some, None, get_or, arith, slice_get}
 use Rattle.std.specs.Prelude.{option_and_then, option_map, option_to_list}
 use Rattle.std.proofs.lemmas.Option.{slice_get_read}
 use Rattle.dbtg_unit.specs.declared.statement.Statement.{Statement}
@@ -18,9 +18,8 @@ use Rattle.dbtg_outcomes.specs.Grouped.{IsAdded}
 use Rattle.dbtg_outcomes.specs.Orders.{extended_by, made, next_of}
 use Rattle.dbtg_outcomes.specs.Outcomes.{HasStatus, IsMeeting, IsRunOf}
 use Rattle.dbtg_outcomes.specs.Results.{Meeting, state_key}
-use Rattle.dbtg_outcomes.specs.Search.{AreNoted, Hold, IsHeld, IsNote, Stand}
+use Rattle.dbtg_outcomes.specs.Search.{AreNoted, Hold, IsHeld, Stand}
 use Rattle.dbtg_outcomes.specs.Statuses.{HasNoted}
-use Rattle.dbtg_outcomes.proofs.Begun.{IsNext}
 use Rattle.dbtg_outcomes.proofs.Gathered.{gathered-append, gathered-apart}
 use Rattle.dbtg_outcomes.proofs.Histories.{made-is}
 use Rattle.dbtg_outcomes.proofs.Layers.{entered}

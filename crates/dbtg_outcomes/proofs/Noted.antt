@@ -1,9 +1,9 @@
 -- What is noted of statuses, step by step.
 -- m is a meeting, o is an order, u is a unit, x is a statement, ps are orders with units.
-use Rattle.std.proofs.Common.{◌≡◌, refl, sym, ◌∙◌, ap, subst, ℕ, zero, suc, ◌+◌, ◌<◌, List, [], ◌∷◌, ◌++◌, length, map, Option, Some, None, arith, inl, inr, ◌⊎◌, ⊎_elim}
+use Rattle.std.proofs.Common.{◌≡◌, refl, sym, ◌∙◌, ap, subst, ℕ, ◌+◌, List, [], ◌∷◌, ◌++◌, Some, None, inl, inr, ◌⊎◌, ⊎_elim}
 use Rattle.std.specs.Prelude.{Contains}
 use Rattle.dbtg_unit.specs.declared.statement.Statement.{Statement}
-use Rattle.dbtg_unit.proofs.LiveKeys.{In, in_left, in_right, of_append}
+use Rattle.dbtg_unit.proofs.LiveKeys.{in_left, in_right, of_append}
 use Rattle.dbtg_outcomes.specs.declared.notes.Note.{Note}
 use Rattle.dbtg_outcomes.specs.Orders.{next_of}
 use Rattle.dbtg_outcomes.specs.Results.{Meeting}

@@ -6,7 +6,7 @@ range-more : (n a : ℕ) → range_with_len a (suc n) ≡ range_with_len a n ++ 
 range-more zero a = ap (λ m. m ∷ []) (omega arith)
 range-more (suc n) a = ap (λ ms. a ∷ ms) (range-more n (a + 1) ∙ ap (λ m. range_with_len (a + 1) n ++ m ∷ []) (omega arith))
 
-next_range : (k : ℕ) → range_with_len 1 (k + 1) ≡ range_with_len 1 k ++ (k + 1) ∷ []
+pub next_range : (k : ℕ) → range_with_len 1 (k + 1) ≡ range_with_len 1 k ++ (k + 1) ∷ []
 next_range k =
     let e : k + 1 ≡ suc k = omega arith in
     ap (range_with_len 1) e ∙ range-more k 1 ∙ ap (λ m. range_with_len 1 k ++ m ∷ []) (omega arith)

@@ -1,16 +1,13 @@
 -- What comes of statements that are made whole, as the run of an order.
 -- m is a meeting, o is an order, u is a unit, x is a statement.
-use Rattle.std.proofs.Common.{◌≡◌, refl, sym, ◌∙◌, ap, subst, ℕ, zero, suc, ◌+◌, ◌≤◌, List, [], ◌∷◌, ◌++◌, length, map, Option, Some, get_or, arith, append_assoc}
-use Rattle.std.specs.List.{range_with_len}
+use Rattle.std.proofs.Common.{◌≡◌, refl, sym, ◌∙◌, ap, subst, ℕ, ◌+◌, List, [], ◌∷◌, ◌++◌, length, get_or, append_assoc}
 use Rattle.std.proofs.Math.Seq.{get_or-append_seam}
-use Rattle.dbtg_schema.specs.Lists.{Lists}
 use Rattle.dbtg_unit.specs.declared.statement.Statement.{Statement}
 use Rattle.dbtg_unit.specs.declared.unit.Entry.{Entry}
 use Rattle.dbtg_unit.specs.Codes.{status_code}
 use Rattle.dbtg_unit.specs.Image.{image_of}
 use Rattle.dbtg_unit.specs.Replay.{IsHistoryOf, State, after_outcome, opening_state, outcome_of, replay, state_after}
 use Rattle.dbtg_unit.specs.Replaying.{statements_of}
-use Rattle.dbtg_unit.specs.Units.{opening_unit}
 use Rattle.dbtg_unit.proofs.ReplayLemmas.{statements_determine}
 use Rattle.dbtg_step.specs.declared.results.Run.{Run}
 use Rattle.dbtg_step.specs.Whole.{HasMade, IsMadeRun, Making, state_now}
@@ -71,3 +68,7 @@ module _ (m : Meeting) where
 
   pub units-of-run : (o : List (ℕ × Statement)) (run : Run) → IsRunOf m o run → length run.units ≡ length m.scripts
   units-of-run o run h = ap length h.units_are ∙ units-after (opening_state m.schema (length m.scripts)) o ∙ opening-length m.schema (length m.scripts)
+
+  -- a run is that of its own statements
+  pub own-run : (o : List (ℕ × Statement)) (run : Run) → IsRunOf m o run → IsRunOf m (statements_of run.history) run
+  own-run o run h = subst (λ (q : List (ℕ × Statement)). IsRunOf m q run) (sym h.order_is) h

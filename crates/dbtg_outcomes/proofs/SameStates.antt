@@ -1,7 +1,7 @@
 -- Orders that lead to the same state go on alike: to the same states, and to the same result.
 -- m is a meeting, o and p are orders, u is a unit, s a statement with its unit.
-use Rattle.std.proofs.Common.{◌≡◌, refl, sym, ◌∙◌, ap, ℕ, zero, suc, ◌+◌, Bool, true, false, List, [], ◌∷◌, ◌++◌, length, Option, Some, None, inl, inr, arith, map, append_assoc, append-nil}
-use Rattle.std.specs.Prelude.{◌==◌, filter, flat_map, option_and_then, option_map, option_to_list, slice_get, if◌then◌else◌}
+use Rattle.std.proofs.Common.{◌≡◌, refl, sym, ◌∙◌, ap, ℕ, ◌+◌, Bool, true, false, List, [], ◌∷◌, ◌++◌, length, Option, Some, None, inl, inr, map, append_assoc, append-nil}
+use Rattle.std.specs.Prelude.{◌==◌, flat_map, option_and_then, option_map, option_to_list, slice_get, if◌then◌else◌}
 use Rattle.std.proofs.lemmas.List.Elements.{filter-append}
 use Rattle.dbtg_script.specs.Texts.{answer_text, answers_text, run_text}
 use Rattle.dbtg_unit.specs.declared.statement.Statement.{Statement}

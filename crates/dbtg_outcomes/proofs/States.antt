@@ -1,11 +1,10 @@
 -- The states after so many statements, layer by layer.
 -- m is a meeting, o, p are orders, s is a statement with its unit, n is how many statements are made.
-use Rattle.std.proofs.Common.{◌≡◌, refl, sym, ◌∙◌, ap, subst, ℕ, zero, suc, ◌+◌, ◌<◌, ◌≤◌, Bool, true, false, ◌||◌, List, [], ◌∷◌, ◌++◌, length, map, Option, Some, None, inl, inr, ⊎_elim, ◌⊎◌, arith, append_assoc, append-nil, slice_get}
-use Rattle.std.specs.Prelude.{◌&&◌, filter, flat_map, option_and_then, if◌then◌else◌}
-use Rattle.std.specs.Bool.{⊤}
+use Rattle.std.proofs.Common.{◌≡◌, refl, sym, ◌∙◌, ap, subst, ℕ, zero, suc, ◌+◌, true, ◌||◌, List, [], ◌∷◌, ◌++◌, length, map, Some, None, inl, inr, ⊎_elim, ◌⊎◌, slice_get}
+use Rattle.std.specs.Prelude.{◌&&◌, filter, flat_map}
 use Rattle.std.specs.List.{list_all}
 use Rattle.std.specs.Str.{bytes_eq}
-use Rattle.std.proofs.lemmas.Bool.{cases_Bool, cases_lt, and_from, or_cases, or_parts, true≢false, false≢true}
+use Rattle.std.proofs.lemmas.Bool.{cases_Bool, and_from, or_cases, false≢true}
 use Rattle.std.proofs.lemmas.List.Folds.{list_all-append}
 use Rattle.std.proofs.lemmas.Slice.Eq.{bytes_eq-Decides}
 use Rattle.dbtg_schema.specs.Sound.{IsSound}
@@ -22,7 +21,7 @@ use Rattle.dbtg_unit.proofs.ReplayLemmas.{statements_determine}
 use Rattle.dbtg_outcomes.specs.Gathered.{each_of}
 use Rattle.dbtg_outcomes.specs.Groups.{among, firsts, groups}
 use Rattle.dbtg_outcomes.specs.Search.{layer}
-use Rattle.dbtg_outcomes.specs.Orders.{completed, count_statements, orders}
+use Rattle.dbtg_outcomes.specs.Orders.{completed}
 use Rattle.dbtg_outcomes.specs.Results.{Meeting, result_text, state_key, state_of}
 use Rattle.dbtg_outcomes.proofs.Begun.{IsNext, begun, completed-last, ext, next-of-unit, of-ext}
 use Rattle.dbtg_outcomes.proofs.Gathered.{Each, each-append, regrouped, spread, spread-self}

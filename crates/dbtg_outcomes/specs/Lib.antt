@@ -3,9 +3,11 @@ pub mod Gathered
 pub mod Given
 pub mod Groups
 pub mod Grouped
+pub mod Laws
 pub mod Orders
 pub mod Outcomes
 pub mod Results
 pub mod Search
 pub mod Spelling
 pub mod Statuses
+pub mod Steps

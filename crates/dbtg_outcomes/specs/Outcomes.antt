@@ -1,6 +1,6 @@
 -- What can come out when scripts run at the same time.
 -- m is a meeting of scripts, o an order, u a unit, i a place in its script from 0.
-use Rattle.std.specs.Prelude.{ℕ, zero, suc, ◌≡◌, ◌≤◌, ◌<◌, ◌+◌, ◌-◌, true, List, [], ◌∷◌, ◌++◌, ⊤, Option, Some, map, length, Contains}
+use Rattle.std.specs.Prelude.{ℕ, zero, suc, ◌≡◌, ◌≤◌, ◌<◌, ◌+◌, ◌-◌, true, List, [], ◌∷◌, ◌++◌, ⊤, Some, map, length, Contains}
 use Rattle.std.specs.List.{range_with_len}
 use Rattle.dbtg_schema.specs.Sound.{IsSound}
 use Rattle.dbtg_unit.specs.declared.statement.Statement.{Statement}
@@ -64,6 +64,10 @@ pub record AreStatuses (m : Meeting) (a : Answered) : Type 0 where
   pub come : (code : ℕ) → Contains a.statuses.items code → Comes m a.unit (a.place - 1) code
   pub all : (code : ℕ) → Comes m a.unit (a.place - 1) code → Contains a.statuses.items code
 
+-- the unit and the place of a statement, both from 1
+abbrev pub place_of : Answered → ℕ × ℕ
+place_of a = (a.unit, a.place)
+
 -- the statements of scripts, the first of them unit u's, each by its unit and its place from 1
 abbrev pub places_from : ℕ → List (List Statement) → List (ℕ × ℕ)
 places_from u [] = []
@@ -90,5 +94,5 @@ count_states m = states_within m (count_statements m.scripts)
 pub record AreOutcomes (m : Meeting) (all : given.Outcomes) : Type 0 where
   pub orders_are : all.orders ≡ counted (length (orders m.scripts))
   pub results_are : all.results.items ≡ map result_of (groups (result_text m) (orders m.scripts))
-  pub places_are : map (λ a. (a.unit, a.place)) all.answered.items ≡ places_from 1 m.scripts
+  pub places_are : map place_of all.answered.items ≡ places_from 1 m.scripts
   pub statuses_are : (a : Answered) → Contains all.answered.items a → AreStatuses m a

@@ -1,6 +1,6 @@
 -- What a search among orders holds after so many statements of all scripts.
 -- m is a meeting, o an order, u a unit, w an order with a weight, n how many statements are made.
-use Rattle.std.specs.Prelude.{ℕ, zero, suc, ◌≡◌, ◌+◌, ◌<◌, ◌≤◌, ◌⊎◌, List, [], ◌∷◌, ◌++◌, ⊤, Option, Some, map, length, Contains}
+use Rattle.std.specs.Prelude.{ℕ, ◌≡◌, ◌<◌, ◌≤◌, ◌⊎◌, List, [], ◌∷◌, ⊤, Some, length, Contains}
 use Rattle.std.specs.List.{range_with_len}
 use Rattle.dbtg_unit.specs.declared.statement.Statement.{Statement}
 use Rattle.dbtg_unit.specs.Replay.{IsHistoryOf}
@@ -13,7 +13,7 @@ use Rattle.dbtg_outcomes.specs.Gathered.{gathered}
 use Rattle.dbtg_outcomes.specs.Groups.{groups}
 use Rattle.dbtg_outcomes.specs.Orders.{completed, made, next_of}
 use Rattle.dbtg_outcomes.specs.Outcomes.{Comes, HasStatus, states_within}
-use Rattle.dbtg_outcomes.specs.Results.{Meeting, state_key, state_of}
+use Rattle.dbtg_outcomes.specs.Results.{Meeting, state_key}
 
 -- GROUPS
 
@@ -70,10 +70,6 @@ pub record AreNoted (m : Meeting) (ps : List (List (ℕ × Statement) × ℕ)) (
   pub kept : (note : Note) → Contains old note → Contains new note
   pub all : (p : List (ℕ × Statement) × ℕ) (x : Statement) → Contains ps p → next_of m.scripts p.0 p.1 ≡ Some x → HasNote m new p.0 p.1 x
   pub only : (note : Note) → Contains new note → Contains old note ⊎ ((p : List (ℕ × Statement) × ℕ) × Contains ps p × IsNextNote m p note)
-
--- an order with each of the units
-abbrev pub with_units : Meeting → List (ℕ × Statement) → List (List (ℕ × Statement) × ℕ)
-with_units m o = map (λ u. (o, u)) (range_with_len 1 (length m.scripts))
 
 -- THE SEARCH
 

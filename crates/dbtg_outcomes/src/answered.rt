@@ -1,9 +1,6 @@
 //! The statuses that each statement has, over all orders.
-ghost use Rattle.std.specs.Prelude.{◌≡◌, ◌≤◌, ◌-◌, ◌++◌, length, map, Contains, IfOk, OnOk, ◌⊎◌, ℕ};
-ghost use Rattle.std.specs.List.{range_with_len};
-ghost use Rattle.dbtg_outcomes.specs.declared.answered.Answered as answered;
-ghost use Rattle.dbtg_outcomes.specs.Outcomes.{places_from};
-ghost use Rattle.dbtg_outcomes.specs.Statuses.{AreOfNotes, IsEntered};
+ghost use Rattle.std.specs.Prelude.{◌≡◌, ◌≤◌, ◌<◌, ◌==◌, ◌&&◌, length, IfOk, OnOk};
+ghost use Rattle.dbtg_outcomes.specs.Statuses.{AreAllAnswered, AreAnswered, AreOfNotes, IsAnswered, IsEntered, TakesNote};
 
 use crate::notes::Note;
 use dbtg_schema::Row;
@@ -22,12 +19,33 @@ pub struct Answered {
 fn enter_status(statuses: &mut Vec<u16>, status: u16) -> Result<(), AllocError>
     ensures { OnOk result (IsEntered statuses.old.items status statuses.new.items) }
 {
-    let mut at = 0;
-    while at < statuses.len() && statuses[at] < status {
-        at += 1;
+    match statuses.as_slice().binary_search(&status) {
+        Ok(_) => Ok(()),
+        Err(at) => {
+            statuses.insert(at, status)?;
+            Ok(())
+        }
     }
-    if at == statuses.len() || statuses[at] != status {
-        statuses.insert(at, status)?;
+}
+
+// The note is of the statement of this unit at this place, from 0.
+fn is_of(note: Note, unit: u8, place: usize) -> bool
+    ensures { result ≡ (note.unit == unit && note.place == place) }
+{
+    note.unit == unit && note.place == place
+}
+
+// The status of a note goes in, if the note is of this statement.
+fn enter_noted(
+    statuses: &mut Vec<u16>,
+    note: Note,
+    unit: u8,
+    place: usize,
+) -> Result<(), AllocError>
+    ensures { OnOk result (TakesNote unit place note statuses.old.items statuses.new.items) }
+{
+    if is_of(note, unit, place) {
+        enter_status(statuses, note.status)?;
     }
     Ok(())
 }
@@ -43,14 +61,32 @@ fn statuses_of(
 {
     let mut statuses = Vec::new(alloc);
     for note in notes {
-        if note.unit == unit && note.place == place {
-            enter_status(&mut statuses, note.status)?;
-        }
+        enter_noted(&mut statuses, *note, unit, place)?;
     }
     Ok(statuses)
 }
 
-// The statements of one unit's script go behind the others.
+// The statement of this unit at this place, from 1, goes behind the others.
+fn answer_one(
+    alloc: Global,
+    all: &mut Vec<Answered>,
+    notes: &[Note],
+    unit: u8,
+    place: usize,
+) -> Result<(), AllocError>
+    requires { 0 < place }
+    ensures { OnOk result (IsAnswered notes.now unit place all.old.items all.new.items) }
+{
+    let statuses = statuses_of(alloc, notes, unit, place - 1)?;
+    all.push(Answered {
+        unit,
+        place,
+        statuses,
+    })?;
+    Ok(())
+}
+
+// So many statements of one unit's script go behind the others.
 fn answer_script(
     alloc: Global,
     all: &mut Vec<Answered>,
@@ -58,16 +94,10 @@ fn answer_script(
     unit: u8,
     count: usize,
 ) -> Result<(), AllocError>
-    ensures places { OnOk result (map {B = ℕ × ℕ} (λ a. (a.unit, a.place)) all.new.items ≡ map {B = ℕ × ℕ} (λ a. (a.unit, a.place)) all.old.items ++ map {B = ℕ × ℕ} (λ i. (unit, i)) (range_with_len 1 count)) }
-    ensures statuses { OnOk result ((a : answered.Answered) → Contains all.new.items a → Contains all.old.items a ⊎ AreOfNotes notes.now a.unit (a.place - 1) a.statuses.items) }
+    ensures { OnOk result (AreAnswered notes.now unit count all.old.items all.new.items) }
 {
     for before in 0..count {
-        let statuses = statuses_of(alloc, notes, unit, before)?;
-        all.push(Answered {
-            unit,
-            place: before + 1,
-            statuses,
-        })?;
+        answer_one(alloc, all, notes, unit, before + 1)?;
     }
     Ok(())
 }
@@ -79,8 +109,7 @@ pub fn answered_by(
     notes: &[Note],
 ) -> Result<Vec<Answered>, AllocError>
     requires { length scripts.now ≤ 255 }
-    ensures places { IfOk result (λ all. map {B = ℕ × ℕ} (λ a. (a.unit, a.place)) all.items ≡ places_from 1 scripts.now) }
-    ensures statuses { IfOk result (λ all. (a : answered.Answered) → Contains all.items a → AreOfNotes notes.now a.unit (a.place - 1) a.statuses.items) }
+    ensures { IfOk result (λ all. AreAllAnswered notes.now scripts.now all.items) }
 {
     let mut all = Vec::new(alloc);
     let mut unit = 0;

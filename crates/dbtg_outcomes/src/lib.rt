@@ -4,6 +4,7 @@
 mod answered;
 mod count;
 mod groups;
+mod laws;
 mod meeting;
 mod notes;
 mod outcomes;
@@ -13,5 +14,6 @@ mod spelled;
 mod told;
 
 pub use answered::Answered;
+pub use laws::{every_run_comes_out, orders_are_all_merges};
 pub use outcomes::{OneResult, Outcomes, all_outcomes};
 pub use search::Stop;

@@ -1,5 +1,5 @@
 //! Scripts that run at the same time, and what one order of their statements leads to.
-ghost use Rattle.std.specs.Prelude.{◌≡◌, ◌++◌, ◌∷◌, ◌<◌, ◌≤◌, [], true, false, cond, length, map, IfOk};
+ghost use Rattle.std.specs.Prelude.{◌≡◌, ◌++◌, ◌∷◌, ◌<◌, ◌≤◌, [], true, length, map, IfOk};
 ghost use Rattle.std.specs.List.{range_with_len};
 ghost use Rattle.dbtg_unit.specs.Fits.{fits};
 ghost use Rattle.dbtg_unit.specs.Replay.{IsHistoryOf, entries_of};

@@ -1,16 +1,13 @@
 //! All that can come out when scripts run at the same time.
-ghost use Rattle.std.specs.Prelude.{◌≡◌, ◌≤◌, ◌<◌, [], ℕ, List, Some, true, length, map, All, IfErr, IfOk};
+ghost use Rattle.std.specs.Prelude.{◌≡◌, ◌≤◌, ◌<◌, Some, true, length, map, All, IfErr, IfOk, OnOk};
 ghost use Rattle.dbtg_schema.specs.Sound.{IsSound};
-ghost use Rattle.dbtg_unit.specs.declared.statement.Statement as statement;
-ghost use Rattle.dbtg_unit.specs.Replay.{IsHistoryOf};
 ghost use Rattle.dbtg_step.specs.Laws.{scripts_fit};
 ghost use Rattle.dbtg_outcomes.specs.declared.search.Stop.TheVariants.{States};
-ghost use Rattle.dbtg_outcomes.specs.Gathered.{gathered};
+ghost use Rattle.dbtg_outcomes.specs.Given.{all_orders, one_result};
 ghost use Rattle.dbtg_outcomes.specs.Orders.{count_statements};
 ghost use Rattle.dbtg_outcomes.specs.Outcomes.{AreOutcomes, IsMeeting, count_states};
-ghost use Rattle.dbtg_outcomes.specs.Results.{result_text};
-ghost use Rattle.dbtg_outcomes.specs.Search.{AreHeld, IsAt};
-ghost use Rattle.dbtg_outcomes.specs.Given.{all_orders, one_result};
+ghost use Rattle.dbtg_outcomes.specs.Search.{IsAt};
+ghost use Rattle.dbtg_outcomes.specs.Steps.{AreByResult, HasHistory, Joins};
 
 use crate::answered::{Answered, answered_by};
 use crate::count::together;
@@ -38,31 +35,50 @@ pub struct Outcomes {
 }
 
 // The states after all statements.
-fn search_all(alloc: Global, meeting: &Meeting, limit: usize) -> Result<Search, Stop>
-    requires { IsMeeting meeting.now }
+fn search_all(
+    alloc: Global,
+    meeting: &Meeting,
+    scripts: &[Row<Statement>],
+    limit: usize,
+) -> Result<Search, Stop>
+    requires meeting { IsMeeting meeting.now }
+    requires scripts { scripts.now ≡ meeting.now.scripts }
     ensures at { IfOk result (IsAt meeting.now (count_statements meeting.now.scripts)) }
-    ensures few { IfOk result (λ search. search.limit ≡ limit) }
+    ensures limit { IfOk result (λ search. search.limit ≡ limit) }
     ensures stopped { IfErr result (λ stop. stop ≡ States → limit < count_states meeting.now) }
 {
     let mut search = Search::begin(alloc, meeting, limit)?;
-    for script in meeting.scripts {
-        search.steps(alloc, meeting, script.len())?;
-    }
+    search.pass(alloc, meeting, scripts)?;
     Ok(search)
+}
+
+// A group into the group of its result.
+fn join_result(
+    alloc: Global,
+    meeting: &Meeting,
+    group: &Group,
+    results: &mut Groups,
+) -> Result<(), AllocError>
+    requires meeting { IsMeeting meeting.now }
+    requires history { HasHistory meeting.now group.now }
+    ensures { OnOk result (Joins meeting.now group.now results.old results.new) }
+{
+    let run = meeting.replayed(alloc, group.history.as_slice())?;
+    let (key, history) = meeting.result_key(alloc, run)?;
+    let orders = group.orders;
+    results.add(key, Group { history, orders })?;
+    Ok(())
 }
 
 // The groups of the same result.
 fn by_result(alloc: Global, meeting: &Meeting, last: &[Group]) -> Result<Vec<Group>, AllocError>
     requires meeting { IsMeeting meeting.now }
-    requires histories { All (λ g. IsHistoryOf meeting.now.schema meeting.now.capacity (length meeting.now.scripts) g.history) last.now }
-    ensures { IfOk result (λ groups. (ws : List (List (ℕ × statement.Statement) × ℕ)) → AreHeld meeting.now last.now ws → AreHeld meeting.now groups.items (gathered (result_text meeting.now) [] ws)) }
+    requires histories { All (HasHistory meeting.now) last.now }
+    ensures { IfOk result (λ groups. AreByResult meeting.now last.now groups.items) }
 {
     let mut results = Groups::none(alloc);
     for group in last {
-        let run = meeting.replayed(alloc, group.history.as_slice())?;
-        let (key, history) = meeting.result_key(alloc, run)?;
-        let orders = group.orders;
-        results.add(key, Group { history, orders })?;
+        join_result(alloc, meeting, group, &mut results)?;
     }
     results.into_groups(alloc)
 }
@@ -102,7 +118,30 @@ fn orders_of(groups: &[Group]) -> Option<u64>
     orders
 }
 
-/// All that can come out when these scripts run at the same time, a unit for each.
+// What a search comes to that has made all statements.
+fn outcomes_of(
+    alloc: Global,
+    meeting: &Meeting,
+    scripts: &[Row<Statement>],
+    search: &Search,
+) -> Result<Outcomes, AllocError>
+    requires meeting { IsMeeting meeting.now }
+    requires scripts { scripts.now ≡ meeting.now.scripts }
+    requires at { IsAt meeting.now (count_statements meeting.now.scripts) search.now }
+    ensures { IfOk result (AreOutcomes meeting.now) }
+{
+    let groups = by_result(alloc, meeting, search.layer.as_slice())?;
+    let results = results_of(alloc, groups.as_slice())?;
+    let answered = answered_by(alloc, scripts, search.notes.as_slice())?;
+    Ok(Outcomes {
+        orders: orders_of(groups.as_slice()),
+        results,
+        answered,
+    })
+}
+
+/// All that can come out when these scripts run at the same time, a unit for each. It stops where there are more states than
+/// the limit.
 pub fn all_outcomes(
     alloc: Global,
     schema: &Schema,
@@ -124,11 +163,7 @@ pub fn all_outcomes(
         scripts,
         tells_answers,
     };
-    let search = search_all(alloc, &meeting, limit)?;
-    let groups = by_result(alloc, &meeting, search.layer.as_slice())?;
-    Ok(Outcomes {
-        orders: orders_of(groups.as_slice()),
-        results: results_of(alloc, groups.as_slice())?,
-        answered: answered_by(alloc, scripts, search.notes.as_slice())?,
-    })
+    let search = search_all(alloc, &meeting, scripts, limit)?;
+    let outcomes = outcomes_of(alloc, &meeting, scripts, &search)?;
+    Ok(outcomes)
 }

@@ -1,20 +1,21 @@
 //! A search among all orders of the statements of scripts, layer by layer: a layer has the states after so many statements, each
 //! with the first order that leads there and the number of all orders that do.
-ghost use Rattle.std.specs.Prelude.{◌≡◌, ◌≤◌, ◌<◌, ◌+◌, ◌++◌, ◌∷◌, [], ℕ, List, suc, length, map, flat_map, All, IfErr, IfOk, OnOk};
-ghost use Rattle.dbtg_unit.specs.declared.statement.Statement as statement;
-ghost use Rattle.dbtg_unit.specs.Replay.{IsHistoryOf};
+ghost use Rattle.std.specs.Prelude.{◌≡◌, ◌≤◌, ◌<◌, ◌∷◌, [], Some, length, option_map, All, IfErr, IfOk, OnOk};
 ghost use Rattle.dbtg_unit.specs.Replaying.{statements_of};
 ghost use Rattle.dbtg_outcomes.specs.declared.search.Stop.TheVariants.{Memory, States};
-ghost use Rattle.dbtg_outcomes.specs.Gathered.{each_of, gathered};
-ghost use Rattle.dbtg_outcomes.specs.Orders.{extended, extended_by};
-ghost use Rattle.dbtg_outcomes.specs.Outcomes.{IsMeeting, states_within};
+ghost use Rattle.dbtg_outcomes.specs.Grouped.{IsAdded};
+ghost use Rattle.dbtg_outcomes.specs.Orders.{count_statements, next_of};
+ghost use Rattle.dbtg_outcomes.specs.Outcomes.{IsMeeting, IsRunOf, states_within};
 ghost use Rattle.dbtg_outcomes.specs.Results.{state_key, units_of};
-ghost use Rattle.dbtg_outcomes.specs.Search.{AreHeld, AreNoted, Hold, IsAt, IsHeld, with_units};
+ghost use Rattle.dbtg_outcomes.specs.Search.{IsAt};
+ghost use Rattle.dbtg_outcomes.specs.Steps.{Advances, Extends, ExtendsAll, HasHistory, IsOver, IsUnderWay, LeadToMore};
 
 use crate::groups::{Group, Groups};
 use crate::meeting::{Meeting, made_by};
 use crate::notes::{Note, enter_note};
 use dbtg_schema::Row;
+use dbtg_step::Run;
+use dbtg_unit::{Entry, Statement};
 use std::alloc::{AllocError, AllocFailed, Global};
 
 /// Why there are no outcomes: memory was refused, or there are more states than are wanted.
@@ -41,6 +42,67 @@ impl<T: Drop> From<AllocFailed<T>> for Stop {
 }
 
 impl<'a> Meeting<'a> {
+    // The unit's next statement after a history, if it has one left.
+    fn next_statement(&self, history: &[Entry], unit: u8) -> Option<&Statement>
+        requires numbered { 0 < unit }
+        requires within { unit ≤ length self.now.scripts }
+        ensures { option_map (λ x. x.now) result ≡ next_of self.now.scripts (statements_of history.now) unit }
+    {
+        let place = made_by(history, unit);
+        self.scripts[unit as usize - 1].get(place)
+    }
+
+    // A run's history, which stands for so many orders, into the group of its state.
+    fn add_state(
+        &self,
+        alloc: Global,
+        run: Run,
+        orders: Option<u64>,
+        next: &mut Groups,
+    ) -> Result<(), AllocError>
+        requires meeting { IsMeeting self.now }
+        requires run { IsRunOf self.now (statements_of run.history) run }
+        ensures { OnOk result (IsAdded next.old (state_key self.now (statements_of run.history)) (record { history = run.history; orders = orders }) next.new) }
+    {
+        let key = self.state_key(alloc, &run)?;
+        next.add(
+            key,
+            Group {
+                history: run.history,
+                orders,
+            },
+        )
+    }
+
+    // The order of a group goes on with this statement, the unit's next.
+    fn extend_with(
+        &self,
+        alloc: Global,
+        group: &Group,
+        unit: u8,
+        statement: &Statement,
+        next: &mut Groups,
+        notes: &mut Vec<Note>,
+    ) -> Result<(), AllocError>
+        requires meeting { IsMeeting self.now }
+        requires history { HasHistory self.now group.now }
+        requires numbered { 0 < unit }
+        requires within { unit ≤ length self.now.scripts }
+        requires next { next_of self.now.scripts (statements_of group.now.history) unit ≡ Some statement.now }
+        ensures { OnOk result (Extends self.now group.now (unit ∷ []) next.old next.new notes.old.items notes.new.items) }
+    {
+        let history = group.history.as_slice();
+        let (run, status) = self.extended(alloc, history, unit, statement)?;
+        self.add_state(alloc, run, group.orders, next)?;
+        let note = Note {
+            unit,
+            place: made_by(history, unit),
+            status,
+        };
+        enter_note(notes, note)?;
+        Ok(())
+    }
+
     // The order of a group goes on with the next statement of this unit, if it has one.
     fn extend_by(
         &self,
@@ -51,28 +113,15 @@ impl<'a> Meeting<'a> {
         notes: &mut Vec<Note>,
     ) -> Result<(), AllocError>
         requires meeting { IsMeeting self.now }
-        requires history { IsHistoryOf self.now.schema self.now.capacity (length self.now.scripts) group.now.history }
+        requires history { HasHistory self.now group.now }
         requires numbered { 0 < unit }
         requires within { unit ≤ length self.now.scripts }
-        ensures next { OnOk result ((seen : List (List (ℕ × statement.Statement) × ℕ)) (w : List (ℕ × statement.Statement) × ℕ) → IsHeld self.now group.now w → Hold self.now (state_key self.now) next.old seen → Hold self.now (state_key self.now) next.new (seen ++ each_of w.1 (extended_by self.now.scripts w.0 unit))) }
-        ensures notes { OnOk result (AreNoted self.now ((statements_of group.now.history, unit) ∷ []) notes.old.items notes.new.items) }
+        ensures { OnOk result (Extends self.now group.now (unit ∷ []) next.old next.new notes.old.items notes.new.items) }
     {
-        let history = group.history.as_slice();
-        let place = made_by(history, unit);
-        if let Some(statement) = self.scripts[unit as usize - 1].get(place) {
-            let (run, status) = self.extended(alloc, history, unit, statement)?;
-            enter_note(notes, Note { unit, place, status })?;
-            let key = self.state_key(alloc, &run)?;
-            let orders = group.orders;
-            next.add(
-                key,
-                Group {
-                    history: run.history,
-                    orders,
-                },
-            )?;
+        match self.next_statement(group.history.as_slice(), unit) {
+            Some(statement) => self.extend_with(alloc, group, unit, statement, next, notes),
+            None => Ok(()),
         }
-        Ok(())
     }
 
     // The order of a group goes on with the next statement of each unit that has one.
@@ -84,9 +133,8 @@ impl<'a> Meeting<'a> {
         notes: &mut Vec<Note>,
     ) -> Result<(), AllocError>
         requires meeting { IsMeeting self.now }
-        requires history { IsHistoryOf self.now.schema self.now.capacity (length self.now.scripts) group.now.history }
-        ensures next { OnOk result ((seen : List (List (ℕ × statement.Statement) × ℕ)) (w : List (ℕ × statement.Statement) × ℕ) → IsHeld self.now group.now w → Hold self.now (state_key self.now) next.old seen → Hold self.now (state_key self.now) next.new (seen ++ each_of w.1 (extended self.now.scripts w.0 (units_of self.now)))) }
-        ensures notes { OnOk result (AreNoted self.now (with_units self.now (statements_of group.now.history)) notes.old.items notes.new.items) }
+        requires history { HasHistory self.now group.now }
+        ensures { OnOk result (Extends self.now group.now (units_of self.now) next.old next.new notes.old.items notes.new.items) }
     {
         for before in 0..self.units() {
             self.extend_by(alloc, group, before + 1, next, notes)?;
@@ -103,11 +151,10 @@ impl<'a> Meeting<'a> {
         notes: &mut Vec<Note>,
     ) -> Result<Groups, Stop>
         requires meeting { IsMeeting self.now }
-        requires histories { All (λ g. IsHistoryOf self.now.schema self.now.capacity (length self.now.scripts) g.history) layer.now }
-        ensures next { IfOk result (λ next. (ws : List (List (ℕ × statement.Statement) × ℕ)) → AreHeld self.now layer.now ws → Hold self.now (state_key self.now) next (flat_map (λ w. each_of w.1 (extended self.now.scripts w.0 (units_of self.now))) ws)) }
+        requires histories { All (HasHistory self.now) layer.now }
+        ensures all { IfOk result (λ next. ExtendsAll self.now layer.now next notes.old.items notes.new.items) }
         ensures few { IfOk result (λ next. length next ≤ most) }
-        ensures notes { OnOk result (AreNoted self.now (flat_map (λ g. with_units self.now (statements_of g.history)) layer.now) notes.old.items notes.new.items) }
-        ensures stopped { IfErr result (λ stop. stop ≡ States → (ws : List (List (ℕ × statement.Statement) × ℕ)) → AreHeld self.now layer.now ws → most < length (gathered (state_key self.now) [] (flat_map (λ w. each_of w.1 (extended self.now.scripts w.0 (units_of self.now))) ws))) }
+        ensures stopped { IfErr result (λ stop. stop ≡ States → LeadToMore self.now layer.now most) }
     {
         let mut next = Groups::none(alloc);
         for group in layer {
@@ -156,10 +203,9 @@ impl Search {
     // One statement more.
     fn step(&mut self, alloc: Global, meeting: &Meeting) -> Result<(), Stop>
         requires meeting { IsMeeting meeting.now }
-        requires at { (n : ℕ) × IsAt meeting.now n self.old }
-        ensures at { OnOk result ((n : ℕ) → IsAt meeting.now n self.old → IsAt meeting.now (n + 1) self.new) }
-        ensures limit { OnOk result (self.new.limit ≡ self.old.limit) }
-        ensures stopped { IfErr result (λ stop. stop ≡ States → (n : ℕ) → IsAt meeting.now n self.old → self.old.limit < states_within meeting.now (n + 1)) }
+        requires at { IsUnderWay meeting.now self.old }
+        ensures advances { OnOk result (Advances meeting.now 1 self.old self.new) }
+        ensures stopped { IfErr result (λ stop. stop ≡ States → IsOver meeting.now 1 self.old) }
     {
         let most = self.limit - self.states;
         let layer = self.layer.as_slice();
@@ -169,16 +215,33 @@ impl Search {
         Ok(())
     }
 
-    /// So many statements more.
-    pub fn steps(&mut self, alloc: Global, meeting: &Meeting, count: usize) -> Result<(), Stop>
+    // So many statements more.
+    fn steps(&mut self, alloc: Global, meeting: &Meeting, count: usize) -> Result<(), Stop>
         requires meeting { IsMeeting meeting.now }
-        requires at { (n : ℕ) × IsAt meeting.now n self.old }
-        ensures at { OnOk result ((n : ℕ) → IsAt meeting.now n self.old → IsAt meeting.now (n + count) self.new) }
-        ensures limit { OnOk result (self.new.limit ≡ self.old.limit) }
-        ensures stopped { IfErr result (λ stop. stop ≡ States → (n : ℕ) → IsAt meeting.now n self.old → self.old.limit < states_within meeting.now (n + count)) }
+        requires at { IsUnderWay meeting.now self.old }
+        ensures advances { OnOk result (Advances meeting.now count self.old self.new) }
+        ensures stopped { IfErr result (λ stop. stop ≡ States → IsOver meeting.now count self.old) }
     {
-        for _ in 0..count {
+        for _turn in 0..count {
             self.step(alloc, meeting)?;
+        }
+        Ok(())
+    }
+
+    /// As many statements more as these scripts have.
+    pub fn pass(
+        &mut self,
+        alloc: Global,
+        meeting: &Meeting,
+        scripts: &[Row<Statement>],
+    ) -> Result<(), Stop>
+        requires meeting { IsMeeting meeting.now }
+        requires at { IsUnderWay meeting.now self.old }
+        ensures advances { OnOk result (Advances meeting.now (count_statements scripts.now) self.old self.new) }
+        ensures stopped { IfErr result (λ stop. stop ≡ States → IsOver meeting.now (count_statements scripts.now) self.old) }
+    {
+        for script in scripts {
+            self.steps(alloc, meeting, script.len())?;
         }
         Ok(())
     }

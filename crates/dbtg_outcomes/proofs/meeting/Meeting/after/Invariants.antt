@@ -1,4 +1,4 @@
-use Rattle.std.proofs.Common.{◌≡◌, take, length}
+use Rattle.std.proofs.Common.{◌≡◌, take}
 use Rattle.dbtg_unit.specs.Replaying.{statements_of}
 use Rattle.dbtg_outcomes.proofs.meeting.Meeting.after.Given as goal
 

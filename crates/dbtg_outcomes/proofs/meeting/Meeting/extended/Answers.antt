@@ -1,4 +1,4 @@
-use Rattle.std.proofs.Common.{◌≡◌, ◌∙◌, ap, sym, refl, subst, length, get_or}
+use Rattle.std.proofs.Common.{◌≡◌, ◌∙◌, sym, subst, length, get_or}
 use Rattle.dbtg_unit.specs.declared.statement.Statement.{Statement}
 use Rattle.dbtg_unit.specs.Replaying.{statements_of}
 use Rattle.dbtg_step.specs.Whole.{HasMade}

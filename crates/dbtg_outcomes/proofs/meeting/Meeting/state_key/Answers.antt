@@ -1,4 +1,4 @@
-use Rattle.std.proofs.Common.{◌≡◌, ◌∙◌, ap, sym, refl, length, map, ◌++◌}
+use Rattle.std.proofs.Common.{◌∙◌, ap, length, map, ◌++◌}
 use Rattle.std.specs.List.{range_with_len}
 use Rattle.dbtg_unit.specs.Replay.{entries_of}
 use Rattle.dbtg_unit.specs.Replaying.{statements_of}

@@ -1,4 +1,4 @@
-use Rattle.std.proofs.Common.{rules, ◌≡◌, ◌∙◌, arith, refl, ◌<◌}
+use Rattle.std.proofs.Common.{rules, arith, refl}
 use Rattle.dbtg_outcomes.proofs.Searched.{at-first, first-states}
 use Rattle.dbtg_outcomes.proofs.search.Search.begin.Goals as goal
 
