@@ -65,8 +65,15 @@ class StandIns:
         module = module_of(file)
         own = function.path(module, self.sources.declared())
         closures = "::".join(filter(None, [module, "fn", function.owner, function.name]))
-        for place in (own, closures):
-            for at, _, names in os.walk(f"{copy}/proofs/{place.replace('::', '/')}"):
+        places = [f"{copy}/proofs/{it.replace('::', '/')}" for it in (own, closures)]
+        for folder in (*places, *cycles_of(function, os.path.dirname(places[0]))):
+            for at, _, names in os.walk(folder):
                 for name in names:
                     if name in BY_HAND:
                         os.remove(f"{at}/{name}")
+
+
+def cycles_of(function, folder):
+    """The folders, of those in one, of the cycles of calls that a function is in, with its closures say: `+closure+name`."""
+    names = os.listdir(folder) if os.path.isdir(folder) else []
+    return [f"{folder}/{it}" for it in names if it.startswith("+") and function.name in it.split("+")]

@@ -12,3 +12,4 @@ mod SessionSteps
 mod SessionTurns
 mod ShellReplies
 mod Pictures
+mod Listings

@@ -1,7 +1,7 @@
 -- What `outcomes` prints: how many orders and results there are, each statement that has more than one status, and then, result by
 -- result, the first order that leads to it and what its moves print.
 -- text and scripts are bytes, lists the schema that a text says, all is what can come out, one is a result and k its number.
-use Rattle.std.specs.Prelude.{ℕ, ◌≡◌, ◌<◌, ◌≤◌, ◌+◌, ◌++◌, ◌∷◌, ◌⊎◌, ⊥, nat_lt, Bool, true, List, [], Option, Some, None, Contains, codes, decimal, length, map, if◌then◌else◌}
+use Rattle.std.specs.Prelude.{ℕ, ◌≡◌, ◌<◌, ◌≤◌, ◌+◌, ◌++◌, ◌∷◌, ◌⊎◌, nat_lt, Bool, true, List, [], Option, Some, None, Contains, codes, decimal, length, map, if◌then◌else◌}
 use Rattle.std.specs.List.{flat_map, list_all}
 use Rattle.dbtg_schema.specs.Lists.{Lists}
 use Rattle.dbtg_unit.specs.declared.moves.Move.{Move}

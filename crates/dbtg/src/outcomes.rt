@@ -1,11 +1,13 @@
 //! All that can come out when scripts run at the same time, as text.
-ghost use Rattle.std.specs.Prelude.{◌≡◌, ℕ, ◌≤◌, ◌++◌, ◌×◌, ◌⊎◌, codes, nat_lt, IfErr, IfOk, List, OnOk, true, length};
+ghost use Rattle.std.specs.Prelude.{◌≡◌, ℕ, ◌≤◌, ◌++◌, ◌⊎◌, codes, nat_lt, IfErr, IfOk, List, OnOk, true, length};
 ghost use Rattle.std.specs.List.{flat_map, list_all};
 ghost use Rattle.dbtg_schema.specs.Sound.{IsSound};
 ghost use Rattle.dbtg_step.specs.Laws.{scripts_fit};
 ghost use Rattle.dbtg_script.specs.WordTexts.{moves_words_text, turns_text};
 ghost use Rattle.dbtg.specs.Listing.{AreTold, IsListing, IsLong, IsOver, IsResultText, IsUntold, OutcomesHeld, ToldOfOutcomes, are_short, count_text, differing_text, orders_text, result_line, spaced_status, summary_text, worded};
+ghost use Rattle.dbtg.specs.Refusals.{is_count};
 ghost use Rattle.dbtg.specs.Replaying.{given_text};
+ghost use Rattle.dbtg.specs.Sources.{ReadSchema};
 ghost use Rattle.dbtg.specs.declared.fault.Fault.TheVariants.{Memory, MovesOver};
 ghost use Rattle.dbtg.specs.declared.order.OrderKind.TheVariants.{Serial};
 
@@ -204,6 +206,26 @@ fn print_known(
     }
 }
 
+// What `outcomes` prints of a schema that was read, and the scripts.
+fn outcomes_known<S: Source>(
+    alloc: Global,
+    source: &S,
+    known: &Schema,
+    capacity: u16,
+    answers: bool,
+    limit: u64,
+) -> Result<Vec<u8>, Fault>
+    requires counted { is_count (S.count source.now) ≡ true }
+    requires serial { S.order source.now ≡ Serial }
+    requires read { ReadSchema (S.holds source.now) known.now }
+    requires sound { IsSound known.now }
+    ensures done { IfOk result (λ out. OutcomesHeld (S.holds source.now) (S.count source.now) capacity answers limit out.items) }
+    ensures refused { IfErr result (λ fault. ToldOfOutcomes (S.holds source.now) (S.fails source.now) fault (S.count source.now) capacity answers limit) }
+{
+    let scripts = read_scripts(alloc, source, known)?;
+    print_known(alloc, known, capacity, scripts.as_slice(), answers, limit)
+}
+
 /// What `outcomes` prints of the schema and the scripts that a source gives, or the first fault. Above the limit of states it gives
 /// up.
 pub fn print_outcomes<S: Source>(
@@ -219,6 +241,5 @@ pub fn print_outcomes<S: Source>(
 {
     check_count(source.count())?;
     let known = read_schema(alloc, source)?;
-    let scripts = read_scripts(alloc, source, &known)?;
-    print_known(alloc, &known, capacity, scripts.as_slice(), answers, limit)
+    outcomes_known(alloc, source, &known, capacity, answers, limit)
 }
