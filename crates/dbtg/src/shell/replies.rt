@@ -75,10 +75,7 @@ pub fn unit_reply(alloc: Global, session: &Session<'_>, unit: u8) -> Result<Vec<
     ensures { IfOk result (λ out. option_map (unit_text session.now.making.schema) (slice_get (state_now session.now.making).units (unit - 1)) ≡ Some out.items) }
 {
     let mut out = Vec::new(alloc);
-    push_unit(
-        &mut out,
-        session.schema(),
-        &session.units()[unit as usize - 1],
-    )?;
+    let shown = &session.units()[unit as usize - 1];
+    push_unit(&mut out, session.schema(), shown)?;
     Ok(out)
 }
