@@ -80,6 +80,21 @@ impl Script {
         Ok(())
     }
 
+    /// Puts a line behind the others, if a script may be so long.
+    fn enter(&mut self, line: &[u8]) -> Result<(), Refusal>
+        requires { self.old.count < 65535 }
+        ensures entered { OnOk result (HasEntered self.old line.now self.new) }
+        ensures room { OnOk result (length self.old.text.items + length line.now < 1048576) }
+        ensures as_before { OnErr result (IsAsBefore self.old self.new) }
+        ensures refused { IfErr result (λ refusal. HasNoRoom refusal (length self.old.text.items + length line.now)) }
+    {
+        if SCRIPT_BYTES <= self.text.len() + line.len() {
+            return Err(Refusal::Fault(Cause::TooMuch));
+        }
+        self.push_line(line)?;
+        Ok(())
+    }
+
     /// Drops the last line, which begins behind so many bytes.
     fn drop_line(&mut self, before: usize)
         requires { 0 < self.old.count }
@@ -124,10 +139,7 @@ fn make_and_enter(
     ensures refused { IfErr result (λ refusal. HasNoRoom refusal (length script.old.text.items + length line.now)) }
 {
     let before = script.text.len();
-    if SCRIPT_BYTES <= before + line.len() {
-        return Err(Refusal::Fault(Cause::TooMuch));
-    }
-    script.push_line(line)?;
+    script.enter(line)?;
     match database.make(unit, statement) {
         Ok(()) => Ok(()),
         Err(_) => {
