@@ -201,7 +201,7 @@ emptied [] n k one texts counts at = absurd (cc (at))
 emptied (x ∷ xs) zero k one texts counts at = absurd (cc (texts))
 emptied (x ∷ xs) (suc n) zero one texts counts at =
     let same : x ≡ one = cc (at) in
-    let text : x.text.items ≡ [] = cc (texts) in
+    let text : x.text.items ≡ [] = cc in
     let count : x.count ≡ 0 = cc (counts) in
     (ap (λ (z : Script). z.text.items) (sym same) ∙ text, ap (λ (z : Script). z.count) (sym same) ∙ count)
 emptied (x ∷ xs) (suc n) (suc k) one texts counts at =
