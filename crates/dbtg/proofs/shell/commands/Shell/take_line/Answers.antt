@@ -14,5 +14,5 @@ pub returns-in-StatementOf : goal.returns-in-StatementOf
 returns-in-StatementOf c = (
   c.read_asked.result,
   c.read_asked.ensures,
-  subst (λ (one : Asked). TakesAsked c.args.self.now.turn c.args.self.now.session one c.make_for.result c.make_for.new.self.session) (sym c.in-StatementOf.is) c.make_for.ensures,
+  subst (λ (one : Asked). TakesAsked c.args.self.now.turn c.args.self.now.session one c.make_for-in-StatementOf.result c.make_for-in-StatementOf.new.self.session) (sym c.in-StatementOf.is) c.make_for-in-StatementOf.ensures,
 )
