@@ -40,10 +40,10 @@ module _ (making : Making) (scripts : List Script) (session : IsSession making.s
   many = length-map texts (script making.schema) ∙ length-map scripts (λ (x : Script). x.text.items) ∙ session.many
 
   own_of : (k : ℕ) (said : List Statement) (o : Option Script) → slice_get scripts k ≡ o → option_map (script making.schema) (option_map (λ (x : Script). x.text.items) o) ≡ Some said → AreOf said (entries_of (k + 1) making.history)
-  own_of k said None at e = absurd cc
+  own_of k said None at e = absurd (cc (e))
   own_of k said (Some one) at e =
-      let is : script making.schema one.text.items ≡ said = cc in
-      record { left = []; script_is = sym is ∙ (session.each k one at).says ∙ sym (append-nil _); whole = inl refl }
+      let is : script making.schema one.text.items ≡ said = cc (e) in
+      record { left = []; script_is = sym is ∙ (session.each k one at).says ∙ sym (append-nil (map (λ (x : Entry). x.statement) (entries_of (k + 1) making.history))); whole = inl refl }
 
   abbrev image : Image
   image = image_of making.schema making.capacity (state_now making).database

@@ -55,12 +55,16 @@ abbrev pub Takes : Typed → ℕ → List ℕ → Bool → Typed → Type 0
 Takes old u line true new = HasTyped old u line new
 Takes old u line false new = (new ≡ old) × (line_statement old.making.schema (trimmed line) ≡ None)
 
--- the line has this fault behind what unit u has made, or its script would be longer than a script may be
+-- the line has this fault behind so many statements, or it is too long behind a script of so many bytes
+abbrev pub RefusesBehind : Refusal → Lists → ℕ → ℕ → List ℕ → Type 0
+RefusesBehind Memory schema count size line = Unit {0}
+RefusesBehind (Fault cause) schema count size line =
+    (first (line_faults schema count (trimmed line)) ≡ Some cause) ⊎ ((cause ≡ TooMuch) × (1048576 ≤ size + length line))
+
+-- so it is behind what unit u has made, and behind its script
 abbrev pub RefusesLine : Refusal → Typed → ℕ → List ℕ → Type 0
-RefusesLine Memory typed u line = Unit {0}
-RefusesLine (Fault cause) typed u line =
-    (first (line_faults typed.making.schema (length (entries_of u typed.making.history)) (trimmed line)) ≡ Some cause)
-    ⊎ ((cause ≡ TooMuch) × (1048576 ≤ length (text_of typed u) + length line))
+RefusesLine refusal typed u line =
+    RefusesBehind refusal typed.making.schema (length (entries_of u typed.making.history)) (length (text_of typed u)) line
 
 -- over each text of the schema the turns are accepted, and `replay` of the session's scripts by them prints just what was made in
 -- it: its answers, its database and its units
@@ -86,6 +90,37 @@ pub record IsSession (schema : Lists) (making : Making) (scripts : List Script) 
   pub many : length scripts ≡ making.units
   pub counted : is_count making.units ≡ true
   pub each : (k : ℕ) (one : Script) → slice_get scripts k ≡ Some one → IsScriptOf schema one.text.items one.count (entries_of (k + 1) making.history)
+
+-- WHAT A LINE DOES TO A DATABASE AND TO THE SCRIPT OF ITS UNIT
+
+-- the line stands behind the script, which says one statement more
+pub record HasEntered (old : Script) (line : List ℕ) (new : Script) : Type 0 where
+  pub text : new.text.items ≡ old.text.items ++ line ++ 10 ∷ []
+  pub count : new.count ≡ old.count + 1
+
+-- the script is as it was
+pub record IsAsBefore (old new : Script) : Type 0 where
+  pub text : new.text.items ≡ old.text.items
+  pub count : new.count ≡ old.count
+
+-- the statement of a line that has no fault behind the script is made whole by unit u, and the line is entered
+pub record HasMadeLine (schema : Lists) (old : Making) (one : Script) (u : ℕ) (line : List ℕ) (new : Making) (next : Script) : Type 0 where
+  pub statement : Statement
+  pub says : line_statement schema (trimmed line) ≡ Some statement
+  pub fine : first (line_faults schema one.count (trimmed line)) ≡ None
+  pub room : length one.text.items + length line < 1048576
+  pub made : HasMade old u statement new
+  pub entered : HasEntered one line next
+
+-- so it is where the line holds a statement; else all is as it was
+abbrev pub MakesLine : Lists → Making → Script → ℕ → List ℕ → Bool → Making → Script → Type 0
+MakesLine schema old one u line true new next = HasMadeLine schema old one u line new next
+MakesLine schema old one u line false new next = (new ≡ old) × IsAsBefore one next × (line_statement schema (trimmed line) ≡ None)
+
+-- the script has no room for a line, with which it would have so many bytes, unless memory ran out
+abbrev pub HasNoRoom : Refusal → ℕ → Type 0
+HasNoRoom Memory size = Unit {0}
+HasNoRoom (Fault cause) size = (cause ≡ TooMuch) × (1048576 ≤ size)
 
 -- WHAT IS PRINTED
 

@@ -8,7 +8,6 @@ use crate::explain::{Kind, Topic, explained, fault_topic, status_topic, topic_of
 use crate::shell::asked::{Asked, read_asked};
 use crate::shell::replies::{answer_reply, database_reply, fault_reply, unit_reply, units_reply};
 use crate::shell::session::{Refusal, Session};
-use dbtg_schema::Schema;
 use dbtg_script::{Cause, is_number, number};
 use std::alloc::{AllocError, Global};
 
@@ -119,11 +118,11 @@ impl<'a> Shell<'a> {
         ensures high { IfSome result (λ unit. unit ≤ self.now.session.making.units) }
         ensures missing { IfNone result (IsNoUnit self.now.session.making.units number) }
     {
-        if 1 <= number && number <= self.session.units().len() as u64 {
-            Some(number as u8)
-        } else {
-            None
+        let count = self.session.units().len() as u64;
+        if number == 0 || count < number {
+            return None;
         }
+        Some(number as u8)
     }
 
     fn no_unit<'b>(&self) -> Result<Reply<'b>, AllocError>
@@ -160,21 +159,20 @@ impl<'a> Shell<'a> {
         requires high { unit ≤ self.old.session.making.units }
         ensures { TakesLine unit self.old.session line.now result self.new.session }
     {
-        let schema = self.session.schema();
         match self.session.make_line(unit, line) {
             Ok(false) => self.text(""),
-            Ok(true) => self.tell_last(schema),
+            Ok(true) => self.tell_last(),
             Err(Refusal::Fault(cause)) => self.tell_fault(line, cause),
             Err(Refusal::Memory) => Err(AllocError),
         }
     }
 
     // The answer of the statement that was made last.
-    fn tell_last<'b>(&mut self, schema: &Schema) -> Result<Reply<'b>, AllocError>
-        requires { schema.now ≡ self.old.session.making.schema }
+    fn tell_last<'b>(&mut self) -> Result<Reply<'b>, AllocError>
         ensures unchanged { self.new.session ≡ self.old.session }
         ensures told { IfOk result (IsTold (IsLastAnswer self.old.session)) }
     {
+        let schema = self.session.schema();
         match self.session.last() {
             None => self.text(""),
             Some(entry) => {

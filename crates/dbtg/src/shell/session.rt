@@ -1,16 +1,11 @@
 //! A session of the shell: a database in memory, and the script of each unit as it was typed so far.
-ghost use Rattle.std.specs.Prelude.{◌≡◌, ◌++◌, ◌∷◌, ◌+◌, ◌-◌, ◌≤◌, ◌<◌, [], None, Some, IfErr, IfOk, OnErr, OnOk, length, map, option_map, replicate, slice_get, take, true};
+ghost use Rattle.std.specs.Prelude.{◌≡◌, ◌++◌, ◌∷◌, ◌+◌, ◌-◌, ◌≤◌, ◌<◌, [], IfErr, IfOk, OnErr, OnOk, length, map, option_map, replicate, slice_get, take, true};
 ghost use Rattle.dbtg_schema.specs.Sound.{IsSound};
-ghost use Rattle.dbtg_schema.specs.Lookups.{first};
-ghost use Rattle.dbtg_script.specs.Lines.{trimmed};
-ghost use Rattle.dbtg_script.specs.StatementFaults.{line_faults};
-ghost use Rattle.dbtg_script.specs.Statements.{line_statement};
 ghost use Rattle.dbtg_unit.specs.Fits.{fits};
 ghost use Rattle.dbtg_unit.specs.Image.{image_of};
-ghost use Rattle.dbtg_unit.specs.Replay.{entries_of};
-ghost use Rattle.dbtg_step.specs.Whole.{state_now};
+ghost use Rattle.dbtg_step.specs.Whole.{HasMade, state_now};
 ghost use Rattle.dbtg.specs.Refusals.{is_count};
-ghost use Rattle.dbtg.specs.Sessions.{AreTurnsOf, HasTyped, RefusesLine, Takes};
+ghost use Rattle.dbtg.specs.Sessions.{AreTurnsOf, HasEntered, HasNoRoom, IsAsBefore, MakesLine, RefusesBehind, RefusesLine, Takes};
 ghost use Rattle.dbtg.specs.declared.shell.session.Refusal.TheVariants.{Fault, Memory};
 
 use crate::threads::units_in_turn;
@@ -85,6 +80,21 @@ impl Script {
         Ok(())
     }
 
+    /// Puts a line behind the others, if a script may be so long.
+    fn enter(&mut self, line: &[u8]) -> Result<(), Refusal>
+        requires { self.old.count < 65535 }
+        ensures entered { OnOk result (HasEntered self.old line.now self.new) }
+        ensures room { OnOk result (length self.old.text.items + length line.now < 1048576) }
+        ensures as_before { OnErr result (IsAsBefore self.old self.new) }
+        ensures refused { IfErr result (λ refusal. HasNoRoom refusal (length self.old.text.items + length line.now)) }
+    {
+        if SCRIPT_BYTES <= self.text.len() + line.len() {
+            return Err(Refusal::Fault(Cause::TooMuch));
+        }
+        self.push_line(line)?;
+        Ok(())
+    }
+
     /// Drops the last line, which begins behind so many bytes.
     fn drop_line(&mut self, before: usize)
         requires { 0 < self.old.count }
@@ -107,6 +117,65 @@ fn empty_scripts(alloc: Global, count: u8) -> Result<Vec<Script>, AllocError>
         scripts.push(Script::empty(alloc))?;
     }
     Ok(scripts)
+}
+
+// Makes a statement and enters its line in the script of its unit, or does neither.
+fn make_and_enter(
+    database: &mut WholeDatabase<'_>,
+    script: &mut Script,
+    unit: u8,
+    line: &[u8],
+    statement: Statement,
+) -> Result<(), Refusal>
+    requires numbered { 0 < unit }
+    requires within { unit ≤ database.old.units }
+    requires fitting { fits database.old.schema statement ≡ true }
+    requires few { script.old.count < 65535 }
+    ensures made { OnOk result (HasMade database.old unit statement database.new) }
+    ensures entered { OnOk result (HasEntered script.old line.now script.new) }
+    ensures room { OnOk result (length script.old.text.items + length line.now < 1048576) }
+    ensures database { OnErr result (database.new ≡ database.old) }
+    ensures script { OnErr result (IsAsBefore script.old script.new) }
+    ensures refused { IfErr result (λ refusal. HasNoRoom refusal (length script.old.text.items + length line.now)) }
+{
+    let before = script.text.len();
+    script.enter(line)?;
+    match database.make(unit, statement) {
+        Ok(()) => Ok(()),
+        Err(_) => {
+            script.drop_line(before);
+            Err(Refusal::Memory)
+        }
+    }
+}
+
+// Reads a line behind a script; makes and enters the statement that it holds, and says whether it holds one.
+fn take_line(
+    alloc: Global,
+    schema: &Schema,
+    database: &mut WholeDatabase<'_>,
+    script: &mut Script,
+    unit: u8,
+    line: &[u8],
+) -> Result<bool, Refusal>
+    requires sound { IsSound schema.now }
+    requires of_schema { database.old.schema ≡ schema.now }
+    requires numbered { 0 < unit }
+    requires within { unit ≤ database.old.units }
+    ensures taken { IfOk result (λ made. MakesLine schema.now database.old script.old unit line.now made database.new script.new) }
+    ensures database { OnErr result (database.new ≡ database.old) }
+    ensures script { OnErr result (IsAsBefore script.old script.new) }
+    ensures refused { IfErr result (λ refusal. RefusesBehind refusal schema.now script.old.count (length script.old.text.items) line.now) }
+{
+    match read_script_line(alloc, schema, script.count, line) {
+        Err(LineFault::Refused(cause)) => Err(Refusal::Fault(cause)),
+        Err(LineFault::Memory) => Err(Refusal::Memory),
+        Ok(None) => Ok(false),
+        Ok(Some(statement)) => {
+            make_and_enter(database, script, unit, line, statement)?;
+            Ok(true)
+        }
+    }
 }
 
 /// A database in memory, its units, numbered from 1, and the script of each.
@@ -157,40 +226,15 @@ impl<'a> Session<'a> {
         ensures unchanged { OnErr result (self.new ≡ self.old) }
         ensures refused { IfErr result (λ refusal. RefusesLine refusal self.old unit line.now) }
     {
-        let count = self.scripts[unit as usize - 1].count;
-        match read_script_line(self.alloc, self.schema, count, line) {
-            Err(LineFault::Refused(cause)) => Err(Refusal::Fault(cause)),
-            Err(LineFault::Memory) => Err(Refusal::Memory),
-            Ok(None) => Ok(false),
-            Ok(Some(statement)) => {
-                self.make(unit, line, statement)?;
-                Ok(true)
-            }
-        }
-    }
-
-    // Makes a statement and enters its line, or does neither.
-    fn make(&mut self, unit: u8, line: &[u8], statement: Statement) -> Result<(), Refusal>
-        requires numbered { 0 < unit }
-        requires within { unit ≤ self.old.making.units }
-        requires fitting { fits self.old.making.schema statement ≡ true }
-        requires says { line_statement self.old.making.schema (trimmed line.now) ≡ Some statement }
-        requires accepted { first (line_faults self.old.making.schema (length (entries_of unit self.old.making.history)) (trimmed line.now)) ≡ None }
-        ensures made { OnOk result (HasTyped self.old unit line.now self.new) }
-        ensures unchanged { OnErr result (self.new ≡ self.old) }
-        ensures refused { IfErr result (λ refusal. RefusesLine refusal self.old unit line.now) }
-    {
         let script = &mut self.scripts[unit as usize - 1];
-        let before = script.text.len();
-        if SCRIPT_BYTES - before <= line.len() {
-            return Err(Refusal::Fault(Cause::TooMuch));
-        }
-        script.push_line(line)?;
-        if self.database.make(unit, statement).is_err() {
-            script.drop_line(before);
-            return Err(Refusal::Memory);
-        }
-        Ok(())
+        take_line(
+            self.alloc,
+            self.schema,
+            &mut self.database,
+            script,
+            unit,
+            line,
+        )
     }
 
     pub fn schema(&self) -> &'a Schema
