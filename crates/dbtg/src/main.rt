@@ -204,20 +204,22 @@ fn carry_out<R: Threads + Wait + Sync>(rt: &HostRuntime, threads: &R, call: &Cal
     }
 }
 
-// The fault of the schema is told with its word.
 fn run_shell(rt: &HostRuntime, call: &ShellCall) -> ExitCode {
-    let paths = paths_of(call.schema, &[], Order::Serial);
-    let files = Files {
-        reader: rt,
-        paths: &paths,
-    };
+    let scripts = Vec::new(rt.alloc());
+    let paths = paths_of(call.schema, scripts.as_slice(), Order::Serial);
+    open_shell(rt, &paths, call)
+}
+
+// The fault of the schema is told with its word.
+fn open_shell(rt: &HostRuntime, paths: &Paths, call: &ShellCall) -> ExitCode {
+    let files = Files { reader: rt, paths };
     match read_schema(rt.alloc(), &files) {
-        Ok(known) => open_shell(rt, &known, call),
-        Err(fault) => told_of(rt, &fault, &paths, true),
+        Ok(known) => open_units(rt, &known, call),
+        Err(fault) => told_of(rt, &fault, paths, true),
     }
 }
 
-fn open_shell(rt: &HostRuntime, known: &Schema, call: &ShellCall) -> ExitCode
+fn open_units(rt: &HostRuntime, known: &Schema, call: &ShellCall) -> ExitCode
     requires { IsSound known.now }
 {
     match check_count(call.units as usize) {
