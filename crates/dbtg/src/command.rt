@@ -371,7 +371,19 @@ fn capacity_wanted<'a>(
     let word = matches.get_str("capacity").unwrap_or("");
     match capacity_of(word) {
         Some(capacity) => Ok(capacity),
-        None => Err(no_number(alloc, command, word, "capacity", 1000)?),
+        None => Err(no_number(alloc, command, "capacity", word, 1000)?),
+    }
+}
+
+fn units_wanted<'a>(
+    alloc: Global,
+    command: &mut Command<'a>,
+    matches: &ArgMatches,
+) -> Result<u16, Error> {
+    let word = matches.get_str("units").unwrap_or("");
+    match units_of(word) {
+        Some(units) => Ok(units),
+        None => Err(no_number(alloc, command, "units", word, 8)?),
     }
 }
 
@@ -379,8 +391,8 @@ fn capacity_wanted<'a>(
 fn no_number<'a>(
     alloc: Global,
     command: &mut Command<'a>,
-    word: &str,
     option: &str,
+    word: &str,
     most: u64,
 ) -> Result<Error, AllocError> {
     let told = format!(in alloc;
@@ -397,7 +409,7 @@ fn limit_wanted<'a>(
     let word = matches.get_str("limit").unwrap_or("");
     match limit_of(word) {
         Some(limit) => Ok(limit),
-        None => Err(no_number(alloc, command, word, "limit", 1_000_000_000)?),
+        None => Err(no_number(alloc, command, "limit", word, 1_000_000_000)?),
     }
 }
 
@@ -575,37 +587,28 @@ fn explain_call<'a>(alloc: Global, given: &ArgMatches<'a>) -> Result<Call<'a>, E
     }
 }
 
-fn units_wanted<'a>(
-    alloc: Global,
-    command: &mut Command<'a>,
-    matches: &ArgMatches,
-) -> Result<u16, Error> {
-    let word = matches.get_str("units").unwrap_or("");
-    if let Some(units) = units_of(word) {
-        return Ok(units);
+// Statements come from standard input, so the schema cannot.
+fn check_schema<'a>(command: &mut Command<'a>, schema: &str) -> Result<(), Error> {
+    if schema != STANDARD_INPUT {
+        return Ok(());
     }
-    let told = format!(in alloc;
-        "invalid value '{word}' for '--units <N>': a whole number from 1 to 8 is wanted"
-    )?;
-    Err(command.error(ErrorKind::ValueValidation, told.as_str())?)
+    Err(command.error(
+        ErrorKind::ArgumentConflict,
+        "the argument '-' cannot be used: the shell reads statements from standard input",
+    )?)
 }
 
-fn shell_call<'a>(alloc: Global, given: &ArgMatches<'a>) -> Result<ShellCall<'a>, Error> {
+fn shell_call<'a>(alloc: Global, given: &ArgMatches<'a>) -> Result<Call<'a>, Error> {
+    let schema = given.get_str("schema").unwrap_or("");
     let mut command = shell_command(alloc, "dbtg shell")?;
     let capacity = capacity_wanted(alloc, &mut command, given)?;
     let units = units_wanted(alloc, &mut command, given)?;
-    let schema = given.get_str("schema").unwrap_or("");
-    if schema == STANDARD_INPUT {
-        return Err(command.error(
-            ErrorKind::ArgumentConflict,
-            "the argument '-' cannot be used: the shell reads statements from standard input",
-        )?);
-    }
-    Ok(ShellCall {
+    check_schema(&mut command, schema)?;
+    Ok(Call::Shell(ShellCall {
         capacity,
         units,
         schema,
-    })
+    }))
 }
 
 /// What the words ask for. `Err` has the text that answers other words, and help.
@@ -620,7 +623,7 @@ pub fn call_of<'a>(alloc: Global, words: &'a [String]) -> Result<Call<'a>, Error
         Some(("threads", given)) => threads_call(alloc, given),
         Some(("draw", given)) => Ok(draw_call(alloc, given)),
         Some(("explain", given)) => explain_call(alloc, given),
-        Some(("shell", given)) => Ok(Call::Shell(shell_call(alloc, given)?)),
+        Some(("shell", given)) => shell_call(alloc, given),
         _ => Err(Error::from(AllocError)),
     }
 }

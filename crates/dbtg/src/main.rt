@@ -1,6 +1,10 @@
 //! The program: reads the command's words and the files that they name, and prints what comes of them.
 #![tactic(auto)]
 
+ghost use Rattle.std.specs.Prelude.{◌≡◌, true};
+ghost use Rattle.dbtg_schema.specs.Sound.{IsSound};
+ghost use Rattle.dbtg.specs.Refusals.{is_count};
+
 mod at_hand;
 mod capacity;
 mod check;
@@ -26,6 +30,7 @@ mod turns;
 use check::check;
 use clap::error::ErrorKind;
 use command::{Call, OutcomesCall, ShellCall, TimelineCall, TurnsCall, call_of};
+use dbtg_schema::Schema;
 use draw::{Form, draw};
 use explain::{Topic, explained};
 use fault::{Fault, status_of};
@@ -226,21 +231,35 @@ fn carry_out<R: Threads + Wait + Sync>(rt: &HostRuntime, threads: &R, call: &Cal
     }
 }
 
-// The fault of the schema is told with its word.
 fn run_shell(rt: &HostRuntime, call: &ShellCall) -> ExitCode {
-    let paths = paths_of(call.schema, &[], Order::Serial);
-    let files = Files {
-        reader: rt,
-        paths: &paths,
-    };
-    if let Err(fault) = check_count(call.units as usize) {
-        return told_of(rt, &fault, &paths, true);
+    let scripts = Vec::new(rt.alloc());
+    let paths = paths_of(call.schema, scripts.as_slice(), Order::Serial);
+    open_shell(rt, &paths, call)
+}
+
+// The fault of the schema is told with its word.
+fn open_shell(rt: &HostRuntime, paths: &Paths, call: &ShellCall) -> ExitCode {
+    let files = Files { reader: rt, paths };
+    match read_schema(rt.alloc(), &files) {
+        Ok(known) => open_units(rt, &known, call),
+        Err(fault) => told_of(rt, &fault, paths, true),
     }
-    let known = match read_schema(rt.alloc(), &files) {
-        Ok(known) => known,
-        Err(fault) => return told_of(rt, &fault, &paths, true),
-    };
-    match Session::opening(rt.alloc(), &known, call.capacity, call.units as u8) {
+}
+
+fn open_units(rt: &HostRuntime, known: &Schema, call: &ShellCall) -> ExitCode
+    requires { IsSound known.now }
+{
+    match check_count(call.units as usize) {
+        Ok(()) => open_session(rt, known, call),
+        Err(fault) => told(rt, &fault),
+    }
+}
+
+fn open_session(rt: &HostRuntime, known: &Schema, call: &ShellCall) -> ExitCode
+    requires sound { IsSound known.now }
+    requires counted { is_count call.now.units ≡ true }
+{
+    match Session::opening(rt.alloc(), known, call.capacity, call.units as u8) {
         Ok(session) => end_of(rt, converse(rt, session, call)),
         Err(_) => told(rt, &Fault::Memory),
     }

@@ -1,13 +1,14 @@
 //! Running scripts, and the text of what comes of it.
-ghost use Rattle.std.specs.Prelude.{◌≡◌, ◌++◌, ◌≤◌, IfErr, IfOk, OnOk, true, false, length, option_map};
+ghost use Rattle.std.specs.Prelude.{◌≡◌, ◌++◌, ◌≤◌, IfErr, IfOk, OnOk, true, false, length, map, option_map};
 ghost use Rattle.dbtg_schema.specs.Sound.{IsSound};
+ghost use Rattle.dbtg_script.specs.Statements.{script};
 ghost use Rattle.dbtg_script.specs.Texts.{moves_text};
 ghost use Rattle.dbtg_step.specs.Headline.{RunIs};
 ghost use Rattle.dbtg_step.specs.Laws.{scripts_fit};
 ghost use Rattle.dbtg_step.specs.Serial.{SerialRunIs};
 ghost use Rattle.dbtg.specs.Refusals.{RefusesReplay, is_count};
 ghost use Rattle.dbtg.specs.Replaying.{IsPrinted, IsReplay, RunByTurnsIs, echo_of, shown_text};
-ghost use Rattle.dbtg.specs.Sources.{ReadSchema, ReplaysHeld, ToldOfRun, order_map};
+ghost use Rattle.dbtg.specs.Sources.{ReadSchema, ReadScripts, ReplaysHeld, ToldOfRun, order_map};
 ghost use Rattle.dbtg.specs.declared.fault.Fault.TheVariants.{ScriptCount};
 
 use crate::at_hand::AtHand;
@@ -51,6 +52,34 @@ pub fn push_given(
     }
 }
 
+// What a run gives, as a text of its own.
+fn text_of(
+    alloc: Global,
+    schema: &Schema,
+    echo: Option<&[Row<u8>]>,
+    given: &Run,
+) -> Result<Vec<u8>, AllocError>
+    ensures { IfOk result (λ out. out.items ≡ shown_text schema.now (option_map (λ t. t.now) echo.entry) given.now) }
+{
+    let mut out = Vec::new(alloc);
+    push_given(alloc, &mut out, schema, echo, given)?;
+    Ok(out)
+}
+
+// The same, behind the line of what the moves came to.
+fn text_with_moves(
+    alloc: Global,
+    schema: &Schema,
+    echo: Option<&[Row<u8>]>,
+    given: &Run,
+) -> Result<Vec<u8>, AllocError>
+    ensures { IfOk result (λ out. out.items ≡ moves_text given.now.results ++ shown_text schema.now (option_map (λ t. t.now) echo.entry) given.now) }
+{
+    let mut out = moves_text(alloc, given.results.as_slice())?;
+    push_given(alloc, &mut out, schema, echo, given)?;
+    Ok(out)
+}
+
 /// Runs one script after the other.
 pub fn serial_text(
     alloc: Global,
@@ -65,9 +94,7 @@ pub fn serial_text(
     ensures { IfOk result (λ out. IsPrinted (SerialRunIs schema.now capacity scripts) (shown_text schema.now (option_map (λ t. t.now) echo.entry)) out.items) }
 {
     let given = run_serial(alloc, schema, capacity, scripts)?;
-    let mut out = Vec::new(alloc);
-    push_given(alloc, &mut out, schema, echo, &given)?;
-    Ok(out)
+    text_of(alloc, schema, echo, &given)
 }
 
 /// Makes these moves.
@@ -85,9 +112,7 @@ pub fn moved_text(
     ensures { IfOk result (λ out. IsPrinted (RunIs schema.now capacity scripts moves.now) (λ given. moves_text given.results ++ shown_text schema.now (option_map (λ t. t.now) echo.entry) given) out.items) }
 {
     let given = run(alloc, schema, capacity, scripts, moves)?;
-    let mut out = moves_text(alloc, given.results.as_slice())?;
-    push_given(alloc, &mut out, schema, echo, &given)?;
-    Ok(out)
+    text_with_moves(alloc, schema, echo, &given)
 }
 
 /// Takes these turns. The moves that they stand for are not asked for.
@@ -105,9 +130,7 @@ pub fn turned_text(
     ensures { IfOk result (λ out. IsPrinted (RunByTurnsIs schema.now capacity scripts turns.now) (shown_text schema.now (option_map (λ t. t.now) echo.entry)) out.items) }
 {
     let given = run_turns(alloc, schema, capacity, scripts, turns, 0)?;
-    let mut out = Vec::new(alloc);
-    push_given(alloc, &mut out, schema, echo, &given.run)?;
-    Ok(out)
+    text_of(alloc, schema, echo, &given.run)
 }
 
 fn echo_of(echo: bool, texts: &Row<Row<u8>>) -> Option<&[Row<u8>]>
@@ -116,7 +139,40 @@ fn echo_of(echo: bool, texts: &Row<Row<u8>>) -> Option<&[Row<u8>]>
     if echo { Some(texts.as_slice()) } else { None }
 }
 
-/// What is printed of the run of the scripts in the order that is told, over a schema that was read.
+/// What is printed of the run of scripts that were read, with their texts, in the order that is told.
+fn replay_read<S: Source>(
+    alloc: Global,
+    source: &S,
+    known: &Schema,
+    capacity: u16,
+    scripts: Row<Row<Statement>>,
+    texts: &Row<Row<u8>>,
+    echo: bool,
+) -> Result<Vec<u8>, Fault>
+    requires counted { is_count (S.count source.now) ≡ true }
+    requires read { ReadSchema (S.holds source.now) known.now }
+    requires sound { IsSound known.now }
+    requires scripts { (read : ReadScripts (S.holds source.now) known.now (S.count source.now)) × (scripts ≡ map (script known.now) read.texts) × (texts.now ≡ read.texts) }
+    requires many { length scripts ≡ S.count source.now }
+    requires fitting { scripts_fit known.now scripts ≡ true }
+    ensures done { IfOk result (λ out. ReplaysHeld (S.holds source.now) (S.count source.now) (S.order source.now) echo capacity out.items) }
+    ensures refused { IfErr result (λ fault. ToldOfRun (S.holds source.now) (S.fails source.now) fault (S.count source.now) (S.order source.now)) }
+{
+    let shown = echo_of(echo, texts);
+    match source.order() {
+        OrderKind::Serial => Ok(serial_text(alloc, known, capacity, scripts, shown)?),
+        OrderKind::Moves => {
+            let moves = read_moves(alloc, source)?;
+            Ok(moved_text(alloc, known, capacity, scripts, moves.as_slice(), shown)?)
+        }
+        OrderKind::Turns => {
+            let turns = read_turns(alloc, source)?;
+            Ok(turned_text(alloc, known, capacity, scripts, turns.as_slice(), shown)?)
+        }
+    }
+}
+
+/// What is printed of the scripts over a schema that was read.
 fn replay_known<S: Source>(
     alloc: Global,
     source: &S,
@@ -131,18 +187,7 @@ fn replay_known<S: Source>(
     ensures refused { IfErr result (λ fault. ToldOfRun (S.holds source.now) (S.fails source.now) fault (S.count source.now) (S.order source.now)) }
 {
     let Scripts { statements, texts } = read_scripts_with_texts(alloc, source, known)?;
-    let echo = echo_of(echo, &texts);
-    match source.order() {
-        OrderKind::Serial => Ok(serial_text(alloc, known, capacity, statements, echo)?),
-        OrderKind::Moves => {
-            let moves = read_moves(alloc, source)?;
-            Ok(moved_text(alloc, known, capacity, statements, moves.as_slice(), echo)?)
-        }
-        OrderKind::Turns => {
-            let turns = read_turns(alloc, source)?;
-            Ok(turned_text(alloc, known, capacity, statements, turns.as_slice(), echo)?)
-        }
-    }
+    replay_read(alloc, source, known, capacity, statements, &texts, echo)
 }
 
 /// What `replay` prints of the schema, the scripts and the moves or turns that a source gives, or the first fault. Without moves and
