@@ -205,7 +205,7 @@ emptied (x ∷ xs) (suc n) zero one texts counts at =
     let count : x.count ≡ 0 = cc (counts) in
     (ap (λ (z : Script). z.text.items) (sym same) ∙ text, ap (λ (z : Script). z.count) (sym same) ∙ count)
 emptied (x ∷ xs) (suc n) (suc k) one texts counts at =
-    let texts_then : texts_in xs ≡ replicate n [] = cc (texts) in
+    let texts_then : texts_in xs ≡ replicate n [] = cc in
     let counts_then : map (λ (z : Script). z.count) xs ≡ replicate n 0 = cc (counts) in
     emptied xs n k one texts_then counts_then at
 
