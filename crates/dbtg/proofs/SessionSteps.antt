@@ -198,7 +198,7 @@ no_room (Fault cause) schema count size line h = inr h
 
 emptied : (scripts : List Script) (n k : ℕ) (one : Script) → texts_in scripts ≡ replicate n [] → map (λ (x : Script). x.count) scripts ≡ replicate n 0 → slice_get scripts k ≡ Some one → (one.text.items ≡ []) × (one.count ≡ 0)
 emptied [] n k one texts counts at = absurd (cc (at))
-emptied (x ∷ xs) zero k one texts counts at = absurd (cc (texts))
+emptied (x ∷ xs) zero k one texts counts at = absurd (cc)
 emptied (x ∷ xs) (suc n) zero one texts counts at =
     let same : x ≡ one = cc (at) in
     let text : x.text.items ≡ [] = cc in

@@ -1,5 +1,5 @@
 -- The scripts and the turns of a session: `replay` by them prints what was made in it.
-use Rattle.std.proofs.Common.{◌≡◌, ℕ, zero, suc, ◌+◌, true, List, [], ◌∷◌, ◌++◌, length, map, None, Option, Some, slice_get, inl, refl, sym, ap, ◌∙◌, subst}
+use Rattle.std.proofs.Common.{◌≡◌, ℕ, suc, ◌+◌, true, List, [], ◌∷◌, ◌++◌, length, map, None, Option, Some, slice_get, inl, refl, sym, ap, ◌∙◌, subst}
 use Rattle.std.specs.Prelude.{option_map}
 use Rattle.std.proofs.lemmas.List.{append-nil, append_cancel_right, length-map}
 use Rattle.std.proofs.lemmas.Option.{slice_get-map}
@@ -9,7 +9,6 @@ use Rattle.dbtg_unit.specs.Image.{Image, image_of}
 use Rattle.dbtg_unit.specs.Replay.{IsHistoryOf, entries_of}
 use Rattle.dbtg_unit.specs.declared.statement.Statement.{Statement}
 use Rattle.dbtg_unit.specs.declared.unit.Entry.{Entry}
-use Rattle.dbtg_unit.specs.declared.unit.Unit.{Unit}
 use Rattle.dbtg_step.specs.Audit.{LeadsTo}
 use Rattle.dbtg_step.specs.Whole.{Making, state_now}
 use Rattle.dbtg_script.specs.StatementFaults.{refusal as script_refusal}
@@ -21,8 +20,8 @@ use Rattle.dbtg.specs.declared.order.Order.TheVariants.{Turns}
 use Rattle.dbtg.specs.declared.shell.session.Script.{Script}
 use Rattle.dbtg.specs.Refusals.{AllAccepted, is_count, schema_in}
 use Rattle.dbtg.specs.Replaying.{IsReplay}
-use Rattle.dbtg.specs.Sessions.{AreTurnsOf, IsScriptOf, IsSession}
-use Rattle.dbtg.specs.Threading.{AreOf, IsHistoryOfAll, IsPrintedOnThreads, audit_line}
+use Rattle.dbtg.specs.Sessions.{AreTurnsOf, IsSession}
+use Rattle.dbtg.specs.Threading.{AreOf, IsPrintedOnThreads, audit_line}
 use Rattle.dbtg.proofs.SavedTurns.{saved_again}
 
 all_accepted : (schema : Lists) (scripts : List Script) → ((k : ℕ) (one : Script) → slice_get scripts k ≡ Some one → script_refusal schema one.text.items ≡ None) → AllAccepted schema (map (λ (x : Script). x.text.items) scripts)

@@ -6,7 +6,7 @@ use Rattle.dbtg_unit.specs.declared.unit.Entry.{Entry}
 use Rattle.dbtg_script.specs.Lines.{trimmed}
 use Rattle.dbtg_script.specs.Statements.{line_statement}
 use Rattle.dbtg_script.specs.declared.fault.Cause.{Cause}
-use Rattle.dbtg.specs.Sessions.{HasTyped, IsAnswerReply, IsLastAnswer, IsNoUnit, IsTold, IsUnmade, RefusesLine, TakesLine, Typed}
+use Rattle.dbtg.specs.Sessions.{IsAnswerReply, IsLastAnswer, IsNoUnit, IsTold, IsUnmade, RefusesLine, TakesLine, Typed}
 use Rattle.dbtg.specs.declared.shell.commands.Reply.{Reply}
 use Rattle.dbtg.specs.declared.shell.commands.Reply.TheVariants as reply
 use Rattle.dbtg.specs.declared.shell.session.Refusal.TheVariants.{Fault}

@@ -1,12 +1,12 @@
 -- A session of the shell: statements that are made whole on one database, and the script of each unit, which grows by a line with
 -- each statement.
-use Rattle.std.specs.Prelude.{ℕ, ◌≡◌, ◌+◌, ◌-◌, ◌≤◌, ◌<◌, ◌∷◌, ◌++◌, ◌⊎◌, ◌%◌, Bool, true, false, IfOk, List, [], length, map, None, Option, Some, Result, slice_get, slice_set, unwrap_or}
+use Rattle.std.specs.Prelude.{ℕ, ◌≡◌, ◌+◌, ◌-◌, ◌≤◌, ◌<◌, ◌∷◌, ◌++◌, ◌⊎◌, ◌%◌, Bool, true, false, IfOk, List, [], length, map, None, Some, Result, slice_get, slice_set, unwrap_or}
 use Rattle.dbtg_schema.specs.Lists.{Lists}
 use Rattle.dbtg_schema.specs.Lookups.{first}
 use Rattle.dbtg_schema.specs.SchemaFaults.{refusal as schema_refusal}
 use Rattle.dbtg_schema.specs.Sound.{IsSound}
 use Rattle.dbtg_unit.specs.Codes.{status_code}
-use Rattle.dbtg_unit.specs.Image.{Image, image_of}
+use Rattle.dbtg_unit.specs.Image.{image_of}
 use Rattle.dbtg_unit.specs.Replay.{entries_of}
 use Rattle.dbtg_unit.specs.declared.statement.Statement.{Statement}
 use Rattle.dbtg_unit.specs.declared.unit.Entry.{Entry}

@@ -1,13 +1,11 @@
-use Rattle.std.proofs.Common.{◌≡◌, ◌∙◌, Some, sym, subst, true, length}
+use Rattle.std.proofs.Common.{◌≡◌, ◌∙◌, sym, subst, true}
 use Rattle.std.specs.Prelude.{⊤}
 use Rattle.std.proofs.lemmas.Option.{MatchOption-at_some}
 use Rattle.dbtg_schema.specs.Lists.{Lists}
 use Rattle.dbtg_unit.specs.declared.statement.Statement.{Statement}
 use Rattle.dbtg_unit.specs.Fits.{fits}
 use Rattle.dbtg_script.specs.Lines.{trimmed}
-use Rattle.dbtg_script.specs.Statements.{line_statement}
 use Rattle.dbtg.proofs.ScriptLength.{room_for}
-use Rattle.dbtg.proofs.SessionSteps.{no_room}
 use Rattle.dbtg.proofs.shell.session.take_line.Goals as goal
 
 pub make_and_enter-requires-clause-fitting : goal.make_and_enter-requires-clause-fitting

@@ -1,4 +1,4 @@
-use Rattle.std.proofs.Common.{◌≡◌, ℕ, List}
+use Rattle.std.proofs.Common.{ℕ, List}
 use Rattle.std.specs.Prelude.{⊤}
 use Rattle.dbtg.proofs.ShellReplies.{if_told}
 use Rattle.dbtg.proofs.shell.commands.Shell.no_unit.Goals as goal

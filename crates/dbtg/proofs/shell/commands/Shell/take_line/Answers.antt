@@ -1,4 +1,4 @@
-use Rattle.std.proofs.Common.{◌≡◌, sym, subst}
+use Rattle.std.proofs.Common.{sym, subst}
 use Rattle.dbtg.specs.Sessions.{TakesAsked}
 use Rattle.dbtg.specs.declared.shell.asked.Asked.{Asked}
 use Rattle.dbtg.proofs.shell.commands.Shell.take_line.Goals as goal

@@ -1,6 +1,3 @@
-use Rattle.std.proofs.Common.{◌≡◌, ◌∙◌, ℕ, List, [], Some, None, ap, sym}
-use Rattle.std.specs.Prelude.{option_map}
-use Rattle.dbtg_unit.specs.declared.unit.Entry.{Entry}
 use Rattle.dbtg.proofs.ShellReplies.{if_told, is_last, no_last}
 use Rattle.dbtg.specs.Sessions.{IsLastAnswer}
 use Rattle.dbtg.proofs.shell.commands.Shell.tell_last.Goals as goal
