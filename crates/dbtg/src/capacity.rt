@@ -6,6 +6,7 @@ use dbtg_script::{is_number, number};
 
 /// The number that a word says: digits alone, from 1 to the greatest.
 fn count_of(word: &str, most: u64) -> Option<u64>
+    requires { most ≤ 1000000000 }
     ensures count { result ≡ count_in most word.now }
     ensures within { IfSome result (λ n. n ≤ most) }
 {

@@ -80,11 +80,17 @@ fn texts_in(alloc: Global, text: &[u8]) -> Result<Row<Row<u8>>, AllocError>
     ensures { IfOk result (λ lines. lines ≡ statement_lines text.now) }
 {
     let found = statement_lines(alloc, text)?;
-    let mut lines = Vec::new(alloc);
-    for line in found.as_slice() {
-        lines.push(Row::of(Vec::from_slice(alloc, *line)?))?;
+    copies_of(alloc, found.as_slice())
+}
+
+fn copies_of(alloc: Global, lines: &[&[u8]]) -> Result<Row<Row<u8>>, AllocError>
+    ensures { IfOk result (λ copies. copies ≡ map (λ s. s.now) lines.now) }
+{
+    let mut copies = Vec::new(alloc);
+    for line in lines {
+        copies.push(Row::of(Vec::from_slice(alloc, *line)?))?;
     }
-    Ok(Row::of(lines))
+    Ok(Row::of(copies))
 }
 
 fn picture(
