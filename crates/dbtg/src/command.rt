@@ -57,12 +57,13 @@ pub struct TurnsCall<'a> {
     pub scripts: Vec<&'a str>,
 }
 
-/// What the shell is asked for; `schema` is a path.
-#[derive(Clone, Copy)]
+/// What the shell is asked for. Statements are typed, so `scripts` are none.
+#[derive(Drop)]
 pub struct ShellCall<'a> {
     pub capacity: u16,
     pub units: u16,
     pub schema: &'a str,
+    pub scripts: Vec<&'a str>,
 }
 
 /// What is wanted: the picture of an interleaving, as SVG or as plain text.
@@ -608,6 +609,7 @@ fn shell_call<'a>(alloc: Global, given: &ArgMatches<'a>) -> Result<Call<'a>, Err
         capacity,
         units,
         schema,
+        scripts: Vec::new(alloc),
     }))
 }
 

@@ -165,7 +165,11 @@ fn print_timeline(rt: &HostRuntime, call: &TimelineCall) -> ExitCode {
 }
 
 fn tell_outcomes(rt: &HostRuntime, call: &OutcomesCall) -> ExitCode {
-    let paths = paths_of(call.schema, call.scripts.as_slice(), Order::Serial);
+    let paths = Paths {
+        schema: call.schema,
+        scripts: call.scripts.as_slice(),
+        order: Order::Serial,
+    };
     let files = Files {
         reader: rt,
         paths: &paths,
@@ -232,8 +236,7 @@ fn carry_out<R: Threads + Wait + Sync>(rt: &HostRuntime, threads: &R, call: &Cal
 }
 
 fn run_shell(rt: &HostRuntime, call: &ShellCall) -> ExitCode {
-    let scripts = Vec::new(rt.alloc());
-    let paths = paths_of(call.schema, scripts.as_slice(), Order::Serial);
+    let paths = paths_of(call.schema, call.scripts.as_slice(), Order::Serial);
     open_shell(rt, &paths, call)
 }
 
