@@ -110,7 +110,7 @@ module _ (lists : Lists) (capacity : ℕ) (scripts copies : List (List Statement
   result_told old line new line_is new_is = (
     result_text lists k one moves given,
     new_is ∙ ap (λ l. turned_text l turns shown) line_is ∙ ap (λ us. turned_text (old ++ result_line k one) us shown) turns_are ∙ ap (turned_text (old ++ result_line k one) one.turns) (shown_is ∙ said_is)
-    ∙ texts_behind old (result_line k one) (worded (codes "turns") (turns_text one.turns)) (worded (codes "moves") (moves_words_text moves)) (given_text lists given),
+        ∙ texts_behind old (result_line k one) (worded (codes "turns") (turns_text one.turns)) (worded (codes "moves") (moves_words_text moves)) (given_text lists given),
     record {
       moves = moves;
       given = given;
@@ -129,12 +129,11 @@ module _ (lists : Lists) (capacity : ℕ) (scripts : List (List Statement)) (all
   one_more_taken out new texts text k k_is out_is are new_is is =
       let taken = length-take-le i all.results.items (omega arith) in
       let many : k ≡ 1 + length (take i all.results.items) = omega arith in
-      let next : take i all.results.items ++ one ∷ [] ≡ take (i + 1) all.results.items = ap (λ (o : OneResult). take i all.results.items ++ o ∷ []) at ∙ sym (take_more all.results.items i one below) in
-      (
+      let next : take i all.results.items ++ one ∷ [] ≡ take (i + 1) all.results.items = ap (λ (o : OneResult). take i all.results.items ++ o ∷ []) at ∙ sym (take_more all.results.items i one below) in (
         texts ++ text,
         new_is ∙ ap (λ o. o ++ text) out_is ∙ append_assoc (summary_text all) texts text,
         subst (λ ones. AreResultTexts lists capacity scripts 1 ones (texts ++ text)) next
-        (one_more lists capacity scripts 1 (take i all.results.items) one texts text are (subst (λ n. IsResultText lists capacity scripts n one text) many is)),
+            (one_more lists capacity scripts 1 (take i all.results.items) one texts text are (subst (λ n. IsResultText lists capacity scripts n one text) many is)),
       )
 
   -- it may be too long

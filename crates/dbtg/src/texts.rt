@@ -60,7 +60,10 @@ pub fn read_scripts<S: Source>(
     ensures fitting { IsSound schema.now → IfOk result (λ scripts. scripts_fit schema.now scripts ≡ true) }
     ensures refused { IfErr result (λ fault. ToldOfScripts (S.holds source.now) (S.fails source.now) fault schema.now (S.count source.now)) }
 {
-    let Scripts { statements, texts: _ } = read_scripts_with_texts(alloc, source, schema)?;
+    let Scripts {
+        statements,
+        texts: _,
+    } = read_scripts_with_texts(alloc, source, schema)?;
     Ok(statements)
 }
 

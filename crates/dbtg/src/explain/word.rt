@@ -129,8 +129,7 @@ fn is_behind_name(words: &[&[u8]], number: u8, place: usize) -> bool {
     match number {
         4 | 5 => is_kind(word_at(words, place)),
         6 => {
-            is_kind(word_at(words, place))
-                && matches!(word_at(words, place.wrapping_sub(2)), b"OF")
+            is_kind(word_at(words, place)) && matches!(word_at(words, place.wrapping_sub(2)), b"OF")
         }
         _ => false,
     }

@@ -21,9 +21,7 @@ enum Kept {
 
 // Takes the bytes up to a line feed, and no more than are kept.
 fn take_front<B: BufRead>(input: &mut B, line: &mut Vec<u8>) -> io::Result<usize> {
-    Read::by_ref(input)
-        .take(LINE_BYTES)
-        .read_until(b'\n', line)
+    Read::by_ref(input).take(LINE_BYTES).read_until(b'\n', line)
 }
 
 // Reads a line, without its line feed; none where the input is at its end. The last line need not have a line feed.
