@@ -1,5 +1,5 @@
 -- Bytes at hand as a source: the texts that it gives are those that are at hand.
-use Rattle.std.proofs.Common.{◌≡◌, ℕ, ◌+◌, ◌-◌, List, [], ◌∷◌, ◌++◌, length, Some, None, inl, inr, ⊎_elim, refl, sym, ap, ◌∙◌, subst, arith}
+use Rattle.std.proofs.Common.{false, ◌≡◌, ℕ, ◌+◌, ◌-◌, List, [], ◌∷◌, ◌++◌, length, Some, None, inl, inr, ⊎_elim, refl, sym, ap, ◌∙◌, subst, arith}
 use Rattle.std.specs.Prelude.{slice_get}
 use Rattle.std.proofs.Math.Seq.{get_or-append_seam}
 use Rattle.std.proofs.lemmas.List.{append-nil, append_assoc, length-append}
@@ -68,7 +68,7 @@ at_hand_check schema scripts out held =
     (subst (λ (ss : List (List ℕ)). IsCheck texts.schema ss out) (all_are schema by.Serial scripts texts.scripts texts.holds_scripts texts.many) held.1)
 
 pub at_hand_replay : (schema : List ℕ) (scripts : List (List ℕ)) (order : Order (List ℕ)) (which : OrderKind) (capacity : ℕ) (out : List ℕ) → which ≡ kind_of order
-    → ReplaysHeld (StandsIn schema scripts order) (length scripts) which capacity out → IsReplay schema scripts order capacity out
+    → ReplaysHeld (StandsIn schema scripts order) (length scripts) which false capacity out → IsReplay schema scripts order capacity out
 at_hand_replay schema scripts order which capacity out e held =
     let texts = held.0 in
     subst (λ (s : List ℕ). IsReplay s scripts order capacity out) texts.holds_schema

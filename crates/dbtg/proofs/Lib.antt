@@ -8,3 +8,8 @@ mod SameRun
 mod MovesOfTurns
 mod OnThreads
 mod SavedTurns
+mod SessionSteps
+mod SessionTurns
+mod ShellReplies
+mod Pictures
+mod Listings

@@ -11,7 +11,7 @@ use Rattle.dbtg_script.specs.Lines.{is_allowed, is_statement, lines, trimmed}
 use Rattle.dbtg_script.specs.StatementGrammar.{fits, statement}
 use Rattle.dbtg_script.specs.Tokens.{tokens}
 use Rattle.dbtg_schema.specs.Forms.{labels}
-use Rattle.dbtg_script.specs.Statements.{prepend, script, statement_of, statements_of}
+use Rattle.dbtg_script.specs.Statements.{line_statement, prepend, script, statement_of, statements_of}
 use Rattle.dbtg_script.specs.StatementFaults.{count_after, faults, line_faults, lines_faults, refusal, statement_faults, too_long, when}
 
 none_in_front : {X : Type 0} (xs ys : List X) → xs ++ ys ≡ [] → xs ≡ []
@@ -59,3 +59,14 @@ few_statements schema text accepted =
     let none = none_behind (too_long text) _ (none_first (faults schema text) accepted) in
     let few = few_in_lines schema 0 1 (lines text) (omega arith) none in
     omega (arith, few)
+
+-- a line without a fault that holds a statement has room behind what is there
+room_if : (b : Bool) (count : ℕ) (x s : Statement) → cond b (Some x) None ≡ Some s → when (b && nat_le 65535 count) cause.TooMuch ≡ [] → count < 65535
+room_if true count x s said none = leb-false 65535 count (not_when (nat_le 65535 count) cause.TooMuch none)
+room_if false count x s said none = absurd (cc (said))
+
+pub room_for : (schema : Lists) (count : ℕ) (line : List ℕ) (s : Statement) → line_statement schema line ≡ Some s → first (line_faults schema count line) ≡ None → count < 65535
+room_for schema count line s said fine =
+    let none = none_first (line_faults schema count line) fine in
+    let ample : when (is_statement line && nat_le 65535 count) cause.TooMuch ≡ [] = none_in_front _ (when (not (is_allowed line)) cause.LineNotAllowed) (none_in_front _ (cond (is_statement line) (statement_faults schema line) []) none) in
+    room_if (is_statement line) count (statement_of schema (labels fits statement (tokens false line))) s said ample

@@ -1,5 +1,5 @@
 -- Texts that are read one after another, and what is then true of all.
-use Rattle.std.proofs.Common.{◌≡◌, ℕ, suc, ◌+◌, ◌<◌, true, List, [], ◌∷◌, ◌++◌, length, map, None, inr, refl, sym, ap, ◌∙◌, subst, arith}
+use Rattle.std.proofs.Common.{◌≡◌, ℕ, suc, ◌+◌, ◌<◌, Bool, true, List, [], ◌∷◌, ◌++◌, length, map, None, Option, inr, refl, sym, ap, ◌∙◌, subst, arith}
 use Rattle.std.proofs.lemmas.List.{append-nil, append_assoc, length-append, map_push}
 use Rattle.std.specs.List.{list_all}
 use Rattle.std.proofs.lemmas.List.Folds.{list_all-append}
@@ -22,7 +22,7 @@ use Rattle.dbtg.specs.declared.order.Order.TheVariants.{Serial, Moves, Turns}
 use Rattle.dbtg.specs.declared.order.OrderKind.TheVariants as kind
 use Rattle.dbtg.specs.Checking.{check_text, script_lines}
 use Rattle.dbtg.specs.Refusals.{AcceptsOrder, AcceptsTexts, AllAccepted, RefusesScript, is_count}
-use Rattle.dbtg.specs.Replaying.{IsPrinted, IsPrintedRun, RunByTurnsIs, given_text, moves_in, turns_in}
+use Rattle.dbtg.specs.Replaying.{IsPrinted, IsPrintedRun, RunByTurnsIs, echo_of, moves_in, shown_text, turns_in}
 use Rattle.dbtg.specs.Sources.{ChecksHeld, HoldsOrder, HoldsScripts, ReadMoves, ReadSchema, ReadScripts, ReadTurns, ReplaysHeld, Texts, ToldIn, ToldOfSchema, ToldOfScripts, kind_of}
 use Rattle.dbtg.proofs.InTurn.{accepted_behind, lines_behind}
 
@@ -63,14 +63,15 @@ line_behind holds lists n text start before after so_far held e line =
           ∙ ap (λ (xs : List ℕ). start ++ xs) (sym (lines_behind lists 1 texts (text ∷ []))),
     )
 
--- the statements of the scripts that were read, and of one more
-pub script_behind : (holds : Place → List ℕ → Type 0) (lists : Lists) (n : ℕ) (text : List ℕ) (before after : List (List Statement))
-    → (read : ReadScripts holds lists n) × (before ≡ map (script lists) read.texts) → holds (Script (n + 1)) text → script_refusal lists text ≡ None
-    → after ≡ before ++ script lists text ∷ [] → (read : ReadScripts holds lists (n + 1)) × (after ≡ map (script lists) read.texts)
+-- the statements of the scripts that were read, with their texts, and of one more
+pub texts_behind : (holds : Place → List ℕ → Type 0) (lists : Lists) (n : ℕ) (text : List ℕ) (before after : List (List Statement)) (texts more : List (List ℕ))
+    → (read : ReadScripts holds lists n) × (before ≡ map (script lists) read.texts) × (texts ≡ read.texts) → holds (Script (n + 1)) text → script_refusal lists text ≡ None
+    → after ≡ before ++ script lists text ∷ [] → more ≡ texts ++ text ∷ [] → (read : ReadScripts holds lists (n + 1)) × (after ≡ map (script lists) read.texts) × (more ≡ read.texts)
 unfolding one_more
-script_behind holds lists n text before after so_far held e taken = (
+texts_behind holds lists n text before after texts more so_far held e taken kept = (
   one_more holds lists n text so_far.0 held e,
   taken ∙ ap (λ (xs : List (List Statement)). xs ++ script lists text ∷ []) so_far.1 ∙ sym (map_push (script lists) so_far.0.texts text),
+  kept ∙ ap (λ (xs : List (List ℕ)). xs ++ text ∷ []) so_far.2,
 )
 
 pub fit_behind : (lists : Lists) (statements : List Statement) (before after : List (List Statement)) → after ≡ before ++ statements ∷ [] → scripts_fit lists before ≡ true → list_all (fits lists) statements ≡ true → scripts_fit lists after ≡ true
@@ -113,33 +114,38 @@ checks holds lists count out read scripts e = (
 )
 
 -- what a run of the statements that were read gives is the replay of the texts
-pub replays : (holds : Place → List ℕ → Type 0) (lists : Lists) (count : ℕ) (order : Order (List ℕ)) (capacity : ℕ) (out : List ℕ)
+pub replays : (holds : Place → List ℕ → Type 0) (lists : Lists) (count : ℕ) (order : Order (List ℕ)) (echo : Bool) (capacity : ℕ) (out : List ℕ)
     → is_count count ≡ true → ReadSchema holds lists → (scripts : ReadScripts holds lists count) → HoldsOrder holds order → AcceptsOrder order
-    → IsPrintedRun lists capacity (map (script lists) scripts.texts) order out → ReplaysHeld holds count (kind_of order) capacity out
-replays holds lists count order capacity out right read scripts held accepted run = (
+    → IsPrintedRun lists capacity (map (script lists) scripts.texts) (echo_of echo scripts.texts) order out → ReplaysHeld holds count (kind_of order) echo capacity out
+replays holds lists count order echo capacity out right read scripts held accepted run = (
   read_texts holds lists count read scripts order held,
   record {
     count = ap is_count scripts.many ∙ right;
     texts = all_accepted holds lists count read scripts;
     order_too = accepted;
-    run = subst (λ (s : Lists). IsPrintedRun s capacity (map (script s) scripts.texts) order out) read.says run;
+    run = subst (λ (s : Lists). IsPrintedRun s capacity (map (script s) scripts.texts) (echo_of echo scripts.texts) order out) read.says run;
   },
 )
 
--- the same of what was read: nothing that says the order, moves, or turns
+-- the same of what was read: nothing that says the order, moves, or turns; and the texts that are shown
 module _ (holds : Place → List ℕ → Type 0) (lists : Lists) (count capacity : ℕ) (out : List ℕ) (right : is_count count ≡ true) (read : ReadSchema holds lists) (scripts : ReadScripts holds lists count)
-    (statements : List (List Statement)) (same : statements ≡ map (script lists) scripts.texts) where
-  pub replays_serially : IsPrinted (SerialRunIs lists capacity statements) (given_text lists) out → ReplaysHeld holds count kind.Serial capacity out
-  replays_serially run = replays holds lists count Serial capacity out right read scripts tt tt (subst (λ ss. IsPrinted (SerialRunIs lists capacity ss) (given_text lists) out) same run)
+    (statements : List (List Statement)) (same : statements ≡ map (script lists) scripts.texts) (echo : Bool) (texts : Option (List (List ℕ))) (are : texts ≡ echo_of echo scripts.texts) where
+  pub replays_serially : IsPrinted (SerialRunIs lists capacity statements) (shown_text lists texts) out → ReplaysHeld holds count kind.Serial echo capacity out
+  replays_serially run =
+      let of_all = subst (λ ss. IsPrinted (SerialRunIs lists capacity ss) (shown_text lists texts) out) same run in
+      replays holds lists count Serial echo capacity out right read scripts tt tt
+      (subst (λ ts. IsPrinted (SerialRunIs lists capacity (map (script lists) scripts.texts)) (shown_text lists ts) out) are of_all)
 
-  pub replays_moves : (moves used : List Move) → ReadMoves holds moves → used ≡ moves → IsPrinted (RunIs lists capacity statements used) (λ given. moves_text given.results ++ given_text lists given) out → ReplaysHeld holds count kind.Moves capacity out
+  pub replays_moves : (moves used : List Move) → ReadMoves holds moves → used ≡ moves → IsPrinted (RunIs lists capacity statements used) (λ given. moves_text given.results ++ shown_text lists texts given) out → ReplaysHeld holds count kind.Moves echo capacity out
   replays_moves moves used by e run =
-      let of_text = subst (λ ms. IsPrinted (RunIs lists capacity statements ms) (λ given. moves_text given.results ++ given_text lists given) out) (e ∙ by.says) run in
-      replays holds lists count (Moves by.text) capacity out right read scripts by.held by.accepted
-      (subst (λ ss. IsPrinted (RunIs lists capacity ss (moves_in by.text)) (λ given. moves_text given.results ++ given_text lists given) out) same of_text)
+      let of_text = subst (λ ms. IsPrinted (RunIs lists capacity statements ms) (λ given. moves_text given.results ++ shown_text lists texts given) out) (e ∙ by.says) run in
+      let of_all = subst (λ ss. IsPrinted (RunIs lists capacity ss (moves_in by.text)) (λ given. moves_text given.results ++ shown_text lists texts given) out) same of_text in
+      replays holds lists count (Moves by.text) echo capacity out right read scripts by.held by.accepted
+      (subst (λ ts. IsPrinted (RunIs lists capacity (map (script lists) scripts.texts) (moves_in by.text)) (λ given. moves_text given.results ++ shown_text lists ts given) out) are of_all)
 
-  pub replays_turns : (turns used : List ℕ) → ReadTurns holds turns → used ≡ turns → IsPrinted (RunByTurnsIs lists capacity statements used) (given_text lists) out → ReplaysHeld holds count kind.Turns capacity out
+  pub replays_turns : (turns used : List ℕ) → ReadTurns holds turns → used ≡ turns → IsPrinted (RunByTurnsIs lists capacity statements used) (shown_text lists texts) out → ReplaysHeld holds count kind.Turns echo capacity out
   replays_turns turns used by e run =
-      let of_text = subst (λ us. IsPrinted (RunByTurnsIs lists capacity statements us) (given_text lists) out) (e ∙ by.says) run in
-      replays holds lists count (Turns by.text) capacity out right read scripts by.held by.accepted
-      (subst (λ ss. IsPrinted (RunByTurnsIs lists capacity ss (turns_in by.text)) (given_text lists) out) same of_text)
+      let of_text = subst (λ us. IsPrinted (RunByTurnsIs lists capacity statements us) (shown_text lists texts) out) (e ∙ by.says) run in
+      let of_all = subst (λ ss. IsPrinted (RunByTurnsIs lists capacity ss (turns_in by.text)) (shown_text lists texts) out) same of_text in
+      replays holds lists count (Turns by.text) echo capacity out right read scripts by.held by.accepted
+      (subst (λ ts. IsPrinted (RunByTurnsIs lists capacity (map (script lists) scripts.texts) (turns_in by.text)) (shown_text lists ts) out) are of_all)

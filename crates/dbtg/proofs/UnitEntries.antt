@@ -29,7 +29,7 @@ unfolding unit_at
 there xs zero some most = absurd (omega arith)
 there xs (suc n) some most = found_at xs n (omega arith)
 
-set_length : {X : Type 0} (xs : List X) (n : ℕ) (x : X) → length (slice_set xs n x) ≡ length xs
+pub set_length : {X : Type 0} (xs : List X) (n : ℕ) (x : X) → length (slice_set xs n x) ≡ length xs
 set_length [] n x = refl
 set_length (y ∷ ys) zero x = refl
 set_length (y ∷ ys) (suc n) x = ap suc (set_length ys n x)

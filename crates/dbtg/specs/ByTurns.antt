@@ -37,6 +37,7 @@ AreMoreMoves lists capacity scripts turns (fault.Script n line cause) = ⊥
 AreMoreMoves lists capacity scripts turns (fault.Moves word cause) = ⊥
 AreMoreMoves lists capacity scripts turns (fault.Turns word cause) = ⊥
 AreMoreMoves lists capacity scripts turns (fault.Unreadable path) = ⊥
+AreMoreMoves lists capacity scripts turns (fault.StatesOver limit) = ⊥
 AreMoreMoves lists capacity scripts turns fault.ScriptCount = ⊥
 
 -- 1 to 8 scripts, nothing is refused, and the text says the moves for which the turns stand. So `replay` of these moves prints,

@@ -2,7 +2,7 @@
 -- that it gave none. Both are what the reader of files says.
 use Rattle.std.specs.Prelude.{ℕ, ◌≡◌, List, string_bytes}
 use Rattle.dbtg.specs.declared.fault.Fault.{Fault}
-use Rattle.dbtg.specs.declared.fault.Fault.TheVariants.{Schema as InSchema, Script as InScript, Moves as InMoves, Turns as InTurns, MovesOver, Unreadable, ScriptCount, Memory}
+use Rattle.dbtg.specs.declared.fault.Fault.TheVariants.{Schema as InSchema, Script as InScript, Moves as InMoves, Turns as InTurns, MovesOver, StatesOver, Unreadable, ScriptCount, Memory}
 use Rattle.dbtg.specs.declared.order.Order.{Order}
 use Rattle.dbtg.specs.declared.place.Place.{Place}
 use Rattle.dbtg.specs.declared.place.Place.TheVariants.{Schema, Script, Moves, Turns}
@@ -24,6 +24,7 @@ IsUnread path (InScript n line cause) = ⊥
 IsUnread path (InMoves word cause) = ⊥
 IsUnread path (InTurns word cause) = ⊥
 IsUnread path MovesOver = ⊥
+IsUnread path (StatesOver limit) = ⊥
 IsUnread path ScriptCount = ⊥
 
 -- the file that is named in this place gave this text

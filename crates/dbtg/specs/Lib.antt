@@ -10,3 +10,7 @@ pub mod Files
 pub mod Explaining
 pub mod FaultyWord
 pub mod Drawing
+pub mod Asking
+pub mod Sessions
+pub mod Picturing
+pub mod Listing

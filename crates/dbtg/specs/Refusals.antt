@@ -14,7 +14,7 @@ use Rattle.dbtg_script.specs.Turns.{turns_refusal}
 use Rattle.dbtg_script.specs.declared.fault.Fault.{Fault as ScriptRefusal}
 use Rattle.dbtg_script.specs.declared.moves.MovesCause.{MovesCause}
 use Rattle.dbtg.specs.declared.fault.Fault.{Fault}
-use Rattle.dbtg.specs.declared.fault.Fault.TheVariants.{Schema, Script, Moves, Turns, MovesOver, Unreadable, ScriptCount, Memory}
+use Rattle.dbtg.specs.declared.fault.Fault.TheVariants.{Schema, Script, Moves, Turns, MovesOver, StatesOver, Unreadable, ScriptCount, Memory}
 use Rattle.dbtg.specs.declared.order.Order.{Order}
 use Rattle.dbtg.specs.declared.order.Order.TheVariants as by
 
@@ -30,6 +30,7 @@ RefusesSchema (Script n line cause) refusal = ⊥
 RefusesSchema (Moves word cause) refusal = ⊥
 RefusesSchema (Turns word cause) refusal = ⊥
 RefusesSchema MovesOver refusal = ⊥
+RefusesSchema (StatesOver limit) refusal = ⊥
 RefusesSchema (Unreadable path) refusal = ⊥
 RefusesSchema ScriptCount refusal = ⊥
 
@@ -41,6 +42,7 @@ RefusesScript (Schema line cause) n refusal = ⊥
 RefusesScript (Moves word cause) n refusal = ⊥
 RefusesScript (Turns word cause) n refusal = ⊥
 RefusesScript MovesOver n refusal = ⊥
+RefusesScript (StatesOver limit) n refusal = ⊥
 RefusesScript (Unreadable path) n refusal = ⊥
 RefusesScript ScriptCount n refusal = ⊥
 
@@ -52,6 +54,7 @@ RefusesMoves (Schema line cause) refusal = ⊥
 RefusesMoves (Script n line cause) refusal = ⊥
 RefusesMoves (Turns word cause) refusal = ⊥
 RefusesMoves MovesOver refusal = ⊥
+RefusesMoves (StatesOver limit) refusal = ⊥
 RefusesMoves (Unreadable path) refusal = ⊥
 RefusesMoves ScriptCount refusal = ⊥
 
@@ -63,6 +66,7 @@ RefusesTurns (Schema line cause) refusal = ⊥
 RefusesTurns (Script n line cause) refusal = ⊥
 RefusesTurns (Moves word cause) refusal = ⊥
 RefusesTurns MovesOver refusal = ⊥
+RefusesTurns (StatesOver limit) refusal = ⊥
 RefusesTurns (Unreadable path) refusal = ⊥
 RefusesTurns ScriptCount refusal = ⊥
 

@@ -1,6 +1,6 @@
 -- What `replay` prints.
 -- text, scripts, moves and turns are bytes, lists the schema that a text says, given what a run gives.
-use Rattle.std.specs.Prelude.{ℕ, ◌≡◌, ◌++◌, true, List, map, length}
+use Rattle.std.specs.Prelude.{ℕ, ◌≡◌, ◌++◌, Bool, true, false, List, Option, Some, None, map, length}
 use Rattle.dbtg_schema.specs.Lists.{Lists}
 use Rattle.dbtg_unit.specs.declared.statement.Statement.{Statement}
 use Rattle.dbtg_step.specs.declared.results.Run.{Run}
@@ -8,6 +8,7 @@ use Rattle.dbtg_unit.specs.declared.moves.Move.{Move}
 use Rattle.dbtg_step.specs.Headline.{RunIs}
 use Rattle.dbtg_step.specs.Serial.{SerialRunIs}
 use Rattle.dbtg_step.specs.Turns.{IsRunByTurns}
+use Rattle.dbtg_script.specs.Echo.{echoed_run_text}
 use Rattle.dbtg_script.specs.Moves.{moves_of, words}
 use Rattle.dbtg_script.specs.Statements.{script}
 use Rattle.dbtg_script.specs.Texts.{moves_text, run_text}
@@ -38,11 +39,21 @@ Gives lists capacity scripts (Turns text) given = RunByTurnsIs lists capacity sc
 abbrev pub given_text : Lists → Run → List ℕ
 given_text lists given = run_text lists given.history given.image.records given.image.lists given.image.next given.image.usage given.units
 
+-- the scripts' texts, where each answer is to have its statement beside it
+abbrev pub echo_of : Bool → List (List ℕ) → Option (List (List ℕ))
+echo_of false texts = None
+echo_of true texts = Some texts
+
+-- the same, with the statement of each answer beside it where the scripts' texts are given
+abbrev pub shown_text : Lists → Option (List (List ℕ)) → Run → List ℕ
+shown_text lists None given = given_text lists given
+shown_text lists (Some texts) given = echoed_run_text lists texts given.history given.image.records given.image.lists given.image.next given.image.usage given.units
+
 -- with moves, the line of what they came to stands before it
-abbrev pub printed : Lists → Order (List ℕ) → Run → List ℕ
-printed lists Serial given = given_text lists given
-printed lists (Moves text) given = moves_text given.results ++ given_text lists given
-printed lists (Turns text) given = given_text lists given
+abbrev pub printed : Lists → Option (List (List ℕ)) → Order (List ℕ) → Run → List ℕ
+printed lists texts Serial given = shown_text lists texts given
+printed lists texts (Moves moves) given = moves_text given.results ++ shown_text lists texts given
+printed lists texts (Turns turns) given = shown_text lists texts given
 
 -- the text is what such a run gives, as it is printed
 pub record IsPrinted (Is : Run → Type 0) (print : Run → List ℕ) (out : List ℕ) : Type 0 where
@@ -51,12 +62,17 @@ pub record IsPrinted (Is : Run → Type 0) (print : Run → List ℕ) (out : Lis
   pub is_text : out ≡ print given
 
 -- the text is what the run of these statements gives, as it is printed
-abbrev pub IsPrintedRun : Lists → ℕ → List (List Statement) → Order (List ℕ) → List ℕ → Type 0
-IsPrintedRun lists capacity scripts order out = IsPrinted (Gives lists capacity scripts order) (printed lists order) out
+abbrev pub IsPrintedRun : Lists → ℕ → List (List Statement) → Option (List (List ℕ)) → Order (List ℕ) → List ℕ → Type 0
+IsPrintedRun lists capacity scripts texts order out = IsPrinted (Gives lists capacity scripts order) (printed lists texts order) out
 
--- 1 to 8 scripts, nothing is refused, and the text is what is printed of the run of what the texts say
-pub record IsReplay (text : List ℕ) (scripts : List (List ℕ)) (order : Order (List ℕ)) (capacity : ℕ) (out : List ℕ) : Type 0 where
+-- 1 to 8 scripts, nothing is refused, and the text is what is printed of the run of what the texts say, with or without their
+-- statements beside the answers
+pub record IsShownReplay (echo : Bool) (text : List ℕ) (scripts : List (List ℕ)) (order : Order (List ℕ)) (capacity : ℕ) (out : List ℕ) : Type 0 where
   pub count : is_count (length scripts) ≡ true
   pub texts : AcceptsTexts text scripts
   pub order_too : AcceptsOrder order
-  pub run : IsPrintedRun (schema_in text) capacity (map (script (schema_in text)) scripts) order out
+  pub run : IsPrintedRun (schema_in text) capacity (map (script (schema_in text)) scripts) (echo_of echo scripts) order out
+
+-- the same of the answers alone
+abbrev pub IsReplay : List ℕ → List (List ℕ) → Order (List ℕ) → ℕ → List ℕ → Type 0
+IsReplay text scripts order capacity out = IsShownReplay false text scripts order capacity out

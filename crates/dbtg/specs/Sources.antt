@@ -1,7 +1,7 @@
 -- What a command prints of the texts that a source gives, and which fault it tells: the first, in the order in which they are read
 -- and judged: number of scripts, schema, scripts from 1 on, moves or turns. `holds` says that the source gives a text in a place, `fails`
 -- that it cannot, and tells a fault.
-use Rattle.std.specs.Prelude.{ℕ, ◌≡◌, ◌+◌, ◌-◌, ◌≤◌, ◌<◌, true, false, List, [], ◌∷◌, Some, None, ◌⊎◌, length, map, slice_get}
+use Rattle.std.specs.Prelude.{ℕ, ◌≡◌, ◌+◌, ◌-◌, ◌≤◌, ◌<◌, Bool, true, false, List, [], ◌∷◌, Some, None, ◌⊎◌, length, map, slice_get}
 use Rattle.dbtg_schema.specs.Lists.{Lists}
 use Rattle.dbtg_schema.specs.SchemaFaults.{refusal as schema_refusal}
 use Rattle.dbtg_script.specs.Moves.{refusal as moves_refusal}
@@ -20,7 +20,7 @@ use Rattle.dbtg.specs.declared.place.Place.TheVariants.{Schema, Script, Moves, T
 use Rattle.dbtg.specs.ByTurns.{AreMoreMoves, IsMovesText}
 use Rattle.dbtg.specs.Checking.{IsCheck}
 use Rattle.dbtg.specs.Refusals.{schema_in, is_count, AllAccepted, RefusesMoves, RefusesSchema, RefusesScript, RefusesTurns}
-use Rattle.dbtg.specs.Replaying.{IsReplay, moves_in, turns_in}
+use Rattle.dbtg.specs.Replaying.{IsShownReplay, moves_in, turns_in}
 use Rattle.dbtg.specs.Threading.{IsThreads}
 
 -- what says the order, by its kind
@@ -76,8 +76,8 @@ abbrev pub ChecksHeld : (Place → List ℕ → Type 0) → ℕ → List ℕ →
 ChecksHeld holds count out = (texts : Texts holds count kind.Serial) × IsCheck texts.schema texts.scripts out
 
 -- what `replay` prints of texts that are held
-abbrev pub ReplaysHeld : (Place → List ℕ → Type 0) → ℕ → OrderKind → ℕ → List ℕ → Type 0
-ReplaysHeld holds count which capacity out = (texts : Texts holds count which) × IsReplay texts.schema texts.scripts texts.order capacity out
+abbrev pub ReplaysHeld : (Place → List ℕ → Type 0) → ℕ → OrderKind → Bool → ℕ → List ℕ → Type 0
+ReplaysHeld holds count which echo capacity out = (texts : Texts holds count which) × IsShownReplay echo texts.schema texts.scripts texts.order capacity out
 
 -- what `turns` prints of texts that are held
 abbrev pub MovesHeld : (Place → List ℕ → Type 0) → ℕ → ℕ → List ℕ → Type 0

@@ -1,6 +1,6 @@
 //! The words of the command, read by `clap`.
 
-use crate::capacity::capacity_of;
+use crate::capacity::{capacity_of, limit_of, units_of};
 use crate::draw::Form;
 use crate::explain::{Topic, topic_of};
 use crate::files::STANDARD_INPUT;
@@ -19,12 +19,15 @@ pub enum Call<'a> {
     },
     Replay {
         explains: bool,
+        echo: bool,
         capacity: u16,
         order: Order<&'a str>,
         schema: &'a str,
         scripts: Vec<&'a str>,
     },
     Turns(TurnsCall<'a>),
+    Timeline(TimelineCall<'a>),
+    Outcomes(OutcomesCall<'a>),
     /// `saved` is where the turns of the run go.
     Threads {
         explains: bool,
@@ -41,6 +44,7 @@ pub enum Call<'a> {
         scripts: Vec<&'a str>,
     },
     Explain(Topic),
+    Shell(ShellCall<'a>),
 }
 
 /// What is wanted: the moves that turns stand for.
@@ -49,6 +53,37 @@ pub struct TurnsCall<'a> {
     pub explains: bool,
     pub capacity: u16,
     pub turns: &'a str,
+    pub schema: &'a str,
+    pub scripts: Vec<&'a str>,
+}
+
+/// What the shell is asked for. Statements are typed, so `scripts` are none.
+#[derive(Drop)]
+pub struct ShellCall<'a> {
+    pub capacity: u16,
+    pub units: u16,
+    pub schema: &'a str,
+    pub scripts: Vec<&'a str>,
+}
+
+/// What is wanted: the picture of an interleaving, as SVG or as plain text.
+#[derive(Drop)]
+pub struct TimelineCall<'a> {
+    pub explains: bool,
+    pub capacity: u16,
+    pub svg: bool,
+    pub order: Order<&'a str>,
+    pub schema: &'a str,
+    pub scripts: Vec<&'a str>,
+}
+
+/// What is wanted: all that can come out. With `answers` results are also told apart by the answers that units get.
+#[derive(Drop)]
+pub struct OutcomesCall<'a> {
+    pub explains: bool,
+    pub capacity: u16,
+    pub limit: u64,
+    pub answers: bool,
     pub schema: &'a str,
     pub scripts: Vec<&'a str>,
 }
@@ -91,11 +126,11 @@ fn check_command<'a>(alloc: Global, name: &'a str) -> Result<Command<'a>, AllocE
         ))
 }
 
-fn svg_option<'a>(alloc: Global) -> Arg<'a> {
+fn svg_option<'a>(alloc: Global, help: &'a str) -> Arg<'a> {
     Arg::new(alloc, "svg")
         .long("svg")
         .action(ArgAction::SetTrue)
-        .help("Draws as SVG, with a layout of its own [default: the language of Graphviz]")
+        .help(help)
 }
 
 // The command `draw`, by the name that its usage shows.
@@ -103,7 +138,10 @@ fn draw_command<'a>(alloc: Global, name: &'a str) -> Result<Command<'a>, AllocEr
     Command::new(alloc, name)
         .about("Prints the diagram of a schema: record types, and the sets from owner to member")
         .after_help("Examples: dbtg draw --svg shop.schema, dbtg draw shop.schema | dot -Tpng")
-        .arg(svg_option(alloc))?
+        .arg(svg_option(
+            alloc,
+            "Draws as SVG, with a layout of its own [default: the language of Graphviz]",
+        ))?
         .arg(explain_option(alloc))?
         .arg(schema_word(alloc))
 }
@@ -125,13 +163,18 @@ fn explain_command<'a>(alloc: Global, name: &'a str) -> Result<Command<'a>, Allo
         )
 }
 
-fn capacity_option<'a>(alloc: Global) -> Arg<'a> {
-    Arg::new(alloc, "capacity")
-        .long("capacity")
+fn number_option<'a>(alloc: Global, name: &'a str, usual: &'a str, help: &'a str) -> Arg<'a> {
+    Arg::new(alloc, name)
+        .long(name)
         .value_name("N")
-        .default_value("100")
+        .default_value(usual)
         .action(ArgAction::Set)
-        .help("How many numbers each record type has, 1 to 1000")
+        .help(help)
+}
+
+fn capacity_option<'a>(alloc: Global) -> Arg<'a> {
+    let help = "How many numbers each record type has, 1 to 1000";
+    number_option(alloc, "capacity", "100", help)
 }
 
 fn moves_option<'a>(alloc: Global) -> Arg<'a> {
@@ -155,6 +198,13 @@ fn turns_option<'a>(alloc: Global) -> Result<Arg<'a>, AllocError> {
         .conflicts_with("moves")
 }
 
+fn echo_option<'a>(alloc: Global) -> Arg<'a> {
+    Arg::new(alloc, "echo")
+        .long("echo")
+        .action(ArgAction::SetTrue)
+        .help("Prints each answer with its statement in front [default: the answers alone]")
+}
+
 // The command `replay`, by the name that its usage shows.
 fn replay_command<'a>(alloc: Global, name: &'a str) -> Result<Command<'a>, AllocError> {
     Command::new(alloc, name)
@@ -165,6 +215,7 @@ fn replay_command<'a>(alloc: Global, name: &'a str) -> Result<Command<'a>, Alloc
         .arg(capacity_option(alloc))?
         .arg(moves_option(alloc))?
         .arg(turns_option(alloc)?)?
+        .arg(echo_option(alloc))?
         .arg(explain_option(alloc))?
         .arg(schema_word(alloc))?
         .arg(script_words(
@@ -187,6 +238,55 @@ fn turns_command<'a>(alloc: Global, name: &'a str) -> Result<Command<'a>, AllocE
                 .action(ArgAction::Set)
                 .help("The file of the turns; - for standard input"),
         )?
+        .arg(schema_word(alloc))?
+        .arg(script_words(
+            alloc,
+            "Files of the scripts of units 1, 2, ..: 1 to 8 of them; - for standard input, once",
+        ))
+}
+
+// The command `timeline`, by the name that its usage shows.
+fn timeline_command<'a>(alloc: Global, name: &'a str) -> Result<Command<'a>, AllocError> {
+    Command::new(alloc, name)
+        .about("Prints a picture of an interleaving: a lane for each unit, event by event")
+        .after_help(
+            "Example: dbtg timeline --moves shop.moves shop.schema unit1.script unit2.script",
+        )
+        .arg(capacity_option(alloc))?
+        .arg(moves_option(alloc))?
+        .arg(turns_option(alloc)?)?
+        .arg(svg_option(alloc, "Draws as SVG [default: plain text]"))?
+        .arg(explain_option(alloc))?
+        .arg(schema_word(alloc))?
+        .arg(script_words(
+            alloc,
+            "Files of the scripts of units 1, 2, ..: 1 to 8 of them; - for standard input, once",
+        ))
+}
+
+// The command `outcomes`, by the name that its usage shows.
+fn outcomes_command<'a>(alloc: Global, name: &'a str) -> Result<Command<'a>, AllocError> {
+    Command::new(alloc, name)
+        .about(
+            "Prints all that can come out when scripts run at the same time, each with an order that shows it",
+        )
+        .after_help("Example: dbtg outcomes shop.schema unit1.script unit2.script")
+        .arg(capacity_option(alloc))?
+        .arg(number_option(
+            alloc,
+            "limit",
+            "1000000",
+            "How many states may come before it gives up, 1 to 1000000000",
+        ))?
+        .arg(
+            Arg::new(alloc, "answers")
+                .long("answers")
+                .action(ArgAction::SetTrue)
+                .help(
+                    "Tells results apart also by the answers of each unit [default: by what is printed behind -- alone]",
+                ),
+        )?
+        .arg(explain_option(alloc))?
         .arg(schema_word(alloc))?
         .arg(script_words(
             alloc,
@@ -221,6 +321,16 @@ fn threads_command<'a>(alloc: Global, name: &'a str) -> Result<Command<'a>, Allo
         ))
 }
 
+// The command `shell`, by the name that its usage shows.
+fn shell_command<'a>(alloc: Global, name: &'a str) -> Result<Command<'a>, AllocError> {
+    Command::new(alloc, name)
+        .about("Reads statements from standard input, and answers each at once")
+        .after_help("Example: dbtg shell shop.schema; .help shows what can be asked there")
+        .arg(capacity_option(alloc))?
+        .arg(number_option(alloc, "units", "2", "How many units there are, 1 to 8"))?
+        .arg(schema_word(alloc).help("The file of the schema"))
+}
+
 /// The command with all that it can be asked.
 pub fn command<'a>(alloc: Global) -> Result<Command<'a>, AllocError> {
     Command::new(alloc, "dbtg")
@@ -235,9 +345,12 @@ pub fn command<'a>(alloc: Global) -> Result<Command<'a>, AllocError> {
         .subcommand(check_command(alloc, "check")?)?
         .subcommand(replay_command(alloc, "replay")?)?
         .subcommand(turns_command(alloc, "turns")?)?
+        .subcommand(timeline_command(alloc, "timeline")?)?
+        .subcommand(outcomes_command(alloc, "outcomes")?)?
         .subcommand(threads_command(alloc, "threads")?)?
         .subcommand(draw_command(alloc, "draw")?)?
-        .subcommand(explain_command(alloc, "explain")?)
+        .subcommand(explain_command(alloc, "explain")?)?
+        .subcommand(shell_command(alloc, "shell")?)
 }
 
 fn words_of<'a>(
@@ -259,19 +372,46 @@ fn capacity_wanted<'a>(
     let word = matches.get_str("capacity").unwrap_or("");
     match capacity_of(word) {
         Some(capacity) => Ok(capacity),
-        None => Err(no_capacity(alloc, command, word)?),
+        None => Err(no_number(alloc, command, "capacity", word, 1000)?),
     }
 }
 
-fn no_capacity<'a>(
+fn units_wanted<'a>(
     alloc: Global,
     command: &mut Command<'a>,
+    matches: &ArgMatches,
+) -> Result<u16, Error> {
+    let word = matches.get_str("units").unwrap_or("");
+    match units_of(word) {
+        Some(units) => Ok(units),
+        None => Err(no_number(alloc, command, "units", word, 8)?),
+    }
+}
+
+// Another word stands where a whole number is wanted.
+fn no_number<'a>(
+    alloc: Global,
+    command: &mut Command<'a>,
+    option: &str,
     word: &str,
+    most: u64,
 ) -> Result<Error, AllocError> {
     let told = format!(in alloc;
-        "invalid value '{word}' for '--capacity <N>': a whole number from 1 to 1000 is wanted"
+        "invalid value '{word}' for '--{option} <N>': a whole number from 1 to {most} is wanted"
     )?;
     command.error(ErrorKind::ValueValidation, told.as_str())
+}
+
+fn limit_wanted<'a>(
+    alloc: Global,
+    command: &mut Command<'a>,
+    matches: &ArgMatches,
+) -> Result<u64, Error> {
+    let word = matches.get_str("limit").unwrap_or("");
+    match limit_of(word) {
+        Some(limit) => Ok(limit),
+        None => Err(no_number(alloc, command, "limit", word, 1_000_000_000)?),
+    }
 }
 
 /// How often standard input is asked for.
@@ -337,6 +477,7 @@ fn replay_call<'a>(alloc: Global, given: &ArgMatches<'a>) -> Result<Call<'a>, Er
     check_inputs(&mut command, schema, scripts.as_slice(), order_path(order))?;
     Ok(Call::Replay {
         explains: given.get_flag("explain"),
+        echo: given.get_flag("echo"),
         capacity,
         order,
         schema,
@@ -355,6 +496,40 @@ fn turns_call<'a>(alloc: Global, given: &ArgMatches<'a>) -> Result<Call<'a>, Err
         explains: given.get_flag("explain"),
         capacity,
         turns,
+        schema,
+        scripts,
+    }))
+}
+
+fn timeline_call<'a>(alloc: Global, given: &ArgMatches<'a>) -> Result<Call<'a>, Error> {
+    let schema = given.get_str("schema").unwrap_or("");
+    let scripts = words_of(alloc, given, "scripts")?;
+    let order = order_wanted(given);
+    let mut command = timeline_command(alloc, "dbtg timeline")?;
+    let capacity = capacity_wanted(alloc, &mut command, given)?;
+    check_inputs(&mut command, schema, scripts.as_slice(), order_path(order))?;
+    Ok(Call::Timeline(TimelineCall {
+        explains: given.get_flag("explain"),
+        capacity,
+        svg: given.get_flag("svg"),
+        order,
+        schema,
+        scripts,
+    }))
+}
+
+fn outcomes_call<'a>(alloc: Global, given: &ArgMatches<'a>) -> Result<Call<'a>, Error> {
+    let schema = given.get_str("schema").unwrap_or("");
+    let scripts = words_of(alloc, given, "scripts")?;
+    let mut command = outcomes_command(alloc, "dbtg outcomes")?;
+    let capacity = capacity_wanted(alloc, &mut command, given)?;
+    let limit = limit_wanted(alloc, &mut command, given)?;
+    check_inputs(&mut command, schema, scripts.as_slice(), "")?;
+    Ok(Call::Outcomes(OutcomesCall {
+        explains: given.get_flag("explain"),
+        capacity,
+        limit,
+        answers: given.get_flag("answers"),
         schema,
         scripts,
     }))
@@ -413,6 +588,31 @@ fn explain_call<'a>(alloc: Global, given: &ArgMatches<'a>) -> Result<Call<'a>, E
     }
 }
 
+// Statements come from standard input, so the schema cannot.
+fn check_schema<'a>(command: &mut Command<'a>, schema: &str) -> Result<(), Error> {
+    if schema != STANDARD_INPUT {
+        return Ok(());
+    }
+    Err(command.error(
+        ErrorKind::ArgumentConflict,
+        "the argument '-' cannot be used: the shell reads statements from standard input",
+    )?)
+}
+
+fn shell_call<'a>(alloc: Global, given: &ArgMatches<'a>) -> Result<Call<'a>, Error> {
+    let schema = given.get_str("schema").unwrap_or("");
+    let mut command = shell_command(alloc, "dbtg shell")?;
+    let capacity = capacity_wanted(alloc, &mut command, given)?;
+    let units = units_wanted(alloc, &mut command, given)?;
+    check_schema(&mut command, schema)?;
+    Ok(Call::Shell(ShellCall {
+        capacity,
+        units,
+        schema,
+        scripts: Vec::new(alloc),
+    }))
+}
+
 /// What the words ask for. `Err` has the text that answers other words, and help.
 pub fn call_of<'a>(alloc: Global, words: &'a [String]) -> Result<Call<'a>, Error> {
     let matches = command(alloc)?.try_get_matches_from(words)?;
@@ -420,9 +620,12 @@ pub fn call_of<'a>(alloc: Global, words: &'a [String]) -> Result<Call<'a>, Error
         Some(("check", given)) => check_call(alloc, given),
         Some(("replay", given)) => replay_call(alloc, given),
         Some(("turns", given)) => turns_call(alloc, given),
+        Some(("timeline", given)) => timeline_call(alloc, given),
+        Some(("outcomes", given)) => outcomes_call(alloc, given),
         Some(("threads", given)) => threads_call(alloc, given),
         Some(("draw", given)) => Ok(draw_call(alloc, given)),
         Some(("explain", given)) => explain_call(alloc, given),
+        Some(("shell", given)) => shell_call(alloc, given),
         _ => Err(Error::from(AllocError)),
     }
 }

@@ -10,10 +10,11 @@ mod schema_word;
 mod statuses;
 mod word;
 
-use causes::CAUSES;
+pub use causes::CAUSES;
 use dbtg_script::{is_number, number};
 use faults::{MOVES_FAULTS, SCHEMA_FAULTS, SCRIPT_FAULTS, TURNS_FAULTS};
-use row::{field, push_form, row_with};
+use row::push_form;
+pub use row::{behind, field, in_front, row_with};
 pub use schema_word::said_of_schema_word;
 use statuses::STATUSES;
 use std::alloc::{AllocError, Global};
@@ -58,7 +59,7 @@ fn number_up_to(word: &str, most: u16) -> Option<u16> {
 }
 
 /// The status of this code, which is its statement's code times 100 and its cause's.
-fn status_topic(code: u16) -> Option<Topic>
+pub fn status_topic(code: u16) -> Option<Topic>
     ensures { IfSome result (λ topic. IsAbout code topic) }
 {
     if code == 0 {

@@ -40,6 +40,11 @@ pub enum Fault {
     /// The moves that the turns stand for are more than a text of moves may have.
     #[error("moves over 1000000")]
     MovesOver,
+    /// The orders of the scripts lead to more states than are wanted.
+    #[error("states over {limit}")]
+    StatesOver {
+        limit: u64,
+    },
     /// A file cannot be read.
     #[error("cannot read {path}")]
     Unreadable {
@@ -117,7 +122,7 @@ impl Fault {
     }
 }
 
-/// The exit status: 1 for what is given to read and for too many moves, 2 for a wrong number of scripts, 3 for want of memory.
+/// The exit status: 1 for what is given to read, too many moves and too many states, 2 for a wrong number of scripts, 3 for want of memory.
 pub fn status_of(fault: &Fault) -> u8
     ensures { result ≡ status_of fault.now }
 {

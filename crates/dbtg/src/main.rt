@@ -1,40 +1,54 @@
 //! The program: reads the command's words and the files that they name, and prints what comes of them.
 #![tactic(auto)]
 
+ghost use Rattle.std.specs.Prelude.{◌≡◌, true};
+ghost use Rattle.dbtg_schema.specs.Sound.{IsSound};
+ghost use Rattle.dbtg.specs.Refusals.{is_count};
+
 mod at_hand;
 mod capacity;
 mod check;
 mod command;
+mod copies;
 mod draw;
 mod explain;
 mod fault;
 mod files;
 mod order;
+mod outcomes;
 mod place;
 mod reading;
 mod reason;
 mod replay;
+mod shell;
 mod source;
 mod texts;
 mod threads;
+mod timeline;
 mod turns;
 
 use check::check;
 use clap::error::ErrorKind;
-use command::{Call, TurnsCall, call_of};
+use command::{Call, OutcomesCall, ShellCall, TimelineCall, TurnsCall, call_of};
+use dbtg_schema::Schema;
 use draw::{Form, draw};
 use explain::{Topic, explained};
 use fault::{Fault, status_of};
 use files::{Files, Paths};
 use order::Order;
+use outcomes::print_outcomes;
 use reason::reason;
-use replay::replay;
+use replay::{check_count, replay};
+use shell::session::Session;
+use shell::{Broken, converse};
 use std::io::{self, Write};
 use std::process::ExitCode;
 use std::sync::Wait;
 use std::thread::Threads;
 use std::{env, fs};
+use texts::read_schema;
 use threads::{OnThreads, run_on_threads};
+use timeline::timeline;
 use turns::moves_for_turns;
 
 fn told(rt: &HostRuntime, fault: &Fault) -> ExitCode {
@@ -88,9 +102,16 @@ fn print_drawing(rt: &HostRuntime, paths: &Paths, form: Form, explains: bool) ->
     print_or_tell(rt, draw(rt.alloc(), &files, form), paths, explains)
 }
 
-fn print_replay(rt: &HostRuntime, paths: &Paths, capacity: u16, explains: bool) -> ExitCode {
+fn print_replay(
+    rt: &HostRuntime,
+    paths: &Paths,
+    capacity: u16,
+    echo: bool,
+    explains: bool,
+) -> ExitCode {
     let files = Files { reader: rt, paths };
-    print_or_tell(rt, replay(rt.alloc(), &files, capacity), paths, explains)
+    let given = replay(rt.alloc(), &files, capacity, echo);
+    print_or_tell(rt, given, paths, explains)
 }
 
 fn print_threads<R: Threads + Wait + Sync>(
@@ -133,6 +154,30 @@ fn print_turns(rt: &HostRuntime, call: &TurnsCall) -> ExitCode {
     print_or_tell(rt, given, &paths, call.explains)
 }
 
+fn print_timeline(rt: &HostRuntime, call: &TimelineCall) -> ExitCode {
+    let paths = paths_of(call.schema, call.scripts.as_slice(), call.order);
+    let files = Files {
+        reader: rt,
+        paths: &paths,
+    };
+    let given = timeline(rt.alloc(), &files, call.capacity, call.svg);
+    print_or_tell(rt, given, &paths, call.explains)
+}
+
+fn tell_outcomes(rt: &HostRuntime, call: &OutcomesCall) -> ExitCode {
+    let paths = Paths {
+        schema: call.schema,
+        scripts: call.scripts.as_slice(),
+        order: Order::Serial,
+    };
+    let files = Files {
+        reader: rt,
+        paths: &paths,
+    };
+    let given = print_outcomes(rt.alloc(), &files, call.capacity, call.answers, call.limit);
+    print_or_tell(rt, given, &paths, call.explains)
+}
+
 fn paths_of<'a>(schema: &'a str, scripts: &'a [&'a str], order: Order<&'a str>) -> Paths<'a> {
     Paths {
         schema,
@@ -154,15 +199,18 @@ fn carry_out<R: Threads + Wait + Sync>(rt: &HostRuntime, threads: &R, call: &Cal
         ),
         Call::Replay {
             explains,
+            echo,
             capacity,
             order,
             schema,
             scripts,
         } => {
             let paths = paths_of(*schema, scripts.as_slice(), *order);
-            print_replay(rt, &paths, *capacity, *explains)
+            print_replay(rt, &paths, *capacity, *echo, *explains)
         }
         Call::Turns(call) => print_turns(rt, call),
+        Call::Timeline(call) => print_timeline(rt, call),
+        Call::Outcomes(call) => tell_outcomes(rt, call),
         Call::Threads {
             explains,
             capacity,
@@ -183,6 +231,51 @@ fn carry_out<R: Threads + Wait + Sync>(rt: &HostRuntime, threads: &R, call: &Cal
             print_drawing(rt, &paths, *form, *explains)
         }
         Call::Explain(topic) => print_topic(rt, topic),
+        Call::Shell(call) => run_shell(rt, call),
+    }
+}
+
+fn run_shell(rt: &HostRuntime, call: &ShellCall) -> ExitCode {
+    let paths = paths_of(call.schema, call.scripts.as_slice(), Order::Serial);
+    open_shell(rt, &paths, call)
+}
+
+// The fault of the schema is told with its word.
+fn open_shell(rt: &HostRuntime, paths: &Paths, call: &ShellCall) -> ExitCode {
+    let files = Files { reader: rt, paths };
+    match read_schema(rt.alloc(), &files) {
+        Ok(known) => open_units(rt, &known, call),
+        Err(fault) => told_of(rt, &fault, paths, true),
+    }
+}
+
+fn open_units(rt: &HostRuntime, known: &Schema, call: &ShellCall) -> ExitCode
+    requires { IsSound known.now }
+{
+    match check_count(call.units as usize) {
+        Ok(()) => open_session(rt, known, call),
+        Err(fault) => told(rt, &fault),
+    }
+}
+
+fn open_session(rt: &HostRuntime, known: &Schema, call: &ShellCall) -> ExitCode
+    requires sound { IsSound known.now }
+    requires counted { is_count call.now.units ≡ true }
+{
+    match Session::opening(rt.alloc(), known, call.capacity, call.units as u8) {
+        Ok(session) => end_of(rt, converse(rt, session, call)),
+        Err(_) => told(rt, &Fault::Memory),
+    }
+}
+
+fn end_of(rt: &HostRuntime, ended: Result<(), Broken>) -> ExitCode {
+    match ended {
+        Ok(()) => ExitCode::SUCCESS,
+        Err(Broken::NotWritten) => not_written(rt),
+        Err(Broken::NotRead) => {
+            let _ = eprintln!(rt; "cannot read standard input");
+            ExitCode::FAILURE
+        }
     }
 }
 

@@ -1,22 +1,23 @@
 //! Running scripts, and the text of what comes of it.
-ghost use Rattle.std.specs.Prelude.{◌≡◌, ◌++◌, ◌≤◌, IfErr, IfOk, OnOk, true, false, length};
+ghost use Rattle.std.specs.Prelude.{◌≡◌, ◌++◌, ◌≤◌, IfErr, IfOk, OnOk, true, false, length, map, option_map};
 ghost use Rattle.dbtg_schema.specs.Sound.{IsSound};
+ghost use Rattle.dbtg_script.specs.Statements.{script};
 ghost use Rattle.dbtg_script.specs.Texts.{moves_text};
 ghost use Rattle.dbtg_step.specs.Headline.{RunIs};
 ghost use Rattle.dbtg_step.specs.Laws.{scripts_fit};
 ghost use Rattle.dbtg_step.specs.Serial.{SerialRunIs};
 ghost use Rattle.dbtg.specs.Refusals.{RefusesReplay, is_count};
-ghost use Rattle.dbtg.specs.Replaying.{IsPrinted, IsReplay, RunByTurnsIs, given_text};
-ghost use Rattle.dbtg.specs.Sources.{ReadSchema, ReplaysHeld, ToldOfRun, order_map};
+ghost use Rattle.dbtg.specs.Replaying.{IsPrinted, IsReplay, RunByTurnsIs, echo_of, shown_text};
+ghost use Rattle.dbtg.specs.Sources.{ReadSchema, ReadScripts, ReplaysHeld, ToldOfRun, order_map};
 ghost use Rattle.dbtg.specs.declared.fault.Fault.TheVariants.{ScriptCount};
 
 use crate::at_hand::AtHand;
 use crate::fault::Fault;
 use crate::order::{Order, OrderKind};
 use crate::source::Source;
-use crate::texts::{read_moves, read_schema, read_scripts, read_turns};
+use crate::texts::{Scripts, read_moves, read_schema, read_scripts_with_texts, read_turns};
 use dbtg_schema::{Row, Schema};
-use dbtg_script::{moves_text, push_run};
+use dbtg_script::{moves_text, push_echoed_run, push_run};
 use dbtg_step::{Run, run, run_serial, run_turns};
 use dbtg_unit::{Move, Statement};
 use std::alloc::{AllocError, Global};
@@ -33,24 +34,50 @@ pub fn check_count(count: usize) -> Result<(), Fault>
     }
 }
 
-// Answers, image and units, behind a text.
-fn push_given(
+/// Answers, image and units, behind a text; with the scripts' texts the statement of each answer beside it.
+pub fn push_given(
     alloc: Global,
     out: &mut Vec<u8>,
     schema: &Schema,
+    echo: Option<&[Row<u8>]>,
     given: &Run,
 ) -> Result<(), AllocError>
-    ensures { OnOk result (out.new.items ≡ out.old.items ++ given_text schema.now given.now) }
+    ensures { OnOk result (out.new.items ≡ out.old.items ++ shown_text schema.now (option_map (λ t. t.now) echo.entry) given.now) }
 {
     let history = given.history.as_slice();
-    push_run(
-        alloc,
-        out,
-        schema,
-        history,
-        &given.image,
-        given.units.as_slice(),
-    )
+    let units = given.units.as_slice();
+    match echo {
+        None => push_run(alloc, out, schema, history, &given.image, units),
+        Some(texts) => push_echoed_run(alloc, out, schema, texts, history, &given.image, units),
+    }
+}
+
+// What a run gives, as a text of its own.
+fn text_of(
+    alloc: Global,
+    schema: &Schema,
+    echo: Option<&[Row<u8>]>,
+    given: &Run,
+) -> Result<Vec<u8>, AllocError>
+    ensures { IfOk result (λ out. out.items ≡ shown_text schema.now (option_map (λ t. t.now) echo.entry) given.now) }
+{
+    let mut out = Vec::new(alloc);
+    push_given(alloc, &mut out, schema, echo, given)?;
+    Ok(out)
+}
+
+// The same, behind the line of what the moves came to.
+fn text_with_moves(
+    alloc: Global,
+    schema: &Schema,
+    echo: Option<&[Row<u8>]>,
+    given: &Run,
+) -> Result<Vec<u8>, AllocError>
+    ensures { IfOk result (λ out. out.items ≡ moves_text given.now.results ++ shown_text schema.now (option_map (λ t. t.now) echo.entry) given.now) }
+{
+    let mut out = moves_text(alloc, given.results.as_slice())?;
+    push_given(alloc, &mut out, schema, echo, given)?;
+    Ok(out)
 }
 
 /// Runs one script after the other.
@@ -59,16 +86,15 @@ pub fn serial_text(
     schema: &Schema,
     capacity: u16,
     scripts: Row<Row<Statement>>,
+    echo: Option<&[Row<u8>]>,
 ) -> Result<Vec<u8>, AllocError>
     requires sound { IsSound schema.now }
     requires units { length scripts ≤ 255 }
     requires fit { scripts_fit schema.now scripts ≡ true }
-    ensures { IfOk result (λ out. IsPrinted (SerialRunIs schema.now capacity scripts) (given_text schema.now) out.items) }
+    ensures { IfOk result (λ out. IsPrinted (SerialRunIs schema.now capacity scripts) (shown_text schema.now (option_map (λ t. t.now) echo.entry)) out.items) }
 {
     let given = run_serial(alloc, schema, capacity, scripts)?;
-    let mut out = Vec::new(alloc);
-    push_given(alloc, &mut out, schema, &given)?;
-    Ok(out)
+    text_of(alloc, schema, echo, &given)
 }
 
 /// Makes these moves.
@@ -78,16 +104,15 @@ pub fn moved_text(
     capacity: u16,
     scripts: Row<Row<Statement>>,
     moves: &[Move],
+    echo: Option<&[Row<u8>]>,
 ) -> Result<Vec<u8>, AllocError>
     requires sound { IsSound schema.now }
     requires units { length scripts ≤ 255 }
     requires fit { scripts_fit schema.now scripts ≡ true }
-    ensures { IfOk result (λ out. IsPrinted (RunIs schema.now capacity scripts moves.now) (λ given. moves_text given.results ++ given_text schema.now given) out.items) }
+    ensures { IfOk result (λ out. IsPrinted (RunIs schema.now capacity scripts moves.now) (λ given. moves_text given.results ++ shown_text schema.now (option_map (λ t. t.now) echo.entry) given) out.items) }
 {
     let given = run(alloc, schema, capacity, scripts, moves)?;
-    let mut out = moves_text(alloc, given.results.as_slice())?;
-    push_given(alloc, &mut out, schema, &given)?;
-    Ok(out)
+    text_with_moves(alloc, schema, echo, &given)
 }
 
 /// Takes these turns. The moves that they stand for are not asked for.
@@ -97,54 +122,88 @@ pub fn turned_text(
     capacity: u16,
     scripts: Row<Row<Statement>>,
     turns: &[u8],
+    echo: Option<&[Row<u8>]>,
 ) -> Result<Vec<u8>, AllocError>
     requires sound { IsSound schema.now }
     requires units { length scripts ≤ 255 }
     requires fit { scripts_fit schema.now scripts ≡ true }
-    ensures { IfOk result (λ out. IsPrinted (RunByTurnsIs schema.now capacity scripts turns.now) (given_text schema.now) out.items) }
+    ensures { IfOk result (λ out. IsPrinted (RunByTurnsIs schema.now capacity scripts turns.now) (shown_text schema.now (option_map (λ t. t.now) echo.entry)) out.items) }
 {
     let given = run_turns(alloc, schema, capacity, scripts, turns, 0)?;
-    let mut out = Vec::new(alloc);
-    push_given(alloc, &mut out, schema, &given.run)?;
-    Ok(out)
+    text_of(alloc, schema, echo, &given.run)
 }
 
-/// What is printed of the run of the scripts in the order that is told, over a schema that was read.
+fn echo_of(echo: bool, texts: &Row<Row<u8>>) -> Option<&[Row<u8>]>
+    ensures { option_map (λ t. t.now) result ≡ echo_of echo texts.now }
+{
+    if echo { Some(texts.as_slice()) } else { None }
+}
+
+/// What is printed of the run of scripts that were read, with their texts, in the order that is told.
+fn replay_read<S: Source>(
+    alloc: Global,
+    source: &S,
+    known: &Schema,
+    capacity: u16,
+    scripts: Row<Row<Statement>>,
+    texts: &Row<Row<u8>>,
+    echo: bool,
+) -> Result<Vec<u8>, Fault>
+    requires counted { is_count (S.count source.now) ≡ true }
+    requires read { ReadSchema (S.holds source.now) known.now }
+    requires sound { IsSound known.now }
+    requires scripts { (read : ReadScripts (S.holds source.now) known.now (S.count source.now)) × (scripts ≡ map (script known.now) read.texts) × (texts.now ≡ read.texts) }
+    requires many { length scripts ≡ S.count source.now }
+    requires fitting { scripts_fit known.now scripts ≡ true }
+    ensures done { IfOk result (λ out. ReplaysHeld (S.holds source.now) (S.count source.now) (S.order source.now) echo capacity out.items) }
+    ensures refused { IfErr result (λ fault. ToldOfRun (S.holds source.now) (S.fails source.now) fault (S.count source.now) (S.order source.now)) }
+{
+    let shown = echo_of(echo, texts);
+    match source.order() {
+        OrderKind::Serial => Ok(serial_text(alloc, known, capacity, scripts, shown)?),
+        OrderKind::Moves => {
+            let moves = read_moves(alloc, source)?;
+            Ok(moved_text(alloc, known, capacity, scripts, moves.as_slice(), shown)?)
+        }
+        OrderKind::Turns => {
+            let turns = read_turns(alloc, source)?;
+            Ok(turned_text(alloc, known, capacity, scripts, turns.as_slice(), shown)?)
+        }
+    }
+}
+
+/// What is printed of the scripts over a schema that was read.
 fn replay_known<S: Source>(
     alloc: Global,
     source: &S,
     known: &Schema,
     capacity: u16,
+    echo: bool,
 ) -> Result<Vec<u8>, Fault>
     requires counted { is_count (S.count source.now) ≡ true }
     requires read { ReadSchema (S.holds source.now) known.now }
     requires sound { IsSound known.now }
-    ensures done { IfOk result (λ out. ReplaysHeld (S.holds source.now) (S.count source.now) (S.order source.now) capacity out.items) }
+    ensures done { IfOk result (λ out. ReplaysHeld (S.holds source.now) (S.count source.now) (S.order source.now) echo capacity out.items) }
     ensures refused { IfErr result (λ fault. ToldOfRun (S.holds source.now) (S.fails source.now) fault (S.count source.now) (S.order source.now)) }
 {
-    let scripts = read_scripts(alloc, source, known)?;
-    match source.order() {
-        OrderKind::Serial => Ok(serial_text(alloc, known, capacity, scripts)?),
-        OrderKind::Moves => {
-            let moves = read_moves(alloc, source)?;
-            Ok(moved_text(alloc, known, capacity, scripts, moves.as_slice())?)
-        }
-        OrderKind::Turns => {
-            let turns = read_turns(alloc, source)?;
-            Ok(turned_text(alloc, known, capacity, scripts, turns.as_slice())?)
-        }
-    }
+    let Scripts { statements, texts } = read_scripts_with_texts(alloc, source, known)?;
+    replay_read(alloc, source, known, capacity, statements, &texts, echo)
 }
 
 /// What `replay` prints of the schema, the scripts and the moves or turns that a source gives, or the first fault. Without moves and
-/// turns one script runs after the other.
-pub fn replay<S: Source>(alloc: Global, source: &S, capacity: u16) -> Result<Vec<u8>, Fault>
-    ensures done { IfOk result (λ out. ReplaysHeld (S.holds source.now) (S.count source.now) (S.order source.now) capacity out.items) }
+/// turns one script runs after the other. With an echo each answer has its statement beside it.
+pub fn replay<S: Source>(
+    alloc: Global,
+    source: &S,
+    capacity: u16,
+    echo: bool,
+) -> Result<Vec<u8>, Fault>
+    ensures done { IfOk result (λ out. ReplaysHeld (S.holds source.now) (S.count source.now) (S.order source.now) echo capacity out.items) }
     ensures refused { IfErr result (λ fault. ToldOfRun (S.holds source.now) (S.fails source.now) fault (S.count source.now) (S.order source.now)) }
 {
     check_count(source.count())?;
     let known = read_schema(alloc, source)?;
-    replay_known(alloc, source, &known, capacity)
+    replay_known(alloc, source, &known, capacity, echo)
 }
 
 /// What `replay` prints of a schema, scripts and moves or turns at hand, or their first fault.
@@ -163,5 +222,5 @@ pub fn replay_bytes<'a>(
         scripts,
         order,
     };
-    replay(alloc, &texts, capacity)
+    replay(alloc, &texts, capacity, false)
 }

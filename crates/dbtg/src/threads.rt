@@ -45,8 +45,8 @@ fn settled_text(alloc: Global, settled: &Settled) -> Result<Vec<u8>, AllocError>
     Ok(out)
 }
 
-// The units of a history, in the order of their tickets.
-fn units_in_turn(alloc: Global, history: &[Entry]) -> Result<Vec<u8>, AllocError>
+/// The units of a history, in the order of their tickets.
+pub fn units_in_turn(alloc: Global, history: &[Entry]) -> Result<Vec<u8>, AllocError>
     ensures { IfOk result (λ units. units.items ≡ map (λ e. e.unit) history.now) }
 {
     history.iter().map(|entry| entry.unit).collect(alloc)

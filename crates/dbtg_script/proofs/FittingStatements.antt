@@ -1,6 +1,6 @@
 -- Each statement of a script that is read fits the schema.
 use Rattle.std.proofs.Common.{◌≡◌, ℕ, ◌+◌, Bool, true, false, cond, not, ◌&&◌, List, [], ◌∷◌, ◌++◌, map, Some, None, refl, sym, ap, subst, ◌∙◌, inl, inr}
-use Rattle.std.specs.Prelude.{codes, is_none, nat_le}
+use Rattle.std.specs.Prelude.{codes, is_none, nat_le, Option, Result, Ok, Err, OnOk, IfOk, IfSome}
 use Rattle.std.specs.List.{list_all}
 use Rattle.dbtg_schema.specs.Forms.{labelled, labels, some, Derives}
 use Rattle.dbtg_schema.specs.Lists.{Lists}
@@ -11,6 +11,7 @@ use Rattle.dbtg_unit.specs.declared.statement.Statement.{Statement}
 use Rattle.dbtg_unit.specs.declared.statement.Statement.TheVariants as unit_statement
 use Rattle.dbtg_schema.specs.Structure.{item_list}
 use Rattle.dbtg_script.specs.declared.fault.Fault.{Fault}
+use Rattle.dbtg_script.specs.declared.fault.LineFault.{LineFault}
 use Rattle.dbtg_script.specs.declared.fault.Cause.{Cause}
 use Rattle.dbtg_script.specs.declared.fault.Cause.TheVariants.{LineNotAllowed, TooMuch, UnexpectedWord, UnknownSet}
 use Rattle.dbtg_script.specs.declared.role.Role.{Role}
@@ -91,11 +92,11 @@ none_later : (xs ys : List Fault) → first (xs ++ ys) ≡ None → first ys ≡
 none_later [] ys h = h
 none_later (x ∷ xs) ys h = absurd cc
 
-none_here : (number : ℕ) (cs : List Cause) (ys : List Fault) → first (map (λ c. record { line = number; cause = c }) cs ++ ys) ≡ None → cs ≡ []
+pub none_here : (number : ℕ) (cs : List Cause) (ys : List Fault) → first (map (λ c. record { line = number; cause = c }) cs ++ ys) ≡ None → cs ≡ []
 none_here number [] ys h = refl
 none_here number (c ∷ cs) ys h = absurd cc
 
-was_true : (b : Bool) → not b ≡ false → b ≡ true
+pub was_true : (b : Bool) → not b ≡ false → b ≡ true
 was_true true h = refl
 was_true false h = absurd cc
 
@@ -114,6 +115,25 @@ one_line schema sound count line more h rest = by_kind (is_statement line) refl
     by_kind : (b : Bool) → is_statement line ≡ b → list_all (statement_fits schema) (prepend (cond b (Some (statement_of schema (labels fits statement (tokens false line)))) None) more) ≡ true
     by_kind true e = let p = parts true e in (λ i. line_fits schema sound line p.0 (nothing_first (statement_faults schema line) p.1) i && rest i)
     by_kind false e = rest
+
+pub none_at_all : (cs : List Cause) → first cs ≡ None → cs ≡ []
+none_at_all [] h = refl
+none_at_all (c ∷ cs) h = absurd cc
+
+alone : (b : Bool) → b && true ≡ true → b ≡ true
+alone true h = refl
+alone false h = h
+
+-- the statement of one line without faults, if it holds one
+said_fits : (schema : Lists) → IsSound schema → (count : ℕ) (line : List ℕ) → first (line_faults schema count line) ≡ None → (said : Option Statement) → said ≡ line_statement schema line → IfSome said (λ x. statement_fits schema x ≡ true)
+said_fits schema sound count line h None e = tt
+said_fits schema sound count line h (Some x) e =
+    alone (statement_fits schema x) (ap (λ s. list_all (statement_fits schema) (prepend s [])) e ∙ one_line schema sound count line [] (none_at_all (line_faults schema count line) h) refl)
+
+pub line_read_fits : (schema : Lists) → IsSound schema → (count : ℕ) (line : List ℕ) (read : Result (Option Statement) LineFault) → OnOk read (first (line_faults schema count line) ≡ None) → IfOk read (λ said. said ≡ line_statement schema line)
+    → IfOk read (λ said. IfSome said (λ x. statement_fits schema x ≡ true))
+line_read_fits schema sound count line (Ok said) h e = said_fits schema sound count line h said e
+line_read_fits schema sound count line (Err fault) h e = tt
 
 each_line : (schema : Lists) → IsSound schema → (count number : ℕ) (ls : List (List ℕ)) → first (lines_faults schema count number ls) ≡ None → list_all (statement_fits schema) (statements_of schema ls) ≡ true
 each_line schema sound count number [] h = refl

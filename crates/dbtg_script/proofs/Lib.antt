@@ -19,3 +19,6 @@ pub mod Roles
 pub mod FittingItems
 pub mod FittingFinds
 pub mod FittingStatements
+mod Beside
+pub mod LineBehind
+mod EchoedLines

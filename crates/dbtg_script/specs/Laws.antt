@@ -1,5 +1,5 @@
 -- Laws of scripts and printed texts.
-use Rattle.std.specs.Prelude.{◌≡◌, ℕ, ◌≤◌, ◌<◌, ◌^◌, Bool, true, false, ◌&&◌, nat_le, nat_lt, List, length, Some, None}
+use Rattle.std.specs.Prelude.{◌≡◌, ℕ, ◌+◌, ◌≤◌, ◌<◌, ◌^◌, Bool, true, false, ◌&&◌, nat_le, nat_lt, List, [], ◌∷◌, ◌++◌, length, map, slice_get, Some, None}
 use Rattle.std.specs.List.{list_all}
 use Rattle.dbtg_schema.specs.Forms.{labels, Derives}
 use Rattle.dbtg_schema.specs.Lists.{Lists}
@@ -12,17 +12,23 @@ use Rattle.dbtg_cells.specs.declared.key.Owner.TheVariants.{System, Rec}
 use Rattle.dbtg_unit.specs.declared.unit.Unit as unit
 use Rattle.dbtg_unit.specs.Belongs.{IsUnitOf}
 use Rattle.dbtg_unit.specs.Fits.{if_named}
+use Rattle.dbtg_unit.specs.Replay.{entries_of}
 use Rattle.dbtg_unit.specs.declared.moves.Move.{Move}
+use Rattle.dbtg_unit.specs.declared.statement.Statement.{Statement}
+use Rattle.dbtg_unit.specs.declared.unit.Entry.{Entry}
 use Rattle.dbtg_unit.specs.declared.moves.Move.TheVariants.{Step, Quit}
+use Rattle.dbtg_script.specs.Echo.{lines_beside}
+use Rattle.dbtg_script.specs.Lines.{closes, statement_lines, trimmed}
 use Rattle.dbtg_script.specs.Moves.{moves_of, refusal, words}
 use Rattle.dbtg_script.specs.Turns.{turns_of, turns_refusal}
 use Rattle.dbtg_script.specs.WordTexts.{moves_words_text, turns_text}
 use Rattle.dbtg_script.specs.Spelling.{has_byte}
 use Rattle.dbtg_script.specs.Lookups.{type_named}
-use Rattle.dbtg_script.specs.Statements.{key_of}
+use Rattle.dbtg_script.specs.Statements.{key_of, line_statement, prepend, script}
 use Rattle.dbtg_script.specs.Tokens.{tokens}
 use Rattle.dbtg_script.specs.StatementGrammar.{fits, statement}
-use Rattle.dbtg_script.specs.StatementFaults.{statement_faults}
+use Rattle.dbtg_script.specs.StatementFaults.{line_faults, statement_faults}
+use Rattle.dbtg_script.specs.StatementFaults as script_text
 use Rattle.dbtg_script.specs.Texts.{key_text, type_name, unit_text}
 
 -- a key in range, whose record type is found by its name; no name has a colon
@@ -85,3 +91,25 @@ abbrev pub PrintedTurnsAreReadBack : Type 0
 PrintedTurnsAreReadBack =
     (us : List ℕ) → list_all is_unit_number us ≡ true → length us ≤ 1000000
     → (turns_refusal (turns_text us) ≡ None) × (turns_of (words (turns_text us)) ≡ us)
+
+-- the entries of each unit are the beginning of its script
+abbrev pub BeginScripts : Lists → List (List ℕ) → List Entry → Type 0
+BeginScripts schema texts history = (k : ℕ) (text : List ℕ) → slice_get texts k ≡ Some text → (left : List Statement) × (map (λ e. e.statement) (entries_of (k + 1) history) ++ left ≡ script schema text)
+
+-- every entry is of a unit that has a script
+abbrev pub HaveScripts : List (List ℕ) → List Entry → Type 0
+HaveScripts texts history = list_all (λ e. nat_le 1 e.unit && nat_le e.unit (length texts)) history ≡ true
+
+-- the line that stands beside an answer says the statement that was answered
+abbrev pub EchoedLinesSayTheirStatements : Type 0
+EchoedLinesSayTheirStatements =
+    (schema : Lists) (texts : List (List ℕ)) (history : List Entry) → BeginScripts schema texts history → HaveScripts texts history
+    → map (line_statement schema) (lines_beside (map statement_lines texts) [] history) ≡ map (λ e. Some e.statement) history
+
+-- a line without a fault behind a script of whole lines: the script is accepted still, and says what it said and the line's statement
+abbrev pub LineBehindScriptIsRead : Type 0
+LineBehindScriptIsRead =
+    (schema : Lists) (text line : List ℕ) → closes true text ≡ true → length text + length line < 1048576 → script_text.refusal schema text ≡ None
+    → first (line_faults schema (length (script schema text)) (trimmed line)) ≡ None
+    → (script_text.refusal schema (text ++ line ++ 10 ∷ []) ≡ None) × (script schema (text ++ line ++ 10 ∷ []) ≡ script schema text ++ prepend (line_statement schema (trimmed line)) [])
+    × (closes true (text ++ line ++ 10 ∷ []) ≡ true)

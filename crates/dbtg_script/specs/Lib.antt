@@ -17,3 +17,4 @@ pub mod Moves
 pub mod Turns
 pub mod WordTexts
 pub mod Laws
+pub mod Echo

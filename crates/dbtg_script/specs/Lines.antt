@@ -1,5 +1,5 @@
 -- The lines of a script.
-use Rattle.std.specs.Prelude.{ℕ, Bool, false, not, ◌&&◌, ◌==◌, nat_le, nat_lt, ◌-◌, slice_index, take, List, [], ◌∷◌, length, if◌then◌else◌}
+use Rattle.std.specs.Prelude.{ℕ, Bool, false, not, ◌&&◌, ◌==◌, nat_le, nat_lt, ◌-◌, slice_index, take, List, [], ◌∷◌, filter, length, map, if◌then◌else◌}
 use Rattle.std.specs.List.{list_all}
 
 -- the byte goes onto the line that it is in
@@ -39,3 +39,12 @@ is_allowed line = list_all (λ b. nat_le 32 b && nat_le b 126) line && nat_le (l
 abbrev pub ends_in_text : Bool → List ℕ → Bool
 ends_in_text inside [] = inside
 ends_in_text inside (b ∷ bs) = ends_in_text (if b == 34 then not inside else inside) bs
+
+-- the lines of a script that hold a statement, trimmed, in their order
+abbrev pub statement_lines : List ℕ → List (List ℕ)
+statement_lines text = filter is_statement (map trimmed (lines text))
+
+-- nothing but whole lines: the last byte, if there is one, is a line feed. The flag says so of what stands before
+abbrev pub closes : Bool → List ℕ → Bool
+closes closed [] = closed
+closes closed (b ∷ bs) = closes (b == 10) bs

@@ -64,9 +64,16 @@ found_text schema (Some k) None = spaced_key schema k
 found_text schema (Some k) (Some vs) = spaced_key schema k ++ items_text vs (item_list schema k.rtype)
 
 -- ticket, unit, status, key, items
+abbrev pub answer_front : Lists → Entry → List ℕ
+answer_front schema e =
+    decimal e.ticket ++ 32 ∷ decimal e.unit ++ 32 ∷ four_digits (status_code e.statement e.answer.status) ++ found_text schema e.answer.key e.answer.items
+
 abbrev pub answer_text : Lists → Entry → List ℕ
-answer_text schema e =
-    decimal e.ticket ++ 32 ∷ decimal e.unit ++ 32 ∷ four_digits (status_code e.statement e.answer.status) ++ found_text schema e.answer.key e.answer.items ++ 10 ∷ []
+answer_text schema e = answer_front schema e ++ 10 ∷ []
+
+-- with a name behind it
+abbrev pub named_answer_text : Lists → Entry → List ℕ → List ℕ
+named_answer_text schema e name = answer_front schema e ++ 32 ∷ name ++ 10 ∷ []
 
 abbrev pub answers_text : Lists → List Entry → List ℕ
 answers_text schema es = flat_map (answer_text schema) es
@@ -191,7 +198,10 @@ schema_line schema =
 abbrev pub script_line : ℕ → ℕ → List ℕ
 script_line number count = codes "script " ++ count_part number (codes ": ") ++ count_part count (codes " statements" ++ 10 ∷ [])
 
--- the answers, a line of two hyphens, the image, the units
+-- a text of answers, a line of two hyphens, the image, the units
+abbrev pub text_behind : List ℕ → Lists → List (DbKey × List Value) → List (List (Owner × List DbKey)) → List ℕ → List (List (ℕ × Mode)) → List unit.Unit → List ℕ
+text_behind answers schema records lists next usage units = answers ++ codes "--" ++ 10 ∷ [] ++ image_text schema records lists next usage ++ units_text schema units
+
+-- the answers alone, and the rest
 abbrev pub run_text : Lists → List Entry → List (DbKey × List Value) → List (List (Owner × List DbKey)) → List ℕ → List (List (ℕ × Mode)) → List unit.Unit → List ℕ
-run_text schema history records lists next usage units =
-    answers_text schema history ++ codes "--" ++ 10 ∷ [] ++ image_text schema records lists next usage ++ units_text schema units
+run_text schema history records lists next usage units = text_behind (answers_text schema history) schema records lists next usage units

@@ -1,6 +1,6 @@
 //! Laws of scripts and printed texts, as contracts of functions that do nothing.
 
-ghost use Rattle.dbtg_script.specs.Laws.{LineWithoutFaultsIsDerived, PrintedKeyIsReadBack, PrintedMovesAreReadBack, PrintedTurnsAreReadBack, UnitsPrintDifferently};
+ghost use Rattle.dbtg_script.specs.Laws.{EchoedLinesSayTheirStatements, LineBehindScriptIsRead, LineWithoutFaultsIsDerived, PrintedKeyIsReadBack, PrintedMovesAreReadBack, PrintedTurnsAreReadBack, UnitsPrintDifferently};
 
 /// What is read from a printed key is that key.
 pub fn a_printed_key_is_read_back()
@@ -25,4 +25,14 @@ pub fn a_printed_moves_text_is_read_back()
 /// The text of at most 1,000,000 turns of units from 1 to 99 has no fault, and what is read from it is these turns.
 pub fn a_printed_turns_text_is_read_back()
     ensures { PrintedTurnsAreReadBack }
+{}
+
+/// The line that stands beside an answer says the statement that was answered, where each unit made the beginning of its script.
+pub fn echoed_lines_say_their_statements()
+    ensures { EchoedLinesSayTheirStatements }
+{}
+
+/// A line without a fault behind an accepted script of whole lines is read as one statement more.
+pub fn a_line_behind_a_script_is_read()
+    ensures { LineBehindScriptIsRead }
 {}

@@ -3,6 +3,7 @@
 
 mod automaton;
 mod checks;
+mod echo;
 mod fault;
 mod image;
 mod keyword;
@@ -24,17 +25,19 @@ mod turns;
 mod values;
 mod word_texts;
 
-pub use fault::{Cause, ScriptFault};
+pub use echo::statement_lines;
+pub use fault::{Cause, LineFault, ScriptFault};
 pub use image::{image_text, moves_text};
 pub use laws::{
-    a_line_without_faults_is_derived, a_printed_key_is_read_back,
+    a_line_behind_a_script_is_read, a_line_without_faults_is_derived, a_printed_key_is_read_back,
     a_printed_moves_text_is_read_back, a_printed_turns_text_is_read_back,
-    different_units_print_differently,
+    different_units_print_differently, echoed_lines_say_their_statements,
 };
 pub use moves::{MovesCause, MovesFault, read_moves};
-pub use reader::read_script;
-pub use sizes::{push_run, push_schema_line, push_script_line};
+pub use print::{push_number, push_status};
+pub use reader::{read_script, read_script_line};
+pub use sizes::{push_echoed_run, push_run, push_schema_line, push_script_line};
 pub use spelling::{is_number, number};
-pub use texts::{answers_text, units_text};
+pub use texts::{answers_text, push_answer, push_named_answer, push_unit, units_text};
 pub use turns::{TurnsFault, read_turns};
 pub use word_texts::{moves_words_text, turns_text};

@@ -192,7 +192,8 @@ fn spelled_move(text: &[u8]) -> Option<(Move, u64)>
     }
 }
 
-fn push_times<T: Copy>(entries: &mut Vec<T>, one: T, count: u64) -> Result<(), AllocError>
+/// Puts an entry so many times behind others.
+pub fn push_times<T: Copy>(entries: &mut Vec<T>, one: T, count: u64) -> Result<(), AllocError>
     ensures { OnOk result (entries.new.items ≡ entries.old.items ++ replicate count one) }
 {
     for _ in 0..count {

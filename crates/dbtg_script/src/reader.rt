@@ -5,6 +5,7 @@ ghost use Rattle.dbtg_script.specs.Automaton.{rest_of};
 ghost use Rattle.dbtg_schema.specs.Lookups.{first};
 ghost use Rattle.dbtg_schema.specs.Lists.{Lists};
 ghost use Rattle.dbtg_script.specs.Known.{IsKnown, Says};
+ghost use Rattle.dbtg_script.specs.Lines.{trimmed};
 ghost use Rattle.dbtg_script.specs.Reading.{Refuses, RefusesScript, at_line, verdict};
 ghost use Rattle.dbtg_script.specs.StatementFaults.{line_faults, refusal, statement_faults};
 ghost use Rattle.dbtg_script.specs.Statements.{line_statement, prepend, script, statement_of};
@@ -126,6 +127,21 @@ fn read_line(
         return Ok(None);
     }
     Ok(Some(read_statement(alloc, schema, line)?))
+}
+
+/// The statement of one more line of a script that has so many statements; none where the line is a note or blank.
+pub fn read_script_line(
+    alloc: Global,
+    schema: &Schema,
+    count: usize,
+    line: &[u8],
+) -> Result<Option<Statement>, LineFault>
+    ensures accepted { OnOk result (first (line_faults schema.now count (trimmed line.now)) ≡ None) }
+    ensures statement { IfOk result (λ s. s ≡ line_statement schema.now (trimmed line.now)) }
+    ensures fitting { IsSound schema.now → IfOk result (λ s. IfSome s (λ x. statement_fits schema.now x ≡ true)) }
+    ensures refused { IfErr result (λ e. Refuses e (first (line_faults schema.now count (trimmed line.now)))) }
+{
+    read_line(alloc, schema, count, trimmed(line))
 }
 
 /// The statement of a line, if the line was read before and there is room for one more.

@@ -1,6 +1,6 @@
 //! The printed texts: answers and units.
 
-ghost use Rattle.dbtg_script.specs.Texts.{answer_text, answers_text, current_text, found_text, unit_text, units_text};
+ghost use Rattle.dbtg_script.specs.Texts.{answer_front, answer_text, answers_text, current_text, found_text, named_answer_text, unit_text, units_text};
 ghost use Rattle.dbtg_unit.specs.Codes.{status_code};
 ghost use Rattle.std.specs.Prelude.{◌≡◌, ◌++◌, ◌<◌, IfOk, OnOk, codes, decimal, option_map};
 
@@ -40,15 +40,38 @@ fn status_code(status: Status, statement: &Statement) -> u16
     status.code(statement)
 }
 
-fn push_answer(out: &mut Vec<u8>, schema: &Schema, entry: &Entry) -> Result<(), AllocError>
-    ensures { OnOk result (out.new.items ≡ out.old.items ++ answer_text schema.now entry.now) }
+fn push_answer_front(out: &mut Vec<u8>, schema: &Schema, entry: &Entry) -> Result<(), AllocError>
+    ensures { OnOk result (out.new.items ≡ out.old.items ++ answer_front schema.now entry.now) }
 {
     push_number(out, entry.ticket)?;
     out.push(b' ')?;
     push_number(out, entry.unit as u64)?;
     out.push(b' ')?;
     push_status(out, status_code(entry.answer.status, &entry.statement))?;
-    push_found(out, schema, entry.answer.key, entry.answer.items.as_ref())?;
+    push_found(out, schema, entry.answer.key, entry.answer.items.as_ref())
+}
+
+/// A line of a history behind a text: the ticket, unit and answer of an entry.
+pub fn push_answer(out: &mut Vec<u8>, schema: &Schema, entry: &Entry) -> Result<(), AllocError>
+    ensures { OnOk result (out.new.items ≡ out.old.items ++ answer_text schema.now entry.now) }
+{
+    push_answer_front(out, schema, entry)?;
+    out.push(b'\n')?;
+    Ok(())
+}
+
+/// The same line with a name behind the answer.
+pub fn push_named_answer(
+    out: &mut Vec<u8>,
+    schema: &Schema,
+    entry: &Entry,
+    name: &[u8],
+) -> Result<(), AllocError>
+    ensures { OnOk result (out.new.items ≡ out.old.items ++ named_answer_text schema.now entry.now name.now) }
+{
+    push_answer_front(out, schema, entry)?;
+    out.push(b' ')?;
+    out.extend_from_slice(name)?;
     out.push(b'\n')?;
     Ok(())
 }
@@ -78,7 +101,8 @@ fn push_unit_front(out: &mut Vec<u8>, schema: &Schema, unit: &Unit) -> Result<()
     Ok(())
 }
 
-fn push_unit(out: &mut Vec<u8>, schema: &Schema, unit: &Unit) -> Result<(), AllocError>
+/// The line of a unit behind a text: its currents, and what it keeps.
+pub fn push_unit(out: &mut Vec<u8>, schema: &Schema, unit: &Unit) -> Result<(), AllocError>
     ensures { OnOk result (out.new.items ≡ out.old.items ++ unit_text schema.now unit.now) }
 {
     push_unit_front(out, schema, unit)?;

@@ -46,6 +46,7 @@ pub mod NeedsOrdered
 pub mod Makings
 pub mod DrawnShown
 pub mod QuitShown
+pub mod PositionsShown
 pub mod OpeningShown
 pub mod RangePushes
 pub mod ImagesRead

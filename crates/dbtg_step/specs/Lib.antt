@@ -10,6 +10,7 @@ pub mod Headline
 pub mod Serial
 pub mod TurningBack
 pub mod Parts
+pub mod Positions
 pub mod Events
 pub mod NeedOrder
 pub mod CoreSteps

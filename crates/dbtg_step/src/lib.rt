@@ -18,6 +18,7 @@ mod statements;
 mod stepping;
 mod table;
 mod taking_turns;
+mod watching;
 mod whole;
 
 pub use auditing::audit;
@@ -30,7 +31,8 @@ pub use laws::{
 pub use machine::Core;
 pub use opening_parts::{opening_cells, opening_unit};
 pub use results::Run;
-pub use running::{run, run_serial};
+pub use running::{make_move, run, run_serial};
 pub use statements::{next_need, prepare};
 pub use taking_turns::{Turned, run_turns};
+pub use watching::{Position, Progress};
 pub use whole::WholeDatabase;

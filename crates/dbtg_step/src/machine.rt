@@ -9,6 +9,7 @@ ghost use Rattle.dbtg_step.specs.Headline.{machine_of, opening_of};
 ghost use Rattle.dbtg_step.specs.Laws.{scripts_fit};
 ghost use Rattle.dbtg_step.specs.Network.{network};
 ghost use Rattle.dbtg_step.specs.Parts.{machine};
+ghost use Rattle.dbtg_step.specs.Positions.{position_at};
 ghost use Rattle.dbtg_step.specs.Runs.{IsHandedOut};
 ghost use Rattle.dbtg_step.specs.Turns.{AllBetween, HaveTurned};
 
@@ -20,6 +21,7 @@ use crate::results::Run;
 use crate::runner::units_of;
 use crate::stepping::step;
 use crate::taking_turns::{Noted, take_turns};
+use crate::watching::{Position, position_of};
 use dbtg_schema::{Row, Schema};
 use dbtg_unit::{Entry, Image, Statement, Stepped, Unit};
 use std::alloc::{AllocError, Global};
@@ -129,6 +131,16 @@ impl Core {
             return None;
         }
         Some(&self.parts.runners[number as usize - 1].unit)
+    }
+
+    /// Where the unit with this number is.
+    pub fn position(&self, number: u8) -> Option<Position>
+        ensures { result ≡ position_at (network (machine self.now).schema (machine self.now).capacity) (machine self.now).state number }
+    {
+        if number == 0 || self.parts.runners.len() < number as usize {
+            return None;
+        }
+        Some(position_of(&self.parts.runners[number as usize - 1]))
     }
 }
 

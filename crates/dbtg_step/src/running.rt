@@ -18,8 +18,8 @@ use dbtg_schema::{Row, Schema};
 use dbtg_unit::{Move, Statement, Stepped};
 use std::alloc::{AllocError, Global};
 
-// Makes one move; a step that finds no memory is an error, and changes nothing.
-fn make_move(core: &mut Core, one: Move) -> Result<Stepped, AllocError>
+/// Makes one move; a step that finds no memory is an error, and changes nothing.
+pub fn make_move(core: &mut Core, one: Move) -> Result<Stepped, AllocError>
     ensures core { OnOk result (machine core.new ≡ after_move (machine core.old) one) }
     ensures result { IfOk result (λ stepped. stepped ≡ result_of_move (machine core.old) one) }
 {

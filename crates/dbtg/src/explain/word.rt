@@ -108,19 +108,41 @@ pub fn word_at<'a>(words: &[&'a [u8]], place: usize) -> &'a [u8] {
     }
 }
 
+fn is_find(words: &[&[u8]]) -> bool {
+    matches!(word_at(words, 0), b"FIND")
+}
+
+fn is_kind(word: &[u8]) -> bool {
+    matches!(word, b"AREA" | b"RECORD" | b"SET")
+}
+
+// Is the fault of a FIND found at the line's end, though its word is the third?
+fn is_found_last(words: &[&[u8]], number: u8) -> bool {
+    match number {
+        9 | 10 => matches!(word_at(words, 1), b"SORTED"),
+        _ => number == 11,
+    }
+}
+
+// Is the fault one of a name in a FIND, and this the place of the word behind the name?
+fn is_behind_name(words: &[&[u8]], number: u8, place: usize) -> bool {
+    match number {
+        4 | 5 => is_kind(word_at(words, place)),
+        6 => {
+            is_kind(word_at(words, place)) && matches!(word_at(words, place.wrapping_sub(2)), b"OF")
+        }
+        _ => false,
+    }
+}
+
 // The place of the word that is at fault: a name that stands before AREA, RECORD or SET is judged with that word, and the
 // value of FIND SORTED at the line's end.
 fn judged_place(words: &[&[u8]], number: u8, place: usize) -> usize {
-    if !matches!(word_at(words, 0), b"FIND") {
-        return place;
-    }
-    let is_value = matches!(number, 9 | 10) && matches!(word_at(words, 1), b"SORTED");
-    if is_value || number == 11 {
-        return 2;
-    }
-    let is_kind = matches!(word_at(words, place), b"AREA" | b"RECORD" | b"SET");
-    let is_set_word = matches!(word_at(words, place.wrapping_sub(2)), b"OF");
-    if matches!(number, 4 | 5) && is_kind || number == 6 && is_kind && is_set_word {
+    if !is_find(words) {
+        place
+    } else if is_found_last(words, number) {
+        2
+    } else if is_behind_name(words, number, place) {
         place.wrapping_sub(1)
     } else {
         place
@@ -129,7 +151,7 @@ fn judged_place(words: &[&[u8]], number: u8, place: usize) -> usize {
 
 // The record type whose items a line names.
 fn type_word<'a>(words: &[&'a [u8]]) -> &'a [u8] {
-    if matches!(word_at(words, 0), b"FIND") {
+    if is_find(words) {
         word_at(words, 2)
     } else {
         word_at(words, 1)
@@ -211,6 +233,35 @@ pub fn push_said(
     push_form(out, form, parts)
 }
 
+// The word of this place, as far as the fault is about it: of a key the name of its record type.
+fn judged_word<'a>(words: &[&'a [u8]], number: u8, place: usize) -> &'a [u8] {
+    let word = word_at(words, judged_place(words, number, place));
+    if number == 5 {
+        in_front(word, b':')
+    } else {
+        word
+    }
+}
+
+// What there is to say of the word of these that is at fault.
+fn said_of_words(
+    alloc: Global,
+    schema: &Schema,
+    words: &[&[u8]],
+    number: u8,
+    meaning: &[u8],
+) -> Result<Vec<u8>, AllocError> {
+    let mut out = Vec::new(alloc);
+    if let Some(place) = place_of(alloc, schema, words, number)? {
+        let word = judged_word(words, number, place);
+        let rtype = type_word(words);
+        let names = names_for(alloc, schema, number, rtype)?;
+        let parts = [word, rtype, names.as_slice(), meaning];
+        push_said(&mut out, FORMS, number, &parts)?;
+    }
+    Ok(out)
+}
+
 /// What there is to say of the word of a line that is at fault; nothing where no single word is.
 pub fn said_of_word(
     alloc: Global,
@@ -219,26 +270,12 @@ pub fn said_of_word(
     number: u8,
     meaning: &[u8],
 ) -> Result<Vec<u8>, AllocError> {
-    let mut out = Vec::new(alloc);
+    if line.len() > LONGEST || matches!(number, 1 | 12 | 14) || has_open_text(line) {
+        return Ok(Vec::new(alloc));
+    }
     let apart = words_apart(alloc, line)?;
     let words = words_of(alloc, apart.as_slice())?;
-    let words = words.as_slice();
-    if line.len() > LONGEST || matches!(number, 1 | 12 | 14) || has_open_text(line) {
-        return Ok(out);
-    }
-    if let Some(place) = place_of(alloc, schema, words, number)? {
-        let word = word_at(words, judged_place(words, number, place));
-        let word = if number == 5 {
-            in_front(word, b':')
-        } else {
-            word
-        };
-        let rtype = type_word(words);
-        let names = names_for(alloc, schema, number, rtype)?;
-        let parts = [word, rtype, names.as_slice(), meaning];
-        push_said(&mut out, FORMS, number, &parts)?;
-    }
-    Ok(out)
+    said_of_words(alloc, schema, words.as_slice(), number, meaning)
 }
 
 // A text that is not closed is found before the words.

@@ -1,0 +1,167 @@
+-- What `outcomes` prints: statuses have four digits, the texts of results stand one behind another, and what was read is told as the
+-- texts say.
+use Rattle.std.proofs.Common.{◌≡◌, ℕ, Bool, true, ◌+◌, ◌-◌, ◌<◌, ◌≤◌, ◌⊎◌, inl, inr, zero, suc, List, [], ◌∷◌, ◌++◌, take, map, length, refl, sym, ap, ◌∙◌, subst, arith, get_or}
+use Rattle.std.specs.Prelude.{Contains, codes, nat_lt}
+use Rattle.std.proofs.lemmas.Bool.{and_from, lt-ltb}
+use Rattle.std.proofs.lemmas.List.{append-nil, append_assoc, length-take-le, take_more}
+use Rattle.std.specs.List.{list_all}
+use Rattle.dbtg_schema.specs.Lists.{Lists}
+use Rattle.dbtg_unit.specs.declared.statement.Statement.{Statement}
+use Rattle.dbtg_unit.specs.declared.statement.Statement.TheVariants.{OpenArea, CloseArea, Find, Get, Store, Insert, Remove, Modify, Delete, Keep, Free}
+use Rattle.dbtg_unit.specs.declared.unit.Cause.{Cause}
+use Rattle.dbtg_unit.specs.declared.unit.Cause.TheVariants.{AreaNotOpen, ChangedByAnother, DuplicatesNotAllowed, NoSuchCurrent, End, UpdateModeNeeded, NoRoom, NoCurrentOfRunUnit, MandatoryAutomatic, Mandatory, AlreadyMember, Deleted, OtherRecordType, NotMember, PositionLost, NoneSatisfies, AreaAlreadyOpen, UsageConflict, OwnerHasMembers, NotKept}
+use Rattle.dbtg_unit.specs.declared.unit.Status.{Status}
+use Rattle.dbtg_unit.specs.declared.unit.Status.TheVariants.{Done, Refused}
+use Rattle.dbtg_unit.specs.Codes.{cause_code, statement_code, status_code}
+use Rattle.dbtg_outcomes.specs.declared.answered.Answered.{Answered}
+use Rattle.dbtg_outcomes.specs.declared.outcomes.OneResult.{OneResult}
+use Rattle.dbtg_outcomes.specs.declared.outcomes.Outcomes.{Outcomes}
+use Rattle.dbtg_outcomes.specs.Outcomes.{AreOutcomes, AreStatuses, Comes, HasStatus}
+use Rattle.dbtg_outcomes.specs.Results.{Meeting}
+use Rattle.dbtg_script.specs.Statements.{script}
+use Rattle.dbtg_script.specs.WordTexts.{moves_words_text, turns_text}
+use Rattle.dbtg_step.specs.declared.results.Run.{Run}
+use Rattle.dbtg_step.specs.Turns.{IsRunByTurns}
+use Rattle.dbtg_unit.specs.declared.moves.Move.{Move}
+use Rattle.dbtg.specs.declared.fault.Fault.{Fault}
+use Rattle.dbtg.specs.declared.fault.Fault.TheVariants.{Memory, MovesOver}
+use Rattle.dbtg.specs.declared.order.Order.TheVariants.{Serial}
+use Rattle.dbtg.specs.declared.place.Place.{Place}
+use Rattle.dbtg.specs.Listing.{AreResultTexts, AreTold, IsListing, IsLong, IsOver, IsResultText, IsUntold, OutcomesHeld, ToldOfOutcomes, are_short, result_line, result_text, summary_text, worded}
+use Rattle.dbtg.specs.Replaying.{given_text}
+use Rattle.dbtg.specs.Refusals.{is_count}
+use Rattle.dbtg.specs.Sources.{ReadSchema, ReadScripts}
+use Rattle.dbtg.proofs.TextsRead.{all_accepted, read_texts}
+
+-- STATUSES
+
+cause_short : (cause : Cause) → cause_code cause ≤ 99
+cause_short AreaNotOpen = omega arith
+cause_short ChangedByAnother = omega arith
+cause_short DuplicatesNotAllowed = omega arith
+cause_short NoSuchCurrent = omega arith
+cause_short End = omega arith
+cause_short UpdateModeNeeded = omega arith
+cause_short NoRoom = omega arith
+cause_short NoCurrentOfRunUnit = omega arith
+cause_short MandatoryAutomatic = omega arith
+cause_short Mandatory = omega arith
+cause_short AlreadyMember = omega arith
+cause_short Deleted = omega arith
+cause_short OtherRecordType = omega arith
+cause_short NotMember = omega arith
+cause_short PositionLost = omega arith
+cause_short NoneSatisfies = omega arith
+cause_short AreaAlreadyOpen = omega arith
+cause_short UsageConflict = omega arith
+cause_short OwnerHasMembers = omega arith
+cause_short NotKept = omega arith
+
+statement_short : (x : Statement) → statement_code x ≤ 98
+statement_short (OpenArea a mode) = omega arith
+statement_short (CloseArea a) = omega arith
+statement_short (Find form suppress) = omega arith
+statement_short (Get r) = omega arith
+statement_short (Store r items suppress) = omega arith
+statement_short (Insert s) = omega arith
+statement_short (Remove s) = omega arith
+statement_short (Modify r changes) = omega arith
+statement_short (Delete option) = omega arith
+statement_short Keep = omega arith
+statement_short (Free all) = omega arith
+
+short_status : (x : Statement) (status : Status) → status_code x status < 10000
+short_status x Done = omega arith
+short_status x (Refused cause) = let front = statement_short x in let back = cause_short cause in omega arith
+
+-- what a test holds of, of each that the list contains, it holds of all
+all_of : {A : Type 0} (p : A → Bool) (xs : List A) → ((x : A) → Contains xs x → p x ≡ true) → list_all p xs ≡ true
+all_of p [] each = refl
+all_of p (x ∷ xs) each = and_from _ _ (each x (0, omega arith, refl)) (all_of p xs (λ y c. each y (suc c.0, (let low = c.1 in omega arith), c.2)))
+
+pub all_short : (m : Meeting) (all : Outcomes) → AreOutcomes m all → list_all are_short all.answered.items ≡ true
+all_short m all are = all_of are_short all.answered.items (λ a among. all_of (λ code. nat_lt code 10000) a.statuses.items (λ code c. short_code a code ((are.statuses_are a among).come code c))) where
+  short_code : (a : Answered) (code : ℕ) → Comes m a.unit (a.place - 1) code → nat_lt code 10000 ≡ true
+  short_code a code comes = subst (λ n. nat_lt n 10000 ≡ true) (sym comes.status.code_is) (lt-ltb _ _ (short_status comes.statement comes.status.outcome.answer.status))
+
+-- TEXTS OF RESULTS
+
+-- one more behind the others
+pub one_more : (lists : Lists) (capacity : ℕ) (scripts : List (List Statement)) (k : ℕ) (ones : List OneResult) (one : OneResult) (out text : List ℕ)
+    → AreResultTexts lists capacity scripts k ones out → IsResultText lists capacity scripts (k + length ones) one text → AreResultTexts lists capacity scripts k (ones ++ one ∷ []) (out ++ text)
+one_more lists capacity scripts k [] one out text e is =
+    let same : k + 0 ≡ k = omega arith in
+    (text, [], ap (λ o. o ++ text) e ∙ sym (append-nil text), subst (λ n. IsResultText lists capacity scripts n one text) same is, refl)
+one_more lists capacity scripts k (o ∷ ones) one out text are is =
+    let same : k + length (o ∷ ones) ≡ k + 1 + length ones = omega arith in
+    (are.0, are.1 ++ text, ap (λ t. t ++ text) are.2 ∙ append_assoc are.0 are.1 text, are.3, one_more lists capacity scripts (k + 1) ones one are.1 text are.4 (subst (λ n. IsResultText lists capacity scripts n one text) same is))
+
+-- four texts behind one
+texts_behind : (old a b c d : List ℕ) → old ++ a ++ b ++ c ++ d ≡ old ++ (a ++ b ++ c ++ d)
+texts_behind old a b c d = ap (λ x. x ++ c ++ d) (append_assoc old a b) ∙ ap (λ x. x ++ d) (append_assoc old (a ++ b) c) ∙ append_assoc old (a ++ b ++ c) d
+
+module _ (lists : Lists) (capacity : ℕ) (scripts copies : List (List Statement)) (k : ℕ) (one : OneResult) (turns : List ℕ) (moves said shown : List Move) (given : Run)
+    (copied : copies ≡ scripts) (turns_are : turns ≡ one.turns) (said_is : said ≡ moves) (shown_is : shown ≡ said) (few : length moves ≤ 1000000) (run : IsRunByTurns lists capacity copies turns moves given) where
+  abbrev turned_text : List ℕ → List ℕ → List Move → List ℕ
+  turned_text line us ms = line ++ worded (codes "turns") (turns_text us) ++ worded (codes "moves") (moves_words_text ms) ++ given_text lists given
+
+  pub result_told : (old line new : List ℕ) → line ≡ old ++ result_line k one → new ≡ line ++ worded (codes "turns") (turns_text turns) ++ worded (codes "moves") (moves_words_text shown) ++ given_text lists given
+      → (text : List ℕ) × (new ≡ old ++ text) × IsResultText lists capacity scripts k one text
+  result_told old line new line_is new_is = (
+    result_text lists k one moves given,
+    new_is ∙ ap (λ l. turned_text l turns shown) line_is ∙ ap (λ us. turned_text (old ++ result_line k one) us shown) turns_are ∙ ap (turned_text (old ++ result_line k one) one.turns) (shown_is ∙ said_is)
+        ∙ texts_behind old (result_line k one) (worded (codes "turns") (turns_text one.turns)) (worded (codes "moves") (moves_words_text moves)) (given_text lists given),
+    record {
+      moves = moves;
+      given = given;
+      by_turns = subst (λ us. IsRunByTurns lists capacity scripts us moves given) turns_are (subst (λ ss. IsRunByTurns lists capacity ss turns moves given) copied run);
+      few = few;
+      is_text = refl;
+    },
+  )
+
+-- the next of the results that can come out
+module _ (lists : Lists) (capacity : ℕ) (scripts : List (List Statement)) (all : Outcomes) (i : ℕ) (one : OneResult) (below : i < length all.results.items) (at : one ≡ get_or all.results.items i one) where
+  -- with its text the texts are those of one more
+  pub one_more_taken : (out new texts text : List ℕ) (k : ℕ) → k ≡ i + 1 → out ≡ summary_text all ++ texts → AreResultTexts lists capacity scripts 1 (take i all.results.items) texts
+      → new ≡ out ++ text → IsResultText lists capacity scripts k one text
+      → (ts : List ℕ) × (new ≡ summary_text all ++ ts) × AreResultTexts lists capacity scripts 1 (take (i + 1) all.results.items) ts
+  one_more_taken out new texts text k k_is out_is are new_is is =
+      let taken = length-take-le i all.results.items (omega arith) in
+      let many : k ≡ 1 + length (take i all.results.items) = omega arith in
+      let next : take i all.results.items ++ one ∷ [] ≡ take (i + 1) all.results.items = ap (λ (o : OneResult). take i all.results.items ++ o ∷ []) at ∙ sym (take_more all.results.items i one below) in (
+        texts ++ text,
+        new_is ∙ ap (λ o. o ++ text) out_is ∙ append_assoc (summary_text all) texts text,
+        subst (λ ones. AreResultTexts lists capacity scripts 1 ones (texts ++ text)) next
+            (one_more lists capacity scripts 1 (take i all.results.items) one texts text are (subst (λ n. IsResultText lists capacity scripts n one text) many is)),
+      )
+
+  -- it may be too long
+  pub untold_of : (told : Fault) → (told ≡ Memory) ⊎ ((told ≡ MovesOver) × IsLong lists capacity scripts one) → IsUntold lists capacity scripts all told
+  untold_of told (inl e) = inl e
+  untold_of told (inr long) = inr (long.0, one, (i, below, sym at), long.1)
+
+-- WHAT WAS READ
+
+-- a result that is too long is one of those that can come out
+pub untold : (m : Meeting) (all : Outcomes) (limit : ℕ) (fault : Fault) → AreOutcomes m all → IsUntold m.schema m.capacity m.scripts all fault → IsOver m limit fault
+untold m all limit fault are (inl e) = subst (IsOver m limit) (sym e) tt
+untold m all limit fault are (inr long) = subst (IsOver m limit) (sym long.0) (record { all = all; are = are; one = long.1; among = long.2; long = long.3 })
+
+module _ (holds : Place → List ℕ → Type 0) (lists : Lists) (count capacity : ℕ) (answers : Bool) (limit : ℕ) (right : is_count count ≡ true) (read : ReadSchema holds lists) (scripts : ReadScripts holds lists count)
+    (statements : List (List Statement)) (same : statements ≡ map (script lists) scripts.texts) where
+  of_texts : (Of : Meeting → Type 0) → Of (record { schema = lists; capacity = capacity; scripts = statements; tells = answers }) → Of (record { schema = lists; capacity = capacity; scripts = map (script lists) scripts.texts; tells = answers })
+  of_texts Of of = subst (λ (ss : List (List Statement)). Of (record { schema = lists; capacity = capacity; scripts = ss; tells = answers })) same of
+
+  pub listed : (out : List ℕ) → IsListing (record { schema = lists; capacity = capacity; scripts = statements; tells = answers }) limit out → OutcomesHeld holds count capacity answers limit out
+  listed out listing = (
+    read_texts holds lists count read scripts Serial tt,
+    record {
+      count = ap is_count scripts.many ∙ right;
+      texts = all_accepted holds lists count read scripts;
+      listing = subst (λ (s : Lists). IsListing (record { schema = s; capacity = capacity; scripts = map (script s) scripts.texts; tells = answers }) limit out) read.says (of_texts (λ m. IsListing m limit out) listing);
+    },
+  )
+
+  pub over : (fails : Place → Fault → Type 0) (fault : Fault) → IsOver (record { schema = lists; capacity = capacity; scripts = statements; tells = answers }) limit fault → ToldOfOutcomes holds fails fault count capacity answers limit
+  over fails fault is = inr (record { lists = lists; right = right; schema = read; scripts = scripts; over = of_texts (λ m. IsOver m limit fault) is })

@@ -1,0 +1,171 @@
+-- A session of the shell: statements that are made whole on one database, and the script of each unit, which grows by a line with
+-- each statement.
+use Rattle.std.specs.Prelude.{ℕ, ◌≡◌, ◌+◌, ◌-◌, ◌≤◌, ◌<◌, ◌∷◌, ◌++◌, ◌⊎◌, ◌%◌, Bool, true, false, IfOk, List, [], length, map, None, Some, Result, slice_get, slice_set, unwrap_or}
+use Rattle.dbtg_schema.specs.Lists.{Lists}
+use Rattle.dbtg_schema.specs.Lookups.{first}
+use Rattle.dbtg_schema.specs.SchemaFaults.{refusal as schema_refusal}
+use Rattle.dbtg_schema.specs.Sound.{IsSound}
+use Rattle.dbtg_unit.specs.Codes.{status_code}
+use Rattle.dbtg_unit.specs.Image.{image_of}
+use Rattle.dbtg_unit.specs.Replay.{entries_of}
+use Rattle.dbtg_unit.specs.declared.statement.Statement.{Statement}
+use Rattle.dbtg_unit.specs.declared.unit.Entry.{Entry}
+use Rattle.dbtg_step.specs.Whole.{HasMade, Making, state_now}
+use Rattle.dbtg_script.specs.Lines.{closes, trimmed}
+use Rattle.dbtg_script.specs.Spelling.{in_front}
+use Rattle.dbtg_script.specs.StatementFaults.{line_faults, refusal as script_refusal}
+use Rattle.dbtg_script.specs.Statements.{line_statement, script}
+use Rattle.dbtg_script.specs.Texts.{answer_text, named_answer_text, run_text}
+use Rattle.dbtg_script.specs.Turns.{turns_refusal}
+use Rattle.dbtg_script.specs.declared.fault.Cause.{Cause}
+use Rattle.dbtg_script.specs.declared.fault.Cause.TheVariants.{TooMuch}
+use Rattle.dbtg.specs.declared.order.Order.TheVariants.{Turns}
+use Rattle.dbtg.specs.declared.shell.session.Refusal.{Refusal}
+use Rattle.dbtg.specs.declared.shell.session.Refusal.TheVariants.{Fault, Memory}
+use Rattle.dbtg.specs.declared.shell.session.Script.{Script}
+use Rattle.dbtg.specs.declared.shell.asked.Asked.{Asked}
+use Rattle.dbtg.specs.declared.shell.asked.Asked.TheVariants as asked
+use Rattle.dbtg.specs.declared.shell.commands.Reply.{Reply}
+use Rattle.dbtg.specs.declared.shell.commands.Reply.TheVariants as reply
+use Rattle.dbtg.specs.Explaining.{code_in}
+use Rattle.dbtg.specs.FaultyWord.{behind_all}
+use Rattle.dbtg.specs.Refusals.{is_count, schema_in}
+use Rattle.dbtg.specs.Replaying.{IsReplay}
+
+-- WHAT A CALLER SEES
+
+-- the database with what was made on it, and the text of each unit's script
+pub record Typed : Type 0 where
+  pub making : Making
+  pub texts : List (List ℕ)
+
+-- the script of unit u
+abbrev pub text_of : Typed → ℕ → List ℕ
+text_of typed u = unwrap_or (slice_get typed.texts (u - 1)) []
+
+-- the statement of this line is made whole by unit u, and the line stands behind its script
+pub record HasTyped (old : Typed) (u : ℕ) (line : List ℕ) (new : Typed) : Type 0 where
+  pub statement : Statement
+  pub says : line_statement old.making.schema (trimmed line) ≡ Some statement
+  pub made : HasMade old.making u statement new.making
+  pub texts_are : new.texts ≡ slice_set old.texts (u - 1) (text_of old u ++ line ++ 10 ∷ [])
+
+-- so it is where the line holds a statement; else all is as it was
+abbrev pub Takes : Typed → ℕ → List ℕ → Bool → Typed → Type 0
+Takes old u line true new = HasTyped old u line new
+Takes old u line false new = (new ≡ old) × (line_statement old.making.schema (trimmed line) ≡ None)
+
+-- the line has this fault behind so many statements, or it is too long behind a script of so many bytes
+abbrev pub RefusesBehind : Refusal → Lists → ℕ → ℕ → List ℕ → Type 0
+RefusesBehind Memory schema count size line = Unit {0}
+RefusesBehind (Fault cause) schema count size line =
+    (first (line_faults schema count (trimmed line)) ≡ Some cause) ⊎ ((cause ≡ TooMuch) × (1048576 ≤ size + length line))
+
+-- so it is behind what unit u has made, and behind its script
+abbrev pub RefusesLine : Refusal → Typed → ℕ → List ℕ → Type 0
+RefusesLine refusal typed u line =
+    RefusesBehind refusal typed.making.schema (length (entries_of u typed.making.history)) (length (text_of typed u)) line
+
+-- over each text of the schema the turns are accepted, and `replay` of the session's scripts by them prints just what was made in
+-- it: its answers, its database and its units
+pub record AreTurnsOf (typed : Typed) (turns : List ℕ) : Type 0 where
+  pub again : (text : List ℕ) → schema_refusal text ≡ None → schema_in text ≡ typed.making.schema → (turns_refusal turns ≡ None) × ((printed : List ℕ) → IsReplay text typed.texts (Turns turns) typed.making.capacity printed
+      → let m = typed.making in let image = image_of m.schema m.capacity (state_now m).database in
+      printed ≡ run_text m.schema m.history image.records image.lists image.next image.usage (state_now m).units)
+
+-- WHAT A SESSION HAS
+
+-- the script is accepted, and says the statements of these entries, each on a line of its own
+pub record IsScriptOf (schema : Lists) (text : List ℕ) (count : ℕ) (entries : List Entry) : Type 0 where
+  pub accepted : script_refusal schema text ≡ None
+  pub says : script schema text ≡ map (λ e. e.statement) entries
+  pub closed : closes true text ≡ true
+  pub short : length text ≤ 1048576
+  pub count_is : count ≡ length entries
+
+-- a sound schema, and a script for each of 1 to 8 units
+pub record IsSession (schema : Lists) (making : Making) (scripts : List Script) : Type 0 where
+  pub sound : IsSound schema
+  pub schema_is : making.schema ≡ schema
+  pub many : length scripts ≡ making.units
+  pub counted : is_count making.units ≡ true
+  pub each : (k : ℕ) (one : Script) → slice_get scripts k ≡ Some one → IsScriptOf schema one.text.items one.count (entries_of (k + 1) making.history)
+
+-- WHAT A LINE DOES TO A DATABASE AND TO THE SCRIPT OF ITS UNIT
+
+-- the line stands behind the script, which says one statement more
+pub record HasEntered (old : Script) (line : List ℕ) (new : Script) : Type 0 where
+  pub text : new.text.items ≡ old.text.items ++ line ++ 10 ∷ []
+  pub count : new.count ≡ old.count + 1
+
+-- the script is as it was
+pub record IsAsBefore (old new : Script) : Type 0 where
+  pub text : new.text.items ≡ old.text.items
+  pub count : new.count ≡ old.count
+
+-- the statement of a line that has no fault behind the script is made whole by unit u, and the line is entered
+pub record HasMadeLine (schema : Lists) (old : Making) (one : Script) (u : ℕ) (line : List ℕ) (new : Making) (next : Script) : Type 0 where
+  pub statement : Statement
+  pub says : line_statement schema (trimmed line) ≡ Some statement
+  pub fine : first (line_faults schema one.count (trimmed line)) ≡ None
+  pub room : length one.text.items + length line < 1048576
+  pub made : HasMade old u statement new
+  pub entered : HasEntered one line next
+
+-- so it is where the line holds a statement; else all is as it was
+abbrev pub MakesLine : Lists → Making → Script → ℕ → List ℕ → Bool → Making → Script → Type 0
+MakesLine schema old one u line true new next = HasMadeLine schema old one u line new next
+MakesLine schema old one u line false new next = (new ≡ old) × IsAsBefore one next × (line_statement schema (trimmed line) ≡ None)
+
+-- the script has no room for a line, with which it would have so many bytes, unless memory ran out
+abbrev pub HasNoRoom : Refusal → ℕ → Type 0
+HasNoRoom Memory size = Unit {0}
+HasNoRoom (Fault cause) size = (cause ≡ TooMuch) × (1048576 ≤ size)
+
+-- WHAT IS PRINTED
+
+-- the name that the table of causes has for a code
+pub record IsCauseName (code : ℕ) (name : List ℕ) : Type 0 where
+  pub row : List ℕ
+  pub of_code : code_in row ≡ code
+  pub is_name : name ≡ in_front 124 (behind_all 124 1 row)
+
+-- the answer as `replay` prints it; a refusal may have the name of its cause behind it
+abbrev pub IsAnswerReply : Lists → Entry → List ℕ → Type 0
+IsAnswerReply schema e out =
+    (out ≡ answer_text schema e)
+    ⊎ ((0 < status_code e.statement e.answer.status) × (name : List ℕ) × IsCauseName (status_code e.statement e.answer.status % 100) name × (out ≡ named_answer_text schema e name))
+
+-- the answer of the statement that was made last
+abbrev pub IsLastAnswer : Typed → List ℕ → Type 0
+IsLastAnswer typed out = (before : List Entry) (e : Entry) → typed.making.history ≡ before ++ e ∷ [] → IsAnswerReply typed.making.schema e out
+
+-- WHAT A LINE COMES TO
+
+-- there is no unit of this number
+abbrev pub IsNoUnit : ℕ → ℕ → Type 0
+IsNoUnit units u = (u ≡ 0) ⊎ (units < u)
+
+-- why this line of unit u comes to nothing: there is no such unit; the line holds no statement, and nothing is told; or it has a fault
+abbrev pub IsUnmade : Typed → ℕ → List ℕ → List ℕ → Type 0
+IsUnmade typed u line out =
+    IsNoUnit typed.making.units u
+    ⊎ ((line_statement typed.making.schema (trimmed line) ≡ None) × (out ≡ []))
+    ⊎ ((cause : Cause) × RefusesLine (Fault cause) typed u line)
+
+-- the reply is a text, and this is true of it
+abbrev pub IsTold : (List ℕ → Type 0) → Reply → Type 0
+IsTold Is (reply.Text out) = Is out.items
+IsTold Is (reply.Save directory) = ⊥
+IsTold Is reply.Quit = ⊥
+
+-- the statement of the line is made by unit u, and its answer is told; or all is as it was, for a reason. Where memory is wanting
+-- nothing is told
+abbrev pub TakesLine : {E : Type 0} → ℕ → Typed → List ℕ → Result Reply E → Typed → Type 0
+TakesLine u old line told new = (HasTyped old u line new × IfOk told (IsTold (IsLastAnswer new))) ⊎ ((new ≡ old) × IfOk told (IsTold (IsUnmade old u line)))
+
+-- a command changes nothing; a statement is of the unit that has the turn, or of the unit that the line names
+abbrev pub TakesAsked : {E : Type 0} → ℕ → Typed → Asked → Result Reply E → Typed → Type 0
+TakesAsked turn old (asked.Command command) told new = new ≡ old
+TakesAsked turn old (asked.Statement line) told new = TakesLine turn old line.now told new
+TakesAsked turn old (asked.StatementOf unit line) told new = TakesLine unit old line.now told new

@@ -1,0 +1,245 @@
+//! All that can come out when scripts run at the same time, as text.
+ghost use Rattle.std.specs.Prelude.{◌≡◌, ℕ, ◌≤◌, ◌++◌, ◌⊎◌, codes, nat_lt, IfErr, IfOk, List, OnOk, true, length};
+ghost use Rattle.std.specs.List.{flat_map, list_all};
+ghost use Rattle.dbtg_schema.specs.Sound.{IsSound};
+ghost use Rattle.dbtg_step.specs.Laws.{scripts_fit};
+ghost use Rattle.dbtg_script.specs.WordTexts.{moves_words_text, turns_text};
+ghost use Rattle.dbtg.specs.Listing.{AreTold, IsListing, IsLong, IsOver, IsResultText, IsUntold, OutcomesHeld, ToldOfOutcomes, are_short, count_text, differing_text, orders_text, result_line, spaced_status, summary_text, worded};
+ghost use Rattle.dbtg.specs.Refusals.{is_count};
+ghost use Rattle.dbtg.specs.Replaying.{given_text};
+ghost use Rattle.dbtg.specs.Sources.{ReadSchema};
+ghost use Rattle.dbtg.specs.declared.fault.Fault.TheVariants.{Memory, MovesOver};
+ghost use Rattle.dbtg.specs.declared.order.OrderKind.TheVariants.{Serial};
+
+use crate::copies::copy_scripts;
+use crate::fault::Fault;
+use crate::replay::{check_count, push_given};
+use crate::source::Source;
+use crate::texts::{read_schema, read_scripts};
+use dbtg_outcomes::{Answered, OneResult, Outcomes, Stop, all_outcomes};
+use dbtg_schema::{Row, Schema};
+use dbtg_script::{moves_words_text, push_number, push_status, turns_text};
+use dbtg_step::{Run, Turned, run_turns};
+use dbtg_unit::{Move, Statement};
+use std::alloc::{AllocError, Global};
+
+// So many moves a text of moves may have.
+const MOST_MOVES: usize = 1_000_000;
+
+// A number of orders; it may be above what a `u64` can count.
+fn push_orders(out: &mut Vec<u8>, orders: Option<u64>) -> Result<(), AllocError>
+    ensures { OnOk result (out.new.items ≡ out.old.items ++ orders_text orders) }
+{
+    match orders {
+        Some(orders) => push_number(out, orders),
+        None => out.extend_from_slice(b"over 18446744073709551615"),
+    }
+}
+
+// Statuses, each behind a space.
+fn push_statuses(out: &mut Vec<u8>, statuses: &[u16]) -> Result<(), AllocError>
+    requires { list_all (λ s. nat_lt s 10000) statuses.now ≡ true }
+    ensures { OnOk result (out.new.items ≡ out.old.items ++ flat_map spaced_status statuses.now) }
+{
+    for status in statuses {
+        out.push(b' ')?;
+        push_status(out, *status)?;
+    }
+    Ok(())
+}
+
+// A statement that has several statuses: its unit and place, and these statuses.
+fn push_differing(out: &mut Vec<u8>, one: &Answered) -> Result<(), AllocError>
+    requires { are_short one.now ≡ true }
+    ensures { OnOk result (out.new.items ≡ out.old.items ++ differing_text one.now) }
+{
+    if one.statuses.len() < 2 {
+        return Ok(());
+    }
+    out.extend_from_slice(b"differs ")?;
+    push_number(out, one.unit as u64)?;
+    out.push(b'.')?;
+    push_number(out, one.place as u64)?;
+    push_statuses(out, one.statuses.as_slice())?;
+    out.push(b'\n')?;
+    Ok(())
+}
+
+// How many orders and results there are.
+fn push_counts(out: &mut Vec<u8>, all: &Outcomes) -> Result<(), AllocError>
+    ensures { OnOk result (out.new.items ≡ out.old.items ++ count_text all.now) }
+{
+    out.extend_from_slice(b"orders ")?;
+    push_orders(out, all.orders)?;
+    out.extend_from_slice(b", results ")?;
+    push_number(out, all.results.len() as u64)?;
+    out.push(b'\n')?;
+    Ok(())
+}
+
+// How many orders and results there are, and which statements have several statuses.
+fn push_summary(out: &mut Vec<u8>, all: &Outcomes) -> Result<(), AllocError>
+    requires { list_all are_short all.now.answered.items ≡ true }
+    ensures { OnOk result (out.new.items ≡ out.old.items ++ summary_text all.now) }
+{
+    push_counts(out, all)?;
+    for one in &all.answered {
+        push_differing(out, one)?;
+    }
+    Ok(())
+}
+
+// A line of a word and a text that ends its line itself; no text ends it here.
+fn push_line(out: &mut Vec<u8>, word: &[u8], text: &[u8]) -> Result<(), AllocError>
+    ensures { OnOk result (out.new.items ≡ out.old.items ++ worded word.now text.now) }
+{
+    out.extend_from_slice(word)?;
+    if text.is_empty() {
+        out.push(b'\n')?;
+    } else {
+        out.push(b' ')?;
+        out.extend_from_slice(text)?;
+    }
+    Ok(())
+}
+
+// The number of a result, and how many orders lead to it.
+fn push_result_line(out: &mut Vec<u8>, number: u64, one: &OneResult) -> Result<(), AllocError>
+    ensures { OnOk result (out.new.items ≡ out.old.items ++ result_line number one.now) }
+{
+    out.extend_from_slice(b"result ")?;
+    push_number(out, number)?;
+    out.extend_from_slice(b", orders ")?;
+    push_orders(out, one.orders)?;
+    out.push(b'\n')?;
+    Ok(())
+}
+
+// The turns of a result, the moves that they stand for, and what these print.
+fn push_turned(
+    alloc: Global,
+    out: &mut Vec<u8>,
+    schema: &Schema,
+    turns: &[u8],
+    moves: &[Move],
+    run: &Run,
+) -> Result<(), AllocError>
+    ensures { OnOk result (out.new.items ≡ out.old.items ++ worded (codes "turns") (turns_text turns.now) ++ worded (codes "moves") (moves_words_text moves.now) ++ given_text schema.now run.now) }
+{
+    push_line(out, b"turns", turns_text(alloc, turns)?.as_slice())?;
+    push_line(out, b"moves", moves_words_text(alloc, moves)?.as_slice())?;
+    push_given(alloc, out, schema, None, run)?;
+    Ok(())
+}
+
+// One result: its number, how many orders lead to it, the first of them as turns and as moves, and what these moves print.
+fn push_result(
+    alloc: Global,
+    out: &mut Vec<u8>,
+    schema: &Schema,
+    capacity: u16,
+    scripts: &[Row<Statement>],
+    number: u64,
+    one: &OneResult,
+) -> Result<(), Fault>
+    requires sound { IsSound schema.now }
+    requires units { length scripts.now ≤ 255 }
+    requires fit { scripts_fit schema.now scripts.now ≡ true }
+    ensures done { OnOk result ((text : List ℕ) × (out.new.items ≡ out.old.items ++ text) × IsResultText schema.now capacity scripts.now number one.now text) }
+    ensures refused { IfErr result (λ fault. (fault ≡ Memory) ⊎ ((fault ≡ MovesOver) × IsLong schema.now capacity scripts.now one.now)) }
+{
+    let turns = one.turns.as_slice();
+    let copies = copy_scripts(alloc, scripts)?;
+    let Turned { run, moves } = run_turns(alloc, schema, capacity, copies, turns, MOST_MOVES)?;
+    let Some(moves) = moves else {
+        return Err(Fault::MovesOver);
+    };
+    push_result_line(out, number, one)?;
+    push_turned(alloc, out, schema, turns, moves.as_slice(), &run)?;
+    Ok(())
+}
+
+// The summary, and then result by result.
+fn outcomes_text(
+    alloc: Global,
+    schema: &Schema,
+    capacity: u16,
+    scripts: &[Row<Statement>],
+    all: &Outcomes,
+) -> Result<Vec<u8>, Fault>
+    requires sound { IsSound schema.now }
+    requires units { length scripts.now ≤ 255 }
+    requires fit { scripts_fit schema.now scripts.now ≡ true }
+    requires short { list_all are_short all.now.answered.items ≡ true }
+    ensures done { IfOk result (λ out. AreTold schema.now capacity scripts.now all.now out.items) }
+    ensures refused { IfErr result (λ fault. IsUntold schema.now capacity scripts.now all.now fault) }
+{
+    let mut out = Vec::new(alloc);
+    push_summary(&mut out, all)?;
+    let mut number = 0;
+    for one in &all.results {
+        number += 1;
+        push_result(alloc, &mut out, schema, capacity, scripts, number, one)?;
+    }
+    Ok(out)
+}
+
+// What `outcomes` prints of scripts that were read, over a schema that was read.
+fn print_known(
+    alloc: Global,
+    schema: &Schema,
+    capacity: u16,
+    scripts: &[Row<Statement>],
+    answers: bool,
+    limit: u64,
+) -> Result<Vec<u8>, Fault>
+    requires sound { IsSound schema.now }
+    requires units { length scripts.now ≤ 255 }
+    requires fit { scripts_fit schema.now scripts.now ≡ true }
+    ensures done { IfOk result (λ out. IsListing (record { schema = schema.now; capacity = capacity; scripts = scripts.now; tells = answers }) limit out.items) }
+    ensures refused { IfErr result (λ fault. IsOver (record { schema = schema.now; capacity = capacity; scripts = scripts.now; tells = answers }) limit fault) }
+{
+    match all_outcomes(alloc, schema, capacity, scripts, answers, limit as usize) {
+        Ok(all) => outcomes_text(alloc, schema, capacity, scripts, &all),
+        Err(Stop::Memory) => Err(Fault::Memory),
+        Err(Stop::States) => Err(Fault::StatesOver { limit }),
+    }
+}
+
+// What `outcomes` prints of a schema that was read, and the scripts.
+fn outcomes_known<S: Source>(
+    alloc: Global,
+    source: &S,
+    known: &Schema,
+    capacity: u16,
+    answers: bool,
+    limit: u64,
+) -> Result<Vec<u8>, Fault>
+    requires counted { is_count (S.count source.now) ≡ true }
+    requires serial { S.order source.now ≡ Serial }
+    requires read { ReadSchema (S.holds source.now) known.now }
+    requires sound { IsSound known.now }
+    ensures done { IfOk result (λ out. OutcomesHeld (S.holds source.now) (S.count source.now) capacity answers limit out.items) }
+    ensures refused { IfErr result (λ fault. ToldOfOutcomes (S.holds source.now) (S.fails source.now) fault (S.count source.now) capacity answers limit) }
+{
+    let scripts = read_scripts(alloc, source, known)?;
+    print_known(alloc, known, capacity, scripts.as_slice(), answers, limit)
+}
+
+/// What `outcomes` prints of the schema and the scripts that a source gives, or the first fault. Above the limit of states it gives
+/// up.
+pub fn print_outcomes<S: Source>(
+    alloc: Global,
+    source: &S,
+    capacity: u16,
+    answers: bool,
+    limit: u64,
+) -> Result<Vec<u8>, Fault>
+    requires { S.order source.now ≡ Serial }
+    ensures done { IfOk result (λ out. OutcomesHeld (S.holds source.now) (S.count source.now) capacity answers limit out.items) }
+    ensures refused { IfErr result (λ fault. ToldOfOutcomes (S.holds source.now) (S.fails source.now) fault (S.count source.now) capacity answers limit) }
+{
+    check_count(source.count())?;
+    let known = read_schema(alloc, source)?;
+    outcomes_known(alloc, source, &known, capacity, answers, limit)
+}

@@ -1,0 +1,251 @@
+//! The commands of the shell, and what each line comes to.
+ghost use Rattle.std.specs.Prelude.{◌≡◌, ◌≤◌, ◌<◌, IfNone, IfOk, IfSome, ⊤};
+ghost use Rattle.dbtg.specs.Asking.{asked_of, behind_spaces};
+ghost use Rattle.dbtg.specs.Sessions.{IsLastAnswer, IsNoUnit, IsTold, TakesAsked, TakesLine};
+ghost use Rattle.dbtg.specs.declared.shell.asked.Asked.{Asked as AskedOf};
+
+use crate::explain::{Kind, Topic, explained, fault_topic, status_topic, topic_of};
+use crate::shell::asked::{Asked, read_asked};
+use crate::shell::replies::{answer_reply, database_reply, fault_reply, unit_reply, units_reply};
+use crate::shell::session::{Refusal, Session};
+use dbtg_script::{Cause, is_number, number};
+use std::alloc::{AllocError, Global};
+
+/// What is left to be done for a line: to print a text, to save the session in a directory, or to end.
+#[derive(Drop)]
+pub enum Reply<'a> {
+    Text(Vec<u8>),
+    Save(&'a str),
+    Quit,
+}
+
+/// What `.explain` alone explains.
+#[derive(Clone, Copy)]
+enum Last {
+    Nothing,
+    Status(u16),
+    Fault(u8),
+}
+
+/// A session, the unit whose turn it is, and what was told last.
+#[derive(Drop)]
+pub struct Shell<'a> {
+    pub session: Session<'a>,
+    pub turn: u8,
+    alloc: Global,
+    last: Last,
+}
+
+const HELP: &str = "\
+STATEMENT         is made by the unit whose turn it is
+2: STATEMENT      is made by unit 2
+.unit 2           gives unit 2 the turn, and shows its currents
+.units            shows the currents of each unit
+.database         shows the records, the lists of the sets and the areas
+.explain          explains the last status or fault
+.explain 0307     explains this status; .explain script 7 this fault
+.save DIRECTORY   writes the scripts and the turns so far, for replay --turns
+.help             shows this
+.quit             ends, as the end of the input does
+";
+
+const NOTHING_YET: &str = "nothing was answered yet\n";
+
+const NO_TOPIC: &str = "no status and no fault is called so\n";
+
+const NO_COMMAND: &str = "there is no such command: .help shows those that there are\n";
+
+const NO_DIRECTORY: &str = "the name of a directory is wanted, as text in UTF-8\n";
+
+fn words_of<'a>(alloc: Global, text: &'a str) -> Result<Vec<&'a str>, AllocError> {
+    let mut words = Vec::new(alloc);
+    for word in text.split(' ') {
+        if !word.is_empty() {
+            words.push(word)?;
+        }
+    }
+    Ok(words)
+}
+
+// The first word of a command, and what stands behind it without the spaces around.
+fn command_of(text: &str) -> (&str, &str) {
+    let text = text.trim();
+    match text.split_once(' ') {
+        Some((name, rest)) => (name, rest.trim()),
+        None => (text, ""),
+    }
+}
+
+impl<'a> Shell<'a> {
+    pub fn new(alloc: Global, session: Session<'a>) -> Self {
+        Shell {
+            session,
+            turn: 1,
+            alloc,
+            last: Last::Nothing,
+        }
+    }
+
+    fn text<'b>(&self, text: &str) -> Result<Reply<'b>, AllocError>
+        ensures { IfOk result (IsTold (λ out. out ≡ text.now)) }
+    {
+        Ok(Reply::Text(Vec::from_slice(self.alloc, text.as_bytes())?))
+    }
+
+    /// What a line comes to.
+    pub fn take_line<'b>(&mut self, line: &'b [u8]) -> Result<Reply<'b>, AllocError>
+        ensures { (one : AskedOf) × asked_of line.now (behind_spaces line.now) one × TakesAsked self.old.turn self.old.session one result self.new.session }
+    {
+        match read_asked(line) {
+            Asked::Command(command) => match str::from_utf8(command) {
+                Ok(command) => self.carry_out(command),
+                Err(_) => self.text(NO_COMMAND),
+            },
+            Asked::Statement(line) => self.make_for(self.turn as u64, line),
+            Asked::StatementOf { unit, line } => self.make_for(unit, line),
+        }
+    }
+
+    /// What a line comes to that is longer than any line may be.
+    pub fn take_long_line<'b>(&mut self) -> Result<Reply<'b>, AllocError> {
+        self.tell_fault(b"", Cause::LineNotAllowed)
+    }
+
+    // The unit of this number, if there is one.
+    fn unit_of(&self, number: u64) -> Option<u8>
+        ensures named { IfSome result (λ unit. unit ≡ number) }
+        ensures low { IfSome result (λ unit. 0 < unit) }
+        ensures high { IfSome result (λ unit. unit ≤ self.now.session.making.units) }
+        ensures missing { IfNone result (IsNoUnit self.now.session.making.units number) }
+    {
+        let count = self.session.units().len() as u64;
+        if number == 0 || count < number {
+            return None;
+        }
+        Some(number as u8)
+    }
+
+    fn no_unit<'b>(&self) -> Result<Reply<'b>, AllocError>
+        ensures { IfOk result (IsTold (λ out. ⊤)) }
+    {
+        let count = self.session.units().len();
+        let told = format!(in self.alloc;
+            "there is no such unit: they are numbered from 1 to {count}\n"
+        )?;
+        self.text(told.as_str())
+    }
+
+    fn tell_fault<'b>(&mut self, line: &[u8], cause: Cause) -> Result<Reply<'b>, AllocError>
+        ensures unchanged { self.new.session ≡ self.old.session }
+        ensures told { IfOk result (IsTold (λ out. ⊤)) }
+    {
+        let told = fault_reply(self.alloc, self.session.schema(), line, cause)?;
+        self.last = Last::Fault(cause.number());
+        Ok(Reply::Text(told))
+    }
+
+    // A statement of the unit of this number, where there is one.
+    fn make_for<'b>(&mut self, unit: u64, line: &[u8]) -> Result<Reply<'b>, AllocError>
+        ensures { TakesLine unit self.old.session line.now result self.new.session }
+    {
+        match self.unit_of(unit) {
+            Some(unit) => self.make_line(unit, line),
+            None => self.no_unit(),
+        }
+    }
+
+    fn make_line<'b>(&mut self, unit: u8, line: &[u8]) -> Result<Reply<'b>, AllocError>
+        requires low { 0 < unit }
+        requires high { unit ≤ self.old.session.making.units }
+        ensures { TakesLine unit self.old.session line.now result self.new.session }
+    {
+        match self.session.make_line(unit, line) {
+            Ok(false) => self.text(""),
+            Ok(true) => self.tell_last(),
+            Err(Refusal::Fault(cause)) => self.tell_fault(line, cause),
+            Err(Refusal::Memory) => Err(AllocError),
+        }
+    }
+
+    // The answer of the statement that was made last.
+    fn tell_last<'b>(&mut self) -> Result<Reply<'b>, AllocError>
+        ensures unchanged { self.new.session ≡ self.old.session }
+        ensures told { IfOk result (IsTold (IsLastAnswer self.old.session)) }
+    {
+        let schema = self.session.schema();
+        match self.session.last() {
+            None => self.text(""),
+            Some(entry) => {
+                self.last = Last::Status(entry.answer.status.code(&entry.statement));
+                Ok(Reply::Text(answer_reply(self.alloc, schema, entry)?))
+            }
+        }
+    }
+
+    fn carry_out<'b>(&mut self, command: &'b str) -> Result<Reply<'b>, AllocError>
+        ensures { self.new.session ≡ self.old.session }
+    {
+        let (name, rest) = command_of(command);
+        match name.as_bytes() {
+            b"database" if rest.is_empty() => {
+                Ok(Reply::Text(database_reply(self.alloc, &self.session)?))
+            }
+            b"units" if rest.is_empty() => {
+                Ok(Reply::Text(units_reply(self.alloc, &self.session)?))
+            }
+            b"unit" => self.give_turn(rest.as_bytes()),
+            b"explain" => self.explain(rest),
+            b"save" if rest.is_empty() => self.text(NO_DIRECTORY),
+            b"save" => Ok(Reply::Save(rest)),
+            b"help" if rest.is_empty() => self.text(HELP),
+            b"quit" if rest.is_empty() => Ok(Reply::Quit),
+            _ => self.text(NO_COMMAND),
+        }
+    }
+
+    // The unit that `.unit` names; without a number that whose turn it is.
+    fn unit_named(&self, digits: &[u8]) -> Option<u8>
+        ensures low { IfSome result (λ unit. 0 < unit) }
+        ensures high { IfSome result (λ unit. unit ≤ self.now.session.making.units) }
+    {
+        match digits {
+            [] => self.unit_of(self.turn as u64),
+            _ if is_number(digits) => self.unit_of(number(digits)),
+            _ => None,
+        }
+    }
+
+    fn give_turn<'b>(&mut self, digits: &[u8]) -> Result<Reply<'b>, AllocError>
+        ensures { self.new.session ≡ self.old.session }
+    {
+        match self.unit_named(digits) {
+            None => self.no_unit(),
+            Some(unit) => {
+                self.turn = unit;
+                Ok(Reply::Text(unit_reply(self.alloc, &self.session, unit)?))
+            }
+        }
+    }
+
+    fn last_topic(&self) -> Option<Topic> {
+        match self.last {
+            Last::Nothing => None,
+            Last::Status(code) => status_topic(code),
+            Last::Fault(number) => fault_topic(Kind::Script, number as u16),
+        }
+    }
+
+    fn explain<'b>(&self, rest: &str) -> Result<Reply<'b>, AllocError> {
+        let words = words_of(self.alloc, rest)?;
+        let topic = if words.is_empty() {
+            self.last_topic()
+        } else {
+            topic_of(words.as_slice())
+        };
+        match topic {
+            Some(topic) => Ok(Reply::Text(explained(self.alloc, &topic)?)),
+            None if words.is_empty() => self.text(NOTHING_YET),
+            None => self.text(NO_TOPIC),
+        }
+    }
+}

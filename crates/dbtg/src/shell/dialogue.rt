@@ -1,0 +1,161 @@
+//! The dialogue of the shell: lines come from standard input, and what each comes to goes to standard output at once.
+
+use crate::command::ShellCall;
+use crate::shell::commands::{Reply, Shell};
+use crate::shell::saved::save;
+use crate::shell::session::Session;
+use std::alloc::AllocError;
+use std::io::{self, BufRead, Input, IsTerminal, Read, Write};
+
+// Of a longer line no more is kept: a statement has at most 1,000 bytes.
+const LINE_BYTES: u64 = 8192;
+
+const WANT_OF_MEMORY: &str = "want of memory\n";
+
+/// How much of a line was kept: all of it, or the beginning of one that is too long.
+#[derive(Clone, Copy)]
+enum Kept {
+    All,
+    Beginning,
+}
+
+// Takes the bytes up to a line feed, and no more than are kept.
+fn take_front<B: BufRead>(input: &mut B, line: &mut Vec<u8>) -> io::Result<usize> {
+    Read::by_ref(input).take(LINE_BYTES).read_until(b'\n', line)
+}
+
+// Reads a line, without its line feed; none where the input is at its end. The last line need not have a line feed.
+fn next_line<B: BufRead>(input: &mut B, line: &mut Vec<u8>) -> io::Result<Option<Kept>> {
+    line.clear();
+    let count = take_front(input, line)?;
+    if count == 0 {
+        return Ok(None);
+    }
+    if line.last() == Some(&b'\n') {
+        let _ = line.pop();
+        return Ok(Some(Kept::All));
+    }
+    if (count as u64) < LINE_BYTES {
+        return Ok(Some(Kept::All));
+    }
+    input.skip_until(b'\n')?;
+    Ok(Some(Kept::Beginning))
+}
+
+/// Why a dialogue ends before the end of its input.
+#[derive(Drop)]
+pub enum Broken {
+    NotRead,
+    NotWritten,
+}
+
+fn write(rt: &HostRuntime, text: &[u8]) -> Result<(), Broken> {
+    match io::writer(rt).write_all(text) {
+        Ok(()) => Ok(()),
+        Err(_) => Err(Broken::NotWritten),
+    }
+}
+
+// A terminal is shown whose turn it is.
+fn write_prompt(rt: &HostRuntime, prompts: bool, turn: u8) -> Result<(), Broken> {
+    if !prompts {
+        return Ok(());
+    }
+    write(rt, &[b'0' + turn % 10, b'>', b' '])
+}
+
+// Ends the line of the prompt behind which nothing was typed.
+fn write_end(rt: &HostRuntime, prompts: bool) -> Result<(), Broken> {
+    if !prompts {
+        return Ok(());
+    }
+    write(rt, b"\n")
+}
+
+fn write_saved(
+    rt: &HostRuntime,
+    session: &Session<'_>,
+    call: &ShellCall<'_>,
+    directory: &str,
+) -> Result<(), Broken> {
+    match save(rt, session, call.capacity, call.schema, directory) {
+        Ok(told) => write(rt, told.as_bytes()),
+        Err(_) => write(rt, WANT_OF_MEMORY.as_bytes()),
+    }
+}
+
+// Prints what a line came to.
+fn write_reply(
+    rt: &HostRuntime,
+    session: &Session<'_>,
+    call: &ShellCall<'_>,
+    reply: &Result<Reply<'_>, AllocError>,
+) -> Result<(), Broken> {
+    match reply {
+        Ok(Reply::Text(text)) => write(rt, text.as_slice()),
+        Ok(Reply::Save(directory)) => write_saved(rt, session, call, *directory),
+        Ok(Reply::Quit) => Ok(()),
+        Err(_) => write(rt, WANT_OF_MEMORY.as_bytes()),
+    }
+}
+
+// What a line comes to.
+fn reply_to<'b>(
+    shell: &mut Shell<'_>,
+    kept: Kept,
+    line: &'b [u8],
+) -> Result<Reply<'b>, AllocError> {
+    match kept {
+        Kept::All => shell.take_line(line),
+        Kept::Beginning => shell.take_long_line(),
+    }
+}
+
+// Answers a line; whether the dialogue goes on.
+fn answer(
+    rt: &HostRuntime,
+    shell: &mut Shell<'_>,
+    call: &ShellCall<'_>,
+    kept: Kept,
+    line: &[u8],
+) -> Result<bool, Broken> {
+    let reply = reply_to(shell, kept, line);
+    write_reply(rt, &shell.session, call, &reply)?;
+    Ok(!matches!(reply, Ok(Reply::Quit)))
+}
+
+// Answers the lines of an input. What is large is lent to it, since each way out of the loop would have to drop it.
+fn answer_lines<B: BufRead>(
+    rt: &HostRuntime,
+    shell: &mut Shell<'_>,
+    call: &ShellCall<'_>,
+    input: &mut B,
+    line: &mut Vec<u8>,
+) -> Result<(), Broken> {
+    let prompts = rt.stdin().is_terminal();
+    for _ in 0..u64::MAX {
+        write_prompt(rt, prompts, shell.turn)?;
+        let kept = match next_line(input, line) {
+            Ok(Some(kept)) => kept,
+            Ok(None) => return write_end(rt, prompts),
+            Err(_) => return Err(Broken::NotRead),
+        };
+        if !answer(rt, shell, call, kept, line.as_slice())? {
+            return Ok(());
+        }
+    }
+    Ok(())
+}
+
+/// Answers the lines of standard input, one after another, up to its end or `.quit`. A terminal is shown whose turn it is.
+pub fn converse(
+    rt: &HostRuntime,
+    session: Session<'_>,
+    call: &ShellCall<'_>,
+) -> Result<(), Broken> {
+    let alloc = rt.alloc();
+    let mut shell = Shell::new(alloc, session);
+    let mut input = rt.reader();
+    let mut line = Vec::new(alloc);
+    answer_lines(rt, &mut shell, call, &mut input, &mut line)
+}

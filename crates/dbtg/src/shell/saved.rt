@@ -1,0 +1,106 @@
+//! Saving a session: a file for the script of each unit, and one for the turns.
+
+use crate::shell::session::{Script, Session};
+use std::alloc::AllocError;
+use std::fs;
+
+// What comes of writing a file: nothing to tell, or the line that tells that it cannot be written.
+fn written(rt: &HostRuntime, path: &str, bytes: &[u8]) -> Result<Option<String>, AllocError> {
+    match fs::write(rt, path, bytes) {
+        Ok(()) => Ok(None),
+        Err(_) => Ok(Some(format!(in rt.alloc(); "cannot write {path}\n")?)),
+    }
+}
+
+fn save_script(
+    rt: &HostRuntime,
+    directory: &str,
+    number: usize,
+    text: &[u8],
+) -> Result<Option<String>, AllocError> {
+    let path = format!(in rt.alloc(); "{directory}/script.{number}")?;
+    written(rt, path.as_str(), text)
+}
+
+// Saves the scripts, up to the first that cannot be written.
+fn save_scripts(
+    rt: &HostRuntime,
+    directory: &str,
+    scripts: &[Script],
+) -> Result<Option<String>, AllocError> {
+    for (i, script) in scripts.iter().enumerate() {
+        let number = i.saturating_add(1);
+        if let Some(told) = save_script(rt, directory, number, script.text.as_slice())? {
+            return Ok(Some(told));
+        }
+    }
+    Ok(None)
+}
+
+fn save_turns(
+    rt: &HostRuntime,
+    directory: &str,
+    session: &Session<'_>,
+) -> Result<Option<String>, AllocError> {
+    let turns = session.turns()?;
+    let path = format!(in rt.alloc(); "{directory}/turns")?;
+    written(rt, path.as_str(), turns.as_slice())
+}
+
+// Saves the scripts and the turns, up to the first file that cannot be written.
+fn save_all(
+    rt: &HostRuntime,
+    directory: &str,
+    session: &Session<'_>,
+) -> Result<Option<String>, AllocError> {
+    match save_scripts(rt, directory, session.scripts())? {
+        Some(told) => Ok(Some(told)),
+        None => save_turns(rt, directory, session),
+    }
+}
+
+fn push_script(
+    rt: &HostRuntime,
+    told: &mut String,
+    directory: &str,
+    number: usize,
+) -> Result<(), AllocError> {
+    let path = format!(in rt.alloc(); " {directory}/script.{number}")?;
+    told.push_str(path.as_str())
+}
+
+// The command that makes the statements of so many saved scripts again.
+fn command_for(
+    rt: &HostRuntime,
+    count: usize,
+    capacity: u16,
+    schema: &str,
+    directory: &str,
+) -> Result<String, AllocError> {
+    let mut told = format!(in rt.alloc();
+        "saved: dbtg replay --capacity {capacity} --turns {directory}/turns {schema}"
+    )?;
+    for i in 0..count {
+        push_script(rt, &mut told, directory, i.saturating_add(1))?;
+    }
+    told.push_str("\n")?;
+    Ok(told)
+}
+
+/// Writes the scripts and the turns of a session into a directory, which is made where there is none, and says how they are made
+/// again, or which file could not be written.
+pub fn save(
+    rt: &HostRuntime,
+    session: &Session<'_>,
+    capacity: u16,
+    schema: &str,
+    directory: &str,
+) -> Result<String, AllocError> {
+    if fs::create_dir_all(rt, directory).is_err() {
+        return format!(in rt.alloc(); "cannot write {directory}\n");
+    }
+    match save_all(rt, directory, session)? {
+        Some(told) => Ok(told),
+        None => command_for(rt, session.scripts().len(), capacity, schema, directory),
+    }
+}

@@ -1,0 +1,194 @@
+//! The picture of an interleaving.
+ghost use Rattle.std.specs.Prelude.{◌≡◌, ◌≤◌, ◌++◌, IfErr, IfOk, OnOk, length, map, replicate, true};
+ghost use Rattle.dbtg_schema.specs.Sound.{IsSound};
+ghost use Rattle.dbtg_script.specs.Lines.{statement_lines};
+ghost use Rattle.dbtg_step.specs.Laws.{scripts_fit};
+ghost use Rattle.dbtg_timeline.specs.Watching.{events_of_run};
+ghost use Rattle.dbtg.specs.ByTurns.{StandFor};
+ghost use Rattle.dbtg.specs.Picturing.{IsPictured, TimelineHeld, picture, serial_turns};
+ghost use Rattle.dbtg.specs.Refusals.{is_count};
+ghost use Rattle.dbtg.specs.Sources.{ReadSchema, ToldOfRun};
+
+use crate::copies::copy_scripts;
+use crate::fault::Fault;
+use crate::order::OrderKind;
+use crate::replay::check_count;
+use crate::source::Source;
+use crate::texts::{Scripts, read_moves, read_schema, read_scripts_with_texts, read_turns};
+use dbtg_schema::{Row, Schema};
+use dbtg_script::statement_lines;
+use dbtg_step::{Turned, run_turns};
+use dbtg_timeline::{Event, timeline_svg, timeline_text, watch};
+use dbtg_unit::{Move, Statement};
+use std::alloc::{AllocError, Global};
+
+fn push_turns(turns: &mut Vec<u8>, unit: u8, count: usize) -> Result<(), AllocError>
+    ensures { OnOk result (turns.new.items ≡ turns.old.items ++ replicate count unit) }
+{
+    for _turn in 0..count {
+        turns.push(unit)?;
+    }
+    Ok(())
+}
+
+// The turns by which one script is made after the other.
+fn serial_turns(alloc: Global, scripts: &[Row<Statement>]) -> Result<Vec<u8>, AllocError>
+    requires { length scripts.now ≤ 255 }
+    ensures { IfOk result (λ turns. turns.items ≡ serial_turns 1 scripts.now) }
+{
+    let mut turns = Vec::new(alloc);
+    let mut unit = 0;
+    for script in scripts {
+        unit += 1;
+        push_turns(&mut turns, unit, script.len())?;
+    }
+    Ok(turns)
+}
+
+// The moves that turns stand for, all of them.
+fn moves_of_turns(
+    alloc: Global,
+    schema: &Schema,
+    capacity: u16,
+    scripts: Row<Row<Statement>>,
+    turns: &[u8],
+) -> Result<Row<Move>, AllocError>
+    requires sound { IsSound schema.now }
+    requires units { length scripts ≤ 255 }
+    requires fit { scripts_fit schema.now scripts ≡ true }
+    ensures { IfOk result (λ moves. StandFor schema.now capacity scripts turns.now moves) }
+{
+    let Turned { run: _, moves } = run_turns(alloc, schema, capacity, scripts, turns, usize::MAX)?;
+    match moves {
+        Some(moves) => Ok(moves),
+        None => Err(AllocError),
+    }
+}
+
+// The texts of the statements of each script.
+fn texts_of_statements(alloc: Global, texts: &[Row<u8>]) -> Result<Vec<Row<Row<u8>>>, AllocError>
+    ensures { IfOk result (λ scripts. scripts.items ≡ map statement_lines texts.now) }
+{
+    let mut scripts = Vec::new(alloc);
+    for text in texts {
+        scripts.push(texts_in(alloc, text.as_slice())?)?;
+    }
+    Ok(scripts)
+}
+
+fn texts_in(alloc: Global, text: &[u8]) -> Result<Row<Row<u8>>, AllocError>
+    ensures { IfOk result (λ lines. lines ≡ statement_lines text.now) }
+{
+    let found = statement_lines(alloc, text)?;
+    copies_of(alloc, found.as_slice())
+}
+
+fn copies_of(alloc: Global, lines: &[&[u8]]) -> Result<Row<Row<u8>>, AllocError>
+    ensures { IfOk result (λ copies. copies ≡ map (λ s. s.now) lines.now) }
+{
+    let mut copies = Vec::new(alloc);
+    for line in lines {
+        copies.push(Row::of(Vec::from_slice(alloc, *line)?))?;
+    }
+    Ok(Row::of(copies))
+}
+
+fn picture(
+    alloc: Global,
+    svg: bool,
+    scripts: &[Row<Row<u8>>],
+    events: &[Event],
+) -> Result<Vec<u8>, AllocError>
+    ensures { IfOk result (λ out. out.items ≡ picture svg scripts.now events.now) }
+{
+    if svg {
+        timeline_svg(alloc, scripts, events)
+    } else {
+        timeline_text(alloc, scripts, events)
+    }
+}
+
+// The picture of these moves.
+fn picture_of_moves(
+    alloc: Global,
+    schema: &Schema,
+    capacity: u16,
+    scripts: Scripts,
+    svg: bool,
+    moves: &[Move],
+) -> Result<Vec<u8>, AllocError>
+    requires sound { IsSound schema.now }
+    requires units { length scripts.statements ≤ 255 }
+    requires fit { scripts_fit schema.now scripts.statements ≡ true }
+    ensures { IfOk result (λ out. out.items ≡ picture svg (map statement_lines scripts.texts) (events_of_run schema.now capacity scripts.statements moves.now)) }
+{
+    let Scripts { statements, texts } = scripts;
+    let lines = texts_of_statements(alloc, texts.as_slice())?;
+    let events = watch(alloc, schema, capacity, statements, moves)?;
+    picture(alloc, svg, lines.as_slice(), events.as_slice())
+}
+
+// The picture of the moves that these turns stand for.
+fn picture_of_turns(
+    alloc: Global,
+    schema: &Schema,
+    capacity: u16,
+    scripts: Scripts,
+    svg: bool,
+    turns: &[u8],
+) -> Result<Vec<u8>, AllocError>
+    requires sound { IsSound schema.now }
+    requires units { length scripts.statements ≤ 255 }
+    requires fit { scripts_fit schema.now scripts.statements ≡ true }
+    ensures { IfOk result (λ out. IsPictured schema.now capacity scripts.statements scripts.texts svg (StandFor schema.now capacity scripts.statements turns.now) out.items) }
+{
+    let copies = copy_scripts(alloc, scripts.statements.as_slice())?;
+    let moves = moves_of_turns(alloc, schema, capacity, copies, turns)?;
+    picture_of_moves(alloc, schema, capacity, scripts, svg, moves.as_slice())
+}
+
+fn timeline_known<S: Source>(
+    alloc: Global,
+    source: &S,
+    known: &Schema,
+    capacity: u16,
+    svg: bool,
+) -> Result<Vec<u8>, Fault>
+    requires counted { is_count (S.count source.now) ≡ true }
+    requires read { ReadSchema (S.holds source.now) known.now }
+    requires sound { IsSound known.now }
+    ensures done { IfOk result (λ out. TimelineHeld (S.holds source.now) (S.count source.now) (S.order source.now) capacity svg out.items) }
+    ensures refused { IfErr result (λ fault. ToldOfRun (S.holds source.now) (S.fails source.now) fault (S.count source.now) (S.order source.now)) }
+{
+    let scripts = read_scripts_with_texts(alloc, source, known)?;
+    match source.order() {
+        OrderKind::Serial => {
+            let turns = serial_turns(alloc, scripts.statements.as_slice())?;
+            Ok(picture_of_turns(alloc, known, capacity, scripts, svg, turns.as_slice())?)
+        }
+        OrderKind::Moves => {
+            let moves = read_moves(alloc, source)?;
+            Ok(picture_of_moves(alloc, known, capacity, scripts, svg, moves.as_slice())?)
+        }
+        OrderKind::Turns => {
+            let turns = read_turns(alloc, source)?;
+            Ok(picture_of_turns(alloc, known, capacity, scripts, svg, turns.as_slice())?)
+        }
+    }
+}
+
+/// What `timeline` prints of the schema, the scripts and the moves or turns that a source gives, or the first fault. Without moves and
+/// turns one script is made after the other.
+pub fn timeline<S: Source>(
+    alloc: Global,
+    source: &S,
+    capacity: u16,
+    svg: bool,
+) -> Result<Vec<u8>, Fault>
+    ensures done { IfOk result (λ out. TimelineHeld (S.holds source.now) (S.count source.now) (S.order source.now) capacity svg out.items) }
+    ensures refused { IfErr result (λ fault. ToldOfRun (S.holds source.now) (S.fails source.now) fault (S.count source.now) (S.order source.now)) }
+{
+    check_count(source.count())?;
+    let known = read_schema(alloc, source)?;
+    timeline_known(alloc, source, &known, capacity, svg)
+}

@@ -1,0 +1,24 @@
+use Rattle.std.proofs.Common.{◌∙◌, ap, subst, sym, ℕ, List, inr}
+use Rattle.std.specs.Option.{option_copied_mut}
+use Rattle.indexmap.specs.Layout.{set_value_at}
+use Rattle.dbtg_outcomes.specs.Grouped.{IsAdded, IsAt}
+use Rattle.dbtg_outcomes.specs.declared.groups.Group.{Group}
+use Rattle.dbtg_outcomes.proofs.Entries.{added_more, some_at, viewed}
+use Rattle.dbtg_outcomes.proofs.groups.Groups.add.Goals as goal
+use Rattle.dbtg_outcomes.proofs.groups.Groups.add.Goals.{in-Some-get_index_mut, in_default}
+
+pub returns-after-get_index_mut : goal.returns-after-get_index_mut
+returns-after-get_index_mut c =
+    let es = c.self.inside.groups.entries in
+    let at =
+    subst (λ (l : List (List ℕ × Group)). IsAt l c.args.key.items c.in-Some.at) (sym c.self.view_is)
+    (subst (λ (k : List ℕ). IsAt c.args.self.now k c.in-Some.at) c.as_slice.ensures.value c.in-Some.ensures.found) in
+    elim c.match-get_index_mut.branch [
+      | in-Some-get_index_mut w ↦
+          let known = w.in-Some-get_index_mut.known.now in
+          let new : Group = record { history = known.history; orders = w.together-known.result } in
+          rw w.self-inside-is
+          (subst (λ (l : List (List ℕ × Group)). IsAdded l c.args.key.items c.args.group (viewed (λ k. k.items) (set_value_at es c.in-Some.at new))) c.self.view_is
+          (inr (c.in-Some.at, added_more (λ k. k.items) es c.in-Some.at c.args.key.items c.args.group.orders known new at (sym c.get_index_mut.ensures.value ∙ ap option_copied_mut w.in-Some-get_index_mut.is) (λ i. record { history = known.history; orders = w.together-known.ensures i }))))
+      | in_default w ↦ absurd (some_at (λ k. k.items) es c.in-Some.at c.args.key.items at (sym c.get_index_mut.ensures.value ∙ ap option_copied_mut w.in_default.is))
+    ]

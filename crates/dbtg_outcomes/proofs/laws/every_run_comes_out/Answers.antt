@@ -1,0 +1,5 @@
+use Rattle.dbtg_outcomes.proofs.ComesOut.{every-run}
+use Rattle.dbtg_outcomes.proofs.laws.every_run_comes_out.Goals as goal
+
+pub returns : goal.returns
+returns c = every-run

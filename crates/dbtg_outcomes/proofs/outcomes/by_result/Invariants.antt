@@ -1,0 +1,6 @@
+use Rattle.std.proofs.Common.{take}
+use Rattle.dbtg_outcomes.specs.Steps.{HoldAll}
+use Rattle.dbtg_outcomes.proofs.outcomes.by_result.Given as goal
+
+abbrev pub invariant-loop-group : goal.invariant-loop-group
+invariant-loop-group l = HoldAll l.meeting (take l.group-index l.last) l.results

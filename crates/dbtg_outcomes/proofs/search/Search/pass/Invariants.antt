@@ -1,0 +1,7 @@
+use Rattle.std.proofs.Common.{take}
+use Rattle.dbtg_outcomes.specs.Orders.{count_statements}
+use Rattle.dbtg_outcomes.specs.Steps.{Advances}
+use Rattle.dbtg_outcomes.proofs.search.Search.pass.Given as goal
+
+abbrev pub invariant-loop-script : goal.invariant-loop-script
+invariant-loop-script l = Advances l.meeting (count_statements (take l.script-index l.scripts)) l.initial.self l.self

@@ -1,0 +1,5 @@
+use Rattle.dbtg_outcomes.specs.Steps.{Advances}
+use Rattle.dbtg_outcomes.proofs.search.Search.steps.Given as goal
+
+abbrev pub invariant-loop-turn : goal.invariant-loop-turn
+invariant-loop-turn l = Advances l.meeting l._turn l.initial.self l.self

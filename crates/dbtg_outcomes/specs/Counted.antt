@@ -1,0 +1,5 @@
+-- Numbers as they are given: none where a number is above what 64 bits can count.
+use Rattle.std.specs.Prelude.{ℕ, ◌^◌, nat_lt, Option, Some, None, if◌then◌else◌}
+
+abbrev pub counted : ℕ → Option ℕ
+counted n = if nat_lt n (2 ^ 64) then Some n else None

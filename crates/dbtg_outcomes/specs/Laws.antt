@@ -1,0 +1,82 @@
+-- What the orders are, and the law of the machine of events and the outcomes: every run comes out as one of the results.
+-- m is a meeting of scripts, u a unit.
+use Rattle.std.specs.Prelude.{ℕ, ◌≡◌, ◌<◌, ◌≤◌, ◌==◌, List, [], ◌∷◌, ◌++◌, ⊤, Some, None, map, filter, length, flat_map, Contains, if◌then◌else◌}
+use Rattle.dbtg_schema.specs.Lists.{Lists}
+use Rattle.dbtg_script.specs.Texts.{answers_text, run_text}
+use Rattle.dbtg_unit.specs.declared.moves.Move.{Move}
+use Rattle.dbtg_unit.specs.declared.statement.Statement.{Statement}
+use Rattle.dbtg_unit.specs.declared.unit.Entry.{Entry}
+use Rattle.dbtg_unit.specs.Codes.{status_code}
+use Rattle.dbtg_unit.specs.Replay.{entries_of}
+use Rattle.dbtg_unit.specs.Replaying.{statements_of}
+use Rattle.dbtg_step.specs.declared.results.Run.{Run}
+use Rattle.dbtg_step.specs.SequentialDatabase.{unit_at}
+use Rattle.dbtg_step.specs.Machine.{State, UnitState}
+use Rattle.dbtg_step.specs.Network.{network}
+use Rattle.dbtg_step.specs.Headline.{RunIs, machine_after}
+use Rattle.dbtg_outcomes.specs.Groups.{groups}
+use Rattle.dbtg_outcomes.specs.Orders.{orders}
+use Rattle.dbtg_outcomes.specs.Outcomes.{Comes}
+use Rattle.dbtg_outcomes.specs.Results.{Meeting, by_unit, result_text, units_of, untimed}
+
+-- THE ORDERS
+
+-- each statement is a unit's, and the statements of each unit are its script
+pub record IsMerge (scripts : List (List Statement)) (o : List (ℕ × Statement)) : Type 0 where
+  pub of_units : (s : ℕ × Statement) → Contains o s → (0 < s.0) × (s.0 ≤ length scripts)
+  pub of_scripts : (u : ℕ) (script : List Statement) → unit_at scripts u ≡ Some script → map (λ s. s.1) (filter (λ s. s.0 == u) o) ≡ script
+
+-- the units whose turn it is
+abbrev pub turns : List (ℕ × Statement) → List ℕ
+turns o = map (λ s. s.0) o
+
+-- where two lists of numbers first differ, the first has the lower number
+pub record IsBefore (ns ks : List ℕ) : Type 0 where
+  pub both : List ℕ
+  pub low : ℕ
+  pub high : ℕ
+  pub lower : low < high
+  pub rest : List ℕ
+  pub others : List ℕ
+  pub first_is : ns ≡ both ++ low ∷ rest
+  pub second_is : ks ≡ both ++ high ∷ others
+
+-- the turns of each come before those of all that follow, as in a dictionary
+abbrev pub AreInOrder : List (List (ℕ × Statement)) → Type 0
+AreInOrder [] = ⊤
+AreInOrder (o ∷ os) = ((p : List (ℕ × Statement)) → Contains os p → IsBefore (turns o) (turns p)) × AreInOrder os
+
+-- they are all merges of the scripts, each once, as a dictionary has them
+pub record AreAllMerges (scripts : List (List Statement)) : Type 0 where
+  pub all : (o : List (ℕ × Statement)) → IsMerge scripts o → Contains (orders scripts) o
+  pub only : (o : List (ℕ × Statement)) → Contains (orders scripts) o → IsMerge scripts o
+  pub in_order : AreInOrder (orders scripts)
+
+-- RUNS
+
+-- each unit is at the end of its script, and none is in mid-statement
+pub record IsAtEnd (schema : Lists) (capacity : ℕ) (s : State (network schema capacity)) : Type 0 where
+  pub each : (u : ℕ) (state : UnitState (network schema capacity)) → unit_at s.units u ≡ Some state → (state.remaining ≡ []) × (state.progress ≡ None)
+
+-- the answers of each unit in a run as they are printed, but for their tickets, where they tell results apart
+abbrev pub answers_of_run : Meeting → Run → List (List ℕ)
+answers_of_run m run = if m.tells then map (λ u. answers_text m.schema (map untimed (entries_of u run.history))) (units_of m) else []
+
+-- the text of a run by which its result is told from others: these answers, and what is printed behind `--`, but that the units
+-- that have an area open stand in the order of their numbers
+abbrev pub text_of_run : Meeting → Run → List ℕ
+text_of_run m run =
+    flat_map (λ t. t) (answers_of_run m run) ++ run_text m.schema [] run.image.records run.image.lists run.image.next (map (by_unit (units_of m)) run.image.usage) run.units
+
+-- a run makes the statements in one of the orders, and has the text of one of the results; the status of each of its statements is
+-- one of those that come
+pub record ComesOut (m : Meeting) (run : Run) : Type 0 where
+  pub is_order : Contains (orders m.scripts) (statements_of run.history)
+  pub result : List (ℕ × Statement) × ℕ
+  pub is_result : Contains (groups (result_text m) (orders m.scripts)) result
+  pub text_is : text_of_run m run ≡ result_text m result.0
+  pub statuses : (before rest : List Entry) (e : Entry) → run.history ≡ before ++ e ∷ rest → Comes m e.unit (length (entries_of e.unit before)) (status_code e.statement e.answer.status)
+
+-- whatever the moves, if at their end all scripts are at their end, and no unit is in mid-statement
+abbrev pub EveryRunComesOut : Meeting → Type 0
+EveryRunComesOut m = (moves : List Move) (run : Run) → IsAtEnd m.schema m.capacity (machine_after m.schema m.capacity m.scripts moves) → RunIs m.schema m.capacity m.scripts moves run → ComesOut m run

@@ -1,0 +1,13 @@
+pub mod Counted
+pub mod Gathered
+pub mod Given
+pub mod Groups
+pub mod Grouped
+pub mod Laws
+pub mod Orders
+pub mod Outcomes
+pub mod Results
+pub mod Search
+pub mod Spelling
+pub mod Statuses
+pub mod Steps

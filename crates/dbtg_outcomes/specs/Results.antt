@@ -1,0 +1,72 @@
+-- What an order leads to: the state after it, and the text by which its result is told from others.
+-- m is a meeting of scripts, u a unit.
+use Rattle.std.specs.Prelude.{ℕ, ◌==◌, Bool, List, [], ◌∷◌, ◌++◌, map, filter, length, option_map, option_to_list, flat_map, if◌then◌else◌}
+use Rattle.std.specs.List.{range_with_len}
+use Rattle.dbtg_schema.specs.Lists.{Lists}
+use Rattle.dbtg_cells.specs.declared.usage.Mode.{Mode}
+use Rattle.dbtg_script.specs.Texts.{answers_text, run_text}
+use Rattle.dbtg_unit.specs.declared.statement.Statement.{Statement}
+use Rattle.dbtg_unit.specs.declared.unit.Entry.{Entry}
+use Rattle.dbtg_unit.specs.Image.{image_of}
+use Rattle.dbtg_unit.specs.Replay.{State, after_outcome, entries_of, opening_state, outcome_of, state_after}
+use Rattle.dbtg_outcomes.specs.Orders.{made}
+use Rattle.dbtg_outcomes.specs.Spelling.{image_numbers, list_numbers, one_number, unit_numbers}
+
+-- scripts that run at the same time, a unit for each, and whether the answers that units get tell results apart
+pub record Meeting : Type 0 where
+  pub schema : Lists
+  pub capacity : ℕ
+  pub scripts : List (List Statement)
+  pub tells : Bool
+
+-- the units, by number
+abbrev pub units_of : Meeting → List ℕ
+units_of m = range_with_len 1 (length m.scripts)
+
+-- the state after an order
+abbrev pub state_of : Meeting → List (ℕ × Statement) → State
+state_of m order = state_after m.schema m.capacity (opening_state m.schema (length m.scripts)) order
+
+-- a statement with the answer that a state gives to it, if there is such a unit; it has no ticket
+abbrev pub entry_in : Lists → ℕ → State → ℕ × Statement → List Entry
+entry_in schema capacity state s =
+    option_to_list (option_map (λ o. record { ticket = 0; unit = s.0; statement = s.1; answer = o.answer }) (outcome_of schema capacity state s.0 s.1))
+
+-- an entry without its ticket
+abbrev pub untimed : Entry → Entry
+untimed e = record e { ticket = 0 }
+
+-- the statements of an order with their answers, from a state on
+abbrev pub entries_in : Lists → ℕ → State → List (ℕ × Statement) → List Entry
+entries_in schema capacity state [] = []
+entries_in schema capacity state (s ∷ order) =
+    entry_in schema capacity state s ++ entries_in schema capacity (after_outcome state s.0 (outcome_of schema capacity state s.0 s.1)) order
+
+-- the answers of a unit, as they are printed, but for their tickets
+abbrev pub unit_answers : Meeting → List (ℕ × Statement) → ℕ → List ℕ
+unit_answers m order u =
+    answers_text m.schema (entries_of u (entries_in m.schema m.capacity (opening_state m.schema (length m.scripts)) order))
+
+-- those of each unit, where they tell results apart
+abbrev pub answers_told : Meeting → List (ℕ × Statement) → List (List ℕ)
+answers_told m order = if m.tells then map (unit_answers m order) (units_of m) else []
+
+-- who has an area open, in the order of the units
+abbrev pub by_unit : List ℕ → List (ℕ × Mode) → List (ℕ × Mode)
+by_unit units users = flat_map (λ u. filter (λ e. e.0 == u) users) units
+
+-- what is printed behind `--`, but that the units that have an area open stand in the order of their numbers; before it the
+-- answers that tell results apart
+abbrev pub result_text : Meeting → List (ℕ × Statement) → List ℕ
+result_text m order =
+    let state = state_of m order in
+    let image = image_of m.schema m.capacity state.database in
+    flat_map (λ t. t) (answers_told m order) ++ run_text m.schema [] image.records image.lists image.next (map (by_unit (units_of m)) image.usage) state.units
+
+-- the state after an order as numbers: how far each unit is, the database and the units, and the answers that tell results apart
+abbrev pub state_key : Meeting → List (ℕ × Statement) → List ℕ
+state_key m order =
+    list_numbers one_number (map (λ u. made u order) (units_of m))
+    ++ (image_numbers (image_of m.schema m.capacity (state_of m order).database)
+    ++ (list_numbers unit_numbers (state_of m order).units
+    ++ list_numbers (list_numbers one_number) (answers_told m order)))

@@ -1,0 +1,19 @@
+//! All that can come out when scripts run at the same time: every order of their statements, by the states to which they lead.
+#![tactic(auto)]
+
+mod answered;
+mod count;
+mod groups;
+mod laws;
+mod meeting;
+mod notes;
+mod outcomes;
+mod parts;
+mod search;
+mod spelled;
+mod told;
+
+pub use answered::Answered;
+pub use laws::{every_run_comes_out, orders_are_all_merges};
+pub use outcomes::{OneResult, Outcomes, all_outcomes};
+pub use search::Stop;

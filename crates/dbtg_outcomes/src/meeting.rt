@@ -1,0 +1,166 @@
+//! Scripts that run at the same time, and what one order of their statements leads to.
+ghost use Rattle.std.specs.Prelude.{◌≡◌, ◌++◌, ◌∷◌, ◌<◌, ◌≤◌, [], true, length, map, IfOk};
+ghost use Rattle.std.specs.List.{range_with_len};
+ghost use Rattle.dbtg_unit.specs.Fits.{fits};
+ghost use Rattle.dbtg_unit.specs.Replay.{IsHistoryOf, entries_of};
+ghost use Rattle.dbtg_unit.specs.Replaying.{statements_of};
+ghost use Rattle.dbtg_outcomes.specs.Outcomes.{HasStatus, IsMeeting, IsRunOf};
+ghost use Rattle.dbtg_outcomes.specs.Results.{answers_told, result_text, state_key};
+
+use crate::spelled::Spelled;
+use crate::told::{answers_by_unit, result_text};
+use dbtg_schema::{Row, Schema};
+use dbtg_step::{Run, WholeDatabase};
+use dbtg_unit::{Entry, Statement};
+use std::alloc::{AllocError, Global};
+use std::marker::Model;
+
+/// The scripts, a unit for each, and whether the answers that units get tell results apart.
+#[derive(Drop)]
+pub struct Meeting<'a> {
+    pub schema: &'a Schema,
+    pub capacity: u16,
+    pub scripts: &'a [Row<Statement>],
+    pub tells_answers: bool,
+}
+
+impl<'a> Model for Meeting<'a> {
+    ghost use Rattle.dbtg_outcomes.specs.Results.{Meeting as MeetingOfScripts};
+
+    ghost Value = { MeetingOfScripts };
+
+    ghost view = { λ m. record { schema = m.schema.now; capacity = m.capacity; scripts = m.scripts.now; tells = m.tells_answers } };
+}
+
+/// How many statements the unit has made.
+pub fn made_by(history: &[Entry], unit: u8) -> usize
+    ensures { result ≡ length (entries_of unit history.now) }
+{
+    history.iter().filter(|entry| entry.unit == unit).count()
+}
+
+/// How many statements each unit has made.
+fn made_by_each(alloc: Global, history: &[Entry], units: u8) -> Result<Row<u64>, AllocError>
+    ensures { IfOk result (λ made. made ≡ map (λ u. length (entries_of u history.now)) (range_with_len 1 units)) }
+{
+    let mut made = Row::of(Vec::new(alloc));
+    for before in 0..units {
+        made.push(made_by(history, before + 1) as u64)?;
+    }
+    Ok(made)
+}
+
+// Bytes as numbers.
+fn as_numbers(alloc: Global, bytes: &[u8]) -> Result<Vec<u64>, AllocError>
+    ensures { IfOk result (λ numbers. numbers.items ≡ bytes.now) }
+{
+    let mut numbers = Vec::new(alloc);
+    for byte in bytes {
+        numbers.push(*byte as u64)?;
+    }
+    Ok(numbers)
+}
+
+impl<'a> Meeting<'a> {
+    /// How many units there are.
+    pub fn units(&self) -> u8
+        requires { IsMeeting self.now }
+        ensures { result ≡ length self.now.scripts }
+    {
+        self.scripts.len() as u8
+    }
+
+    /// The database after the statements of a history.
+    fn after(&self, alloc: Global, history: &[Entry]) -> Result<WholeDatabase<'a>, AllocError>
+        requires meeting { IsMeeting self.now }
+        requires history { IsHistoryOf self.now.schema self.now.capacity (length self.now.scripts) history.now }
+        ensures same { IfOk result (λ database. database ≡ record { schema = self.now.schema; capacity = self.now.capacity; units = length self.now.scripts; history = database.history }) }
+        ensures made { IfOk result (λ database. statements_of database.history ≡ statements_of history.now) }
+    {
+        let mut database = WholeDatabase::opening(alloc, self.schema, self.capacity, self.units())?;
+        for entry in history {
+            database.make(entry.unit, entry.statement.copy(alloc)?)?;
+        }
+        Ok(database)
+    }
+
+    /// What comes of a history.
+    pub fn replayed(&self, alloc: Global, history: &[Entry]) -> Result<Run, AllocError>
+        requires meeting { IsMeeting self.now }
+        requires history { IsHistoryOf self.now.schema self.now.capacity (length self.now.scripts) history.now }
+        ensures { IfOk result (IsRunOf self.now (statements_of history.now)) }
+    {
+        self.after(alloc, history)?.into_run()
+    }
+
+    /// What comes of a history with one statement more, and the status of that.
+    pub fn extended(
+        &self,
+        alloc: Global,
+        history: &[Entry],
+        unit: u8,
+        statement: &Statement,
+    ) -> Result<(Run, u16), AllocError>
+        requires meeting { IsMeeting self.now }
+        requires history { IsHistoryOf self.now.schema self.now.capacity (length self.now.scripts) history.now }
+        requires numbered { 0 < unit }
+        requires within { unit ≤ length self.now.scripts }
+        requires fitting { fits self.now.schema statement.now ≡ true }
+        ensures run { IfOk result (λ made. IsRunOf self.now (statements_of history.now ++ (unit, statement.now) ∷ []) made.0) }
+        ensures status { IfOk result (λ made. HasStatus self.now (statements_of history.now) unit statement.now made.1) }
+    {
+        let mut database = self.after(alloc, history)?;
+        let before = database.history().len();
+        database.make(unit, statement.copy(alloc)?)?;
+        let made = &database.history()[before];
+        let status = made.answer.status.code(&made.statement);
+        Ok((database.into_run()?, status))
+    }
+
+    /// The answers so far, where they tell results apart.
+    fn answers(&self, alloc: Global, history: &[Entry]) -> Result<Row<Row<u8>>, AllocError>
+        requires meeting { IsMeeting self.now }
+        requires history { IsHistoryOf self.now.schema self.now.capacity (length self.now.scripts) history.now }
+        ensures { IfOk result (λ texts. texts ≡ answers_told self.now (statements_of history.now)) }
+    {
+        if self.tells_answers {
+            answers_by_unit(alloc, self.schema, history, self.units())
+        } else {
+            Ok(Row::of(Vec::new(alloc)))
+        }
+    }
+
+    /// The state to which a history leads, as numbers: all that what comes after it depends on.
+    pub fn state_key(&self, alloc: Global, run: &Run) -> Result<Vec<u64>, AllocError>
+        requires meeting { IsMeeting self.now }
+        requires run { IsRunOf self.now (statements_of run.now.history) run.now }
+        ensures { IfOk result (λ key. key.items ≡ state_key self.now (statements_of run.now.history)) }
+    {
+        let history = run.history.as_slice();
+        let mut key = Vec::new(alloc);
+        made_by_each(alloc, history, self.units())?.spell(&mut key)?;
+        run.image.spell(&mut key)?;
+        run.units.spell(&mut key)?;
+        self.answers(alloc, history)?.spell(&mut key)?;
+        Ok(key)
+    }
+
+    /// The text of the result to which a run leads, byte by byte, and the run's history.
+    pub fn result_key(&self, alloc: Global, run: Run) -> Result<(Vec<u64>, Row<Entry>), AllocError>
+        requires meeting { IsMeeting self.now }
+        requires run { IsRunOf self.now (statements_of run.history) run }
+        ensures key { IfOk result (λ told. told.0.items ≡ result_text self.now (statements_of run.history)) }
+        ensures history { IfOk result (λ told. told.1 ≡ run.history) }
+    {
+        let answers = self.answers(alloc, run.history.as_slice())?;
+        let text = result_text(
+            alloc,
+            self.schema,
+            answers.as_slice(),
+            run.image,
+            run.units.as_slice(),
+        )?;
+        let key = as_numbers(alloc, text.as_slice())?;
+        Ok((key, run.history))
+    }
+}

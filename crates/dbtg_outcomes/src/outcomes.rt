@@ -1,0 +1,169 @@
+//! All that can come out when scripts run at the same time.
+ghost use Rattle.std.specs.Prelude.{◌≡◌, ◌≤◌, ◌<◌, Some, true, length, map, All, IfErr, IfOk, OnOk};
+ghost use Rattle.dbtg_schema.specs.Sound.{IsSound};
+ghost use Rattle.dbtg_step.specs.Laws.{scripts_fit};
+ghost use Rattle.dbtg_outcomes.specs.declared.search.Stop.TheVariants.{States};
+ghost use Rattle.dbtg_outcomes.specs.Given.{all_orders, one_result};
+ghost use Rattle.dbtg_outcomes.specs.Orders.{count_statements};
+ghost use Rattle.dbtg_outcomes.specs.Outcomes.{AreOutcomes, IsMeeting, count_states};
+ghost use Rattle.dbtg_outcomes.specs.Search.{IsAt};
+ghost use Rattle.dbtg_outcomes.specs.Steps.{AreByResult, HasHistory, Joins};
+
+use crate::answered::{Answered, answered_by};
+use crate::count::together;
+use crate::groups::{Group, Groups};
+use crate::meeting::Meeting;
+use crate::search::{Search, Stop};
+use dbtg_schema::{Row, Schema};
+use dbtg_unit::{Entry, Statement};
+use std::alloc::{AllocError, Global};
+
+/// A result: the first order that leads to it, by the units whose turn it is, and how many orders lead to it; none where these are
+/// more than a `u64` can count.
+#[derive(Drop)]
+pub struct OneResult {
+    pub turns: Row<u8>,
+    pub orders: Option<u64>,
+}
+
+/// All results, in the order of their first orders; the number of all orders; and each statement with the statuses that it can have.
+#[derive(Drop)]
+pub struct Outcomes {
+    pub orders: Option<u64>,
+    pub results: Vec<OneResult>,
+    pub answered: Vec<Answered>,
+}
+
+// The states after all statements.
+fn search_all(
+    alloc: Global,
+    meeting: &Meeting,
+    scripts: &[Row<Statement>],
+    limit: usize,
+) -> Result<Search, Stop>
+    requires meeting { IsMeeting meeting.now }
+    requires scripts { scripts.now ≡ meeting.now.scripts }
+    ensures at { IfOk result (IsAt meeting.now (count_statements meeting.now.scripts)) }
+    ensures limit { IfOk result (λ search. search.limit ≡ limit) }
+    ensures stopped { IfErr result (λ stop. stop ≡ States → limit < count_states meeting.now) }
+{
+    let mut search = Search::begin(alloc, meeting, limit)?;
+    search.pass(alloc, meeting, scripts)?;
+    Ok(search)
+}
+
+// A group into the group of its result.
+fn join_result(
+    alloc: Global,
+    meeting: &Meeting,
+    group: &Group,
+    results: &mut Groups,
+) -> Result<(), AllocError>
+    requires meeting { IsMeeting meeting.now }
+    requires history { HasHistory meeting.now group.now }
+    ensures { OnOk result (Joins meeting.now group.now results.old results.new) }
+{
+    let run = meeting.replayed(alloc, group.history.as_slice())?;
+    let (key, history) = meeting.result_key(alloc, run)?;
+    let orders = group.orders;
+    results.add(key, Group { history, orders })?;
+    Ok(())
+}
+
+// The groups of the same result.
+fn by_result(alloc: Global, meeting: &Meeting, last: &[Group]) -> Result<Vec<Group>, AllocError>
+    requires meeting { IsMeeting meeting.now }
+    requires histories { All (HasHistory meeting.now) last.now }
+    ensures { IfOk result (λ groups. AreByResult meeting.now last.now groups.items) }
+{
+    let mut results = Groups::none(alloc);
+    for group in last {
+        join_result(alloc, meeting, group, &mut results)?;
+    }
+    results.into_groups(alloc)
+}
+
+// Whose turn it is, entry by entry.
+fn turns_of(alloc: Global, history: &[Entry]) -> Result<Row<u8>, AllocError>
+    ensures { IfOk result (λ turns. turns ≡ map (λ e. e.unit) history.now) }
+{
+    let mut turns = Row::of(Vec::new(alloc));
+    for entry in history {
+        turns.push(entry.unit)?;
+    }
+    Ok(turns)
+}
+
+// The groups as results.
+fn results_of(alloc: Global, groups: &[Group]) -> Result<Vec<OneResult>, AllocError>
+    ensures { IfOk result (λ results. results.items ≡ map one_result groups.now) }
+{
+    let mut results = Vec::new(alloc);
+    for group in groups {
+        let turns = turns_of(alloc, group.history.as_slice())?;
+        let orders = group.orders;
+        results.push(OneResult { turns, orders })?;
+    }
+    Ok(results)
+}
+
+// The number of all orders.
+fn orders_of(groups: &[Group]) -> Option<u64>
+    ensures { result ≡ all_orders (Some 0) groups.now }
+{
+    let mut orders = Some(0);
+    for group in groups {
+        orders = together(orders, group.orders);
+    }
+    orders
+}
+
+// What a search comes to that has made all statements.
+fn outcomes_of(
+    alloc: Global,
+    meeting: &Meeting,
+    scripts: &[Row<Statement>],
+    search: &Search,
+) -> Result<Outcomes, AllocError>
+    requires meeting { IsMeeting meeting.now }
+    requires scripts { scripts.now ≡ meeting.now.scripts }
+    requires at { IsAt meeting.now (count_statements meeting.now.scripts) search.now }
+    ensures { IfOk result (AreOutcomes meeting.now) }
+{
+    let groups = by_result(alloc, meeting, search.layer.as_slice())?;
+    let results = results_of(alloc, groups.as_slice())?;
+    let answered = answered_by(alloc, scripts, search.notes.as_slice())?;
+    Ok(Outcomes {
+        orders: orders_of(groups.as_slice()),
+        results,
+        answered,
+    })
+}
+
+/// All that can come out when these scripts run at the same time, a unit for each. It stops where there are more states than
+/// the limit.
+pub fn all_outcomes(
+    alloc: Global,
+    schema: &Schema,
+    capacity: u16,
+    scripts: &[Row<Statement>],
+    tells_answers: bool,
+    limit: usize,
+) -> Result<Outcomes, Stop>
+    requires sound { IsSound schema.now }
+    requires few { length scripts.now ≤ 255 }
+    requires fit { scripts_fit schema.now scripts.now ≡ true }
+    ensures outcomes { IfOk result (AreOutcomes (record { schema = schema.now; capacity = capacity; scripts = scripts.now; tells = tells_answers })) }
+    ensures within { IfOk result (λ all. count_states (record { schema = schema.now; capacity = capacity; scripts = scripts.now; tells = tells_answers }) ≤ limit) }
+    ensures stopped { IfErr result (λ stop. stop ≡ States → limit < count_states (record { schema = schema.now; capacity = capacity; scripts = scripts.now; tells = tells_answers })) }
+{
+    let meeting = Meeting {
+        schema,
+        capacity,
+        scripts,
+        tells_answers,
+    };
+    let search = search_all(alloc, &meeting, scripts, limit)?;
+    let outcomes = outcomes_of(alloc, &meeting, scripts, &search)?;
+    Ok(outcomes)
+}

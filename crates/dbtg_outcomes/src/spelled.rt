@@ -1,0 +1,106 @@
+//! Things spelled as numbers, so that two are one just where they are spelled alike. Whatever is spelled behind a thing, the
+//! numbers tell where it ends.
+ghost use Rattle.std.specs.Prelude.{◌≡◌, ◌++◌, ℕ, List, OnOk, flat_map};
+ghost use Rattle.dbtg_outcomes.specs.Spelling.{Apart, list_apart, list_numbers, one_apart, one_number, option_apart, option_numbers, pair_apart, pair_numbers};
+
+use dbtg_schema::Row;
+use std::alloc::AllocError;
+
+/// What is spelled as numbers.
+pub trait Spelled {
+    /// The numbers of a thing.
+    ghost numbers: { Self → List ℕ };
+
+    /// Its numbers go behind the others.
+    fn spell(&self, out: &mut Vec<u64>) -> Result<(), AllocError>
+        ensures { OnOk result (out.new.items ≡ out.old.items ++ numbers self.now) };
+
+    /// Two things whose numbers are alike, whatever follows, are one.
+    ghost apart: { Apart numbers };
+}
+
+impl Spelled for u8 {
+    ghost numbers = { one_number };
+
+    fn spell(&self, out: &mut Vec<u64>) -> Result<(), AllocError> {
+        out.push(*self as u64)?;
+        Ok(())
+    }
+
+    ghost apart = { one_apart };
+}
+
+impl Spelled for u32 {
+    ghost numbers = { one_number };
+
+    fn spell(&self, out: &mut Vec<u64>) -> Result<(), AllocError> {
+        out.push(*self as u64)?;
+        Ok(())
+    }
+
+    ghost apart = { one_apart };
+}
+
+impl Spelled for u64 {
+    ghost numbers = { one_number };
+
+    fn spell(&self, out: &mut Vec<u64>) -> Result<(), AllocError> {
+        out.push(*self)?;
+        Ok(())
+    }
+
+    ghost apart = { one_apart };
+}
+
+// None is a 0; before what is there stands a 1.
+impl<T: Spelled> Spelled for Option<T> {
+    ghost numbers = { option_numbers T.numbers };
+
+    fn spell(&self, out: &mut Vec<u64>) -> Result<(), AllocError> {
+        match self {
+            None => {
+                out.push(0)?;
+                Ok(())
+            }
+            Some(thing) => {
+                out.push(1)?;
+                thing.spell(out)
+            }
+        }
+    }
+
+    ghost apart = { option_apart T.numbers T.apart };
+}
+
+impl<A: Spelled, B: Spelled> Spelled for (A, B) {
+    ghost numbers = { pair_numbers A.numbers B.numbers };
+
+    fn spell(&self, out: &mut Vec<u64>) -> Result<(), AllocError> {
+        self.0.spell(out)?;
+        self.1.spell(out)
+    }
+
+    ghost apart = { pair_apart A.numbers B.numbers A.apart B.apart };
+}
+
+// The numbers of things, one after another.
+pub fn spell_each<T: Spelled>(items: &[T], out: &mut Vec<u64>) -> Result<(), AllocError>
+    ensures { OnOk result (out.new.items ≡ out.old.items ++ flat_map T.numbers items.now) }
+{
+    for item in items {
+        item.spell(out)?;
+    }
+    Ok(())
+}
+
+// Before the items stands how many they are.
+impl<T: Spelled> Spelled for Row<T> {
+    ghost numbers = { list_numbers T.numbers };
+
+    fn spell(&self, out: &mut Vec<u64>) -> Result<(), AllocError> {
+        out.push(self.len() as u64)?;
+        spell_each(self.as_slice(), out)
+    }
+
+    ghost apart = { list_apart T.numbers T.apart };
+}

@@ -1,0 +1,8 @@
+use Rattle.std.proofs.Common.{drop, map, length, arith}
+use Rattle.dbtg_script.proofs.Beside.{rows_done}
+use Rattle.dbtg_script.proofs.echo.push_rows.Goals as goal
+
+pub returns-then-i-history : goal.returns-then-i-history
+returns-then-i-history c =
+    let i = c.loop-i.i in
+    rows_done c.args.schema.now c.args.width (map (λ s. s.now) (drop i c.args.lines.now)) c.args.history.now i c.loop-i.out.items _ (omega (arith, c.if-i-history.true)) c.loop-i.invariant

@@ -1,0 +1,7 @@
+use Rattle.dbtg_script.proofs.FittingStatements.{line_read_fits}
+use Rattle.dbtg_script.proofs.reader.read_script_line.Goals as goal
+
+pub returns-clause-fitting : goal.returns-clause-fitting
+returns-clause-fitting c sound =
+    let read = c.read_line.ensures in
+    line_read_fits c.args.schema.now sound c.args.count c.trimmed.result.now c.read_line.result read.accepted read.statement

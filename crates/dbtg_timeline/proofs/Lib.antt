@@ -1,0 +1,3 @@
+mod HistoryShown
+mod LinesGrow
+mod ThreeParts

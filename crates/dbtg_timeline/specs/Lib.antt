@@ -1,0 +1,7 @@
+pub mod Marks
+pub mod Lines
+pub mod Columns
+pub mod Text
+pub mod Svg
+pub mod Events
+pub mod Watching

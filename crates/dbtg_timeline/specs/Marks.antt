@@ -1,0 +1,27 @@
+-- The letters of marks.
+use Rattle.std.specs.Prelude.{ℕ, Bool, true, false}
+use Rattle.dbtg_timeline.specs.declared.event.Mark.{Mark}
+use Rattle.dbtg_timeline.specs.declared.event.Mark.TheVariants.{Begin, TakeArea, TakeCell, TurnBack, Return, Ticket, Link, PutBack, LeaveArea, Quit, Blocked, Idle}
+
+-- b a c R r T l p v Q B I
+abbrev pub letter : Mark → ℕ
+letter Begin = 98
+letter TakeArea = 97
+letter TakeCell = 99
+letter TurnBack = 82
+letter Return = 114
+letter (Ticket ticket status) = 84
+letter Link = 108
+letter PutBack = 112
+letter LeaveArea = 118
+letter Quit = 81
+letter Blocked = 66
+letter Idle = 73
+
+abbrev pub is_begin : Mark → Bool
+is_begin Begin = true
+is_begin _ = false
+
+abbrev pub is_idle : Mark → Bool
+is_idle Idle = true
+is_idle _ = false

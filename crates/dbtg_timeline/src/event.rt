@@ -1,0 +1,64 @@
+//! What a move of a run came to, as the picture shows it.
+ghost use Rattle.std.specs.Prelude.{◌≡◌};
+ghost use Rattle.dbtg_timeline.specs.Marks.{is_begin, is_idle, letter};
+
+/// The event that a move made, or why it made none. A ticket is shown with its number and the statement's status.
+#[derive(Clone, Copy, Debug, PartialEq, Eq)]
+pub enum Mark {
+    Begin,
+    TakeArea,
+    TakeCell,
+    /// Guesses are stale: the statement turns back.
+    TurnBack,
+    /// A cell is put back in turning back.
+    Return,
+    Ticket { ticket: u64, status: u16 },
+    Link,
+    PutBack,
+    LeaveArea,
+    Quit,
+    Blocked,
+    Idle,
+}
+
+/// A move's mark, its unit, the place in the unit's script of the statement that it is in or before, from 0, and whether the unit
+/// is in mid-statement after it.
+#[derive(Clone, Copy, Debug, PartialEq, Eq)]
+pub struct Event {
+    pub unit: u8,
+    pub mark: Mark,
+    pub place: usize,
+    pub midway: bool,
+}
+
+/// The letter that stands for a mark.
+pub fn letter(mark: Mark) -> u8
+    ensures { result ≡ letter mark }
+{
+    match mark {
+        Mark::Begin => b'b',
+        Mark::TakeArea => b'a',
+        Mark::TakeCell => b'c',
+        Mark::TurnBack => b'R',
+        Mark::Return => b'r',
+        Mark::Ticket { .. } => b'T',
+        Mark::Link => b'l',
+        Mark::PutBack => b'p',
+        Mark::LeaveArea => b'v',
+        Mark::Quit => b'Q',
+        Mark::Blocked => b'B',
+        Mark::Idle => b'I',
+    }
+}
+
+pub fn is_begin(mark: Mark) -> bool
+    ensures { result ≡ is_begin mark }
+{
+    matches!(mark, Mark::Begin)
+}
+
+pub fn is_idle(mark: Mark) -> bool
+    ensures { result ≡ is_idle mark }
+{
+    matches!(mark, Mark::Idle)
+}

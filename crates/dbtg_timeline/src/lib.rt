@@ -1,0 +1,15 @@
+//! The picture of an interleaving: the events of a run in the order of its moves, as plain text or SVG, both by one layout.
+#![tactic(auto)]
+
+mod columns;
+mod event;
+mod lanes;
+mod lines;
+mod svg;
+mod text;
+mod watching;
+
+pub use event::{Event, Mark};
+pub use svg::timeline_svg;
+pub use text::timeline_text;
+pub use watching::watch;
