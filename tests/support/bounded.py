@@ -10,6 +10,8 @@ from dataclasses import dataclass, field
 
 from kit import ROOT
 
+# The options that have no word behind them.
+ALONE = ("--answers", "--echo", "--explain", "--svg")
 # What one run may take: seconds of a processor, bytes of memory, and seconds by the clock before it is ended.
 SECONDS = 2
 BYTES = 1 << 30
@@ -48,7 +50,7 @@ class Case:
         """The options before the schema, each with its word if it has one; and the words from the schema on."""
         options, words = [], list(self.words[1:])
         while words and words[0].startswith("--"):
-            count = 1 if words[0] == "--explain" else 2
+            count = 1 if words[0] in ALONE else 2
             options, words = [*options, words[:count]], words[count:]
         return options, words
 
