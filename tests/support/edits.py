@@ -6,8 +6,9 @@ once in the file, or, behind a line `in: FUNCTION`, once in that function (`name
 import functools
 import os
 import re
+import shutil
 
-from functions import declared_in, functions_of, module_of
+from functions import declared_in, functions_of, module_of, places_of
 from kit import text_of
 from stand_ins import BODY
 
@@ -17,12 +18,13 @@ class BadEdit(Exception):
 
 
 class Edit:
-    """An edit, with the text that each function's body gets; `elsewhere` where it changes more than bodies of functions."""
+    """An edit, with the text that each function's body gets; `elsewhere` where it changes more than bodies of functions. Where another
+    edit of the same check changes the same function, it has a `twin`: its body is that of a second function like it."""
 
     def __init__(self, path, crate_folder, sources):
         self.path, self.name = path, os.path.basename(path).removesuffix(".edit")
         self.texts = applied(text_of(path), sources)
-        self.bodies, self.elsewhere = {}, False
+        self.bodies, self.elsewhere, self.twin = {}, False, None
         for file, text in self.texts.items():
             found = changed_bodies(sources.functions(file), sources.text(file), text) if file.startswith("src/") else None
             if found is None:
@@ -34,9 +36,36 @@ class Edit:
         """Whether the edit changes no meaning: it stands among the others to show that such a one is told from them."""
         return self.name.startswith("harmless")
 
+    def functions(self):
+        """The functions that have its bodies in a copy, each with its file."""
+        return [(file, self.twin or function) for file, function in self.bodies]
+
     def paths(self, sources):
-        """The names of the functions that it changes, as a check can be asked for them."""
-        return [function.path(module_of(file), sources.declared()) for file, function in self.bodies]
+        """The names of these functions, as a check can be asked for them."""
+        return [function.path(module_of(file), sources.declared()) for file, function in self.functions()]
+
+    def can_have_twin(self):
+        """Whether it changes one function alone, which stands outside traits and is not called by the new body."""
+        return len(self.bodies) == 1 and all(
+            not function.trait and function.name != "main" and not re.search(rf"\b{function.name}\b", body) for (_, function), body in self.bodies.items()
+        )
+
+    def make_twin(self, number):
+        ((_, function),) = self.bodies
+        self.twin = function.twin(number)
+
+    def twin_text(self, text):
+        """What stands behind the function that it changes, in the file with this text: its twin."""
+        (((_, function), body),) = self.bodies.items()
+        head = re.sub(rf"\bfn {function.name}\b", f"fn {self.twin.name}", text[function.start : function.opens], count=1)
+        return f"\n\n{head}" + re.sub(rf"_of_{function.name}\b", f"_of_{self.twin.name}", body)
+
+    def enter_twin(self, copy, crate, sources):
+        """Gives the twin, in a copy of the crate, what is written by hand of the proof of the function that it is like."""
+        for file, function in self.bodies if self.twin else ():
+            places = (places_of(it, module_of(file), sources.declared()) for it in (function, self.twin))
+            for was, new in zip(*places):
+                copy_proof(f"{copy}/proofs", crate, was, new)
 
 
 class Sources:
@@ -140,12 +169,26 @@ def together(edits, sources, stand_ins):
     return texts
 
 
+def copy_proof(proofs, crate, was, new):
+    """Copies the folder of a proof by hand, whose files name the place where they stand."""
+    if not os.path.isdir(f"{proofs}/{was}"):
+        return
+    shutil.copytree(f"{proofs}/{was}", f"{proofs}/{new}")
+    names = [f"Rattle.{crate}.proofs.{it.replace('/', '.')}." for it in (was, new)]
+    for at, _, files in os.walk(f"{proofs}/{new}"):
+        for file in files:
+            text = text_of(f"{at}/{file}")
+            with open(f"{at}/{file}", "w", encoding="utf-8") as out:
+                out.write(text.replace(*names))
+
+
 def parts_of(edits, file, sources, stand_ins):
     """The parts of a file's text under the edits, in their order: each with the edit that wrote it, or with none."""
-    written = [(f.opens, f.end, body, it) for it in edits for (at, f), body in it.bodies.items() if at == file]
+    text, at = sources.text(file), 0
+    written = [(f.opens, f.end, body, it) for it in edits for (its, f), body in it.bodies.items() if its == file and not it.twin]
+    written += [(f.end, f.end, it.twin_text(text), it) for it in edits for its, f in it.bodies if its == file and it.twin]
     written += [(f.opens, f.end, BODY, None) for f in stand_ins.functions(file)]
     written.sort(key=lambda it: it[0])
-    text, at = sources.text(file), 0
     for opens, end, body, edit in written:
         yield text[at:opens], None
         yield body, edit
@@ -164,14 +207,23 @@ def edit_at(edits, file, line, sources, stand_ins):
 
 
 def in_batches(edits):
-    """Puts each edit into the first batch of which none changes a function that it changes; one that changes more than bodies
-    stands alone. The largest batch comes first."""
+    """Puts each edit into the first batch that has room for it. The largest batch comes first."""
     batches = []
     for it in edits:
-        own = set(it.bodies)
-        room = [b for b in batches if not it.elsewhere and not b[0].elsewhere and not any(own & set(other.bodies) for other in b)]
-        if room:
-            room[0].append(it)
-        else:
+        room = next((batch for batch in batches if has_room(batch, it)), None)
+        if room is None:
             batches.append([it])
+            continue
+        number = sum(bool(set(it.bodies) & set(other.bodies)) for other in room)
+        if number:
+            it.make_twin(number)
+        room.append(it)
     return sorted(batches, key=len, reverse=True)
+
+
+def has_room(batch, edit):
+    """Whether the edit can be judged beside those of a batch: none changes a function that it changes, or it can have a twin. One that
+    changes more than bodies stands alone."""
+    if edit.elsewhere or batch[0].elsewhere:
+        return False
+    return edit.can_have_twin() or not any(set(edit.bodies) & set(other.bodies) for other in batch)

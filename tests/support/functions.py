@@ -17,6 +17,10 @@ class Function:
     def shown(self):
         return f"{self.owner}::{self.name}" if self.owner else self.name
 
+    def twin(self, number):
+        """A second function like it, under a name of its own."""
+        return Function(f"{self.name}_twin_{number}", self.owner, self.trait, self.start, self.opens, self.end)
+
     def path(self, module, declared):
         """The name that a check gives it, without that of the crate: a method bears the module that declares its type, which may be
         another, and one of a trait the module of its impl block and the trait's name."""
@@ -32,6 +36,12 @@ class Function:
 def module_of(file):
     """The module that a file of src/ is, as a path below its crate."""
     return re.sub(r"(^|::)(lib|main|mod)$", "", re.sub(r"(^src/|\.rt$)", "", file).replace("/", "::"))
+
+
+def places_of(function, module, declared):
+    """The folders below proofs/ of what is written by hand of the proofs of a function, and of its closures."""
+    closures = "::".join(filter(None, [module, "fn", function.owner, function.name]))
+    return [it.replace("::", "/") for it in (function.path(module, declared), closures)]
 
 
 def declared_in(file, text):

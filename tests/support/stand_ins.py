@@ -5,7 +5,7 @@ edit changes is proved, or refused, as in the crate itself."""
 
 import os
 
-from functions import module_of
+from functions import module_of, places_of
 from kit import root_file
 
 FILE = "src/stand_in.rt"
@@ -62,10 +62,7 @@ class StandIns:
                 self.drop_proof(copy, file, function)
 
     def drop_proof(self, copy, file, function):
-        module = module_of(file)
-        own = function.path(module, self.sources.declared())
-        closures = "::".join(filter(None, [module, "fn", function.owner, function.name]))
-        places = [f"{copy}/proofs/{it.replace('::', '/')}" for it in (own, closures)]
+        places = [f"{copy}/proofs/{it}" for it in places_of(function, module_of(file), self.sources.declared())]
         for folder in (*places, *cycles_of(function, os.path.dirname(places[0]))):
             for at, _, names in os.walk(folder):
                 for name in names:

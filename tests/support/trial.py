@@ -131,6 +131,8 @@ class Trial:
                 os.mkdir(self.kept)
                 again = self.judged(batches.pop(0), self.kept)
             again += self.side_by_side(batches)
+            for it in again:
+                it.twin = None
             self.side_by_side([[it] for it in again])
         return self
 
@@ -182,7 +184,10 @@ class Trial:
             for file, text in together(batch, self.sources, self.stand_ins).items():
                 with open(f"{copy}/{file}", "w", encoding="utf-8") as out:
                     out.write(text)
+            self.make_library(copy)
             self.stand_ins.enter(copy)
+            for it in batch:
+                it.enter_twin(copy, self.crate, self.sources)
             begins = bool(kept)
             if not begins:
                 kept = f"{copy}/kept"
@@ -191,6 +196,13 @@ class Trial:
             text = self.lanes.run(self.crate, words, copy, begins)
         self.log.write(f"=== {self.crate}: {' '.join(it.name for it in batch)}\n{text}\n")
         return Said(text, self.crate)
+
+    def make_library(self, copy):
+        """A check of a program links it with all that it reaches, which no edit needs: in a copy it is a library, without a main."""
+        root = f"{copy}/{kit.root_file(self.folder)}"
+        text = kit.text_of(root)
+        with open(root, "w", encoding="utf-8") as out:
+            out.write(text.replace("\nfn main(", "\nfn main_of_the_program("))
 
     def asked(self, batch):
         """What a check is asked for: the functions that the batch changes, or all where one changes more than bodies."""

@@ -82,7 +82,7 @@ class Said:
 def names_of(edit, crate, lines):
     """The names under which a check speaks of the functions that an edit changes."""
     found = []
-    for file, function in edit.bodies:
+    for file, function in edit.functions():
         module = "::".join(filter(None, [crate, module_of(file)]))
         found += symbols_of(function, module, lines)
     return found

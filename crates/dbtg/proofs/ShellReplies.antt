@@ -1,5 +1,5 @@
 -- What is told of a line.
-use Rattle.std.proofs.Common.{◌≡◌, ℕ, ◌+◌, ◌-◌, List, [], ◌∷◌, ◌++◌, length, None, Some, slice_get, inl, inr, refl, ap, ◌∙◌, subst, arith, length-append, IfOk, Result}
+use Rattle.std.proofs.Common.{◌≡◌, ℕ, ◌+◌, ◌-◌, List, [], ◌∷◌, ◌++◌, length, None, Some, slice_get, inl, inr, refl, ap, ◌∙◌, subst, arith, length-append, IfOk, Result, Ok, Err}
 use Rattle.std.proofs.lemmas.Result.{IfOk-weaker}
 use Rattle.dbtg_schema.specs.Lists.{Lists}
 use Rattle.dbtg_unit.specs.declared.unit.Entry.{Entry}
@@ -33,6 +33,11 @@ is_last typed schema one out at same told = λ before e is.
     subst (λ (s : Lists). IsAnswerReply s e out) same (subst (λ (x : Entry). IsAnswerReply schema x out) entry told)
 
 -- WHAT IS TOLD
+
+-- what holds whatever comes out
+pub always : {A E : Type 0} (result : Result A E) (P : Type 0) → P → IfOk result (λ x. P)
+always (Ok x) P p = p
+always (Err e) P p = tt
 
 told_weaker : (A B : List ℕ → Type 0) (r : Reply) → ((out : List ℕ) → A out → B out) → IsTold A r → IsTold B r
 told_weaker A B (reply.Text out) f told = f out.items told

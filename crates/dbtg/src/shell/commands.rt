@@ -1,11 +1,14 @@
 //! The commands of the shell, and what each line comes to.
 ghost use Rattle.std.specs.Prelude.{◌≡◌, ◌≤◌, ◌<◌, IfNone, IfOk, IfSome, ⊤};
-ghost use Rattle.dbtg.specs.Asking.{asked_of, behind_spaces};
+ghost use Rattle.dbtg_script.specs.Spelling.{in_front};
+ghost use Rattle.dbtg.specs.Asking.{asked_of, behind_spaces, turn_after, turn_behind, turn_given};
 ghost use Rattle.dbtg.specs.Sessions.{IsLastAnswer, IsNoUnit, IsTold, TakesAsked, TakesLine};
 ghost use Rattle.dbtg.specs.declared.shell.asked.Asked.{Asked as AskedOf};
 
-use crate::explain::{Kind, Topic, explained, fault_topic, status_topic, topic_of};
-use crate::shell::asked::{Asked, read_asked};
+use crate::explain::{
+    Kind, Topic, behind, explained, fault_topic, in_front, status_topic, topic_of,
+};
+use crate::shell::asked::{Asked, behind_spaces, read_asked};
 use crate::shell::replies::{answer_reply, database_reply, fault_reply, unit_reply, units_reply};
 use crate::shell::session::{Refusal, Session};
 use dbtg_script::{Cause, is_number, number};
@@ -77,7 +80,11 @@ fn command_of(text: &str) -> (&str, &str) {
 }
 
 impl<'a> Shell<'a> {
-    pub fn new(alloc: Global, session: Session<'a>) -> Self {
+    /// Unit 1 has the turn.
+    pub fn new(alloc: Global, session: Session<'a>) -> Self
+        ensures session { result.session ≡ session.entry }
+        ensures turn { result.turn ≡ 1 }
+    {
         Shell {
             session,
             turn: 1,
@@ -92,22 +99,23 @@ impl<'a> Shell<'a> {
         Ok(Reply::Text(Vec::from_slice(self.alloc, text.as_bytes())?))
     }
 
-    /// What a line comes to.
+    /// What a line comes to, and whose turn it is then.
     pub fn take_line<'b>(&mut self, line: &'b [u8]) -> Result<Reply<'b>, AllocError>
-        ensures { (one : AskedOf) × asked_of line.now (behind_spaces line.now) one × TakesAsked self.old.turn self.old.session one result self.new.session }
+        ensures { (one : AskedOf) × asked_of line.now (behind_spaces line.now) one × TakesAsked self.old.turn self.old.session one result self.new.session × IfOk result (λ _. self.new.turn ≡ turn_after self.old.session.making.units self.old.turn one) }
     {
         match read_asked(line) {
-            Asked::Command(command) => match str::from_utf8(command) {
-                Ok(command) => self.carry_out(command),
-                Err(_) => self.text(NO_COMMAND),
-            },
+            Asked::Command(command) => self.carry_out(command),
             Asked::Statement(line) => self.make_for(self.turn as u64, line),
             Asked::StatementOf { unit, line } => self.make_for(unit, line),
         }
     }
 
     /// What a line comes to that is longer than any line may be.
-    pub fn take_long_line<'b>(&mut self) -> Result<Reply<'b>, AllocError> {
+    pub fn take_long_line<'b>(&mut self) -> Result<Reply<'b>, AllocError>
+        ensures unchanged { self.new.session ≡ self.old.session }
+        ensures turn { self.new.turn ≡ self.old.turn }
+        ensures told { IfOk result (IsTold (λ out. ⊤)) }
+    {
         self.tell_fault(b"", Cause::LineNotAllowed)
     }
 
@@ -137,6 +145,7 @@ impl<'a> Shell<'a> {
 
     fn tell_fault<'b>(&mut self, line: &[u8], cause: Cause) -> Result<Reply<'b>, AllocError>
         ensures unchanged { self.new.session ≡ self.old.session }
+        ensures turn { self.new.turn ≡ self.old.turn }
         ensures told { IfOk result (IsTold (λ out. ⊤)) }
     {
         let told = fault_reply(self.alloc, self.session.schema(), line, cause)?;
@@ -146,7 +155,8 @@ impl<'a> Shell<'a> {
 
     // A statement of the unit of this number, where there is one.
     fn make_for<'b>(&mut self, unit: u64, line: &[u8]) -> Result<Reply<'b>, AllocError>
-        ensures { TakesLine unit self.old.session line.now result self.new.session }
+        ensures taken { TakesLine unit self.old.session line.now result self.new.session }
+        ensures turn { self.new.turn ≡ self.old.turn }
     {
         match self.unit_of(unit) {
             Some(unit) => self.make_line(unit, line),
@@ -157,7 +167,8 @@ impl<'a> Shell<'a> {
     fn make_line<'b>(&mut self, unit: u8, line: &[u8]) -> Result<Reply<'b>, AllocError>
         requires low { 0 < unit }
         requires high { unit ≤ self.old.session.making.units }
-        ensures { TakesLine unit self.old.session line.now result self.new.session }
+        ensures taken { TakesLine unit self.old.session line.now result self.new.session }
+        ensures turn { self.new.turn ≡ self.old.turn }
     {
         match self.session.make_line(unit, line) {
             Ok(false) => self.text(""),
@@ -170,6 +181,7 @@ impl<'a> Shell<'a> {
     // The answer of the statement that was made last.
     fn tell_last<'b>(&mut self) -> Result<Reply<'b>, AllocError>
         ensures unchanged { self.new.session ≡ self.old.session }
+        ensures turn { self.new.turn ≡ self.old.turn }
         ensures told { IfOk result (IsTold (IsLastAnswer self.old.session)) }
     {
         let schema = self.session.schema();
@@ -182,9 +194,22 @@ impl<'a> Shell<'a> {
         }
     }
 
-    fn carry_out<'b>(&mut self, command: &'b str) -> Result<Reply<'b>, AllocError>
-        ensures { self.new.session ≡ self.old.session }
+    // A command: `.unit` changes the turn, and no other changes anything.
+    fn carry_out<'b>(&mut self, command: &'b [u8]) -> Result<Reply<'b>, AllocError>
+        ensures unchanged { self.new.session ≡ self.old.session }
+        ensures turn { IfOk result (λ _. self.new.turn ≡ turn_behind self.old.session.making.units self.old.turn (behind_spaces (in_front 13 command.now))) }
     {
+        let command = behind_spaces(in_front(command, b'\r'));
+        if in_front(command, b' ') == b"unit".as_slice() {
+            return self.give_turn(behind_spaces(behind(command, b' ')));
+        }
+        match str::from_utf8(command) {
+            Ok(command) => self.show(command),
+            Err(_) => self.text(NO_COMMAND),
+        }
+    }
+
+    fn show<'b>(&self, command: &'b str) -> Result<Reply<'b>, AllocError> {
         let (name, rest) = command_of(command);
         match name.as_bytes() {
             b"database" if rest.is_empty() => {
@@ -193,7 +218,6 @@ impl<'a> Shell<'a> {
             b"units" if rest.is_empty() => {
                 Ok(Reply::Text(units_reply(self.alloc, &self.session)?))
             }
-            b"unit" => self.give_turn(rest.as_bytes()),
             b"explain" => self.explain(rest),
             b"save" if rest.is_empty() => self.text(NO_DIRECTORY),
             b"save" => Ok(Reply::Save(rest)),
@@ -204,21 +228,28 @@ impl<'a> Shell<'a> {
     }
 
     // The unit that `.unit` names; without a number that whose turn it is.
-    fn unit_named(&self, digits: &[u8]) -> Option<u8>
+    fn unit_named(&self, rest: &[u8]) -> Option<u8>
         ensures low { IfSome result (λ unit. 0 < unit) }
         ensures high { IfSome result (λ unit. unit ≤ self.now.session.making.units) }
+        ensures named { IfSome result (λ unit. unit ≡ turn_given self.now.session.making.units self.now.turn rest.now) }
+        ensures missing { IfNone result (turn_given self.now.session.making.units self.now.turn rest.now ≡ self.now.turn) }
     {
-        match digits {
-            [] => self.unit_of(self.turn as u64),
-            _ if is_number(digits) => self.unit_of(number(digits)),
-            _ => None,
+        let digits = in_front(rest, b' ');
+        if rest.is_empty() {
+            self.unit_of(self.turn as u64)
+        } else if is_number(digits) && behind_spaces(behind(rest, b' ')).is_empty() {
+            self.unit_of(number(digits))
+        } else {
+            None
         }
     }
 
-    fn give_turn<'b>(&mut self, digits: &[u8]) -> Result<Reply<'b>, AllocError>
-        ensures { self.new.session ≡ self.old.session }
+    // Gives the turn to the unit that is named, if there is one.
+    fn give_turn<'b>(&mut self, rest: &[u8]) -> Result<Reply<'b>, AllocError>
+        ensures unchanged { self.new.session ≡ self.old.session }
+        ensures turn { IfOk result (λ _. self.new.turn ≡ turn_given self.old.session.making.units self.old.turn rest.now) }
     {
-        match self.unit_named(digits) {
+        match self.unit_named(rest) {
             None => self.no_unit(),
             Some(unit) => {
                 self.turn = unit;

@@ -4,9 +4,9 @@ use Rattle.dbtg.proofs.ShellReplies.{without_unit}
 use Rattle.dbtg.specs.Sessions.{TakesLine}
 use Rattle.dbtg.proofs.shell.commands.Shell.make_for.Goals as goal
 
-pub returns-in-Some : goal.returns-in-Some
-returns-in-Some c =
-    subst (λ (u : ℕ). TakesLine u c.args.self.now.session c.args.line.now c.make_line.result c.make_line.new.self.session) c.in-Some.ensures.named c.make_line.ensures
+pub returns-in-Some-clause-taken : goal.returns-in-Some-clause-taken
+returns-in-Some-clause-taken c =
+    subst (λ (u : ℕ). TakesLine u c.args.self.now.session c.args.line.now c.make_line.result c.make_line.new.self.session) c.in-Some.ensures.named c.make_line.ensures.taken
 
-pub returns-in-None : goal.returns-in-None
-returns-in-None c = without_unit c.args.unit c.args.self.now.session c.args.self.now.session c.args.line.now c.no_unit.result refl (λ (out : List ℕ). ⊤) c.in-None.ensures.missing c.no_unit.ensures
+pub returns-in-None-clause-taken : goal.returns-in-None-clause-taken
+returns-in-None-clause-taken c = without_unit c.args.unit c.args.self.now.session c.args.self.now.session c.args.line.now c.no_unit.result refl (λ (out : List ℕ). ⊤) c.in-None.ensures.missing c.no_unit.ensures

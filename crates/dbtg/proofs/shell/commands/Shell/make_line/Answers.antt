@@ -4,15 +4,15 @@ use Rattle.dbtg.proofs.ShellReplies.{with_fault, without_statement}
 use Rattle.dbtg.specs.Sessions.{HasTyped, IsLastAnswer, IsTold, Takes, Typed}
 use Rattle.dbtg.proofs.shell.commands.Shell.make_line.Goals as goal
 
-pub returns-in-Ok-false : goal.returns-in-Ok-false
-returns-in-Ok-false c =
+pub returns-in-Ok-false-clause-taken : goal.returns-in-Ok-false-clause-taken
+returns-in-Ok-false-clause-taken c =
     let old = c.args.self.now.session in
     let new = c.make_line.new.self in
     let taken = subst (λ (made : Bool). Takes old c.args.unit c.args.line.now made new) c.in-Ok-false.field-0-test c.in-Ok-false.ensures.taken in
     without_statement c.args.unit old new c.args.line.now c.text.result taken.0 taken.1 c.text.ensures
 
-pub returns-in-Ok-true : goal.returns-in-Ok-true
-returns-in-Ok-true c =
+pub returns-in-Ok-true-clause-taken : goal.returns-in-Ok-true-clause-taken
+returns-in-Ok-true-clause-taken c =
     let old = c.args.self.now.session in
     let taken = subst (λ (made : Bool). Takes old c.args.unit c.args.line.now made c.make_line.new.self) c.in-Ok-true.field-0-test c.in-Ok-true.ensures.taken in
     inl (
@@ -20,8 +20,8 @@ returns-in-Ok-true c =
       subst (λ (t : Typed). IfOk c.tell_last.result (IsTold (IsLastAnswer t))) (sym c.tell_last.ensures.unchanged) c.tell_last.ensures.told,
     )
 
-pub returns-in-Err-Fault : goal.returns-in-Err-Fault
-returns-in-Err-Fault c =
+pub returns-in-Err-Fault-clause-taken : goal.returns-in-Err-Fault-clause-taken
+returns-in-Err-Fault-clause-taken c =
     let old = c.args.self.now.session in
     let refused = rw c.in-Err-Fault.field-0-is at c.in-Err-Fault.ensures.refused in
     with_fault c.args.unit old c.tell_fault.new.self.session c.args.line.now c.tell_fault.result (c.tell_fault.ensures.unchanged ∙ c.in-Err-Fault.ensures.unchanged) (λ (out : List ℕ). ⊤) c.in-Err-Fault.cause refused c.tell_fault.ensures.told

@@ -1,4 +1,5 @@
-//! Schemas as texts, and what is read or refused. The answer of a text is its fault's number and line, or (0, 0).
+//! Makes each public call of `dbtg_schema` as its callers do, with memory to spare: schemas as texts, and what is read or refused. The
+//! answer of a text is its fault's number and line, or (0, 0).
 
 use dbtg_schema::{Schema, SchemaFault};
 use std::test::*;

@@ -1,4 +1,6 @@
-//! Public calls, made once with memory to spare. The numbers of a status are those of docs/profile/statuses.md.
+//! Makes public calls of `dbtg_unit` as their callers do, once and with memory to spare: units, what is in hand, and edits of cells.
+//! What judges statements is called in `dbtg_calls`, where scripts state them. The numbers of a status are those of
+//! docs/profile/statuses.md.
 
 use cells::lets_a_cell_go;
 use dbtg_cells::{Cell, CellName, DbKey, Owner, Usage};

@@ -1,5 +1,2 @@
 //! Makes each public call of `dbtg_draw` as its callers do, with memory to spare.
-#![tactic(auto)]
-
-#[cfg(test)]
-mod tests;
+mod texts;

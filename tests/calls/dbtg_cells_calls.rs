@@ -1,4 +1,4 @@
-//! Public calls, made with memory to spare, and the lists worked out in docs/profile.
+//! Makes each public call of `dbtg_cells` as its callers do, with memory to spare, and works out the lists of docs/profile.
 
 use dbtg_cells::{
     CellName, DbKey, Extent, Mode, Owner, PlainRing, Ring, Slot, Usage, Value, copy_items,
