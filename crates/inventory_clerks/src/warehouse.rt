@@ -64,18 +64,21 @@ pub fn new_house(alloc: Global, text: &[u8]) -> Result<Warehouse, Stop>
 fn open_both<R: Wait>(
     rt: &R,
     alloc: Global,
-    house: &mut Warehouse,
+    db: &Database,
+    first: &mut RunUnit,
     first_text: &[u8],
+    second: &mut RunUnit,
     second_text: &[u8],
 ) -> Result<(), Stop>
-    requires staffed { IsStaffed house.old }
-    ensures staffed { OnOk result (IsStaffed house.new) }
-    ensures same { OnOk result (house.new.db ≡ house.old.db) }
-    ensures first { OnOk result (HasOpened house.old.db.schema first_text.now house.old.first.journal house.new.first.journal) }
-    ensures second { OnOk result (HasOpened house.old.db.schema second_text.now house.old.second.journal house.new.second.journal) }
+    requires first { BelongsTo db.now first.old }
+    requires second { BelongsTo db.now second.old }
+    ensures first { BelongsTo db.now first.new }
+    ensures second { BelongsTo db.now second.new }
+    ensures first_opened { OnOk result (HasOpened db.now.schema first_text.now first.old.journal first.new.journal) }
+    ensures second_opened { OnOk result (HasOpened db.now.schema second_text.now second.old.journal second.new.journal) }
 {
-    open(rt, alloc, &house.db, &mut house.first, first_text)?;
-    open(rt, alloc, &house.db, &mut house.second, second_text)
+    open(rt, alloc, db, first, first_text)?;
+    open(rt, alloc, db, second, second_text)
 }
 
 /// Each clerk makes the statements of his text, the second when the first is done.
@@ -92,9 +95,21 @@ pub fn open_house<R: Wait>(
     ensures first { IfOk result (λ opened. HasOpened house.db.schema first_text.now house.first.journal opened.first.journal) }
     ensures second { IfOk result (λ opened. HasOpened house.db.schema second_text.now house.second.journal opened.second.journal) }
 {
-    let mut opened = house;
-    match open_both(rt, alloc, &mut opened, first_text, second_text) {
-        Ok(()) => Ok(opened),
+    let Warehouse {
+        db,
+        mut first,
+        mut second,
+    } = house;
+    match open_both(
+        rt,
+        alloc,
+        &db,
+        &mut first,
+        first_text,
+        &mut second,
+        second_text,
+    ) {
+        Ok(()) => Ok(Warehouse { db, first, second }),
         Err(stop) => Err(stop),
     }
 }
