@@ -309,6 +309,19 @@ reserved_key (Some n ∷ s) k (suc at) r = by n.linked refl (reserved_key s k at
     by true p h = rw p h
     by false p h = rw p (Contains-cons _ _ _ h)
 
+-- a node that comes to lie where none lay takes no place away that was kept
+pub reserving-earlier : (s s' : Slots) (x : ℕ) → slot s x ≡ None → ((j : ℕ) → j ≢ x → slot s' j ≡ slot s j)
+    → (k : DbKey) → Contains (unlinked_keys s) k → Contains (unlinked_keys s') k
+reserving-earlier s s' x vacant others k kept =
+    let r = reserved_node s k kept in
+    reserved_key s' k r.0 (record { node = r.1.node; there = others r.0 (λ same. apart r.0 r.1.node r.1.there same) ∙ r.1.there; off = r.1.off; key = r.1.key })
+  where
+    apart : (at : ℕ) (n : Node) → slot s at ≡ Some n → at ≡ x → ⊥
+    apart at n there same = some_none n (sym there ∙ ap (slot s) same ∙ vacant)
+      where
+        some_none : (m : Node) → Some m ≡ None → ⊥
+        some_none m h = cc
+
 -- numbers of slots, each at most once, are at most as many as there are slots
 pub within_slots : (s : Slots) (i : ℕ) (n : Node) → slot s i ≡ Some n → i < length s
 within_slots [] i n h = absurd (cc)

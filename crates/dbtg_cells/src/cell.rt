@@ -1,4 +1,6 @@
 //! The four kinds of cell.
+ghost use Rattle.std.specs.Prelude.{◌≡◌, None};
+
 use crate::extent::Extent;
 use crate::ring::Ring;
 use crate::slot::Slot;
@@ -15,7 +17,9 @@ pub enum Cell {
 
 impl Default for Cell {
     /// A vacant slot, which takes no memory.
-    fn default() -> Self {
+    fn default() -> Self
+        ensures { result ≡ Cell.Slot None }
+    {
         Cell::Slot(Slot::vacant())
     }
 }

@@ -16,7 +16,10 @@ pub enum CellName {
 }
 
 impl Default for CellName {
-    fn default() -> Self {
+    /// The usage cell of the first area.
+    fn default() -> Self
+        ensures { result ≡ CellName.Usage 0 }
+    {
         CellName::Usage(AreaNo::new(0))
     }
 }

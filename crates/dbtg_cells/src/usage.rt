@@ -1,5 +1,5 @@
 //! Who has an area open.
-ghost use Rattle.std.specs.Prelude.{◌≡◌, ℕ, ◌<◌, ◌++◌, [], ◌∷◌, List, Option, Some, None, OnOk, IsTrue, ◌↔◌, nat_lt};
+ghost use Rattle.std.specs.Prelude.{◌≡◌, ℕ, ◌<◌, ◌++◌, [], ◌∷◌, List, Option, Some, None, IsOk, OnErr, OnOk, IsTrue, ◌↔◌, nat_lt};
 ghost use Rattle.std.specs.List.{list_any};
 ghost use Rattle.dbtg_cells.specs.Users.{left_by, mode_in};
 ghost use Rattle.dbtg_cells.specs.Modes.{is_update, is_exclusive, is_protected, conflict as modes_conflict};
@@ -123,11 +123,16 @@ impl Usage {
         self.users.len() < self.users.capacity()
     }
 
-    /// Makes room for one more run-unit.
+    /// Makes room for one more run-unit. Where there is room already it takes no memory.
     pub fn reserve_user(&mut self) -> Result<(), AllocError>
         ensures ok { OnOk result (0 < self.new.room) }
+        ensures had_room { 0 < self.old.room → IsOk result × (self.new ≡ self.old) }
+        ensures err { OnErr result (self.new ≡ self.old) }
         ensures users { self.new.users ≡ self.old.users }
     {
+        if self.has_room() {
+            return Ok(());
+        }
         self.users.reserve(1)
     }
 

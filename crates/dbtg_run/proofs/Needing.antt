@@ -24,7 +24,7 @@ use Rattle.dbtg_step.specs.SequentialDatabase.{In}
 use Rattle.dbtg_step.specs.Network.{next_need_of}
 use Rattle.dbtg_step.specs.TurningBack.{count}
 use Rattle.dbtg_step.proofs.EventsShown.{slice_in}
-use Rattle.dbtg_step.proofs.NetworkNeeds.{chose_area, chose_cell, network_names_cells}
+use Rattle.dbtg_step.proofs.NetworkNeeds.{cell_needed, chose_area, network_names_cells}
 use Rattle.dbtg_step.proofs.TurnsBack as turns
 use Rattle.dbtg_run.specs.declared.view.About.{About}
 use Rattle.dbtg_run.specs.Views.{times, one_if}
@@ -141,12 +141,6 @@ module _ (schema : Lists) (capacity : ℕ) (db : Database) (unit : Unit) (hands 
       let g = find_element (λ a. not (list_any (λ b. b == a) hands.areas)) (areas_in_order schema unit x) a f.1 in
       let r = in_filter (λ a. list_any (λ b. b == a) (areas_of schema unit x)) a (range_with_len 0 (length schema.areas)) (there a (areas_in_order schema unit x) g.0) in
       record { inside = let h = in_range a 0 (length schema.areas) r in omega arith; fresh = not_true _ g.1; in_range_of = r }
-
-  pub cell_needed : (c : CellName) → Take c ≡ need schema capacity db unit hands x → list_any (λ e. name_eq c e.0) hands.cells ≡ false
-  unfolding need
-  cell_needed c e =
-      let f = chose_cell [] (is_some (refused_at_once schema capacity unit x)) (find (λ a. not (list_any (λ b. b == a) hands.areas)) (areas_in_order schema unit x)) (find (λ c. not (list_any (λ e. name_eq c e.0) hands.cells)) (cells_of schema capacity db unit hands.guesses x)) (is_stale schema capacity db unit hands.guesses x) (stale_owners schema capacity db unit hands.guesses x) c (ap (next_need_of []) (sym e)) in
-      not_true _ (find_element (λ c. not (list_any (λ e. name_eq c e.0) hands.cells)) (cells_of schema capacity db unit hands.guesses x) c f.2).1
 
   -- the true owners, after which no guess is stale
   pub record IsStale (owners : List (Option Owner)) : Type 0 where

@@ -97,9 +97,6 @@ drawn e unit held m = record m { unit = unit; journal = m.journal ++ e ∷ []; h
 
 -- THE SEATS
 
-abbrev pub spent_of : About → View
-spent_of about = record { live = false; about = about; members = [] }
-
 pub record Sits (about : About) (all : ℕ → Member) (seat : ℕ → ℕ) (id : ℕ) (m : Member) : Type 0 where
   pub same : m ≡ all m.place
   pub here : seat m.place ≡ id

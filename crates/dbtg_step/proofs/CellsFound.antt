@@ -49,7 +49,7 @@ unfolding unit_at
 unit_none xs zero e = refl
 unit_none xs (suc n) e = absurd (omega arith)
 
-numbered : {X : Type 0} (xs : List X) (u : ℕ) (x : X) → unit_at xs u ≡ Some x → (0 < u) × (slice_get xs (u - 1) ≡ Some x)
+pub numbered : {X : Type 0} (xs : List X) (u : ℕ) (x : X) → unit_at xs u ≡ Some x → (0 < u) × (slice_get xs (u - 1) ≡ Some x)
 unfolding unit_at
 numbered xs zero x e = absurd (cc (e))
 numbered xs (suc n) x e = let i : suc n - 1 ≡ n = omega arith in (omega arith, ap (slice_get xs) i ∙ e)
@@ -65,7 +65,7 @@ flipped_back x [] i = i
 flipped_back x (y ∷ ys) (inl e) = inl (sym e)
 flipped_back x (y ∷ ys) (inr i) = inr (flipped_back x ys i)
 
-in_reversed : {X : Type 0} (x : X) (xs : List X) → In x (reverse xs) → In x xs
+pub in_reversed : {X : Type 0} (x : X) (xs : List X) → In x (reverse xs) → In x xs
 in_reversed x xs i = flipped_back x xs (of_reverse x xs (flipped x (reverse xs) i))
 
 -- a held cell is in hand
@@ -135,7 +135,7 @@ module _ (schema : Lists) (capacity : ℕ) (parts : Parts) (well : IsWell schema
       let place = there_is parts.table.items number.0 within in
       shows_placed c number.0 number.1 place.0 place.1
 
-  database_is : database_of schema capacity parts ≡ (replay_entries schema capacity (opening_state schema (length parts.runners.items)) parts.history.items).database
+  pub database_is : database_of schema capacity parts ≡ (replay_entries schema capacity (opening_state schema (length parts.runners.items)) parts.history.items).database
   unfolding state_from
   database_is =
       ap (λ (q : DatabaseState). q.database)

@@ -51,6 +51,7 @@ pub mod OpeningShown
 pub mod RangePushes
 pub mod ImagesRead
 pub mod CellsFound
+pub mod CoreShown
 pub mod RunsShown
 pub mod Alone
 pub mod Audits

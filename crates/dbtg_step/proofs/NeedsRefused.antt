@@ -1,6 +1,6 @@
 -- Memory that is refused where a need is asked for stands in the place of an event: a DELETE that has its areas waits for
 -- nobody.
-use Rattle.std.proofs.Common.{ℕ, ◌≡◌, ◌<◌, ◌-◌, true, List, Some, None, drop, slice_get, refl, sym, ap, ◌∙◌, subst, suc}
+use Rattle.std.proofs.Common.{ℕ, ◌≡◌, ◌<◌, ◌-◌, true, false, List, Some, None, drop, slice_get, refl, sym, ap, ◌∙◌, subst, suc}
 use Rattle.std.specs.Prelude.{is_some, not, ◌==◌, Result, Ok, Err, OnErr}
 use Rattle.std.specs.List.{find, list_any}
 use Rattle.std.proofs.lemmas.Bool.{false≢true}
@@ -33,9 +33,9 @@ use Rattle.dbtg_step.proofs.EventsShown.{drop_found, found}
 use Rattle.dbtg_step.proofs.FollowsShown.{refused_is, set_there, statement, wants}
 use Rattle.dbtg_step.proofs.NameOrder.{names_are_ordered}
 use Rattle.dbtg_step.proofs.NeededCellsExist.{needed_is_cell}
-use Rattle.dbtg_step.proofs.NeedsShown.{database_now, need_of_holding}
+use Rattle.dbtg_step.proofs.NeedsShown.{agrees_now, database_now, need_of_holding}
 use Rattle.dbtg_step.proofs.NetworkFacts.{needs_in_order, network_is_sequential}
-use Rattle.dbtg_step.proofs.NetworkNeeds.{chose_area}
+use Rattle.dbtg_step.proofs.NetworkNeeds.{cell_needed, chose_area}
 use Rattle.dbtg_step.proofs.Ordered.{ordered}
 use Rattle.dbtg_step.proofs.Waiting.{exclusive_moves}
 
@@ -89,3 +89,10 @@ module _ (schema : Lists) (capacity u : ℕ) (old : Parts) (r : Runner) (well : 
       let here = found schema capacity u old r well numbered at in
       let exists = needed_is_cell schema capacity well.sound (opening_for schema capacity old) (state_of schema capacity old) well.lawful u (unit_state_of schema capacity r) (stage_of schema capacity r.held w) x.0 (drop (suc r.next) r.script) c here (well.guesses u (unit_state_of schema capacity r) here) (drop_found r.script r.next x.0 x.1) (needs r x.0 at x.1).is in
       false≢true (sym (ap is_some e) ∙ (has-number schema capacity c ∙ exists))
+
+  -- and isn't in hand
+  pub needed_is_free : (c : CellName) → NeedsNext schema capacity old u w (Take c) → list_any (λ (e : CellName × Cell). name_eq c e.0) r.held.cells ≡ false
+  needed_is_free c needs =
+      let x = statement schema capacity u old r well numbered at w s in
+      cell_needed schema capacity (database_now schema capacity u old r well numbered at) r.unit r.held x.0 c
+      ((needs r x.0 at x.1).everywhere (database_now schema capacity u old r well numbered at) (agrees_now schema capacity u old r well numbered at))

@@ -1,6 +1,6 @@
 -- What the need of a statement says: of the areas and cells of the statement it is the first that isn't held.
 use Rattle.std.proofs.Common.{ℕ, ◌≡◌, Bool, true, false, not, eqb, List, [], ◌∷◌, Option, Some, None, refl, sym, ap, ◌∙◌, subst, inl, inr}
-use Rattle.std.specs.Prelude.{is_some, if◌then◌else◌}
+use Rattle.std.specs.Prelude.{is_some, ◌==◌, if◌then◌else◌}
 use Rattle.std.specs.List.{list_any, find}
 use Rattle.std.proofs.lemmas.Bool.{or_left, or_right, false≢true}
 use Rattle.dbtg_schema.specs.Lists.{Lists}
@@ -11,9 +11,10 @@ use Rattle.dbtg_cells.specs.Names.{name_eq}
 use Rattle.dbtg_cells.specs.Shown.{CellValue}
 use Rattle.dbtg_unit.specs.declared.statement.Statement.{Statement}
 use Rattle.dbtg_unit.specs.declared.unit.Unit.{Unit}
-use Rattle.dbtg_unit.specs.declared.held.Need.TheVariants.{Ready}
+use Rattle.dbtg_unit.specs.declared.held.Need.TheVariants.{Ready, Take}
 use Rattle.dbtg_unit.specs.Base.{Database}
 use Rattle.dbtg_unit.specs.Checks.{refused_at_once}
+use Rattle.dbtg_unit.specs.Hands.{Hands}
 use Rattle.dbtg_unit.specs.Needs.{need, next_of, areas_in_order, cells_of, is_stale, stale_owners}
 use Rattle.dbtg_unit.proofs.LiveKeys.{find_element}
 use Rattle.dbtg_unit.proofs.ReadingCells.{same_name, name_eq-refl}
@@ -73,3 +74,12 @@ module _ (schema : Lists) (capacity : ℕ) (db : Database) (unit : Unit) (x : St
 
 pub network_names_cells : (schema : Lists) (capacity : ℕ) → NamesCells (network schema capacity)
 network_names_cells schema capacity = record { same_is = same_name; same_self = name_eq-refl; fresh = needed_is_fresh schema capacity }
+
+-- the same of what is in hand
+module _ (schema : Lists) (capacity : ℕ) (db : Database) (unit : Unit) (hands : Hands) (x : Statement) where
+  pub cell_needed : (c : CellName) → Take c ≡ need schema capacity db unit hands x → list_any (λ (e : CellName × Cell). name_eq c e.0) hands.cells ≡ false
+  unfolding need
+  cell_needed c e =
+      let free = λ (d : CellName). not (list_any (λ (f : CellName × Cell). name_eq d f.0) hands.cells) in
+      let chosen = chose_cell [] (is_some (refused_at_once schema capacity unit x)) (find (λ a. not (list_any (λ b. b == a) hands.areas)) (areas_in_order schema unit x)) (find free (cells_of schema capacity db unit hands.guesses x)) (is_stale schema capacity db unit hands.guesses x) (stale_owners schema capacity db unit hands.guesses x) c (ap (next_need_of []) (sym e)) in
+      not_true _ (find_element free (cells_of schema capacity db unit hands.guesses x) c chosen.2).1

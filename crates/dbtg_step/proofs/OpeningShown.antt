@@ -1,9 +1,10 @@
 -- The core before its first step is the machine before its scripts.
-use Rattle.std.proofs.Common.{ℕ, zero, suc, ◌≡◌, ◌+◌, Bool, true, false, ◌&&◌, List, [], ◌∷◌, ◌++◌, Option, Some, None, map, length, replicate, slice_get, refl, sym, ap, ◌∙◌, subst, arith, append_assoc}
+use Rattle.std.proofs.Common.{ℕ, zero, suc, ◌≡◌, ◌+◌, ◌<◌, ◌||◌, Bool, true, false, ◌&&◌, List, [], ◌∷◌, ◌++◌, Option, Some, None, map, length, replicate, slice_get, refl, sym, ap, ◌∙◌, subst, arith, append_assoc}
 use Rattle.std.specs.Prelude.{is_some, option_map, if◌then◌else◌}
 use Rattle.std.specs.List.{range_with_len}
 use Rattle.std.proofs.lemmas.List.{length-append, length-map}
-use Rattle.std.proofs.lemmas.Option.{slice_get-map}
+use Rattle.std.specs.List.{list_any}
+use Rattle.std.proofs.lemmas.Option.{same_Some, slice_get-map}
 use Rattle.dbtg_schema.specs.Lists.{Lists}
 use Rattle.dbtg_schema.specs.Sound.{IsSound}
 use Rattle.dbtg_schema.specs.Structure.{is_system}
@@ -15,12 +16,14 @@ use Rattle.dbtg_cells.specs.declared.name.CellName.{CellName}
 use Rattle.dbtg_cells.specs.declared.name.CellName.TheVariants.{Usage, Extent, Ring, Slot}
 use Rattle.dbtg_cells.specs.Cells.{shown}
 use Rattle.dbtg_cells.specs.Shown.{CellValue, UsageValue, ExtentValue, RingValue, SlotValue}
-use Rattle.dbtg_cells.specs.Names.{name_lt}
+use Rattle.dbtg_cells.specs.Names.{name_eq, name_lt}
+use Rattle.dbtg_cells.proofs.NumberLemmas.{numbered-at}
 use Rattle.dbtg_cells.specs.CellNumbers.{cell_count, cell_number, cells_in_order}
 use Rattle.dbtg_unit.specs.declared.statement.Statement.{Statement}
 use Rattle.dbtg_unit.specs.Base.{opening}
 use Rattle.dbtg_unit.specs.Cells.{cell, number_of, ring_of}
-use Rattle.dbtg_unit.specs.Local.{AllAgree}
+use Rattle.dbtg_unit.specs.Local.{AllAgree, names_of}
+use Rattle.dbtg_unit.proofs.ReadingCells.{same_name}
 use Rattle.dbtg_step.specs.declared.parts.Parts.{Parts}
 use Rattle.dbtg_step.specs.declared.parts.Place.{Place}
 use Rattle.dbtg_step.specs.declared.parts.Runner.{Runner}
@@ -183,3 +186,40 @@ pub runner_more : (schema : Lists) (made all : List Runner) (script : List State
 runner_more schema made all script left n e h =
     let count : length (made ++ opening_runner schema n script ∷ []) + 1 ≡ suc n = let l = length-append made (opening_runner schema n script ∷ []) in omega (arith, l, e) in
     ap (λ m. (made ++ opening_runner schema n script ∷ []) ++ runners_from schema m left) count ∙ append_assoc made (opening_runner schema n script ∷ []) (runners_from schema (suc n) left) ∙ h
+
+-- EACH CELL ONCE
+
+stands_among : (c : CellName) (cells : List (CellName × Cell)) → list_any (λ (e : CellName × Cell). name_eq c e.0) cells ≡ true → (j : ℕ) × (j < length cells) × (slice_get (names_of cells) j ≡ Some c)
+stands_among c [] h = absurd (cc (h))
+stands_among c (e ∷ es) h = by (name_eq c e.0) refl h (stands_among c es)
+  where
+    by : (b : Bool) → name_eq c e.0 ≡ b → b || list_any (λ (f : CellName × Cell). name_eq c f.0) es ≡ true
+        → (list_any (λ (f : CellName × Cell). name_eq c f.0) es ≡ true → (j : ℕ) × (j < length es) × (slice_get (names_of es) j ≡ Some c))
+        → (j : ℕ) × (j < length (e ∷ es)) × (slice_get (names_of (e ∷ es)) j ≡ Some c)
+    by true q h later = (0, omega arith, ap Some (sym (same_name c e.0 q)))
+    by false q h later = let r = later h in let within = r.1 in (suc r.0, omega (arith, within), r.2)
+
+in_front : {X : Type 0} (xs ys : List X) (j : ℕ) (x : X) → slice_get xs j ≡ Some x → slice_get (xs ++ ys) j ≡ Some x
+in_front [] ys j x at = absurd (cc (at))
+in_front (z ∷ xs) ys zero x at = at
+in_front (z ∷ xs) ys (suc j) x at = in_front xs ys j x at
+
+at_its_place : {X : Type 0} (xs ys : List X) (x : X) → slice_get (xs ++ x ∷ ys) (length xs) ≡ Some x
+at_its_place [] ys x = refl
+at_its_place (z ∷ xs) ys x = at_its_place xs ys x
+
+-- of the cells in their order the next is none of those before it
+pub not_yet : (schema : Lists) (capacity : ℕ) (cells : List (CellName × Cell)) (c : CellName) (rest : List CellName) → names_of cells ++ c ∷ rest ≡ cells_in_order schema capacity → list_any (λ (e : CellName × Cell). name_eq c e.0) cells ≡ false
+not_yet schema capacity cells c rest order = by (list_any (λ (e : CellName × Cell). name_eq c e.0) cells) refl
+  where
+    here : cell_number schema capacity c ≡ Some (length (names_of cells))
+    here = numbered-at schema capacity (length (names_of cells)) c (subst (λ ns. slice_get ns (length (names_of cells)) ≡ Some c) order (at_its_place (names_of cells) rest c))
+
+    by : (b : Bool) → list_any (λ (e : CellName × Cell). name_eq c e.0) cells ≡ b → b ≡ false
+    by false q = refl
+    by true q =
+        let before = stands_among c cells q in
+        let there = numbered-at schema capacity before.0 c (subst (λ ns. slice_get ns before.0 ≡ Some c) order (in_front (names_of cells) (c ∷ rest) before.0 c before.2)) in
+        let same = same_Some before.0 (length (names_of cells)) (sym there ∙ here) in
+        let within = before.1 in
+        absurd (omega (arith, same, within, length-map cells (λ (e : CellName × Cell). e.0)))

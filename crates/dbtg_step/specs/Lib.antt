@@ -14,6 +14,7 @@ pub mod Positions
 pub mod Events
 pub mod NeedOrder
 pub mod CoreSteps
+pub mod Core
 pub mod Runs
 pub mod Openings
 pub mod Imaging

@@ -2,6 +2,7 @@
 ghost use Rattle.std.specs.Prelude.{ℕ};
 ghost use Rattle.dbtg_schema.specs.Lists.{Lists};
 ghost use Rattle.dbtg_schema.specs.Sound.{IsSound};
+ghost use Rattle.dbtg_step.specs.Core.{EveryCoreIsSequential};
 ghost use Rattle.dbtg_step.specs.Laws.{EachEventKeepsLawful, EveryRunIsLawful, EveryImageIsOfItsHistory, MachineIsOpening, NoRunIsStuck, StatementsHaveTheirEvents, EveryRunExtendsHistory, EveryRunIsSequential, EverySerialRunIsARun, NeedsAreInOrder, NeededCellsExist};
 ghost use Rattle.dbtg_step.specs.TurningBack.{NeedsComeToAnEnd};
 
@@ -48,6 +49,11 @@ pub fn every_run_extends_history()
 /// just these units; and the entries of each unit are the beginning of its script.
 pub fn every_run_is_sequential()
     ensures { (schema : Lists) (capacity : ℕ) → IsSound schema → EveryRunIsSequential schema capacity }
+{}
+
+/// What every core is, as `Core::is_core` says, has the headline in it, of a core in mid-statement too.
+pub fn every_core_is_sequential()
+    ensures { EveryCoreIsSequential }
 {}
 
 /// Stepping one unit after another, each until its next step is idle, comes to an end. It is one of these runs, in which every

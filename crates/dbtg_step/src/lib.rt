@@ -23,10 +23,10 @@ mod whole;
 
 pub use auditing::audit;
 pub use laws::{
-    each_event_keeps_lawful, every_image_is_of_its_history, every_run_extends_history,
-    every_run_is_lawful, every_run_is_sequential, every_serial_run_is_a_run, machine_is_opening,
-    needed_cells_exist, needs_are_in_order, needs_come_to_an_end, no_run_is_stuck,
-    statements_have_their_events,
+    each_event_keeps_lawful, every_core_is_sequential, every_image_is_of_its_history,
+    every_run_extends_history, every_run_is_lawful, every_run_is_sequential,
+    every_serial_run_is_a_run, machine_is_opening, needed_cells_exist, needs_are_in_order,
+    needs_come_to_an_end, no_run_is_stuck, statements_have_their_events,
 };
 pub use machine::Core;
 pub use opening_parts::{opening_cells, opening_unit};

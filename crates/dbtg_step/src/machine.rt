@@ -3,6 +3,7 @@ ghost use Rattle.std.specs.Prelude.{◌≡◌, ◌≤◌, true, length, option_m
 ghost use Rattle.dbtg_unit.specs.Image.{image_of};
 ghost use Rattle.dbtg_unit.specs.Replay.{opening_state, replay};
 ghost use Rattle.dbtg_step.specs.SequentialDatabase.{unit_at};
+ghost use Rattle.dbtg_step.specs.Core.{IsCore};
 ghost use Rattle.dbtg_step.specs.CoreSteps.{IsNeverStuck, IsQuitStep, IsStep};
 ghost use Rattle.dbtg_schema.specs.Sound.{IsSound};
 ghost use Rattle.dbtg_step.specs.Headline.{machine_of, opening_of};
@@ -114,6 +115,13 @@ impl Core {
             turns,
             noted,
         )
+    }
+
+    /// What every core is, also in mid-statement, for whoever proves something over one. It does nothing.
+    pub fn is_core(&self)
+        ensures { IsCore self.now }
+    {
+        let _ = &self.parts;
     }
 
     /// The statements that drew a ticket, in the order of their tickets.

@@ -1,6 +1,7 @@
 //! The events of a statement before its ticket: it takes the area or the cell that it needs next, or turns back.
-ghost use Rattle.std.specs.Prelude.{◌≡◌, ℕ, ◌≤◌, ◌<◌, ◌-◌, ◌++◌, ◌∷◌, ◌||◌, [], length, drop, take, slice_get, Some, IfOk, OnErr};
+ghost use Rattle.std.specs.Prelude.{◌≡◌, ℕ, ◌≤◌, ◌<◌, ◌-◌, ◌++◌, ◌∷◌, ◌||◌, [], length, drop, take, slice_get, false, Some, IfOk, OnErr};
 ghost use Rattle.std.specs.List.{list_any};
+ghost use Rattle.dbtg_cells.specs.Names.{name_eq};
 ghost use Rattle.dbtg_schema.specs.Lists.{Lists};
 ghost use Rattle.dbtg_unit.specs.declared.held.Need.{Need};
 ghost use Rattle.dbtg_unit.specs.declared.statement.Statement.{Statement};
@@ -100,7 +101,8 @@ fn take_cell(
     number: usize,
     name: CellName,
 ) -> Stepped
-    requires { number < length table.old.items }
+    requires within { number < length table.old.items }
+    requires free { list_any (λ e. name_eq name e.0) held.old.cells ≡ false }
     ensures { IsTaken unit number name table.old.items table.new.items held.old held.new result }
 {
     match mem::replace(&mut table[number], Place::HeldBy(unit)) {

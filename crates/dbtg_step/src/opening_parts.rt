@@ -160,13 +160,14 @@ pub fn opening_cells(alloc: Global, schema: &Schema, capacity: u16) -> Result<Ve
     Ok(cells)
 }
 
-/// All cells of the schema at this capacity in hand under their names, as the opening database has them.
+/// All cells of the schema at this capacity in hand under their names, as the opening database has them, where none is yet.
 pub fn hold_opening_cells(
     alloc: Global,
     schema: &Schema,
     capacity: u16,
     held: &mut Held,
 ) -> Result<(), AllocError>
+    requires { held.old.cells ≡ [] }
     ensures { OnOk result (HasTaken schema.now capacity (cells_in_order schema.now capacity) held.old held.new) }
 {
     for name in cell_names(alloc, schema, capacity)? {

@@ -10,7 +10,8 @@ use Rattle.dbtg_unit.specs.Hands.{Hands, cell_of}
 use Rattle.dbtg_unit.specs.Lends.{holding, with_cell}
 use Rattle.dbtg_unit.specs.Making.{ShowsTheSame}
 use Rattle.dbtg_unit.specs.Prepared.{values_of}
-use Rattle.dbtg_unit.specs.Reserving.{KeepsOthers, OfHeld}
+use Rattle.dbtg_unit.specs.Reserving.{CanTakeMember, CanTakeUser, KeepRoom, KeepsOthers, KeepsRoom, OfHeld}
+use Rattle.dbtg_unit.proofs.CellNameLemmas.{same_name}
 use Rattle.dbtg_unit.proofs.MakingLemmas.{Held, cell_of-further, cell_of-here, cell_of-other, with_cell-further, with_cell-here, written_over}
 
 values-same : (c : CellName) (x y : Cell) (cells : Held) → cell_of c cells ≡ Some x → shown y ≡ shown x → values_of (with_cell c y cells) ≡ values_of cells
@@ -39,3 +40,32 @@ of_written P c y cells h = λ x there. subst P (sym (written_over c x y cells th
 -- what is so of a cell stays so while another is written
 pub of_held-kept : (P : Cell → Type 0) (c d : CellName) (old new : Held) → KeepsOthers d old new → name_eq c d ≡ false → OfHeld c old P → OfHeld c new P
 of_held-kept P c d old new keeps other h = λ x there. h x (sym (keeps c other) ∙ there)
+
+-- what is so of a cell is so of the one that is written in its place
+of_held-written : (P : Cell → Type 0) (c d : CellName) (x y : Cell) (cells : Held) → Some x ≡ cell_of c cells → (P x → P y) → OfHeld d cells P → OfHeld d (with_cell c y cells) P
+of_held-written P c d x y cells there kept h =
+    elim (cases_Bool (name_eq d c)) [
+      | inl same ↦
+          let is : d ≡ c = same_name d c same in
+          subst (λ n. OfHeld n (with_cell c y cells) P) (sym is) (of_written P c y cells (kept (h x (ap (λ n. cell_of n cells) is ∙ sym there))))
+      | inr other ↦ of_held-kept P d c cells (with_cell c y cells) (keeps_others c y cells) other h
+    ]
+
+-- a cell that keeps its room leaves all held cells theirs
+pub room_kept : (c : CellName) (x y : Cell) (cells : Held) → Some x ≡ cell_of c cells → KeepsRoom x y → KeepRoom cells (with_cell c y cells)
+room_kept c x y cells there keeps = record {
+  members = λ d k. of_held-written (CanTakeMember k) c d x y cells there (keeps.members k);
+  users = λ d. of_held-written CanTakeUser c d x y cells there keeps.users;
+}
+
+-- the cell that is there, written again
+pub with_cell-again : (c : CellName) (x : Cell) (cells : Held) → Some x ≡ cell_of c cells → with_cell c x cells ≡ cells
+with_cell-again c x [] there = refl
+with_cell-again c x (e ∷ es) there =
+    elim (cases_Bool (name_eq c e.0)) [
+      | inl here ↦
+          let found = there ∙ cell_of-here c e es here in
+          let is : x ≡ e.1 = cc in
+          with_cell-here c x e es here ∙ ap (λ v. (e.0, v) ∷ es) is
+      | inr other ↦ with_cell-further c x e es other ∙ ap (λ l. e ∷ l) (with_cell-again c x es (there ∙ cell_of-further c e es other))
+    ]

@@ -1,6 +1,6 @@
--- What it is to be a unit of a schema, and to be what a unit of a schema holds.
+-- What it is to be a unit of a schema, and the name of a cell that a schema has.
 -- k is a key, s a set, o an owner, t a record type, a an area, n a number, c a cell.
-use Rattle.std.specs.Prelude.{◌≡◌, ℕ, Bool, true, false, not, ◌&&◌, ◌==◌, nat_lt, nat_le, Some, None, length}
+use Rattle.std.specs.Prelude.{◌≡◌, ℕ, Bool, true, ◌&&◌, ◌==◌, nat_lt, nat_le, Some, None, length}
 use Rattle.std.specs.List.{list_all}
 use Rattle.dbtg_schema.specs.Lists.{Lists}
 use Rattle.dbtg_schema.specs.Lookups.{at}
@@ -10,14 +10,10 @@ use Rattle.dbtg_cells.specs.declared.key.Owner.{Owner}
 use Rattle.dbtg_cells.specs.declared.key.Owner.TheVariants.{System, Rec}
 use Rattle.dbtg_cells.specs.declared.name.CellName.{CellName}
 use Rattle.dbtg_cells.specs.declared.name.CellName.TheVariants.{Usage, Extent, Ring, Slot}
-use Rattle.dbtg_cells.specs.declared.cell.Cell.{Cell}
-use Rattle.dbtg_cells.specs.declared.cell.Cell.TheVariants.{Usage as UsageCell, Extent as ExtentCell, Ring as RingCell, Slot as SlotCell}
 use Rattle.dbtg_cells.specs.Keys.{key_lt}
-use Rattle.dbtg_cells.specs.Names.{name_eq}
 use Rattle.dbtg_unit.specs.declared.unit.Place.{Place}
 use Rattle.dbtg_unit.specs.declared.unit.Unit.{Unit}
 use Rattle.dbtg_unit.specs.Fits.{if_named, is_area, is_type}
-use Rattle.dbtg_unit.specs.Hands.{Hands}
 use Rattle.dbtg_unit.specs.Legal.{pairwise}
 
 -- a key of a record type of the schema
@@ -72,20 +68,3 @@ is_name_of schema (Extent t) = is_type schema t
 is_name_of schema (Ring s None) = is_system schema s
 is_name_of schema (Ring s (Some p)) = owns schema s p.0
 is_name_of schema (Slot t n) = is_type schema t
-
--- a cell is of its name's kind
-abbrev pub is_of_kind : CellName → Cell → Bool
-is_of_kind (Usage a) (UsageCell c) = true
-is_of_kind (Extent t) (ExtentCell c) = true
-is_of_kind (Ring s o) (RingCell c) = true
-is_of_kind (Slot t n) (SlotCell c) = true
-is_of_kind _ _ = false
-
--- what a unit of the schema holds: areas and cells of the schema, none twice, each cell of its name's kind, and a guess for each set
-pub record IsHandsOf (schema : Lists) (hands : Hands) : Type 0 where
-  pub areas : list_all (is_area schema) hands.areas ≡ true
-  pub areas_once : pairwise (λ a b. not (a == b)) hands.areas ≡ true
-  pub cells : list_all (λ e. is_name_of schema e.0 && is_of_kind e.0 e.1) hands.cells ≡ true
-  pub cells_once : pairwise (λ e f. not (name_eq e.0 f.0)) hands.cells ≡ true
-  pub every_guess : length hands.guesses ≡ length schema.sets
-  pub guesses : (s : ℕ) → if_named (is_owner_in schema s) (at hands.guesses s) ≡ true

@@ -95,10 +95,6 @@ is_current_owner schema unit s o = some_and (λ place. owner_eq place.owner o) (
 abbrev pub new_key : Database → ℕ → ℕ → DbKey
 new_key db t n = record { rtype = t; number = n; generation = db.last t n + 1 }
 
--- the database with the record k
-abbrev pub with_record : Database → DbKey → Record → Database
-with_record db k r = record db { records = λ x. if key_eq k x then Some r else db.records x }
-
 -- the database with the new record k, an empty list in each set that it owns
 abbrev pub with_new : Lists → Database → DbKey → List Value → Database
 with_new schema db k items =

@@ -15,6 +15,7 @@ use Rattle.dbtg_cells.specs.declared.usage.Mode.{Mode}
 use Rattle.dbtg_cells.specs.declared.key.Value.{Value}
 use Rattle.dbtg_cells.specs.Keys.{owner_eq}
 use Rattle.dbtg_cells.specs.Members.{has_sort_key, keys_in, members_in}
+use Rattle.dbtg_cells.specs.Shown.{ExtentView, UsageView}
 use Rattle.dbtg_cells.specs.Numbers.{entry_of, has_values, is_free, is_number_left_out, last_of, numbers_where}
 use Rattle.dbtg_unit.specs.CellNames.{place_of, slot_name}
 use Rattle.dbtg_unit.specs.Hands.{Hands, cell_of}
@@ -43,6 +44,15 @@ occurrence_of o _ = None
 abbrev pub occurrence_in : Hands → ℕ → Owner → Option Occurrence
 occurrence_in hands s o = occurrence_of o (cell_of (Ring s (place_of o)) hands.cells)
 
+-- the extent that a cell is
+abbrev pub extent_of : Option Cell → Option ExtentView
+extent_of (Some (ExtentCell extent)) = Some extent
+extent_of _ = None
+
+-- the extent of record type t in hand; none where it is not in hand
+abbrev pub extent_in : Hands → ℕ → Option ExtentView
+extent_in hands t = extent_of (cell_of (Extent t) hands.cells)
+
 -- the numbers of an extent
 abbrev pub numbers_of : Option Cell → List Number
 numbers_of (Some (ExtentCell extent)) = extent.numbers
@@ -51,6 +61,15 @@ numbers_of _ = []
 -- the numbers of record type t in hand; none where its extent is not in hand
 abbrev pub numbers_in : Hands → ℕ → List Number
 numbers_in hands t = numbers_of (cell_of (Extent t) hands.cells)
+
+-- the usage cell that a cell is
+abbrev pub usage_of : Option Cell → Option UsageView
+usage_of (Some (UsageCell usage)) = Some usage
+usage_of _ = None
+
+-- the usage cell of area a in hand; none where it is not in hand
+abbrev pub usage_in : Hands → ℕ → Option UsageView
+usage_in hands a = usage_of (cell_of (Usage a) hands.cells)
 
 -- who has an area open, by its usage cell
 abbrev pub users_of : Option Cell → List (ℕ × Mode)

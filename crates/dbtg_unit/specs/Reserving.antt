@@ -20,6 +20,11 @@ abbrev pub CanTakeUser : Cell → Type 0
 CanTakeUser (UsageCell usage) = 0 < usage.room
 CanTakeUser _ = ⊤
 
+-- what could be taken before can be taken still
+pub record KeepsRoom (old new : Cell) : Type 0 where
+  pub members : (k : DbKey) → CanTakeMember k old → CanTakeMember k new
+  pub users : CanTakeUser old → CanTakeUser new
+
 -- so it is with the held cell of this name, where one is held
 abbrev pub OfHeld : CellName → List (CellName × Cell) → (Cell → Type 0) → Type 0
 OfHeld c cells holds = (x : Cell) → cell_of c cells ≡ Some x → holds x
@@ -27,3 +32,8 @@ OfHeld c cells holds = (x : Cell) → cell_of c cells ≡ Some x → holds x
 -- all cells but the one of this name are as they were
 abbrev pub KeepsOthers : CellName → List (CellName × Cell) → List (CellName × Cell) → Type 0
 KeepsOthers c old new = (d : CellName) → name_eq d c ≡ false → cell_of d new ≡ cell_of d old
+
+-- what each held cell could take before it can take still
+pub record KeepRoom (old new : List (CellName × Cell)) : Type 0 where
+  pub members : (c : CellName) (k : DbKey) → OfHeld c old (CanTakeMember k) → OfHeld c new (CanTakeMember k)
+  pub users : (c : CellName) → OfHeld c old CanTakeUser → OfHeld c new CanTakeUser

@@ -1,8 +1,6 @@
 -- How far versions can have gone, and whether they can go on.
-use Rattle.std.specs.Prelude.{ℕ, ◌≤◌, Bool, true, nat_lt, List, Option, Some, None}
-use Rattle.std.specs.List.{list_all}
+use Rattle.std.specs.Prelude.{ℕ, ◌≤◌, Bool, true, nat_lt, Option, Some, None}
 use Rattle.dbtg_cells.specs.declared.key.DbKey.{DbKey}
-use Rattle.dbtg_cells.specs.declared.name.CellName.{CellName}
 use Rattle.dbtg_cells.specs.declared.cell.Cell.{Cell}
 use Rattle.dbtg_cells.specs.declared.cell.Cell.TheVariants.{Slot}
 use Rattle.dbtg_cells.specs.declared.slot.Stored.{Stored}
@@ -22,7 +20,3 @@ has_next_version (Some stored) = nat_lt stored.version 18446744073709551615
 abbrev pub can_change : Cell → Bool
 can_change (Slot slot) = has_next_version slot
 can_change _ = true
-
--- each held record can have a next version
-abbrev pub can_change_all : List (CellName × Cell) → Bool
-can_change_all = list_all (λ e. can_change e.1)

@@ -1,10 +1,11 @@
 //! What a statement has in hand: areas and cells in the order of taking, and the unit's guesses of owners. Short lists
 //! live in place, so that most statements take no memory for them.
-ghost use Rattle.std.specs.Prelude.{◌≡◌, ◌==◌, [], ◌∷◌, ◌++◌, length, map, option_copied, slice_get, slice_set, IfErr, IfNone, OnErr, OnOk};
+ghost use Rattle.std.specs.Prelude.{◌≡◌, ◌==◌, [], ◌∷◌, ◌++◌, length, map, false, option_copied, slice_get, slice_set, IfErr, IfNone, OnErr, OnOk};
 ghost use Rattle.std.specs.Borrow.{sem};
 ghost use Rattle.std.specs.List.{list_any};
 ghost use Rattle.std.specs.Option.{option_copied_mut, option_to_list};
 ghost use Rattle.dbtg_schema.specs.Lookups.{at};
+ghost use Rattle.dbtg_cells.specs.Names.{name_eq};
 ghost use Rattle.dbtg_unit.specs.Hands.{cell_of};
 ghost use Rattle.dbtg_unit.specs.Lends.{LendsCell};
 
@@ -144,8 +145,9 @@ impl Held {
         }
     }
 
-    /// Takes a cell in hand, behind the others. Where no room is found nothing changes, and the error has the cell.
+    /// Takes a cell in hand that isn't yet, behind the others. Where no room is found nothing changes, and the error has the cell.
     pub fn push_cell(&mut self, name: CellName, cell: Cell) -> Result<(), AllocFailed<Cell>>
+        requires { list_any (λ e. name_eq name e.0) self.old.cells ≡ false }
         ensures ok { OnOk result (self.new ≡ record self.old { cells = self.old.cells ++ (name, cell) ∷ [] }) }
         ensures err { OnErr result (self.new ≡ self.old) }
         ensures value_returned { IfErr result (λ failed. failed.value ≡ cell) }

@@ -3,7 +3,7 @@ ghost use Rattle.std.specs.Prelude.{◌≡◌, [], is_some, option_and_then, opt
 ghost use Rattle.dbtg_schema.specs.Lookups.{first_cause};
 ghost use Rattle.dbtg_unit.specs.Checks.{own_checks};
 ghost use Rattle.dbtg_unit.specs.CellNames.{place_of};
-ghost use Rattle.dbtg_unit.specs.InHand.{in_hand, numbers_in, occurrence_in, owner_in, stored_in, users_in};
+ghost use Rattle.dbtg_unit.specs.InHand.{extent_in, in_hand, numbers_in, occurrence_in, owner_in, stored_in, usage_in, users_in};
 
 use crate::held::Held;
 use crate::unit::{Cause, Unit};
@@ -74,7 +74,8 @@ pub fn occurrence<'a>(held: &'a Held, set: SetNo, owner: &Owner) -> Option<&'a R
 
 /// The extent of a record type, if it is in hand.
 pub fn numbers(held: &Held, rtype: RecordNo) -> Option<&Extent>
-    ensures { unwrap_or (option_map (λ e. e.numbers) (option_copied result)) [] ≡ numbers_in held.now rtype }
+    ensures there { option_copied result ≡ extent_in held.now rtype }
+    ensures value { unwrap_or (option_map (λ e. e.numbers) (option_copied result)) [] ≡ numbers_in held.now rtype }
 {
     match held.cell(&CellName::Extent(rtype)) {
         Some(Cell::Extent(extent)) => Some(extent),
@@ -84,7 +85,8 @@ pub fn numbers(held: &Held, rtype: RecordNo) -> Option<&Extent>
 
 /// The usage cell of an area, if it is in hand.
 pub fn usage(held: &Held, area: AreaNo) -> Option<&Usage>
-    ensures { unwrap_or (option_map (λ u. u.users) (option_copied result)) [] ≡ users_in held.now area }
+    ensures there { option_copied result ≡ usage_in held.now area }
+    ensures value { unwrap_or (option_map (λ u. u.users) (option_copied result)) [] ≡ users_in held.now area }
 {
     match held.cell(&CellName::Usage(area)) {
         Some(Cell::Usage(usage)) => Some(usage),

@@ -1,8 +1,9 @@
-//! Room in the cells in hand for what a statement adds, made before it changes anything. What they show stays.
-ghost use Rattle.std.specs.Prelude.{◌≡◌, OnOk};
+//! Room in the cells in hand for what a statement adds, made before it changes anything. What they show stays, and so does the
+//! room that was made before.
+ghost use Rattle.std.specs.Prelude.{◌≡◌, IsOk, OnOk};
 ghost use Rattle.dbtg_cells.specs.Cells.{shown};
 ghost use Rattle.dbtg_unit.specs.Making.{ShowsTheSame};
-ghost use Rattle.dbtg_unit.specs.Reserving.{CanTakeMember, CanTakeUser, KeepsOthers, OfHeld};
+ghost use Rattle.dbtg_unit.specs.Reserving.{CanTakeMember, CanTakeUser, KeepRoom, KeepsOthers, KeepsRoom, OfHeld};
 
 use crate::held::Held;
 use dbtg_cells::{Cell, CellName, DbKey};
@@ -11,6 +12,8 @@ use std::alloc::AllocError;
 fn make_room_for_member(cell: &mut Cell, key: &DbKey) -> Result<(), AllocError>
     ensures same { shown cell.new ≡ shown cell.old }
     ensures room { OnOk result (CanTakeMember key.now cell.new) }
+    ensures had_room { CanTakeMember key.now cell.old → IsOk result × (cell.new ≡ cell.old) }
+    ensures earlier { KeepsRoom cell.old cell.new }
 {
     match cell {
         Cell::Ring(ring) => {
@@ -27,6 +30,8 @@ fn make_room_for_member(cell: &mut Cell, key: &DbKey) -> Result<(), AllocError>
 fn make_room_for_user(cell: &mut Cell) -> Result<(), AllocError>
     ensures same { shown cell.new ≡ shown cell.old }
     ensures room { OnOk result (CanTakeUser cell.new) }
+    ensures had_room { CanTakeUser cell.old → IsOk result × (cell.new ≡ cell.old) }
+    ensures earlier { KeepsRoom cell.old cell.new }
 {
     match cell {
         Cell::Usage(usage) => usage.reserve_user(),
@@ -34,11 +39,14 @@ fn make_room_for_user(cell: &mut Cell) -> Result<(), AllocError>
     }
 }
 
-/// Makes room for a member in the ring of this name, where that ring is in hand and the key is no member of it.
+/// Makes room for a member in the ring of this name, where that ring is in hand and the key is no member of it. Where there is
+/// room already it takes no memory.
 pub fn reserve_member(held: &mut Held, name: &CellName, key: &DbKey) -> Result<(), AllocError>
     ensures same { ShowsTheSame held.old held.new }
     ensures others { KeepsOthers name.now held.old.cells held.new.cells }
     ensures room { OnOk result (OfHeld name.now held.new.cells (CanTakeMember key.now)) }
+    ensures had_room { OfHeld name.now held.old.cells (CanTakeMember key.now) → IsOk result × (held.new ≡ held.old) }
+    ensures earlier { KeepRoom held.old.cells held.new.cells }
 {
     match held.cell_mut(name) {
         Some(cell) => make_room_for_member(cell, key),
@@ -46,11 +54,14 @@ pub fn reserve_member(held: &mut Held, name: &CellName, key: &DbKey) -> Result<(
     }
 }
 
-/// Makes room for one more user in the usage cell of this name, where it is in hand.
+/// Makes room for one more user in the usage cell of this name, where it is in hand. Where there is room already it takes no
+/// memory, so that one user is never given room twice.
 pub fn reserve_user(held: &mut Held, name: &CellName) -> Result<(), AllocError>
     ensures same { ShowsTheSame held.old held.new }
     ensures others { KeepsOthers name.now held.old.cells held.new.cells }
     ensures room { OnOk result (OfHeld name.now held.new.cells CanTakeUser) }
+    ensures had_room { OfHeld name.now held.old.cells CanTakeUser → IsOk result × (held.new ≡ held.old) }
+    ensures earlier { KeepRoom held.old.cells held.new.cells }
 {
     match held.cell_mut(name) {
         Some(cell) => make_room_for_user(cell),

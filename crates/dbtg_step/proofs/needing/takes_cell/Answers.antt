@@ -2,7 +2,7 @@ use Rattle.std.proofs.Common.{◌≡◌, Some, slice_get, length, refl, sym, ◌
 use Rattle.std.proofs.lemmas.Option.{slice_get_read}
 use Rattle.dbtg_step.proofs.EventsShown.{there_is}
 use Rattle.dbtg_step.proofs.FollowsShown.{cell_followed}
-use Rattle.dbtg_step.proofs.NeedsRefused.{needed_has_number}
+use Rattle.dbtg_step.proofs.NeedsRefused.{needed_has_number, needed_is_free}
 use Rattle.dbtg_step.proofs.needing.takes_cell.Goals as goal
 
 pub returns : goal.returns
@@ -17,3 +17,10 @@ unreachable-requires c =
     let items = c.args.parts.now.runners.items in
     let it = there_is items (c.args.unit - 1) (omega (arith, c.requires.within, c.requires.numbered)) in
     needed_has_number c.args.schema.now c.args.capacity c.args.unit c.args.parts.now it.0 c.requires.well c.requires.numbered it.1 c.args.stage (c.requires.stands it.0 it.1) c.args.name c.requires.needs (sym c.cell_number.ensures ∙ c.in-None.is)
+
+pub take_cell-requires-clause-free : goal.take_cell-requires-clause-free
+take_cell-requires-clause-free c =
+    let runner = c.index_mut-runner.result.now in
+    let items = c.args.parts.now.runners.items in
+    let at : slice_get items (c.args.unit - 1) ≡ Some runner = slice_get_read items (length items) (c.args.unit - 1) runner refl (omega (arith, c.requires.within, c.requires.numbered)) c.index_mut-runner.ensures.value in
+    needed_is_free c.args.schema.now c.args.capacity c.args.unit c.args.parts.now runner c.requires.well c.requires.numbered at c.args.stage (c.requires.stands runner at) c.args.name c.requires.needs

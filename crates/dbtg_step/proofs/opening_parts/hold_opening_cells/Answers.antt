@@ -3,10 +3,11 @@ use Rattle.std.specs.Vec.Iter.{into_iter_items}
 use Rattle.std.proofs.lemmas.List.{map-append}
 use Rattle.dbtg_cells.specs.declared.cell.Cell.{Cell}
 use Rattle.dbtg_cells.specs.declared.name.CellName.{CellName}
+use Rattle.dbtg_cells.specs.CellNumbers.{cells_in_order}
 use Rattle.dbtg_unit.specs.Base.{opening}
 use Rattle.dbtg_unit.specs.Hands.{Hands}
 use Rattle.dbtg_unit.specs.Local.{AllAgree, names_of}
-use Rattle.dbtg_step.proofs.OpeningShown.{agree_more}
+use Rattle.dbtg_step.proofs.OpeningShown.{agree_more, not_yet}
 use Rattle.dbtg_step.proofs.opening_parts.hold_opening_cells.Goals as goal
 
 pub loop-name-preserved : goal.loop-name-preserved
@@ -26,3 +27,10 @@ loop-name-preserved c =
           ∙ was.names;
       agree = λ a. subst (λ (h : Hands). AllAgree schema capacity (opening schema) h.cells) (sym pushed) (agree_more schema capacity c.loop-name.held.cells c.in-Some.name c.in_ok-cell.cell c.in_ok-cell.ensures (was.agree a));
     }
+
+pub push_cell-requires : goal.push_cell-requires
+push_cell-requires c =
+    let schema = c.args.schema.now in
+    let capacity = c.args.capacity in
+    not_yet schema capacity c.loop-name.held.cells c.in-Some.name (into_iter_items c.next.new.self)
+    (ap (λ ns. names_of c.loop-name.held.cells ++ ns) (sym c.in-Some.ensures.steps.0) ∙ c.loop-name.invariant.names ∙ ap (λ cells. names_of cells ++ cells_in_order schema capacity) c.requires)

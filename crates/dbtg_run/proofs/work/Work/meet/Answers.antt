@@ -11,7 +11,8 @@ use Rattle.dbtg_unit.specs.Needs.{is_stale}
 use Rattle.dbtg_step.proofs.NeedsShown.{need_owners, ok_also}
 use Rattle.dbtg_run.specs.declared.view.About.{About}
 use Rattle.dbtg_run.specs.Posed.{turns_left}
-use Rattle.dbtg_run.proofs.Needing.{area_needed, cell_needed, stale_needed, not_stale_then, area_nearer, cell_nearer, no_times, match_true}
+use Rattle.dbtg_step.proofs.NetworkNeeds.{cell_needed}
+use Rattle.dbtg_run.proofs.Needing.{area_needed, stale_needed, not_stale_then, area_nearer, cell_nearer, no_times, match_true}
 use Rattle.dbtg_run.proofs.work.Work.meet.Goals as goal
 
 pub take_area-requires-clause-area : goal.take_area-requires-clause-area

@@ -17,7 +17,7 @@ use Rattle.dbtg_run.specs.Kept.{area_count, cells_of_table, slot_name}
 use Rattle.dbtg_run.specs.Posed.{AreInside, empty_slots, member_of, posed}
 use Rattle.dbtg_run.proofs.Facts.{bared_more}
 use Rattle.dbtg_run.proofs.Uses.{again_as, all_more, cell_free_as, puts_as, real_taken, slot_asks, taken_as, takes_as, took_as, took_it}
-use Rattle.dbtg_run.proofs.Needing.{cell_needed}
+use Rattle.dbtg_step.proofs.NetworkNeeds.{cell_needed}
 use Rattle.dbtg_run.proofs.work.Work.take_cell.Goals as goal
 
 pub overflow_add-word-2 : goal.overflow_add-word-2
@@ -130,3 +130,9 @@ returns-then-compare_exchange-ne0-clause-alone c one =
     (subst (λ (a : About). w.seat.me ≡ posed a w.unit w.journal.items w.exclusive w.held) b w.tied) word (stands_at c.args.name (cells_in_order db.about.schema.value db.about.capacity) c.args.number named) e.2.2
     (sym (ap (λ (a : About). a.units) b) ∙ one) fresh in
     absurd (c.if-compare_exchange-ne0.true z)
+
+pub push_cell-requires : goal.push_cell-requires
+push_cell-requires c =
+    let w = c.args.self.now in
+    let r = c.requires.work.real in
+    cell_needed w.about.schema.value w.about.capacity r.db w.unit w.held c.args.statement.now c.args.name (c.requires.needed r.db r.agrees)
