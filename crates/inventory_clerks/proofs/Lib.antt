@@ -1,3 +1,4 @@
+mod Audited
 mod Belonging
 mod Closing
 mod Crosses

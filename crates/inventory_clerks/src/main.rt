@@ -1,7 +1,7 @@
 //! Two clerks of a warehouse, each on a thread of his own, fill their orders; then what they did is audited.
 #![tactic(auto)]
 
-ghost use Rattle.std.specs.Prelude.{◌≡◌, IfOk, MatchOption, true};
+ghost use Rattle.std.specs.Prelude.{◌≡◌, IfNone, IfOk, IfSome, MatchOption, true};
 ghost use Rattle.dbtg_schema.specs.Sound.{IsSound};
 ghost use Rattle.dbtg_unit.specs.Replay.{IsHistoryOf};
 ghost use Rattle.inventory_clerks.specs.Auditing.{IsTextOf, text_of};
@@ -177,21 +177,25 @@ fn audited_text(
     }
 }
 
+// Whether this text was found.
+fn is_found(found: &Option<Vec<u8>>, text: &[u8]) -> bool
+    ensures { result ≡ true → IfNone found.now ⊥ × IfSome found.now (λ out. out.items ≡ text.now) }
+{
+    match found {
+        Some(found) => found.as_slice() == text,
+        None => false,
+    }
+}
+
 // Whether the audit of what the clerks did finds what they left.
 fn is_equal(alloc: Global, settled: &Settled) -> Result<bool, AllocError>
     requires sound { IsSound settled.now.schema }
     ensures { IfOk result (λ equal. equal ≡ true → IsTextOf settled.now.schema CAPACITY UNITS settled.now.history (text_of settled.now.schema settled.now.image settled.now.units)) }
 {
-    let left = text(
-        alloc,
-        &settled.schema,
-        &settled.image,
-        settled.units.as_slice(),
-    )?;
-    match audited_text(alloc, &settled.schema, settled.history.as_slice())? {
-        Some(found) => Ok(found.as_slice() == left.as_slice()),
-        None => Ok(false),
-    }
+    let schema = &settled.schema;
+    let left = text(alloc, schema, &settled.image, settled.units.as_slice())?;
+    let found = audited_text(alloc, schema, settled.history.as_slice())?;
+    Ok(is_found(&found, left.as_slice()))
 }
 
 // The stock at the end of the day, and the verdict of the audit.
