@@ -198,7 +198,10 @@ class Trial:
         return Said(text, self.crate)
 
     def make_library(self, copy):
-        """A check of a program links it with all that it reaches, which no edit needs: in a copy it is a library, without a main."""
+        """A check of a program links it with all that it reaches, which no edit needs: where others stand in, main among them, a copy
+        is a library."""
+        if self.stand_ins.are_none:
+            return
         root = f"{copy}/{kit.root_file(self.folder)}"
         text = kit.text_of(root)
         with open(root, "w", encoding="utf-8") as out:

@@ -1,12 +1,14 @@
 -- What is told of a line.
-use Rattle.std.proofs.Common.{◌≡◌, ℕ, ◌+◌, ◌-◌, List, [], ◌∷◌, ◌++◌, length, None, Some, slice_get, inl, inr, refl, ap, ◌∙◌, subst, arith, length-append, IfOk, Result, Ok, Err}
+use Rattle.std.proofs.Common.{◌≡◌, ℕ, ◌+◌, ◌-◌, List, [], ◌∷◌, ◌++◌, length, None, Some, slice_get, inl, inr, refl, ap, sym, ◌∙◌, subst, arith, length-append, IfOk, Result, Ok, Err}
 use Rattle.std.proofs.lemmas.Result.{IfOk-weaker}
 use Rattle.dbtg_schema.specs.Lists.{Lists}
 use Rattle.dbtg_unit.specs.declared.unit.Entry.{Entry}
 use Rattle.dbtg_script.specs.Lines.{trimmed}
 use Rattle.dbtg_script.specs.Statements.{line_statement}
 use Rattle.dbtg_script.specs.declared.fault.Cause.{Cause}
-use Rattle.dbtg.specs.Sessions.{IsAnswerReply, IsLastAnswer, IsNoUnit, IsTold, IsUnmade, RefusesLine, TakesLine, Typed}
+use Rattle.dbtg.specs.Asking.{asked_of, turn_after}
+use Rattle.dbtg.specs.Sessions.{IsAnswerReply, IsLastAnswer, IsNoUnit, IsTold, IsUnmade, RefusesLine, TakesAsked, TakesLine, Typed}
+use Rattle.dbtg.specs.declared.shell.asked.Asked.{Asked}
 use Rattle.dbtg.specs.declared.shell.commands.Reply.{Reply}
 use Rattle.dbtg.specs.declared.shell.commands.Reply.TheVariants as reply
 use Rattle.dbtg.specs.declared.shell.session.Refusal.TheVariants.{Fault}
@@ -57,3 +59,15 @@ module _ {E : Type 0} (u : ℕ) (old new : Typed) (line : List ℕ) (result : Re
 
   pub with_fault : (A : List ℕ → Type 0) (cause : Cause) → RefusesLine (Fault cause) old u line → IfOk result (IsTold A) → TakesLine u old line result new
   with_fault A cause refused told = inr (same, if_told result A (IsUnmade old u line) (λ out h. inr (inr (cause, refused))) told)
+
+-- WHAT A LINE ASKS FOR IS DONE
+
+pub is_done : {E : Type 0} (line bare : List ℕ) (turn new_turn : ℕ) (old new : Typed) (result : Result Reply E) (one asked : Asked)
+    → asked_of line bare one → one ≡ asked → TakesAsked turn old asked result new → IfOk result (λ x. new_turn ≡ turn_after old.making.units turn asked)
+    → (it : Asked) × asked_of line bare it × TakesAsked turn old it result new × IfOk result (λ x. new_turn ≡ turn_after old.making.units turn it)
+is_done line bare turn new_turn old new result one asked said is taken given = (
+  one,
+  said,
+  subst (λ (it : Asked). TakesAsked turn old it result new) (sym is) taken,
+  subst (λ (it : Asked). IfOk result (λ x. new_turn ≡ turn_after old.making.units turn it)) (sym is) given,
+)

@@ -1,4 +1,4 @@
--- What may cross threads.
+-- What may cross threads: for whoever calls, that a unit and its database may.
 use denote.RattleType.{RattleType}
 use denote.Struct.Struct.{Struct}
 use denote.Struct.Owning.{shape as owning_shape}

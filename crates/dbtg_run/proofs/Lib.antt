@@ -22,4 +22,4 @@ mod Made
 mod Merged
 mod Runs
 mod Abreast
-mod Crosses
+pub mod Crosses

@@ -1,6 +1,7 @@
 use Rattle.std.proofs.Crossing.{crosses}
 use denote.Param.Send.{sendable}
-use Rattle.inventory_clerks.proofs.Crosses.{database_sync, order_sync, unit_send}
+use Rattle.dbtg_run.proofs.Crosses.{database_sync, unit_send}
+use Rattle.inventory_clerks.proofs.Crosses.{order_sync}
 use Rattle.inventory_clerks.proofs.warehouse.side_by_side.Goals as goal
 
 pub join-backs-requires-send-F : goal.join-backs-requires-send-F
