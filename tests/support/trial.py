@@ -25,37 +25,20 @@ class Lanes:
 
     ROOM = 5_000_000_000
     RUNS = 3
-    LONG = 2
 
     def __init__(self, count, nice=0):
-        self.count, self.nice, self.lock, self.news = count, nice, threading.Lock(), threading.Condition()
-        self.free, self.seconds, self.running = count, {}, 0
+        self.nice, self.lane, self.lock = nice, threading.Semaphore(count), threading.Lock()
+        self.seconds, self.running = {}, 0
 
-    def run(self, crate, words, folder, is_long=False):
-        """Runs a check once a lane is free, and gives what it printed. A long one takes a second lane, if one is free then: more
-        would wait unused while it comes to its last function."""
-        taken = self.take(self.LONG if is_long else 1)
-        try:
+    def run(self, crate, words, folder):
+        """Runs a check once a lane is free, and gives what it printed. It is one process: several of one check load and prove much twice."""
+        with self.lane:
             for _ in range(self.RUNS):
                 self.wait_for_memory()
-                status, text = self.ran(crate, [*words, "--jobs", str(taken)], folder)
+                status, text = self.ran(crate, words, folder)
                 if status != -signal.SIGKILL:
                     break
             return text
-        finally:
-            self.give(taken)
-
-    def take(self, most):
-        with self.news:
-            self.news.wait_for(lambda: self.free > 0)
-            taken = min(most, self.free)
-            self.free -= taken
-            return taken
-
-    def give(self, taken):
-        with self.news:
-            self.free += taken
-            self.news.notify_all()
 
     def wait_for_memory(self):
         while self.running and kit.free_memory() < self.ROOM:
@@ -188,12 +171,11 @@ class Trial:
             self.stand_ins.enter(copy)
             for it in batch:
                 it.enter_twin(copy, self.crate, self.sources)
-            begins = bool(kept)
-            if not begins:
+            if not kept:
                 kept = f"{copy}/kept"
                 shutil.copytree(self.kept, kept, copy_function=linked)
             words = [kit.rattle(), "check", *self.words, *self.asked(batch), "--incremental", kept]
-            text = self.lanes.run(self.crate, words, copy, begins)
+            text = self.lanes.run(self.crate, words, copy)
         self.log.write(f"=== {self.crate}: {' '.join(it.name for it in batch)}\n{text}\n")
         return Said(text, self.crate)
 
