@@ -1,7 +1,8 @@
 """Edits of a crate: wrong bodies, each a file that says which lines are put in the place of which.
 
 A line `file: PATH` names the file; pairs of lines `old: TEXT` and `new: TEXT` say what changes, where each old text stands exactly
-once in the file, or, behind a line `in: FUNCTION`, once in that function (`name` or `Type::name`)."""
+once in the file, or, behind a line `in: FUNCTION`, once in that function (`name` or `Type::name`). One that changes more than bodies
+of functions names, in a line `refused: PATH`, the function that has to be refused, as a check names it below the crate."""
 
 import functools
 import os
@@ -23,7 +24,7 @@ class Edit:
 
     def __init__(self, path, crate_folder, sources):
         self.path, self.name = path, os.path.basename(path).removesuffix(".edit")
-        self.texts = applied(text_of(path), sources)
+        self.texts, self.refused = applied(text_of(path), sources), re.findall(r"(?m)^refused: (\S+)$", text_of(path))
         self.bodies, self.elsewhere, self.twin = {}, False, None
         for file, text in self.texts.items():
             found = changed_bodies(sources.functions(file), sources.text(file), text) if file.startswith("src/") else None
@@ -31,6 +32,8 @@ class Edit:
                 self.elsewhere = True
             else:
                 self.bodies.update({(file, function): body for function, body in found.items()})
+        if self.elsewhere != bool(self.refused):
+            raise BadEdit("it names the function that has to be refused if, and only if, it changes more than bodies of functions")
 
     def is_harmless(self):
         """Whether the edit changes no meaning: it stands among the others to show that such a one is told from them."""
@@ -41,8 +44,8 @@ class Edit:
         return [(file, self.twin or function) for file, function in self.bodies]
 
     def paths(self, sources):
-        """The names of these functions, as a check can be asked for them."""
-        return [function.path(module_of(file), sources.declared()) for file, function in self.functions()]
+        """The names of these functions, or of those that the edit names, as a check can be asked for them."""
+        return self.refused or [function.path(module_of(file), sources.declared()) for file, function in self.functions()]
 
     def can_have_twin(self):
         """Whether it changes one function alone, which stands outside traits and is not called by the new body."""
@@ -187,7 +190,7 @@ def parts_of(edits, file, sources, stand_ins):
     text, at = sources.text(file), 0
     written = [(f.opens, f.end, body, it) for it in edits for (its, f), body in it.bodies.items() if its == file and not it.twin]
     written += [(f.end, f.end, it.twin_text(text), it) for it in edits for its, f in it.bodies if its == file and it.twin]
-    written += [(f.opens, f.end, BODY, None) for f in stand_ins.functions(file)]
+    written += [(f.opens, f.end, BODY, None) for f in stand_ins.functions(file, edits)]
     written.sort(key=lambda it: it[0])
     for opens, end, body, edit in written:
         yield text[at:opens], None

@@ -10,11 +10,10 @@ TICK = os.sysconf("SC_CLK_TCK")
 
 class Minutes:
     """Processor minutes by crate and kind, read every second while the gate runs (what a process does after its last reading is
-    lost, so the sum is a little less than the whole). Calls `kept` with a crate, and the folder of what is proved of it, once the
-    gate has tried the first of the crate's must-fail edits: its check proves all that the edit does not touch."""
+    lost, so the sum is a little less than the whole)."""
 
-    def __init__(self, kept):
-        self.ticks, self.ended, self.kept, self.rooms, self.tests = {}, threading.Event(), kept, {}, {}
+    def __init__(self):
+        self.ticks, self.ended, self.tests = {}, threading.Event(), {}
         self.thread = threading.Thread(target=self.watch, daemon=True)
         self.thread.start()
 
@@ -38,15 +37,6 @@ class Minutes:
             fields = it.read().rpartition(")")[2].split()
         if kind:
             self.ticks[process, fields[19]] = crate, kind, int(fields[11]) + int(fields[12])
-        if kind == "must-fail" and "--incremental" in words:
-            self.note_room(crate, room, words[words.index("--incremental") + 1])
-
-    def note_room(self, crate, room, folder):
-        """The gate tries each edit in a room of its own, over one folder for the crate: in the second room, the first is done."""
-        rooms = self.rooms.setdefault(crate, set())
-        if len(rooms | {room}) == 2 > len(rooms):
-            self.kept(crate, folder)
-        rooms.add(room)
 
     def note_test(self, name, seconds):
         self.tests[name] = seconds / 60

@@ -30,12 +30,12 @@ class StandIns:
     def __init__(self, folder, sources, edits, are_wanted):
         self.folder, self.sources = folder, sources
         self.changed = {it for edit in edits for it in edit.bodies}
-        self.whole = {file for edit in edits if edit.elsewhere for file in edit.texts}
         self.are_none = not are_wanted or any(not file.startswith("src/") for edit in edits for file in edit.texts)
 
-    def functions(self, file):
-        """The functions of a file for which others stand in."""
-        if self.are_none or file in self.whole:
+    def functions(self, file, batch):
+        """The functions of a file for which others stand in, in a copy with the edits of a batch: none in a file that one of them
+        changes elsewhere than in bodies."""
+        if self.are_none or any(it.elsewhere and file in it.texts for it in batch):
             return []
         return [it for it in self.sources.functions(file) if (file, it) not in self.changed]
 
@@ -48,8 +48,8 @@ class StandIns:
         """What a copy with stand-ins is said to be linked with."""
         return "" if self.are_none else "stand_in"
 
-    def enter(self, copy):
-        """Declares the module of stand-ins in a copy whose files have them, and takes away what proved the bodies that are gone."""
+    def enter(self, copy, batch):
+        """Declares the module of stand-ins in a copy with the edits of a batch, and takes away what proved the bodies that are gone."""
         if self.are_none:
             return
         root = f"{copy}/{root_file(self.folder)}"
@@ -58,7 +58,7 @@ class StandIns:
         with open(f"{copy}/{FILE}", "w", encoding="utf-8") as out:
             out.write(TEXT)
         for file in self.files():
-            for function in self.functions(file):
+            for function in self.functions(file, batch):
                 self.drop_proof(copy, file, function)
 
     def drop_proof(self, copy, file, function):

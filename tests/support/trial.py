@@ -71,12 +71,12 @@ class Lanes:
 class Trial:
     """The edits of one crate, and what became of each."""
 
-    def __init__(self, crate, lanes, log, libraries=None, kept=None):
+    def __init__(self, crate, lanes, log, libraries=None):
         """Over the libraries of the repository and over what the crate's own check kept; or over those in another folder, and
-        over what is given or nothing."""
+        over nothing."""
         self.crate, self.lanes, self.log = crate, lanes, log
         self.folder = f"{kit.ROOT}/crates/{crate}"
-        self.kept, self.is_partial = kept if libraries else f"{self.folder}/out/incremental", False
+        self.kept, self.is_partial = None if libraries else f"{self.folder}/out/incremental", False
         self.sources, self.passed, self.failed, self.names = Sources(self.folder), 0, 0, []
         self.libraries = libraries or kit.ROOT
 
@@ -154,9 +154,7 @@ class Trial:
     def verdict(self, edit, said):
         if not said.is_whole:
             return Verdict.UNREAD, next((it for it in said.text.splitlines() if ": error" in it), "the check did not come to its end")
-        if not edit.elsewhere:
-            return said.verdict(names_of(edit, self.crate, said.lines))
-        return said.verdict(list(said.lines))
+        return said.verdict([f"{self.crate}::{it}" for it in edit.refused] or names_of(edit, self.crate, said.lines))
 
     def checked(self, batch, kept):
         """Checks a copy of the crate with the edits of the batch, over a copy of what was kept or, where it is given, over `kept`."""
@@ -168,7 +166,7 @@ class Trial:
                 with open(f"{copy}/{file}", "w", encoding="utf-8") as out:
                     out.write(text)
             self.make_library(copy)
-            self.stand_ins.enter(copy)
+            self.stand_ins.enter(copy, batch)
             for it in batch:
                 it.enter_twin(copy, self.crate, self.sources)
             if not kept:
@@ -190,8 +188,8 @@ class Trial:
             out.write(text.replace("\nfn main(", "\nfn main_of_the_program("))
 
     def asked(self, batch):
-        """What a check is asked for: the functions that the batch changes, or all where one changes more than bodies."""
-        if not self.is_partial or any(it.elsewhere for it in batch):
+        """What a check over nothing is asked for: the functions that the batch changes, or names."""
+        if not self.is_partial:
             return []
         return [word for path in sorted({path for it in batch for path in it.paths(self.sources)}) for word in ("--only", f"{self.crate}::{path}")]
 
