@@ -117,6 +117,23 @@ fn seat_units(
     Ok(made)
 }
 
+// The table with all cells at home, and the units there.
+fn furnish(
+    alloc: Global,
+    schema: &Schema,
+    about: &About,
+) -> Result<(Board, Vec<RunUnit>), AllocError>
+    requires same { about.now.schema.value ≡ schema.now }
+    requires sound { IsSound schema.now }
+    requires units { (1 ≤ about.now.units) × (about.now.units ≤ 8) }
+    ensures sized { IfOk result (λ t. IsSized about.now t.0.shared.table_id × (t.0.shared.key ≡ about.now)) }
+    ensures units { IfOk result (λ t. t.1.items ≡ opening_views t.0.shared.table_id about.now about.now.units) }
+{
+    let (board, seat) = lay(alloc, schema, about)?;
+    let made = seat_units(alloc, schema, &board, about, seat)?;
+    Ok((board, made))
+}
+
 impl Database {
     /// A database of this schema before its first statement, and its run-units in the order of their numbers, which are from 1
     /// on. There are from 1 to 8 units. The capacity is the greatest number that a record of a type can have, and may be any.
@@ -137,15 +154,16 @@ impl Database {
             capacity,
             units,
         };
-        let (board, seat) = lay(alloc, &schema, &about)?;
-        let made = seat_units(alloc, &schema, &board, &about, seat)?;
-        Ok((
-            Database {
-                board,
-                schema,
-                about,
-            },
-            made,
-        ))
+        match furnish(alloc, &schema, &about) {
+            Ok((board, made)) => Ok((
+                Database {
+                    board,
+                    schema,
+                    about,
+                },
+                made,
+            )),
+            Err(error) => Err(error),
+        }
     }
 }
