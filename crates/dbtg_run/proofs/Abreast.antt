@@ -1,10 +1,11 @@
 -- Units that make their scripts side by side.
-use Rattle.std.proofs.Common.{◌≡◌, ◌⊎◌, ℕ, zero, suc, ◌+◌, ◌<◌, List, [], ◌∷◌, ◌++◌, All, length, refl, sym, ap, ◌∙◌, subst, inl, inr, ⊎_elim, arith, get_or, length-append}
-use Rattle.std.proofs.lemmas.List.{get_or_append_left}
+use Rattle.std.proofs.Common.{◌≡◌, ◌⊎◌, ℕ, zero, suc, ◌+◌, ◌<◌, Result, Ok, Err, IfOk, is_err, false, List, [], ◌∷◌, ◌++◌, All, length, refl, sym, ap, ◌∙◌, subst, inl, inr, ⊎_elim, arith, get_or, length-append}
+use Rattle.std.proofs.lemmas.List.{get_or_append_left, get_or_default}
 use Rattle.std.proofs.lemmas.Option.{get_or_from_slice_get, slice_get_read}
 use Rattle.dbtg_unit.specs.declared.statement.Statement.{Statement}
-use Rattle.dbtg_run.specs.Running.{AtEach}
+use Rattle.dbtg_run.specs.Running.{AtEach, HaveMade, HaveRun, Ran}
 use Rattle.dbtg_run.specs.UnitView.{UnitView}
+use Rattle.dbtg_run.proofs.Runs.{ran_none}
 
 at_last : {A : Type 0} (xs : List A) (x d : A) (k : ℕ) → k ≡ length xs → get_or (xs ++ x ∷ []) k d ≡ x
 at_last [] x d k is = subst (λ n. get_or (x ∷ []) n d ≡ x) (sym is) refl
@@ -66,3 +67,15 @@ all_belong P came back v is all last = subst (All P) (sym is) (all_more P came v
 -- the last place of what there are
 pub last_place : {A : Type 0} (xs ys : List A) (x : A) → ys ≡ xs ++ x ∷ [] → length ys ≡ length xs + 1
 last_place xs ys x is = ap length is ∙ length-append xs (x ∷ [])
+
+-- the units as they were have made none of their statements
+pub have_not_run : (scripts : List (List Statement)) (units : List UnitView) → HaveRun scripts units units
+have_not_run scripts units = record {
+  count = refl;
+  each = λ k s u v below. subst (Ran (get_or scripts k s) (get_or units k u)) (get_or_default units k u v below) (ran_none (get_or scripts k s) (get_or units k u)).0;
+}
+
+-- what holds where there was no error
+pub where_ok : {T E : Type 0} (r : Result T E) (P : Type 0) → is_err r ≡ false → IfOk r (λ _. P) → P
+where_ok (Ok x) P fine holds = holds
+where_ok (Err e) P fine holds = absurd (cc)

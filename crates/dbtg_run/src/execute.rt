@@ -1,5 +1,5 @@
 //! A statement of a unit at work: what it needs is taken, the ticket is drawn, and all goes back.
-ghost use Rattle.std.specs.Prelude.{◌≡◌, ◌≢◌, ◌↔◌, ◌<◌, ◌≤◌, ◌∷◌, [], true, length, IfOk, IfNone, IfSome, IsSome, OnErr};
+ghost use Rattle.std.specs.Prelude.{◌≡◌, ◌≢◌, ◌↔◌, ◌<◌, ◌≤◌, ◌∷◌, [], true, length, vec_len, vec_capacity, IfOk, IfNone, IfSome, IsSome, OnErr};
 ghost use Rattle.dbtg_unit.specs.Fits.{fits};
 ghost use Rattle.dbtg_unit.specs.Making.{CanFinish, IsReady};
 ghost use Rattle.dbtg_run.specs.Drawn.{IsDone};
@@ -41,6 +41,31 @@ impl Work {
         )
     }
 
+    // Makes the statement on what is in hand, and enters the copy of it that came along.
+    fn make_in_hand<G: Gate>(
+        &mut self,
+        alloc: Global,
+        db: &Database,
+        statement: &Statement,
+        copy: Statement,
+        gate: &G,
+    ) -> Result<Answer, AllocError>
+        requires belongs { Belongs db.now self.old }
+        requires work { IsAtWork self.old }
+        requires fits { fits self.old.about.schema.value statement.now ≡ true }
+        requires room { (vec_len self.old.journal < vec_capacity self.old.journal) × (length self.old.journal.items < 65535) }
+        requires ready { IsReady self.old.about.schema.value self.old.about.capacity self.old.unit self.old.held statement.now }
+        requires copied { copy ≡ statement.now }
+        ensures same { (self.new.about ≡ self.old.about) × (self.new.seat.table_id ≡ self.old.seat.table_id) × (self.new.unit.number ≡ self.old.unit.number) }
+        ensures work { IsAtWork self.new }
+        ensures done { IfOk result (λ a. IsDone self.old.about self.old.journal.items self.new.journal.items self.new.unit statement.now a) }
+        ensures err { OnErr result ((self.new.unit ≡ self.old.unit) × (self.new.journal.items ≡ self.old.journal.items)) }
+    {
+        let prepared = self.prepare_in_hand(alloc, db, statement)?;
+        let noted = prepared.answer().copy(alloc)?;
+        Ok(self.commit::<Brand, G>(db, copy, noted, prepared, gate))
+    }
+
     // Takes what the statement needs and makes it, with so many tries more. None where the tries are used up.
     fn attempt<G: Gate>(
         &mut self,
@@ -68,9 +93,10 @@ impl Work {
         if !self.gather(alloc, db, statement, tries)? {
             return Ok(None);
         }
-        let prepared = self.prepare_in_hand(alloc, db, statement)?;
-        let noted = prepared.answer().copy(alloc)?;
-        Ok(Some(self.commit::<Brand, G>(db, copy, noted, prepared, gate)))
+        match self.make_in_hand(alloc, db, statement, copy, gate) {
+            Ok(answer) => Ok(Some(answer)),
+            Err(refused) => Err(refused),
+        }
     }
 
     // The gate is passed after the last latch is left.
