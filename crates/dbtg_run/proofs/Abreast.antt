@@ -3,7 +3,7 @@ use Rattle.std.proofs.Common.{◌≡◌, ◌⊎◌, ℕ, zero, suc, ◌+◌, ◌
 use Rattle.std.proofs.lemmas.List.{get_or_append_left, get_or_default}
 use Rattle.std.proofs.lemmas.Option.{get_or_from_slice_get, slice_get_read}
 use Rattle.dbtg_unit.specs.declared.statement.Statement.{Statement}
-use Rattle.dbtg_run.specs.Running.{AtEach, HaveMade, HaveRun, Ran}
+use Rattle.dbtg_run.specs.Running.{AtEach, HaveRun, Ran}
 use Rattle.dbtg_run.specs.UnitView.{UnitView}
 use Rattle.dbtg_run.proofs.Runs.{ran_none}
 

@@ -1,6 +1,17 @@
-use Rattle.std.proofs.Common.{◌<◌, ◌-◌, arith, sym, subst}
+use Rattle.std.proofs.Common.{◌≡◌, ◌≢◌, ◌⊎◌, ◌<◌, ◌-◌, ◌∙◌, ℕ, Bool, true, false, inl, inr, ap, arith, sym, subst}
+use Rattle.dbtg_schema.specs.Lists.{Lists}
+use Rattle.dbtg_unit.specs.Base.{Database}
+use Rattle.dbtg_unit.specs.declared.held.Need.{Need}
+use Rattle.dbtg_unit.specs.declared.held.Need.TheVariants.{Ready}
+use Rattle.dbtg_unit.specs.declared.statement.Statement.{Statement}
+use Rattle.dbtg_unit.specs.Local.{Agrees}
+use Rattle.dbtg_unit.specs.Making.{IsReady}
+use Rattle.dbtg_unit.specs.Needs.{is_stale, need}
 use Rattle.dbtg_run.specs.declared.view.About.{About}
+use Rattle.dbtg_run.specs.declared.work.Work.{Work}
+use Rattle.dbtg_run.specs.Kept.{database_after}
 use Rattle.dbtg_run.specs.Posed.{turns_left}
+use Rattle.dbtg_run.specs.Works.{IsAtWork, KnowsBetter}
 use Rattle.dbtg_run.proofs.Needing.{try_nearer}
 use Rattle.dbtg_run.proofs.work.Work.gather.Goals as goal
 
@@ -9,3 +20,34 @@ needs-smaller c =
     let n : 0 < c.needs.tries = let z = c.if-tries-eq0.false in omega arith in
     subst (λ (a : About). turns_left a (c.needs.tries - 1) c.meet.new.self.held < turns_left c.needs.self.about c.needs.tries c.needs.self.held) (sym c.meet.ensures.same.about)
     (try_nearer c.needs.self.about c.needs.tries c.needs.self.held c.meet.new.self.held n (c.needs.tries - 1) (omega arith))
+
+-- what is wanted of the database's schema is wanted of the unit's
+not_ready : (known : About) (schema : Lists) (w : Work) (x : Statement) (wanted : Need) → w.about ≡ known → known.schema.value ≡ schema → IsAtWork w → IsReady w.about.schema.value w.about.capacity w.unit w.held x
+    → ((d : Database) → Agrees schema known.capacity d w.held w.unit → wanted ≡ need schema known.capacity d w.unit w.held x) → wanted ≢ Ready → ⊥
+not_ready known schema w x wanted is same work ready wants not =
+    let s : w.about.schema.value ≡ schema = ap (λ (a : About). a.schema.value) is ∙ same in
+    let c : w.about.capacity ≡ known.capacity = ap (λ (a : About). a.capacity) is in
+    let d = work.real.db in
+    let agrees = subst (λ (n : ℕ). Agrees schema n d w.held w.unit) c (subst (λ (l : Lists). Agrees l w.about.capacity d w.held w.unit) s work.real.agrees) in
+    let there = subst (λ (n : ℕ). IsReady schema n w.unit w.held x) c (subst (λ (l : Lists). IsReady l w.about.capacity w.unit w.held x) s ready) in
+    not (wants d agrees ∙ there d agrees)
+
+-- a turn back is met only where the guesses are stale
+turned_back : (x : Statement) (old new : Work) (tries : ℕ) (nearer : Bool) → tries ≡ 0 → nearer ≡ false
+    → (0 < tries) ⊎ (is_stale old.about.schema.value old.about.capacity (database_after old.about old.journal.items) old.unit old.held.guesses x ≡ false) → KnowsBetter x old new nearer → ⊥
+turned_back x old new tries nearer none is (inl some) knows = absurd (omega arith)
+turned_back x old new tries nearer none is (inr fresh) knows = let stale = subst (KnowsBetter x old new) is knows in false_is_not_true (sym fresh ∙ stale.0)
+  where
+    false_is_not_true : false ≡ true → ⊥
+    false_is_not_true same = absurd (cc)
+
+pub returns-then-tries-eq0-clause-free : goal.returns-then-tries-eq0-clause-free
+returns-then-tries-eq0-clause-free c ready =
+    let i = c.needs.invariant in let db = c.args.db.now in
+    absurd (not_ready db.about db.schema c.needs.self c.args.statement.now c.in_ok-wanted.wanted i.belongs.about db.same i.work (i.free ready) c.in_ok-wanted.ensures.need c.if-is_ready.ensures)
+
+pub returns-then-tries-eq0-clause-alone : goal.returns-then-tries-eq0-clause-alone
+returns-then-tries-eq0-clause-alone c one some =
+    let i = c.needs.invariant in
+    let units = ap (λ (a : About). a.units) i.same.about ∙ one in
+    absurd (turned_back c.args.statement.now c.needs.self c.meet.new.self c.needs.tries c.in_ok-meet.field-0 c.if-tries-eq0.true c.if-branch.false (i.known units some) (c.in_ok-meet.ensures.alone units))
