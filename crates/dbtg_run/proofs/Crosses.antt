@@ -17,7 +17,6 @@ use Rattle.dbtg_schema.specs.contracts.schema.Schema as Schema
 use Rattle.dbtg_unit.specs.contracts.held.Held as Held
 use Rattle.dbtg_unit.specs.contracts.statement.Statement as Statement
 use Rattle.dbtg_unit.specs.contracts.unit.Entry as Entry
-use Rattle.dbtg_unit.specs.contracts.unit.Unit as UnitOfCaller
 use Rattle.dbtg_run.specs.contracts.work.Work as Work
 use Rattle.dbtg_run.specs.contracts.unit.RunUnit as RunUnit
 use Rattle.dbtg_run.specs.contracts.unit.RunUnit.TheInside as inside
@@ -29,9 +28,6 @@ cell_send = search (sendable, crosses) depth 60 fits 20000
 pub entry_send : IsSend Entry.the_row
 entry_send = search (sendable, crosses) depth 60 fits 20000
 
-pub caller_send : IsSend UnitOfCaller.the_row
-caller_send = search (sendable, crosses) depth 60 fits 20000
-
 pub held_send : IsSend Held.the_row
 held_send = search (sendable, crosses, cell_send) depth 60 fits 20000
 
@@ -39,11 +35,8 @@ held_send = search (sendable, crosses, cell_send) depth 60 fits 20000
 seat_send : (S V : RattleType) → IsSend S → IsSend (Seat.the_row S V)
 seat_send S V s = record { owned = λ d vs. ((λ vss. (tt, ((λ uss. (tt, tt)), tt))), seat_keyless S s V.coded.code d.table_id d.id d.me); leaving = λ k f vs. tt }
 
-work_send : IsSend Work.the_row
-work_send = search (sendable, crosses, seat_send, cell_send, entry_send, caller_send, held_send) depth 60 fits 20000
-
 field_send : IsSend Work.the_field.row
-field_send = search (sendable, crosses, seat_send, cell_send, entry_send, caller_send, held_send) depth 60 fits 20000
+field_send = search (sendable, crosses, seat_send, cell_send, entry_send, held_send) depth 60 fits 20000
 
 fields_send : IsSend inside.the_row
 fields_send = recorded_send inside.the_field.row _ _ inside.the_type.to_one (struct_send (shape inside.the_type) (field_send, tt))
