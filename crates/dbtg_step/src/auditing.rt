@@ -1,9 +1,10 @@
 //! The audit of a history: the statement of each entry is made anew, and its answer compared.
-ghost use Rattle.std.specs.Prelude.{◌≡◌, ◌<◌, ◌-◌, ◌==◌, ◌&&◌, nat_lt, nat_le, length, slice_get, Some, IfOk};
+ghost use Rattle.std.specs.Prelude.{◌≡◌, ◌<◌, ◌-◌, ◌==◌, ◌&&◌, [], nat_lt, nat_le, length, slice_get, Some, IfOk};
 ghost use Rattle.std.specs.Bool.{Decides, MatchBool};
 ghost use Rattle.dbtg_schema.specs.Sound.{IsSound};
 ghost use Rattle.dbtg_unit.specs.declared.unit.Entry.{Entry};
 ghost use Rattle.dbtg_unit.specs.Fits.{fits};
+ghost use Rattle.dbtg_unit.specs.Replay.{IsHistoryOf};
 ghost use Rattle.dbtg_step.specs.Audit.{GoesOn, HasJoined, IsAudited};
 ghost use Rattle.dbtg_step.specs.Whole.{state_now};
 
@@ -49,6 +50,53 @@ fn takes(
     Ok(newest_has(database.history(), &entry.answer))
 }
 
+// Makes the statements of all entries, one after another, as long as each may follow and is the entry; whether all of them do.
+fn takes_all(
+    alloc: Global,
+    schema: &Schema,
+    database: &mut WholeDatabase<'_>,
+    history: &[Entry],
+) -> Result<bool, AllocError>
+    requires schema { schema.now ≡ database.old.schema }
+    requires fresh { database.old.history ≡ [] }
+    ensures { IfOk result (λ all. MatchBool all (database.new ≡ record database.old { history = history.now }) (IsHistoryOf database.old.schema database.old.capacity database.old.units history.now → ⊥)) }
+{
+    for entry in history {
+        if !takes(alloc, schema, database, entry)? {
+            return Ok(false);
+        }
+    }
+    Ok(true)
+}
+
+// The image and the units of a database.
+fn outcome_of(database: WholeDatabase<'_>) -> Result<Option<(Image, Row<Unit>)>, AllocError>
+    ensures { IfOk result (λ found. IsAudited database.entry.schema database.entry.capacity database.entry.units database.entry.history found) }
+{
+    match database.into_run() {
+        Ok(run) => Ok(Some((run.image, run.units))),
+        Err(error) => Err(error),
+    }
+}
+
+// The audit of a history by a database on which nothing was made.
+fn audit_from(
+    alloc: Global,
+    schema: &Schema,
+    mut database: WholeDatabase<'_>,
+    history: &[Entry],
+) -> Result<Option<(Image, Row<Unit>)>, AllocError>
+    requires schema { schema.now ≡ database.schema }
+    requires fresh { database.history ≡ [] }
+    ensures { IfOk result (λ found. IsAudited database.entry.schema database.entry.capacity database.entry.units history.now found) }
+{
+    match takes_all(alloc, schema, &mut database, history) {
+        Ok(true) => outcome_of(database),
+        Ok(false) => Ok(None),
+        Err(error) => Err(error),
+    }
+}
+
 /// Whether a history is one of the sequential database with so many units, numbered from 1: tickets 0, 1, 2, .. in order,
 /// each unit one of them, statements that fit, and each answer the sequential database's. Then that database and its units.
 /// It makes the statements anew, one after another, on a database of its own, and stops at the first entry that is none of
@@ -63,12 +111,8 @@ pub fn audit(
     requires sound { IsSound schema.now }
     ensures { IfOk result (λ found. IsAudited schema.now capacity units history.now found) }
 {
-    let mut database = WholeDatabase::opening(alloc, schema, capacity, units)?;
-    for entry in history {
-        if !takes(alloc, schema, &mut database, entry)? {
-            return Ok(None);
-        }
+    match WholeDatabase::opening(alloc, schema, capacity, units) {
+        Ok(database) => audit_from(alloc, schema, database, history),
+        Err(error) => Err(error),
     }
-    let run = database.into_run()?;
-    Ok(Some((run.image, run.units)))
 }

@@ -1,37 +1,9 @@
-use Rattle.std.proofs.Common.{◌≡◌, ◌<◌, ◌≤◌, ◌+◌, ◌∙◌, sym, ap, subst, take, drop, List, [], ◌++◌, ◌∷◌, length, suc, arith, drop-cons}
-use Rattle.std.proofs.lemmas.List.{take-append-drop, take_all, take_more}
-use Rattle.dbtg_unit.specs.declared.unit.Entry.{Entry}
-use Rattle.dbtg_step.specs.Audit.{GoesOn}
-use Rattle.dbtg_step.specs.Whole.{IsMadeRun, Making}
-use Rattle.dbtg_step.proofs.Audits.{joined_at, joins, led, not_led, refused_at, stands}
+use Rattle.std.proofs.Common.{subst}
+use Rattle.std.specs.Prelude.{IfOk}
+use Rattle.dbtg_step.specs.Audit.{IsAudited}
+use Rattle.dbtg_step.specs.Whole.{Making}
 use Rattle.dbtg_step.proofs.auditing.audit.Goals as goal
 
-pub returns-then-not-branch : goal.returns-then-not-branch
-returns-then-not-branch c =
-    let history = c.args.history.now in
-    let index = c.loop-entry.entry-index in
-    let entry = c.entry-item.result in
-    let below : index < length history = omega arith in
-    let split : take index history ++ entry ∷ drop (suc index) history ≡ history =
-    ap (λ (x : Entry). take index history ++ x ∷ drop (suc index) history) c.entry-item.is ∙ ap (λ (xs : List Entry). take index history ++ xs) (sym (drop-cons history index entry below)) ∙ take-append-drop index history in
-    let refused = refused_at c.in_ok-takes.field-0 _ _ c.if-not-branch.true c.in_ok-takes.ensures in
-    not_led c.args.schema.now c.args.capacity c.args.units history (take index history) (drop (suc index) history) entry split
-    (λ g. refused (subst (λ (m : Making). GoesOn m entry) (sym c.loop-entry.invariant) g))
-
-pub returns : goal.returns
-returns c =
-    let history = c.args.history.now in
-    let past_end : length history ≤ c.loop-entry.entry-index = omega arith in
-    let whole : take c.loop-entry.entry-index history ≡ history = take_all c.loop-entry.entry-index history past_end in
-    led c.args.schema.now c.args.capacity c.args.units history (take c.loop-entry.entry-index history) c.in_ok-run.run' whole
-    (subst (λ (m : Making). IsMadeRun m c.in_ok-run.run') c.loop-entry.invariant c.in_ok-run.ensures)
-
-pub loop-entry-preserved : goal.loop-entry-preserved
-loop-entry-preserved c =
-    let history = c.args.history.now in
-    let index = c.loop-entry.entry-index in
-    let entry = c.entry-item.result in
-    let below : index < length history = omega arith in
-    let more : take index history ++ entry ∷ [] ≡ take (index + 1) history = ap (λ (x : Entry). take index history ++ x ∷ []) c.entry-item.is ∙ sym (take_more history index entry below) in
-    joins c.args.schema.now c.args.capacity c.args.units c.loop-entry.database c.takes.new.database (take index history) entry c.loop-entry.invariant (joined_at c.in_ok-takes.field-0 _ _ c.if-not-branch.false c.in_ok-takes.ensures)
-    ∙ ap (stands c.args.schema.now c.args.capacity c.args.units) more
+pub returns-in-Ok : goal.returns-in-Ok
+returns-in-Ok c =
+    subst (λ (m : Making). IfOk c.audit_from.result (λ found. IsAudited m.schema m.capacity m.units c.args.history.now found)) c.in-Ok.ensures c.audit_from.ensures
