@@ -206,12 +206,22 @@ impl<'a> WholeDatabase<'a> {
     pub fn into_run(self) -> Result<Run, AllocError>
         ensures { IfOk result (λ given. IsMadeRun self.entry given) }
     {
-        let image = self.image()?;
-        Ok(Run {
+        match self.image() {
+            Ok(image) => Ok(self.run_with(image)),
+            Err(error) => Err(error),
+        }
+    }
+
+    // The database taken apart, beside its image.
+    fn run_with(self, image: Image) -> Run
+        requires { image ≡ image_of self.schema self.capacity (state_now self).database }
+        ensures { IsMadeRun self.entry result }
+    {
+        Run {
             results: Row::of(Vec::new(self.alloc)),
             image,
             history: Row::of(self.history),
             units: Row::of(self.units),
-        })
+        }
     }
 }
