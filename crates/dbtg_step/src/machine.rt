@@ -1,5 +1,5 @@
 //! The core: a database and its run-units, stepped event by event.
-ghost use Rattle.std.specs.Prelude.{◌≡◌, ◌≤◌, true, length, option_map, IfOk, OnOk};
+ghost use Rattle.std.specs.Prelude.{◌≡◌, ◌≤◌, true, length, map, option_map, IfOk, OnOk};
 ghost use Rattle.dbtg_unit.specs.Image.{image_of};
 ghost use Rattle.dbtg_unit.specs.Replay.{opening_state, replay};
 ghost use Rattle.dbtg_step.specs.SequentialDatabase.{unit_at};
@@ -9,7 +9,8 @@ ghost use Rattle.dbtg_schema.specs.Sound.{IsSound};
 ghost use Rattle.dbtg_step.specs.Headline.{machine_of, opening_of};
 ghost use Rattle.dbtg_step.specs.Laws.{scripts_fit};
 ghost use Rattle.dbtg_step.specs.Network.{network};
-ghost use Rattle.dbtg_step.specs.Parts.{machine};
+ghost use Rattle.dbtg_step.specs.Events.{IsWell};
+ghost use Rattle.dbtg_step.specs.Parts.{core_of, machine};
 ghost use Rattle.dbtg_step.specs.Positions.{position_at};
 ghost use Rattle.dbtg_step.specs.Runs.{IsHandedOut};
 ghost use Rattle.dbtg_step.specs.Turns.{AllBetween, HaveTurned};
@@ -48,6 +49,51 @@ impl Model for Core {
     ghost invariant = { λ c. IsWell c.schema c.capacity c.parts };
 }
 
+// The parts before the first step: every cell at home, no history, and a unit for each script.
+fn opening_parts(
+    alloc: Global,
+    schema: &Schema,
+    capacity: u16,
+    scripts: Row<Row<Statement>>,
+) -> Result<Parts, AllocError>
+    requires sound { IsSound schema.now }
+    requires units { length scripts ≤ 255 }
+    requires fit { scripts_fit schema.now scripts ≡ true }
+    ensures well { IfOk result (λ parts. IsWell schema.now capacity parts) }
+    ensures opening { IfOk result (λ parts. core_of schema.now capacity parts ≡ record { schema = schema.now; capacity = capacity; opening = opening_of schema.now capacity (length scripts); state = machine_of schema.now capacity scripts }) }
+{
+    let table = opening_table(alloc, schema, capacity)?;
+    match opening_runners(alloc, schema, scripts) {
+        Ok(runners) => Ok(Parts {
+            table,
+            history: Vec::new(alloc),
+            runners,
+        }),
+        Err(error) => Err(error),
+    }
+}
+
+// What these parts hand out, beside the image.
+fn run_of(
+    alloc: Global,
+    parts: Parts,
+    results: Vec<Stepped>,
+    image: Image,
+) -> Result<Run, AllocError>
+    ensures { IfOk result (λ given. (given.results ≡ results.items) × (given.image ≡ image) × (given.history ≡ parts.history.items) × (given.units ≡ map (λ r. r.unit) parts.runners.items)) }
+{
+    let history = Row::of(parts.history);
+    match units_of(alloc, parts.runners) {
+        Ok(units) => Ok(Run {
+            results: Row::of(results),
+            image,
+            history,
+            units,
+        }),
+        Err(error) => Err(error),
+    }
+}
+
 impl Core {
     /// The core before its first step: the opening database, and a unit for each script, numbered from 1. It keeps a copy of
     /// the schema.
@@ -62,20 +108,26 @@ impl Core {
         requires fit { scripts_fit schema.now scripts ≡ true }
         ensures { IfOk result (λ core. machine core ≡ record { schema = schema.now; capacity = capacity; opening = opening_of schema.now capacity (length scripts); state = machine_of schema.now capacity scripts }) }
     {
-        let own = schema.copy(alloc)?;
-        let table = opening_table(alloc, schema, capacity)?;
-        let runners = opening_runners(alloc, schema, scripts)?;
-        let parts = Parts {
-            table,
-            history: Vec::new(alloc),
-            runners,
-        };
-        Ok(Core {
-            alloc,
-            schema: own,
-            capacity,
-            parts,
-        })
+        match opening_parts(alloc, schema, capacity, scripts) {
+            Ok(parts) => Core::of(alloc, schema, capacity, parts),
+            Err(error) => Err(error),
+        }
+    }
+
+    // The core of these parts, with a schema of its own.
+    fn of(alloc: Global, schema: &Schema, capacity: u16, parts: Parts) -> Result<Core, AllocError>
+        requires { IsWell schema.now capacity parts }
+        ensures { IfOk result (λ core. machine core ≡ core_of schema.now capacity parts) }
+    {
+        match schema.copy(alloc) {
+            Ok(schema) => Ok(Core {
+                alloc,
+                schema,
+                capacity,
+                parts,
+            }),
+            Err(error) => Err(error),
+        }
     }
 
     /// One step of the unit with this number: the machine's step, or want of memory in the place of an event before its
@@ -165,14 +217,16 @@ impl Core {
     pub fn into_run(self, results: Vec<Stepped>) -> Result<Run, AllocError>
         ensures { IfOk result (λ given. IsHandedOut self results.items given) }
     {
-        let image = self.image(self.alloc)?;
-        let alloc = self.alloc;
-        let parts = self.parts;
-        Ok(Run {
-            results: Row::of(results),
-            image,
-            history: Row::of(parts.history),
-            units: units_of(alloc, parts.runners)?,
-        })
+        match self.image(self.alloc) {
+            Ok(image) => run_of(self.alloc, self.into_parts(), results, image),
+            Err(error) => Err(error),
+        }
+    }
+
+    fn into_parts(self) -> Parts
+        ensures history { result.history.items ≡ self.history }
+        ensures runners { result.runners.items ≡ self.runners }
+    {
+        self.parts
     }
 }

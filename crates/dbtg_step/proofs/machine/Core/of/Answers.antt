@@ -1,0 +1,11 @@
+use Rattle.std.proofs.Common.{ap, sym, subst}
+use Rattle.dbtg_schema.specs.Lists.{Lists}
+use Rattle.dbtg_step.specs.Events.{IsWell}
+use Rattle.dbtg_step.specs.Parts.{core_of}
+use Rattle.dbtg_step.proofs.machine.Core.of.Goals as goal
+
+pub invariant_of-result : goal.invariant_of-result
+invariant_of-result c = subst (λ (s : Lists). IsWell s c.args.capacity c.args.parts) (sym c.in-Ok.ensures) c.requires
+
+pub returns-in-Ok : goal.returns-in-Ok
+returns-in-Ok c = ap (λ (s : Lists). core_of s c.args.capacity c.args.parts) c.in-Ok.ensures
