@@ -6,8 +6,8 @@ ghost use Rattle.dbtg_unit.specs.Fits.{fits};
 ghost use Rattle.dbtg_step.specs.CoreSteps.{after_move, result_of_move};
 ghost use Rattle.dbtg_step.specs.Headline.{RunIs};
 ghost use Rattle.dbtg_step.specs.Laws.{scripts_fit};
-ghost use Rattle.dbtg_step.specs.Parts.{machine};
-ghost use Rattle.dbtg_step.specs.Runs.{after_moves, results_of_moves};
+ghost use Rattle.dbtg_step.specs.Parts.{CoreParts, machine};
+ghost use Rattle.dbtg_step.specs.Runs.{IsHandedOut, after_moves, results_of_moves};
 ghost use Rattle.dbtg_step.specs.Serial.{SerialRunIs, in_turn_from};
 ghost use Rattle.dbtg_step.specs.Whole.{HasMadeAll};
 
@@ -45,6 +45,16 @@ fn make_moves(alloc: Global, core: &mut Core, moves: &[Move]) -> Result<Vec<Step
     Ok(results)
 }
 
+// Makes the moves in turn, and takes the core apart.
+fn run_from(alloc: Global, mut core: Core, moves: &[Move]) -> Result<Run, AllocError>
+    ensures { IfOk result (λ given. (last : CoreParts) × (machine last ≡ after_moves (machine core) moves.now) × IsHandedOut last (results_of_moves (machine core) moves.now) given) }
+{
+    match make_moves(alloc, &mut core, moves) {
+        Ok(results) => core.into_run(results),
+        Err(error) => Err(error),
+    }
+}
+
 /// Makes the moves in turn, from the opening database on, with a unit for each script. A step that finds no memory ends it.
 pub fn run(
     alloc: Global,
@@ -58,9 +68,10 @@ pub fn run(
     requires fit { scripts_fit schema.now scripts ≡ true }
     ensures { IfOk result (λ given. RunIs schema.now capacity scripts moves.now given) }
 {
-    let mut core = Core::new(alloc, schema, capacity, scripts)?;
-    let results = make_moves(alloc, &mut core, moves)?;
-    core.into_run(results)
+    match Core::new(alloc, schema, capacity, scripts) {
+        Ok(core) => run_from(alloc, core, moves),
+        Err(error) => Err(error),
+    }
 }
 
 // The statements of a unit's script, one after another.

@@ -5,9 +5,11 @@ ghost use Rattle.dbtg_schema.specs.Lists.{Lists};
 ghost use Rattle.dbtg_schema.specs.Sound.{IsSound};
 ghost use Rattle.dbtg_unit.specs.declared.moves.Move.{Move};
 ghost use Rattle.dbtg_step.specs.declared.parts.Runner.{Runner};
+ghost use Rattle.dbtg_step.specs.declared.taking_turns.Noted.{Noted};
+ghost use Rattle.dbtg_step.specs.Runs.{IsHandedOut};
 ghost use Rattle.dbtg_step.specs.Laws.{scripts_fit};
 ghost use Rattle.dbtg_step.specs.Network.{network};
-ghost use Rattle.dbtg_step.specs.Parts.{core_of, state_of, unit_state_of};
+ghost use Rattle.dbtg_step.specs.Parts.{CoreParts, core_of, machine, state_of, unit_state_of};
 ghost use Rattle.dbtg_step.specs.Events.{IsWell};
 ghost use Rattle.dbtg_step.specs.Turns.{AllBetween, AreGiven, HaveTurned, IsDone, IsNoted, NotesMore, TurnedIs};
 
@@ -138,6 +140,42 @@ pub fn take_turns(
     Ok(())
 }
 
+// The units of the core take these turns; the moves that they stand for, where these are no more than the limit.
+fn moves_of_turns(
+    alloc: Global,
+    core: &mut Core,
+    turns: &[u8],
+    limit: usize,
+) -> Result<Option<Row<Move>>, AllocError>
+    requires { AllBetween (network (machine core.old).schema (machine core.old).capacity) (machine core.old).state }
+    ensures { IfOk result (λ given. (before : Noted) × (after : Noted) × (turned : HaveTurned (machine core.old) turns.now (machine core.new) before after) × AreGiven limit turned.moves given) }
+{
+    let mut noted = Noted::new(alloc, limit);
+    core.take_turns(turns, &mut noted)?;
+    Ok(noted.into_moves())
+}
+
+// The run of a core, beside these moves.
+fn run_with_moves(alloc: Global, core: Core, moves: Option<Row<Move>>) -> Result<Turned, AllocError>
+    ensures { IfOk result (λ given. IsHandedOut core [] given.run × (given.moves ≡ moves)) }
+{
+    match core.into_run(Vec::new(alloc)) {
+        Ok(run) => Ok(Turned { run, moves }),
+        Err(error) => Err(error),
+    }
+}
+
+// The units of the core take these turns, and it is taken apart.
+fn run_from(alloc: Global, mut core: Core, turns: &[u8], limit: usize) -> Result<Turned, AllocError>
+    requires { AllBetween (network (machine core).schema (machine core).capacity) (machine core).state }
+    ensures { IfOk result (λ given. (last : CoreParts) × (before : Noted) × (after : Noted) × (turned : HaveTurned (machine core) turns.now (machine last) before after) × AreGiven limit turned.moves given.moves × IsHandedOut last [] given.run) }
+{
+    match moves_of_turns(alloc, &mut core, turns, limit) {
+        Ok(moves) => run_with_moves(alloc, core, moves),
+        Err(error) => Err(error),
+    }
+}
+
 /// The units take these turns, from the opening database on, with a unit for each script: a turn is the events of a unit up to
 /// the last of its next statement, and nothing where there is no such unit or its script is at its end. The moves that the turns
 /// stand for are given where they are no more than the limit; a run with more of them goes on to its end just so. A step that
@@ -155,12 +193,8 @@ pub fn run_turns(
     requires fit { scripts_fit schema.now scripts ≡ true }
     ensures { IfOk result (λ given. TurnedIs schema.now capacity scripts turns.now limit given) }
 {
-    let mut core = Core::new(alloc, schema, capacity, scripts)?;
-    let mut noted = Noted::new(alloc, limit);
-    core.take_turns(turns, &mut noted)?;
-    let run = core.into_run(Vec::new(alloc))?;
-    Ok(Turned {
-        run,
-        moves: noted.into_moves(),
-    })
+    match Core::new(alloc, schema, capacity, scripts) {
+        Ok(core) => run_from(alloc, core, turns, limit),
+        Err(error) => Err(error),
+    }
 }

@@ -1,9 +1,14 @@
+use Rattle.std.proofs.Common.{refl}
 use Rattle.std.proofs.lemmas.Result.{IfOk-weaker}
+use Rattle.dbtg_step.specs.Parts.{machine}
+use Rattle.dbtg_step.specs.Runs.{results_of_moves}
 use Rattle.dbtg_step.proofs.RunsShown.{run_handed}
 use Rattle.dbtg_step.proofs.running.run.Goals as goal
 
-pub returns : goal.returns
-returns c =
-    IfOk-weaker c.into_run.result _ _
-    (λ given handed. run_handed c.args.schema.now c.args.capacity c.args.scripts c.args.moves.now c.in_ok-core.core c.make_moves.new.core c.in_ok-results.results.items given c.requires.sound c.requires.fit c.in_ok-core.ensures c.in_ok-results.ensures.core c.in_ok-results.ensures.results handed)
-    c.into_run.ensures
+pub returns-in-Ok : goal.returns-in-Ok
+returns-in-Ok c =
+    let core = c.in-Ok.core in
+    let moves = c.args.moves.now in
+    IfOk-weaker c.run_from.result _ _
+    (λ given went. run_handed c.args.schema.now c.args.capacity c.args.scripts moves core went.0 (results_of_moves (machine core) moves) given c.requires.sound c.requires.fit c.in-Ok.ensures went.1 refl went.2)
+    c.run_from.ensures
