@@ -218,15 +218,11 @@ impl Core {
         ensures { IfOk result (λ given. IsHandedOut self results.items given) }
     {
         match self.image(self.alloc) {
-            Ok(image) => run_of(self.alloc, self.into_parts(), results, image),
-            Err(error) => Err(error),
+            Ok(image) => run_of(self.alloc, self.parts, results, image),
+            Err(error) => {
+                drop(self);
+                Err(error)
+            }
         }
-    }
-
-    fn into_parts(self) -> Parts
-        ensures history { result.history.items ≡ self.history }
-        ensures runners { result.runners.items ≡ self.runners }
-    {
-        self.parts
     }
 }

@@ -51,7 +51,10 @@ fn run_from(alloc: Global, mut core: Core, moves: &[Move]) -> Result<Run, AllocE
 {
     match make_moves(alloc, &mut core, moves) {
         Ok(results) => core.into_run(results),
-        Err(error) => Err(error),
+        Err(error) => {
+            drop(core);
+            Err(error)
+        }
     }
 }
 

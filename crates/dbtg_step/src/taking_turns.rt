@@ -172,7 +172,10 @@ fn run_from(alloc: Global, mut core: Core, turns: &[u8], limit: usize) -> Result
 {
     match moves_of_turns(alloc, &mut core, turns, limit) {
         Ok(moves) => run_with_moves(alloc, core, moves),
-        Err(error) => Err(error),
+        Err(error) => {
+            drop(core);
+            Err(error)
+        }
     }
 }
 

@@ -1,15 +1,14 @@
-use Rattle.std.proofs.Common.{◌∙◌, ap}
-use Rattle.std.specs.Prelude.{map}
+use Rattle.std.proofs.Common.{◌≡◌, ◌∙◌, length, sym, subst}
+use Rattle.std.specs.Prelude.{IfOk}
 use Rattle.std.proofs.lemmas.Result.{IfOk-weaker}
-use Rattle.dbtg_step.specs.declared.parts.Runner.{Runner}
+use Rattle.dbtg_unit.specs.Image.{image_of}
+use Rattle.dbtg_unit.specs.Replay.{opening_state, replay}
+use Rattle.dbtg_step.specs.Parts.{CoreParts}
+use Rattle.dbtg_step.specs.Runs.{IsHandedOut}
 use Rattle.dbtg_step.proofs.machine.Core.into_run.Goals as goal
 
 pub returns-in-Ok : goal.returns-in-Ok
 returns-in-Ok c =
-    IfOk-weaker c.run_of.result _ _
-    (λ given is. record {
-      results_are = is.0;
-      history_is = is.2 ∙ c.into_parts.ensures.history;
-      image_is = is.1 ∙ c.in-Ok.ensures;
-      units_are = is.3 ∙ ap (map (λ (r : Runner). r.unit)) c.into_parts.ensures.runners;
-    }) c.run_of.ensures
+    let image_is = subst (λ (v : CoreParts). c.in-Ok.image ≡ image_of v.schema v.capacity (replay v.schema v.capacity (opening_state v.schema (length v.runners)) v.history).database) (sym c.self.view_is) c.in-Ok.ensures in
+    subst (λ (v : CoreParts). IfOk c.run_of.result (λ given. IsHandedOut v c.args.results.items given)) c.self.view_is
+    (IfOk-weaker c.run_of.result _ _ (λ given is. record { results_are = is.0; history_is = is.2; image_is = is.1 ∙ image_is; units_are = is.3 }) c.run_of.ensures)
