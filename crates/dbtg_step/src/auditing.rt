@@ -92,8 +92,14 @@ fn audit_from(
 {
     match takes_all(alloc, schema, &mut database, history) {
         Ok(true) => outcome_of(database),
-        Ok(false) => Ok(None),
-        Err(error) => Err(error),
+        Ok(false) => {
+            drop(database);
+            Ok(None)
+        }
+        Err(error) => {
+            drop(database);
+            Err(error)
+        }
     }
 }
 

@@ -218,7 +218,10 @@ impl Core {
         ensures { IfOk result (λ given. IsHandedOut self results.items given) }
     {
         match self.image(self.alloc) {
-            Ok(image) => run_of(self.alloc, self.parts, results, image),
+            Ok(image) => {
+                drop(self.schema);
+                run_of(self.alloc, self.parts, results, image)
+            }
             Err(error) => {
                 drop(self);
                 Err(error)

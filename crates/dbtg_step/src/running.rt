@@ -127,6 +127,11 @@ pub fn run_serial(
 {
     let units = scripts.len() as u8;
     let mut database = WholeDatabase::opening(alloc, schema, capacity, units)?;
-    make_scripts(&mut database, scripts)?;
-    database.into_run()
+    match make_scripts(&mut database, scripts) {
+        Ok(()) => database.into_run(),
+        Err(error) => {
+            drop(database);
+            Err(error)
+        }
+    }
 }

@@ -208,7 +208,10 @@ impl<'a> WholeDatabase<'a> {
     {
         match self.image() {
             Ok(image) => Ok(self.run_with(image)),
-            Err(error) => Err(error),
+            Err(error) => {
+                drop(self);
+                Err(error)
+            }
         }
     }
 
@@ -217,6 +220,7 @@ impl<'a> WholeDatabase<'a> {
         requires { image ≡ image_of self.schema self.capacity (state_now self).database }
         ensures { IsMadeRun self.entry result }
     {
+        drop(self.held);
         Run {
             results: Row::of(Vec::new(self.alloc)),
             image,
