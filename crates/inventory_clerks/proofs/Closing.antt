@@ -1,6 +1,7 @@
 -- What a settlement tells of the journals of two units.
-use Rattle.std.proofs.Common.{◌≡◌, ◌≢◌, ℕ, ◌+◌, ◌==◌, List, [], ◌∷◌, All, count_by, cond, eqb, inl, inr, refl, sym, subst, arith}
-use Rattle.std.specs.Prelude.{Result, Ok, Err, IfOk, OnOk}
+use Rattle.std.proofs.Common.{◌≡◌, ◌≢◌, ℕ, ◌+◌, ◌==◌, List, [], ◌∷◌, All, count_by, cond, eqb, inl, inr, Option, refl, sym, ap, ◌∙◌, subst, arith}
+use Rattle.std.specs.Prelude.{Result, Ok, Err, IfOk, OnOk, ok_or}
+use Rattle.std.specs.Result.{result_ok}
 use Rattle.dbtg_unit.specs.declared.unit.Entry.{Entry}
 use Rattle.dbtg_run.specs.declared.database.Database.{Database}
 use Rattle.dbtg_run.specs.declared.settled.Settled.{Settled}
@@ -40,3 +41,9 @@ pub if_settled : (db : Database) (u v : UnitView) (firsts seconds : List Order) 
     → All (IsFilled u.journal) firsts → All (IsFilled v.journal) seconds → IfOk r (HaveFilled firsts seconds)
 if_settled db u v firsts seconds (Ok settled) s p q = have_filled db u v firsts seconds settled s p q
 if_settled db u v firsts seconds (Err stop) s p q = tt
+
+-- what is said of a result where it is there, with another error in the place of its own
+pub ok_or_stop : {T E S : Type 0} (P : T → Type 0) (r : Result T E) (stop : S) (found : Option T) (q : Result T S)
+    → IfOk r P → found ≡ result_ok r → q ≡ ok_or found stop → IfOk q P
+ok_or_stop P (Ok v) stop found q p found_is q_is = subst (λ k. IfOk k P) (sym (q_is ∙ ap (λ o. ok_or o stop) found_is)) p
+ok_or_stop P (Err e) stop found q p found_is q_is = subst (λ k. IfOk k P) (sym (q_is ∙ ap (λ o. ok_or o stop) found_is)) tt

@@ -1,9 +1,12 @@
 -- Journals that grow by statements, and the orders that are filled in them.
-use Rattle.std.proofs.Common.{◌≡◌, ℕ, zero, suc, ◌+◌, ◌<◌, ◌≤◌, List, [], ◌∷◌, ◌++◌, length, take, get_or, refl, sym, ap, ◌∙◌, subst, arith, append_assoc, All}
+use Rattle.std.proofs.Common.{◌≡◌, ℕ, zero, suc, ◌+◌, ◌<◌, ◌≤◌, List, [], ◌∷◌, ◌++◌, length, take, get_or, refl, sym, ap, ◌∙◌, subst, arith, append_assoc, All, Bool, true}
+use Rattle.std.specs.Prelude.{Result, Ok, Err, IfOk}
 use Rattle.std.proofs.lemmas.List.{map-append, take_all, take_more}
 use Rattle.std.proofs.lemmas.List.Elements.{All-append}
 use Rattle.dbtg_unit.specs.declared.statement.Statement.{Statement}
+use Rattle.dbtg_unit.specs.declared.statement.Statement.TheVariants.{Keep}
 use Rattle.dbtg_unit.specs.declared.unit.Answer.{Answer}
+use Rattle.dbtg_unit.specs.declared.unit.Status.TheVariants.{Done}
 use Rattle.dbtg_unit.specs.declared.unit.Entry.{Entry}
 use Rattle.dbtg_unit.specs.declared.unit.Unit.{Unit}
 use Rattle.dbtg_run.specs.declared.view.About.{About}
@@ -11,13 +14,14 @@ use Rattle.dbtg_run.specs.Drawn.{IsDone}
 use Rattle.dbtg_run.specs.Kept.{entry}
 use Rattle.inventory_clerks.specs.Orders.{Begins, HasKept, HasMade, HasRead, HasWritten, IsFilled, find_of}
 use Rattle.inventory_clerks.specs.declared.order.Order.{Order}
+use Rattle.inventory_clerks.specs.declared.order.Stop.{Stop}
 
 append_none : (xs : List Entry) → xs ≡ xs ++ []
 append_none [] = refl
 append_none (x ∷ xs) = ap (λ l. x ∷ l) (append_none xs)
 
 -- the ware is found, kept, read and then changed: the order is filled
-pub filled_by : (order : Order) (stock : ℕ) (a b c d : List Entry) → HasKept (find_of order.code) a b → HasRead stock b c → HasWritten order stock c d → IsFilled d order
+filled_by : (order : Order) (stock : ℕ) (a b c d : List Entry) → HasKept (find_of order.code) a b → HasRead stock b c → HasWritten order stock c d → IsFilled d order
 filled_by order stock a b c d kept read written = record {
   before = a;
   kept = b;
@@ -30,6 +34,31 @@ filled_by order stock a b c d kept read written = record {
   has_written = written;
   journal_is = append_none d;
 }
+
+-- the same of a change that may not be done
+pub filled_if : (order : Order) (stock : ℕ) (finding : Statement) (a b c d : List Entry) (r : Result Bool Stop) → finding ≡ find_of order.code
+    → HasKept finding a b → HasRead stock b c → IfOk r (λ done. done ≡ true → HasWritten order stock c d) → IfOk r (λ done. done ≡ true → IsFilled d order)
+filled_if order stock finding a b c d (Ok done) is kept read written = λ yes. filled_by order stock a b c d (subst (λ f. HasKept f a b) is kept) read (written yes)
+filled_if order stock finding a b c d (Err stop) is kept read written = tt
+
+pub begins_on : (a b c : List Entry) → Begins a b → Begins b c → Begins a c
+begins_on a b c p q = record { more = p.more ++ q.more; is = q.is ∙ (ap (λ l. l ++ q.more) p.is ∙ append_assoc a p.more q.more) }
+
+-- a record is found and kept by two statements
+pub kept_by : (about : About) (a b c : List Entry) (u w : Unit) (finding : Statement) (one other : Answer) → IsDone about a b u finding one
+    → IsDone about b c w Keep other → one.status ≡ Done → other.status ≡ Done → HasKept finding a c
+kept_by about a b c u w finding one other D E one_done other_done =
+    let e = entry (length D.before) u.number finding one in
+    let f = entry (length E.before) w.number Keep other in
+    record {
+      found = e;
+      kept = f;
+      journal = E.journal ∙ (ap (λ l. l ++ f ∷ []) D.journal ∙ append_assoc a (e ∷ []) (f ∷ []));
+      found_is = refl;
+      kept_is = refl;
+      found_done = one_done;
+      kept_done = other_done;
+    }
 
 -- an order that is filled stays so
 pub filled_more : (a b : List Entry) (order : Order) → Begins a b → IsFilled a order → IsFilled b order

@@ -176,7 +176,6 @@ fn write_stock<R: Wait>(
 }
 
 // Tries to fill an order, and says whether it is filled.
-#[tactic(auto, using(crate::proofs::Filling::filled_by))]
 fn try_to_fill<R: Wait>(
     rt: &R,
     alloc: Global,

@@ -1,7 +1,7 @@
 //! Two clerks of a warehouse, each on a thread of his own, fill their orders; then what they did is audited.
 #![tactic(auto)]
 
-ghost use Rattle.std.specs.Prelude.{◌≡◌, IfNone, IfOk, IfSome, MatchOption, true};
+ghost use Rattle.std.specs.Prelude.{◌≡◌, IfNone, IfOk, IfSome, MatchOption, None, true};
 ghost use Rattle.dbtg_schema.specs.Sound.{IsSound};
 ghost use Rattle.dbtg_unit.specs.Replay.{IsHistoryOf};
 ghost use Rattle.inventory_clerks.specs.Auditing.{IsTextOf, text_of};
@@ -13,7 +13,7 @@ mod order;
 mod warehouse;
 
 use dbtg_run::Settled;
-use dbtg_schema::Schema;
+use dbtg_schema::{Row, Schema};
 use dbtg_script::{image_text, units_text};
 use dbtg_step::audit;
 use dbtg_unit::{Entry, Image, Unit};
@@ -162,6 +162,20 @@ fn text(
     Ok(out)
 }
 
+// The same of what an audit found, if it found anything.
+fn found_text(
+    alloc: Global,
+    schema: &Schema,
+    found: &Option<(Image, Row<Unit>)>,
+) -> Result<Option<Vec<u8>>, AllocError>
+    ensures { IfOk result (λ out. MatchOption out (found.now ≡ None) (λ out. IfNone found.now ⊥ × IfSome found.now (λ t. out.items ≡ text_of schema.now t.0 t.1))) }
+{
+    match found {
+        Some((image, units)) => Ok(Some(text(alloc, schema, image, units.as_slice())?)),
+        None => Ok(None),
+    }
+}
+
 // The same of what a history leads to, if it is one of the sequential database.
 fn audited_text(
     alloc: Global,
@@ -171,10 +185,8 @@ fn audited_text(
     requires sound { IsSound schema.now }
     ensures { IfOk result (λ found. MatchOption found (IsHistoryOf schema.now CAPACITY UNITS history.now → ⊥) (λ out. IsTextOf schema.now CAPACITY UNITS history.now out.items)) }
 {
-    match audit(alloc, schema, CAPACITY, UNITS, history)? {
-        Some((image, units)) => Ok(Some(text(alloc, schema, &image, units.as_slice())?)),
-        None => Ok(None),
-    }
+    let found = audit(alloc, schema, CAPACITY, UNITS, history)?;
+    found_text(alloc, schema, &found)
 }
 
 // Whether this text was found.

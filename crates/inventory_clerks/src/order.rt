@@ -29,8 +29,6 @@ pub enum Stop {
     Refused,
     /// More is to be taken than there is.
     NoStock,
-    /// The database has not the units that it was made for.
-    NoUnit,
     /// The journal is full.
     Spent,
     /// Memory was refused.

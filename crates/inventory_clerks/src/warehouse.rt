@@ -1,5 +1,5 @@
 //! A warehouse: a database and the units of its two clerks, from the opening to the settlement.
-ghost use Rattle.std.specs.Prelude.{◌≡◌, ◌∷◌, [], All, IfOk, IfSome, IsOk, OnOk};
+ghost use Rattle.std.specs.Prelude.{◌≡◌, ◌∷◌, [], All, IfOk, IsOk, OnOk, length};
 ghost use Rattle.dbtg_schema.specs.Sound.{IsSound};
 ghost use Rattle.dbtg_run.specs.Settling.{IsSettled};
 ghost use Rattle.dbtg_run.specs.UnitView.{BelongsTo};
@@ -24,16 +24,16 @@ pub struct Warehouse {
 }
 
 // The two units of a database.
-#[tactic(auto, using(crate::proofs::Belonging::last_belongs, crate::proofs::Belonging::others_belong))]
-fn two_of(db: &Database, units: Vec<RunUnit>) -> Option<(RunUnit, RunUnit)>
+fn two_of(db: &Database, units: Vec<RunUnit>) -> (RunUnit, RunUnit)
     requires belong { All (BelongsTo db.now) units.items }
-    ensures { IfSome result (λ two. BelongsTo db.now two.0 × BelongsTo db.now two.1) }
+    requires two { length units.items ≡ 2 }
+    ensures { BelongsTo db.now result.0 × BelongsTo db.now result.1 }
 {
     let _about = &db.about;
     let mut units = units;
-    let second = units.pop()?;
-    let first = units.pop()?;
-    Some((first, second))
+    let second = units.pop().unwrap();
+    let first = units.pop().unwrap();
+    (first, second)
 }
 
 // The database of a schema, and its two units.
@@ -43,10 +43,8 @@ fn make_house(alloc: Global, schema: Schema) -> Result<Warehouse, Stop>
     ensures schema { IfOk result (λ house. house.db.schema ≡ schema) }
 {
     let (db, units) = Database::make(alloc, schema, CAPACITY, UNITS)?;
-    match two_of(&db, units) {
-        Some((first, second)) => Ok(Warehouse { db, first, second }),
-        None => Err(Stop::NoUnit),
-    }
+    let (first, second) = two_of(&db, units);
+    Ok(Warehouse { db, first, second })
 }
 
 /// The warehouse of a schema's text, before the first statement.
@@ -190,10 +188,7 @@ fn settle_all(alloc: Global, db: Database, units: Vec<RunUnit>) -> Result<Settle
     requires belong { All (BelongsTo db) units.items }
     ensures { IfOk result (IsSettled db units.items) }
 {
-    match settle(alloc, db, units) {
-        Ok(settled) => Ok(settled),
-        Err(_) => Err(Stop::NoMemory),
-    }
+    settle(alloc, db, units).ok().ok_or(Stop::NoMemory)
 }
 
 /// Both clerks come back, and the database is settled.
