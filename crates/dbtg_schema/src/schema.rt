@@ -57,6 +57,15 @@ impl Model for Schema {
     ghost invariant = { λ a. IsSchema (record { name = a.name; areas = a.areas; types = a.types; sets = a.sets }) × IsSchemaIndex a.index a.areas a.types a.sets × AreErasedOfEach a.erased (record { name = a.name; areas = a.areas; types = a.types; sets = a.sets }) };
 }
 
+/// The schema, with the areas of its deletions worked out.
+fn with_erased(alloc: Global, schema: Schema) -> Result<Schema, AllocError>
+    ensures { IfOk result (λ s. s ≡ schema) }
+{
+    let mut schema = schema;
+    schema.erased = areas_of_each(alloc, &schema)?;
+    Ok(schema)
+}
+
 /// The schema of these lists, with the indexes of its names, and the areas of its deletions.
 fn of_lists(
     alloc: Global,
@@ -69,7 +78,7 @@ fn of_lists(
     ensures { IfOk result (λ s. s ≡ record { name = name; areas = areas; types = types; sets = sets }) }
 {
     let index = SchemaIndex::of(alloc, areas.as_slice(), types.as_slice(), sets.as_slice())?;
-    let mut schema = Schema {
+    let schema = Schema {
         name,
         areas,
         types,
@@ -77,8 +86,7 @@ fn of_lists(
         index,
         erased: Row::of(Vec::new(alloc)),
     };
-    schema.erased = areas_of_each(alloc, &schema)?;
-    Ok(schema)
+    with_erased(alloc, schema)
 }
 
 /// The schema whose words these are.
