@@ -57,13 +57,21 @@ impl Model for Schema {
     ghost invariant = { λ a. IsSchema (record { name = a.name; areas = a.areas; types = a.types; sets = a.sets }) × IsSchemaIndex a.index a.areas a.types a.sets × AreErasedOfEach a.erased (record { name = a.name; areas = a.areas; types = a.types; sets = a.sets }) };
 }
 
+/// Works out the areas of the schema's deletions.
+fn work_out_erased(alloc: Global, schema: &mut Schema) -> Result<(), AllocError>
+    ensures { schema.new ≡ schema.old }
+{
+    let erased = areas_of_each(alloc, schema)?;
+    schema.erased = erased;
+    Ok(())
+}
+
 /// The schema, with the areas of its deletions worked out.
 fn with_erased(alloc: Global, schema: Schema) -> Result<Schema, AllocError>
     ensures { IfOk result (λ s. s ≡ schema) }
 {
     let mut schema = schema;
-    schema.erased = areas_of_each(alloc, &schema)?;
-    Ok(schema)
+    work_out_erased(alloc, &mut schema).and(Ok(schema))
 }
 
 /// The schema of these lists, with the indexes of its names, and the areas of its deletions.
