@@ -113,17 +113,37 @@ fn explain_option<'a>(alloc: Global) -> Arg<'a> {
         )
 }
 
+// What a command does, an example, and what it can be given; its usage shows it by this name.
+fn described<'a>(
+    alloc: Global,
+    name: &'a str,
+    about: &'a str,
+    example: &'a str,
+    args: Vec<Arg<'a>>,
+) -> Result<Command<'a>, AllocError> {
+    Command::new(alloc, name)
+        .about(about)
+        .after_help(example)
+        .args(args)
+}
+
 // The command `check`, by the name that its usage shows.
 fn check_command<'a>(alloc: Global, name: &'a str) -> Result<Command<'a>, AllocError> {
-    Command::new(alloc, name)
-        .about("Reads a schema and scripts, and tells how large they are")
-        .after_help("Example: dbtg check shop.schema unit1.script unit2.script")
-        .arg(explain_option(alloc))?
-        .arg(schema_word(alloc))?
-        .arg(script_words(
+    let args = vec![in alloc;
+        explain_option(alloc),
+        schema_word(alloc),
+        script_words(
             alloc,
             "Files of scripts of this schema, any number of them; - for standard input, once",
-        ))
+        ),
+    ]?;
+    described(
+        alloc,
+        name,
+        "Reads a schema and scripts, and tells how large they are",
+        "Example: dbtg check shop.schema unit1.script unit2.script",
+        args,
+    )
 }
 
 fn svg_option<'a>(alloc: Global, help: &'a str) -> Arg<'a> {
@@ -135,32 +155,42 @@ fn svg_option<'a>(alloc: Global, help: &'a str) -> Arg<'a> {
 
 // The command `draw`, by the name that its usage shows.
 fn draw_command<'a>(alloc: Global, name: &'a str) -> Result<Command<'a>, AllocError> {
-    Command::new(alloc, name)
-        .about("Prints the diagram of a schema: record types, and the sets from owner to member")
-        .after_help("Examples: dbtg draw --svg shop.schema, dbtg draw shop.schema | dot -Tpng")
-        .arg(svg_option(
+    let args = vec![in alloc;
+        svg_option(
             alloc,
             "Draws as SVG, with a layout of its own [default: the language of Graphviz]",
-        ))?
-        .arg(explain_option(alloc))?
-        .arg(schema_word(alloc))
+        ),
+        explain_option(alloc),
+        schema_word(alloc),
+    ]?;
+    described(
+        alloc,
+        name,
+        "Prints the diagram of a schema: record types, and the sets from owner to member",
+        "Examples: dbtg draw --svg shop.schema, dbtg draw shop.schema | dot -Tpng",
+        args,
+    )
 }
 
 // The command `explain`, by the name that its usage shows.
 fn explain_command<'a>(alloc: Global, name: &'a str) -> Result<Command<'a>, AllocError> {
-    Command::new(alloc, name)
-        .about("Tells what a status or a fault means, when it comes and what to do next")
-        .override_usage("dbtg explain [CODE | schema N | script N | moves N | turns N]")
-        .after_help("Examples: dbtg explain 0505, dbtg explain schema 7")
-        .arg(
-            Arg::new(alloc, "topic")
-                .value_name("TOPIC")
-                .num_args(0..)
-                .action(ArgAction::Append)
-                .help(
-                    "A status of four digits, or the number of a fault: schema 1 to 18, script 1 to 14, moves 1 to 2, turns 1 to 2 [default: a list of all]",
-                ),
-        )
+    let args = vec![in alloc;
+        Arg::new(alloc, "topic")
+            .value_name("TOPIC")
+            .num_args(0..)
+            .action(ArgAction::Append)
+            .help(
+                "A status of four digits, or the number of a fault: schema 1 to 18, script 1 to 14, moves 1 to 2, turns 1 to 2 [default: a list of all]",
+            ),
+    ]?;
+    Ok(described(
+        alloc,
+        name,
+        "Tells what a status or a fault means, when it comes and what to do next",
+        "Examples: dbtg explain 0505, dbtg explain schema 7",
+        args,
+    )?
+    .override_usage("dbtg explain [CODE | schema N | script N | moves N | turns N]"))
 }
 
 fn number_option<'a>(alloc: Global, name: &'a str, usual: &'a str, help: &'a str) -> Arg<'a> {
@@ -207,91 +237,105 @@ fn echo_option<'a>(alloc: Global) -> Arg<'a> {
 
 // The command `replay`, by the name that its usage shows.
 fn replay_command<'a>(alloc: Global, name: &'a str) -> Result<Command<'a>, AllocError> {
-    Command::new(alloc, name)
-        .about("Runs scripts, and prints the answers, the database and the units")
-        .after_help(
-            "Example: dbtg replay --capacity 10 --moves shop.moves shop.schema unit1.script unit2.script",
-        )
-        .arg(capacity_option(alloc))?
-        .arg(moves_option(alloc))?
-        .arg(turns_option(alloc)?)?
-        .arg(echo_option(alloc))?
-        .arg(explain_option(alloc))?
-        .arg(schema_word(alloc))?
-        .arg(script_words(
+    let args = vec![in alloc;
+        capacity_option(alloc),
+        moves_option(alloc),
+        turns_option(alloc)?,
+        echo_option(alloc),
+        explain_option(alloc),
+        schema_word(alloc),
+        script_words(
             alloc,
             "Files of the scripts of units 1, 2, ..: 1 to 8 of them; - for standard input, once",
-        ))
+        ),
+    ]?;
+    described(
+        alloc,
+        name,
+        "Runs scripts, and prints the answers, the database and the units",
+        "Example: dbtg replay --capacity 10 --moves shop.moves shop.schema unit1.script unit2.script",
+        args,
+    )
 }
 
 // The command `turns`, by the name that its usage shows.
 fn turns_command<'a>(alloc: Global, name: &'a str) -> Result<Command<'a>, AllocError> {
-    Command::new(alloc, name)
-        .about("Prints the moves that turns stand for, as a file of moves")
-        .after_help("Example: dbtg turns a.turns shop.schema unit1.script unit2.script")
-        .arg(capacity_option(alloc))?
-        .arg(explain_option(alloc))?
-        .arg(
-            Arg::new(alloc, "turns")
-                .value_name("FILE")
-                .required(true)
-                .action(ArgAction::Set)
-                .help("The file of the turns; - for standard input"),
-        )?
-        .arg(schema_word(alloc))?
-        .arg(script_words(
+    let args = vec![in alloc;
+        capacity_option(alloc),
+        explain_option(alloc),
+        Arg::new(alloc, "turns")
+            .value_name("FILE")
+            .required(true)
+            .action(ArgAction::Set)
+            .help("The file of the turns; - for standard input"),
+        schema_word(alloc),
+        script_words(
             alloc,
             "Files of the scripts of units 1, 2, ..: 1 to 8 of them; - for standard input, once",
-        ))
+        ),
+    ]?;
+    described(
+        alloc,
+        name,
+        "Prints the moves that turns stand for, as a file of moves",
+        "Example: dbtg turns a.turns shop.schema unit1.script unit2.script",
+        args,
+    )
 }
 
 // The command `timeline`, by the name that its usage shows.
 fn timeline_command<'a>(alloc: Global, name: &'a str) -> Result<Command<'a>, AllocError> {
-    Command::new(alloc, name)
-        .about("Prints a picture of an interleaving: a lane for each unit, event by event")
-        .after_help(
-            "Example: dbtg timeline --moves shop.moves shop.schema unit1.script unit2.script",
-        )
-        .arg(capacity_option(alloc))?
-        .arg(moves_option(alloc))?
-        .arg(turns_option(alloc)?)?
-        .arg(svg_option(alloc, "Draws as SVG [default: plain text]"))?
-        .arg(explain_option(alloc))?
-        .arg(schema_word(alloc))?
-        .arg(script_words(
+    let args = vec![in alloc;
+        capacity_option(alloc),
+        moves_option(alloc),
+        turns_option(alloc)?,
+        svg_option(alloc, "Draws as SVG [default: plain text]"),
+        explain_option(alloc),
+        schema_word(alloc),
+        script_words(
             alloc,
             "Files of the scripts of units 1, 2, ..: 1 to 8 of them; - for standard input, once",
-        ))
+        ),
+    ]?;
+    described(
+        alloc,
+        name,
+        "Prints a picture of an interleaving: a lane for each unit, event by event",
+        "Example: dbtg timeline --moves shop.moves shop.schema unit1.script unit2.script",
+        args,
+    )
 }
 
 // The command `outcomes`, by the name that its usage shows.
 fn outcomes_command<'a>(alloc: Global, name: &'a str) -> Result<Command<'a>, AllocError> {
-    Command::new(alloc, name)
-        .about(
-            "Prints all that can come out when scripts run at the same time, each with an order that shows it",
-        )
-        .after_help("Example: dbtg outcomes shop.schema unit1.script unit2.script")
-        .arg(capacity_option(alloc))?
-        .arg(number_option(
+    let args = vec![in alloc;
+        capacity_option(alloc),
+        number_option(
             alloc,
             "limit",
             "1000000",
             "How many states may come before it gives up, 1 to 1000000000",
-        ))?
-        .arg(
-            Arg::new(alloc, "answers")
-                .long("answers")
-                .action(ArgAction::SetTrue)
-                .help(
-                    "Tells results apart also by the answers of each unit [default: by what is printed behind -- alone]",
-                ),
-        )?
-        .arg(explain_option(alloc))?
-        .arg(schema_word(alloc))?
-        .arg(script_words(
+        ),
+        Arg::new(alloc, "answers")
+            .long("answers")
+            .action(ArgAction::SetTrue)
+            .help(
+                "Tells results apart also by the answers of each unit [default: by what is printed behind -- alone]",
+            ),
+        explain_option(alloc),
+        schema_word(alloc),
+        script_words(
             alloc,
             "Files of the scripts of units 1, 2, ..: 1 to 8 of them; - for standard input, once",
-        ))
+        ),
+    ]?;
+    described(
+        alloc,
+        name,
+        "Prints all that can come out when scripts run at the same time, each with an order that shows it",
+        "Example: dbtg outcomes shop.schema unit1.script unit2.script",
+        args,
+    )
 }
 
 fn save_turns_option<'a>(alloc: Global) -> Arg<'a> {
@@ -306,33 +350,108 @@ fn save_turns_option<'a>(alloc: Global) -> Arg<'a> {
 
 // The command `threads`, by the name that its usage shows.
 fn threads_command<'a>(alloc: Global, name: &'a str) -> Result<Command<'a>, AllocError> {
-    Command::new(alloc, name)
-        .about(
-            "Runs scripts on threads, and prints the answers, the database, the units and the audit",
-        )
-        .after_help("Example: dbtg threads --capacity 10 shop.schema unit1.script unit2.script")
-        .arg(capacity_option(alloc))?
-        .arg(save_turns_option(alloc))?
-        .arg(explain_option(alloc))?
-        .arg(schema_word(alloc))?
-        .arg(script_words(
+    let args = vec![in alloc;
+        capacity_option(alloc),
+        save_turns_option(alloc),
+        explain_option(alloc),
+        schema_word(alloc),
+        script_words(
             alloc,
             "Files of the scripts of units 1, 2, ..: 1 to 8 of them, each on a thread of its own; - for standard input, once",
-        ))
+        ),
+    ]?;
+    described(
+        alloc,
+        name,
+        "Runs scripts on threads, and prints the answers, the database, the units and the audit",
+        "Example: dbtg threads --capacity 10 shop.schema unit1.script unit2.script",
+        args,
+    )
 }
 
 // The command `shell`, by the name that its usage shows.
 fn shell_command<'a>(alloc: Global, name: &'a str) -> Result<Command<'a>, AllocError> {
-    Command::new(alloc, name)
-        .about("Reads statements from standard input, and answers each at once")
-        .after_help("Example: dbtg shell shop.schema; .help shows what can be asked there")
-        .arg(capacity_option(alloc))?
-        .arg(number_option(alloc, "units", "2", "How many units there are, 1 to 8"))?
-        .arg(schema_word(alloc).help("The file of the schema"))
+    let args = vec![in alloc;
+        capacity_option(alloc),
+        number_option(alloc, "units", "2", "How many units there are, 1 to 8"),
+        schema_word(alloc).help("The file of the schema"),
+    ]?;
+    described(
+        alloc,
+        name,
+        "Reads statements from standard input, and answers each at once",
+        "Example: dbtg shell shop.schema; .help shows what can be asked there",
+        args,
+    )
+}
+
+/// What the program can be asked to do, in the order of its help.
+#[derive(Clone, Copy)]
+enum Named {
+    Check,
+    Replay,
+    Turns,
+    Timeline,
+    Outcomes,
+    Threads,
+    Draw,
+    Explain,
+    Shell,
+}
+
+const ALL: [Named; 9] = [
+    Named::Check,
+    Named::Replay,
+    Named::Turns,
+    Named::Timeline,
+    Named::Outcomes,
+    Named::Threads,
+    Named::Draw,
+    Named::Explain,
+    Named::Shell,
+];
+
+// The word that asks for it, and the name that its usage shows.
+fn names_of<'a>(named: Named) -> (&'a str, &'a str) {
+    match named {
+        Named::Check => ("check", "dbtg check"),
+        Named::Replay => ("replay", "dbtg replay"),
+        Named::Turns => ("turns", "dbtg turns"),
+        Named::Timeline => ("timeline", "dbtg timeline"),
+        Named::Outcomes => ("outcomes", "dbtg outcomes"),
+        Named::Threads => ("threads", "dbtg threads"),
+        Named::Draw => ("draw", "dbtg draw"),
+        Named::Explain => ("explain", "dbtg explain"),
+        Named::Shell => ("shell", "dbtg shell"),
+    }
+}
+
+fn command_of<'a>(alloc: Global, named: Named, name: &'a str) -> Result<Command<'a>, AllocError> {
+    match named {
+        Named::Check => check_command(alloc, name),
+        Named::Replay => replay_command(alloc, name),
+        Named::Turns => turns_command(alloc, name),
+        Named::Timeline => timeline_command(alloc, name),
+        Named::Outcomes => outcomes_command(alloc, name),
+        Named::Threads => threads_command(alloc, name),
+        Named::Draw => draw_command(alloc, name),
+        Named::Explain => explain_command(alloc, name),
+        Named::Shell => shell_command(alloc, name),
+    }
+}
+
+fn all_commands<'a>(alloc: Global) -> Result<Vec<Command<'a>>, AllocError> {
+    let mut all = Vec::new(alloc);
+    for named in ALL {
+        let (word, _) = names_of(named);
+        all.push(command_of(alloc, named, word)?)?;
+    }
+    Ok(all)
 }
 
 /// The command with all that it can be asked.
 pub fn command<'a>(alloc: Global) -> Result<Command<'a>, AllocError> {
+    let all = all_commands(alloc)?;
     Command::new(alloc, "dbtg")
         .version("0.1.0")
         .about(
@@ -342,15 +461,13 @@ pub fn command<'a>(alloc: Global) -> Result<Command<'a>, AllocError> {
         .subcommand_required(true)
         .arg_required_else_help(true)
         .after_help("Example: dbtg replay card.schema unit1.script")
-        .subcommand(check_command(alloc, "check")?)?
-        .subcommand(replay_command(alloc, "replay")?)?
-        .subcommand(turns_command(alloc, "turns")?)?
-        .subcommand(timeline_command(alloc, "timeline")?)?
-        .subcommand(outcomes_command(alloc, "outcomes")?)?
-        .subcommand(threads_command(alloc, "threads")?)?
-        .subcommand(draw_command(alloc, "draw")?)?
-        .subcommand(explain_command(alloc, "explain")?)?
-        .subcommand(shell_command(alloc, "shell")?)
+        .subcommands(all)
+}
+
+// What the words cannot ask for: the text that answers them, with the usage.
+fn refused(alloc: Global, named: Named, kind: ErrorKind, told: &str) -> Result<Error, AllocError> {
+    let (_, name) = names_of(named);
+    command_of(alloc, named, name)?.error(kind, told)
 }
 
 fn words_of<'a>(
@@ -364,34 +481,26 @@ fn words_of<'a>(
     }
 }
 
-fn capacity_wanted<'a>(
-    alloc: Global,
-    command: &mut Command<'a>,
-    matches: &ArgMatches,
-) -> Result<u16, Error> {
+fn capacity_wanted(alloc: Global, named: Named, matches: &ArgMatches) -> Result<u16, Error> {
     let word = matches.get_str("capacity").unwrap_or("");
     match capacity_of(word) {
         Some(capacity) => Ok(capacity),
-        None => Err(no_number(alloc, command, "capacity", word, 1000)?),
+        None => Err(no_number(alloc, named, "capacity", word, 1000)?),
     }
 }
 
-fn units_wanted<'a>(
-    alloc: Global,
-    command: &mut Command<'a>,
-    matches: &ArgMatches,
-) -> Result<u16, Error> {
+fn units_wanted(alloc: Global, named: Named, matches: &ArgMatches) -> Result<u16, Error> {
     let word = matches.get_str("units").unwrap_or("");
     match units_of(word) {
         Some(units) => Ok(units),
-        None => Err(no_number(alloc, command, "units", word, 8)?),
+        None => Err(no_number(alloc, named, "units", word, 8)?),
     }
 }
 
 // Another word stands where a whole number is wanted.
-fn no_number<'a>(
+fn no_number(
     alloc: Global,
-    command: &mut Command<'a>,
+    named: Named,
     option: &str,
     word: &str,
     most: u64,
@@ -399,18 +508,14 @@ fn no_number<'a>(
     let told = format!(in alloc;
         "invalid value '{word}' for '--{option} <N>': a whole number from 1 to {most} is wanted"
     )?;
-    command.error(ErrorKind::ValueValidation, told.as_str())
+    refused(alloc, named, ErrorKind::ValueValidation, told.as_str())
 }
 
-fn limit_wanted<'a>(
-    alloc: Global,
-    command: &mut Command<'a>,
-    matches: &ArgMatches,
-) -> Result<u64, Error> {
+fn limit_wanted(alloc: Global, named: Named, matches: &ArgMatches) -> Result<u64, Error> {
     let word = matches.get_str("limit").unwrap_or("");
     match limit_of(word) {
         Some(limit) => Ok(limit),
-        None => Err(no_number(alloc, command, "limit", word, 1_000_000_000)?),
+        None => Err(no_number(alloc, named, "limit", word, 1_000_000_000)?),
     }
 }
 
@@ -419,10 +524,11 @@ fn count_inputs(paths: &[&str]) -> usize {
     paths.iter().filter(|path| **path == STANDARD_INPUT).count()
 }
 
-fn check_inputs<'a>(
-    command: &mut Command<'a>,
+fn check_inputs(
+    alloc: Global,
+    named: Named,
     schema: &str,
-    scripts: &[&'a str],
+    scripts: &[&str],
     order: &str,
 ) -> Result<(), Error> {
     let is_schema = schema == STANDARD_INPUT;
@@ -431,7 +537,9 @@ fn check_inputs<'a>(
     if inputs == 0 && !(is_schema && is_order) || inputs == 1 && !is_schema && !is_order {
         return Ok(());
     }
-    Err(command.error(
+    Err(refused(
+        alloc,
+        named,
         ErrorKind::ArgumentConflict,
         "the argument '-' cannot be used twice: standard input is one file",
     )?)
@@ -440,8 +548,7 @@ fn check_inputs<'a>(
 fn check_call<'a>(alloc: Global, given: &ArgMatches<'a>) -> Result<Call<'a>, Error> {
     let schema = given.get_str("schema").unwrap_or("");
     let scripts = words_of(alloc, given, "scripts")?;
-    let mut command = check_command(alloc, "dbtg check")?;
-    check_inputs(&mut command, schema, scripts.as_slice(), "")?;
+    check_inputs(alloc, Named::Check, schema, scripts.as_slice(), "")?;
     Ok(Call::Check {
         explains: given.get_flag("explain"),
         schema,
@@ -472,9 +579,14 @@ fn replay_call<'a>(alloc: Global, given: &ArgMatches<'a>) -> Result<Call<'a>, Er
     let schema = given.get_str("schema").unwrap_or("");
     let scripts = words_of(alloc, given, "scripts")?;
     let order = order_wanted(given);
-    let mut command = replay_command(alloc, "dbtg replay")?;
-    let capacity = capacity_wanted(alloc, &mut command, given)?;
-    check_inputs(&mut command, schema, scripts.as_slice(), order_path(order))?;
+    let capacity = capacity_wanted(alloc, Named::Replay, given)?;
+    check_inputs(
+        alloc,
+        Named::Replay,
+        schema,
+        scripts.as_slice(),
+        order_path(order),
+    )?;
     Ok(Call::Replay {
         explains: given.get_flag("explain"),
         echo: given.get_flag("echo"),
@@ -489,9 +601,8 @@ fn turns_call<'a>(alloc: Global, given: &ArgMatches<'a>) -> Result<Call<'a>, Err
     let schema = given.get_str("schema").unwrap_or("");
     let scripts = words_of(alloc, given, "scripts")?;
     let turns = given.get_str("turns").unwrap_or("");
-    let mut command = turns_command(alloc, "dbtg turns")?;
-    let capacity = capacity_wanted(alloc, &mut command, given)?;
-    check_inputs(&mut command, schema, scripts.as_slice(), turns)?;
+    let capacity = capacity_wanted(alloc, Named::Turns, given)?;
+    check_inputs(alloc, Named::Turns, schema, scripts.as_slice(), turns)?;
     Ok(Call::Turns(TurnsCall {
         explains: given.get_flag("explain"),
         capacity,
@@ -505,9 +616,14 @@ fn timeline_call<'a>(alloc: Global, given: &ArgMatches<'a>) -> Result<Call<'a>, 
     let schema = given.get_str("schema").unwrap_or("");
     let scripts = words_of(alloc, given, "scripts")?;
     let order = order_wanted(given);
-    let mut command = timeline_command(alloc, "dbtg timeline")?;
-    let capacity = capacity_wanted(alloc, &mut command, given)?;
-    check_inputs(&mut command, schema, scripts.as_slice(), order_path(order))?;
+    let capacity = capacity_wanted(alloc, Named::Timeline, given)?;
+    check_inputs(
+        alloc,
+        Named::Timeline,
+        schema,
+        scripts.as_slice(),
+        order_path(order),
+    )?;
     Ok(Call::Timeline(TimelineCall {
         explains: given.get_flag("explain"),
         capacity,
@@ -521,10 +637,9 @@ fn timeline_call<'a>(alloc: Global, given: &ArgMatches<'a>) -> Result<Call<'a>, 
 fn outcomes_call<'a>(alloc: Global, given: &ArgMatches<'a>) -> Result<Call<'a>, Error> {
     let schema = given.get_str("schema").unwrap_or("");
     let scripts = words_of(alloc, given, "scripts")?;
-    let mut command = outcomes_command(alloc, "dbtg outcomes")?;
-    let capacity = capacity_wanted(alloc, &mut command, given)?;
-    let limit = limit_wanted(alloc, &mut command, given)?;
-    check_inputs(&mut command, schema, scripts.as_slice(), "")?;
+    let capacity = capacity_wanted(alloc, Named::Outcomes, given)?;
+    let limit = limit_wanted(alloc, Named::Outcomes, given)?;
+    check_inputs(alloc, Named::Outcomes, schema, scripts.as_slice(), "")?;
     Ok(Call::Outcomes(OutcomesCall {
         explains: given.get_flag("explain"),
         capacity,
@@ -536,11 +651,13 @@ fn outcomes_call<'a>(alloc: Global, given: &ArgMatches<'a>) -> Result<Call<'a>, 
 }
 
 // Standard input is read, and no turns go there.
-fn check_saved<'a>(command: &mut Command<'a>, saved: Option<&str>) -> Result<(), Error> {
+fn check_saved(alloc: Global, saved: Option<&str>) -> Result<(), Error> {
     if !matches!(saved, Some("-")) {
         return Ok(());
     }
-    Err(command.error(
+    Err(refused(
+        alloc,
+        Named::Threads,
         ErrorKind::ArgumentConflict,
         "the argument '-' cannot be used with '--save-turns <FILE>': turns are written to a file",
     )?)
@@ -549,11 +666,10 @@ fn check_saved<'a>(command: &mut Command<'a>, saved: Option<&str>) -> Result<(),
 fn threads_call<'a>(alloc: Global, given: &ArgMatches<'a>) -> Result<Call<'a>, Error> {
     let schema = given.get_str("schema").unwrap_or("");
     let scripts = words_of(alloc, given, "scripts")?;
-    let mut command = threads_command(alloc, "dbtg threads")?;
-    let capacity = capacity_wanted(alloc, &mut command, given)?;
+    let capacity = capacity_wanted(alloc, Named::Threads, given)?;
     let saved = given.get_str("save-turns");
-    check_inputs(&mut command, schema, scripts.as_slice(), "")?;
-    check_saved(&mut command, saved)?;
+    check_inputs(alloc, Named::Threads, schema, scripts.as_slice(), "")?;
+    check_saved(alloc, saved)?;
     Ok(Call::Threads {
         explains: given.get_flag("explain"),
         capacity,
@@ -581,7 +697,9 @@ fn explain_call<'a>(alloc: Global, given: &ArgMatches<'a>) -> Result<Call<'a>, E
     let words = words_of(alloc, given, "topic")?;
     match topic_of(words.as_slice()) {
         Some(topic) => Ok(Call::Explain(topic)),
-        None => Err(explain_command(alloc, "dbtg explain")?.error(
+        None => Err(refused(
+            alloc,
+            Named::Explain,
             ErrorKind::InvalidValue,
             "no status and no fault is called so: a status of four digits is wanted, or schema, script, moves or turns and the number of a fault; 'dbtg explain' lists all",
         )?),
@@ -589,11 +707,13 @@ fn explain_call<'a>(alloc: Global, given: &ArgMatches<'a>) -> Result<Call<'a>, E
 }
 
 // Statements come from standard input, so the schema cannot.
-fn check_schema<'a>(command: &mut Command<'a>, schema: &str) -> Result<(), Error> {
+fn check_schema(alloc: Global, schema: &str) -> Result<(), Error> {
     if schema != STANDARD_INPUT {
         return Ok(());
     }
-    Err(command.error(
+    Err(refused(
+        alloc,
+        Named::Shell,
         ErrorKind::ArgumentConflict,
         "the argument '-' cannot be used: the shell reads statements from standard input",
     )?)
@@ -601,10 +721,9 @@ fn check_schema<'a>(command: &mut Command<'a>, schema: &str) -> Result<(), Error
 
 fn shell_call<'a>(alloc: Global, given: &ArgMatches<'a>) -> Result<Call<'a>, Error> {
     let schema = given.get_str("schema").unwrap_or("");
-    let mut command = shell_command(alloc, "dbtg shell")?;
-    let capacity = capacity_wanted(alloc, &mut command, given)?;
-    let units = units_wanted(alloc, &mut command, given)?;
-    check_schema(&mut command, schema)?;
+    let capacity = capacity_wanted(alloc, Named::Shell, given)?;
+    let units = units_wanted(alloc, Named::Shell, given)?;
+    check_schema(alloc, schema)?;
     Ok(Call::Shell(ShellCall {
         capacity,
         units,
