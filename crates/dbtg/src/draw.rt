@@ -1,6 +1,7 @@
 //! The diagram of a schema.
 ghost use Rattle.std.specs.Prelude.{◌≡◌, IfErr, IfOk};
 ghost use Rattle.dbtg_schema.specs.SchemaFaults.{refusal as schema_refusal};
+ghost use Rattle.dbtg.specs.declared.fault.Fault.TheVariants.{Memory};
 ghost use Rattle.dbtg.specs.Drawing.{DrawsHeld, IsDrawing, drawing};
 ghost use Rattle.dbtg.specs.Refusals.{RefusesSchema};
 ghost use Rattle.dbtg.specs.Sources.{ToldOfSchema};
@@ -30,13 +31,22 @@ fn drawing(alloc: Global, form: Form, schema: &Schema) -> Result<Vec<u8>, AllocE
     }
 }
 
+fn draw_known(alloc: Global, form: Form, known: &Schema) -> Result<Vec<u8>, Fault>
+    ensures done { IfOk result (λ out. out.items ≡ drawing form known.now) }
+    ensures refused { IfErr result (λ fault. fault ≡ Memory) }
+{
+    Ok(drawing(alloc, form, known)?)
+}
+
 /// What `draw` prints of the schema that a source gives, or its fault.
 pub fn draw<S: Source>(alloc: Global, source: &S, form: Form) -> Result<Vec<u8>, Fault>
     ensures done { IfOk result (λ out. DrawsHeld (S.holds source.now) form out.items) }
     ensures refused { IfErr result (λ fault. ToldOfSchema (S.holds source.now) (S.fails source.now) fault) }
 {
-    let known = read_schema(alloc, source)?;
-    Ok(drawing(alloc, form, &known)?)
+    match read_schema(alloc, source) {
+        Ok(known) => draw_known(alloc, form, &known),
+        Err(fault) => Err(fault),
+    }
 }
 
 /// What `draw` prints of a schema at hand, or its fault.

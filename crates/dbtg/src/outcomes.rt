@@ -1,7 +1,8 @@
 //! All that can come out when scripts run at the same time, as text.
-ghost use Rattle.std.specs.Prelude.{◌≡◌, ℕ, ◌≤◌, ◌++◌, ◌⊎◌, codes, nat_lt, IfErr, IfOk, List, OnOk, true, length};
+ghost use Rattle.std.specs.Prelude.{◌≡◌, ℕ, ◌≤◌, ◌++◌, ◌⊎◌, codes, nat_lt, IfErr, IfOk, List, None, OnOk, Some, true, length};
 ghost use Rattle.std.specs.List.{flat_map, list_all};
 ghost use Rattle.dbtg_schema.specs.Sound.{IsSound};
+ghost use Rattle.dbtg_unit.specs.declared.moves.Move.{Move};
 ghost use Rattle.dbtg_step.specs.Laws.{scripts_fit};
 ghost use Rattle.dbtg_script.specs.WordTexts.{moves_words_text, turns_text};
 ghost use Rattle.dbtg.specs.Listing.{AreTold, IsListing, IsLong, IsOver, IsResultText, IsUntold, OutcomesHeld, ToldOfOutcomes, are_short, count_text, differing_text, orders_text, result_line, spaced_status, summary_text, worded};
@@ -132,7 +133,34 @@ fn push_turned(
     Ok(())
 }
 
-// One result: its number, how many orders lead to it, the first of them as turns and as moves, and what these moves print.
+// The number of a result, how many orders lead to it, the first of them as turns and as moves, and what these moves printed.
+fn push_made(
+    alloc: Global,
+    out: &mut Vec<u8>,
+    schema: &Schema,
+    number: u64,
+    one: &OneResult,
+    turned: &Turned,
+) -> Result<(), Fault>
+    ensures done { OnOk result ((moves : List Move) × (turned.now.moves ≡ Some moves) × (out.new.items ≡ out.old.items ++ result_line number one.now ++ worded (codes "turns") (turns_text one.now.turns) ++ worded (codes "moves") (moves_words_text moves) ++ given_text schema.now turned.now.run)) }
+    ensures refused { IfErr result (λ fault. (fault ≡ Memory) ⊎ ((fault ≡ MovesOver) × (turned.now.moves ≡ None))) }
+{
+    let Some(moves) = &turned.moves else {
+        return Err(Fault::MovesOver);
+    };
+    push_result_line(out, number, one)?;
+    push_turned(
+        alloc,
+        out,
+        schema,
+        one.turns.as_slice(),
+        moves.as_slice(),
+        &turned.run,
+    )?;
+    Ok(())
+}
+
+// One result: the first of its orders is run, and printed.
 fn push_result(
     alloc: Global,
     out: &mut Vec<u8>,
@@ -148,15 +176,16 @@ fn push_result(
     ensures done { OnOk result ((text : List ℕ) × (out.new.items ≡ out.old.items ++ text) × IsResultText schema.now capacity scripts.now number one.now text) }
     ensures refused { IfErr result (λ fault. (fault ≡ Memory) ⊎ ((fault ≡ MovesOver) × IsLong schema.now capacity scripts.now one.now)) }
 {
-    let turns = one.turns.as_slice();
     let copies = copy_scripts(alloc, scripts)?;
-    let Turned { run, moves } = run_turns(alloc, schema, capacity, copies, turns, MOST_MOVES)?;
-    let Some(moves) = moves else {
-        return Err(Fault::MovesOver);
-    };
-    push_result_line(out, number, one)?;
-    push_turned(alloc, out, schema, turns, moves.as_slice(), &run)?;
-    Ok(())
+    let turned = run_turns(
+        alloc,
+        schema,
+        capacity,
+        copies,
+        one.turns.as_slice(),
+        MOST_MOVES,
+    )?;
+    push_made(alloc, out, schema, number, one, &turned)
 }
 
 // The summary, and then result by result.

@@ -1,11 +1,15 @@
-use Rattle.std.proofs.Common.{subst}
-use Rattle.dbtg_step.specs.Turns.{AreGiven}
+use Rattle.std.proofs.Common.{ℕ, List, refl, subst}
+use Rattle.std.proofs.lemmas.Result.{IfOk-weaker}
+use Rattle.dbtg_step.specs.Turns.{AreGiven, IsRunByTurns}
 use Rattle.dbtg.proofs.Listings.{result_told}
 use Rattle.dbtg.proofs.outcomes.push_result.Goals as goal
 
 pub returns-clause-done : goal.returns-clause-done
 returns-clause-done c =
-    let turned = c.in_ok-run.ensures in
-    let given = subst (AreGiven 1000000 turned.moves) c.in-Some.is turned.given_moves in
-    result_told c.args.schema.now c.args.capacity c.args.scripts.now _ c.args.number c.args.one.now _ turned.moves _ _ _ c.in_ok-copies.ensures c.as_slice-turns.ensures given.0 c.as_slice.ensures given.1 turned.run
-    _ _ _ c.in_ok-push_result_line.ensures c.in_ok-push_turned.ensures
+    let turned = c.in_ok-turned.ensures in
+    let one = c.args.one.now in
+    let run = subst (λ (turns : List ℕ). IsRunByTurns c.args.schema.now c.args.capacity c.in_ok-copies.copies turns turned.moves c.in_ok-turned.turned.run) c.as_slice.ensures turned.run in
+    IfOk-weaker c.push_made.result _ _ (λ _ made.
+    let given = subst (AreGiven 1000000 turned.moves) made.1 turned.given_moves in
+    result_told c.args.schema.now c.args.capacity c.args.scripts.now _ c.args.number one one.turns turned.moves _ made.0 _ c.in_ok-copies.ensures refl given.0 refl given.1 run
+    _ _ _ refl made.2) c.push_made.ensures.done
