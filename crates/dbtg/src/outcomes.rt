@@ -14,9 +14,9 @@ ghost use Rattle.dbtg.specs.declared.order.OrderKind.TheVariants.{Serial};
 
 use crate::copies::copy_scripts;
 use crate::fault::Fault;
-use crate::replay::{check_count, push_given};
+use crate::replay::{push_given, schema_for_run};
 use crate::source::Source;
-use crate::texts::{read_schema, read_scripts};
+use crate::texts::read_scripts;
 use dbtg_outcomes::{Answered, OneResult, Outcomes, Stop, all_outcomes};
 use dbtg_schema::{Row, Schema};
 use dbtg_script::{moves_words_text, push_number, push_status, turns_text};
@@ -268,7 +268,6 @@ pub fn print_outcomes<S: Source>(
     ensures done { IfOk result (λ out. OutcomesHeld (S.holds source.now) (S.count source.now) capacity answers limit out.items) }
     ensures refused { IfErr result (λ fault. ToldOfOutcomes (S.holds source.now) (S.fails source.now) fault (S.count source.now) capacity answers limit) }
 {
-    check_count(source.count())?;
-    let known = read_schema(alloc, source)?;
+    let known = schema_for_run(alloc, source)?;
     outcomes_known(alloc, source, &known, capacity, answers, limit)
 }

@@ -113,17 +113,25 @@ fn word_line(
     if paths.schema == STANDARD_INPUT || script == STANDARD_INPUT {
         return Ok(Vec::new(alloc));
     }
+    match rt.read(script, SCRIPT_BYTES) {
+        Ok(text) => word_in(rt, paths, line_of(text.as_slice(), line), number, meaning),
+        Err(_) => Ok(Vec::new(alloc)),
+    }
+}
+
+/// The same of a line at hand.
+fn word_in(
+    rt: &HostRuntime,
+    paths: &Paths,
+    line: &[u8],
+    number: u8,
+    meaning: &[u8],
+) -> Result<Vec<u8>, AllocError> {
+    let alloc = rt.alloc();
     let files = Files { reader: rt, paths };
-    if let (Ok(known), Ok(text)) = (read_schema(alloc, &files), rt.read(script, SCRIPT_BYTES)) {
-        said_of_word(
-            alloc,
-            &known,
-            line_of(text.as_slice(), line),
-            number,
-            meaning,
-        )
-    } else {
-        Ok(Vec::new(alloc))
+    match read_schema(alloc, &files) {
+        Ok(known) => said_of_word(alloc, &known, line, number, meaning),
+        Err(_) => Ok(Vec::new(alloc)),
     }
 }
 

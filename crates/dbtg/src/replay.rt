@@ -10,6 +10,7 @@ ghost use Rattle.dbtg.specs.Refusals.{RefusesReplay, is_count};
 ghost use Rattle.dbtg.specs.Replaying.{IsPrinted, IsReplay, RunByTurnsIs, echo_of, shown_text};
 ghost use Rattle.dbtg.specs.Sources.{ReadSchema, ReadScripts, ReplaysHeld, ToldOfRun, order_map};
 ghost use Rattle.dbtg.specs.declared.fault.Fault.TheVariants.{ScriptCount};
+ghost use Rattle.dbtg.specs.declared.order.OrderKind.{OrderKind as Kind};
 
 use crate::at_hand::AtHand;
 use crate::fault::Fault;
@@ -32,6 +33,17 @@ pub fn check_count(count: usize) -> Result<(), Fault>
     } else {
         Err(Fault::ScriptCount)
     }
+}
+
+/// The schema of a source that has a right number of scripts.
+pub fn schema_for_run<S: Source>(alloc: Global, source: &S) -> Result<Schema, Fault>
+    ensures counted { OnOk result (is_count (S.count source.now) ≡ true) }
+    ensures read { IfOk result (λ schema. ReadSchema (S.holds source.now) schema) }
+    ensures sound { IfOk result (λ schema. IsSound schema) }
+    ensures refused { IfErr result (λ fault. (which : Kind) → ToldOfRun (S.holds source.now) (S.fails source.now) fault (S.count source.now) which) }
+{
+    check_count(source.count())?;
+    read_schema(alloc, source)
 }
 
 /// Answers, image and units, behind a text; with the scripts' texts the statement of each answer beside it.
@@ -201,8 +213,7 @@ pub fn replay<S: Source>(
     ensures done { IfOk result (λ out. ReplaysHeld (S.holds source.now) (S.count source.now) (S.order source.now) echo capacity out.items) }
     ensures refused { IfErr result (λ fault. ToldOfRun (S.holds source.now) (S.fails source.now) fault (S.count source.now) (S.order source.now)) }
 {
-    check_count(source.count())?;
-    let known = read_schema(alloc, source)?;
+    let known = schema_for_run(alloc, source)?;
     replay_known(alloc, source, &known, capacity, echo)
 }
 

@@ -6,13 +6,13 @@ ghost use Rattle.dbtg_script.specs.WordTexts.{turns_text};
 ghost use Rattle.dbtg_step.specs.Laws.{scripts_fit};
 ghost use Rattle.dbtg.specs.Refusals.{is_count};
 ghost use Rattle.dbtg.specs.Sources.{ThreadsHeld, ToldOfRun};
-ghost use Rattle.dbtg.specs.Threading.{IsPrintedOnThreads, audit_line};
+ghost use Rattle.dbtg.specs.Threading.{IsHistoryOfAll, IsPrintedOnThreads, audit_line};
 ghost use Rattle.dbtg.specs.declared.order.OrderKind.TheVariants.{Serial};
 
 use crate::fault::Fault;
-use crate::replay::check_count;
+use crate::replay::schema_for_run;
 use crate::source::Source;
-use crate::texts::{read_schema, read_scripts};
+use crate::texts::read_scripts;
 use dbtg_run::{Database, NoGate, Settled, run_units};
 use dbtg_schema::{Row, Schema};
 use dbtg_script::{push_run, turns_text};
@@ -64,7 +64,29 @@ fn said_of(alloc: Global, settled: &Settled) -> Result<OnThreads, AllocError>
     })
 }
 
-/// Runs each script by a unit of its own, on a thread of its own.
+// Runs each script by a unit of its own, on a thread of its own.
+fn run_of<R: Threads + Wait + Sync>(
+    rt: &R,
+    alloc: Global,
+    schema: Schema,
+    capacity: u16,
+    scripts: &[Row<Statement>],
+) -> Result<Settled, AllocError>
+    requires sound { IsSound schema }
+    requires count { is_count (length scripts.now) ≡ true }
+    requires fit { scripts_fit schema scripts.now ≡ true }
+    ensures history { IfOk result (λ settled. IsHistoryOfAll schema capacity scripts.now settled.history settled.image settled.units) }
+    ensures schema { IfOk result (λ settled. settled.schema ≡ schema) }
+{
+    let (db, units) = Database::make(alloc, schema, capacity, scripts.len() as u8)?;
+    match run_units(rt, alloc, db, units, scripts, &NoGate) {
+        Ok(settled) => Ok(settled),
+        // All units of the database came, so it was memory that was refused.
+        Err(_) => Err(AllocError),
+    }
+}
+
+/// Runs scripts on threads, and says what came of it.
 fn threads_text<R: Threads + Wait + Sync>(
     rt: &R,
     alloc: Global,
@@ -77,12 +99,8 @@ fn threads_text<R: Threads + Wait + Sync>(
     requires fit { scripts_fit schema scripts.now ≡ true }
     ensures { IfOk result (λ said. IsPrintedOnThreads schema capacity scripts.now said.printed.items said.turns.items) }
 {
-    let (db, units) = Database::make(alloc, schema, capacity, scripts.len() as u8)?;
-    match run_units(rt, alloc, db, units, scripts, &NoGate) {
-        Ok(settled) => said_of(alloc, &settled),
-        // All units of the database came, so it was memory that was refused.
-        Err(_) => Err(AllocError),
-    }
+    let settled = run_of(rt, alloc, schema, capacity, scripts)?;
+    said_of(alloc, &settled)
 }
 
 /// What `threads` prints of the schema and the scripts that a source gives, with the turns by which `replay` prints the same, or
@@ -96,8 +114,7 @@ pub fn run_on_threads<R: Threads + Wait + Sync, S: Source>(
     ensures done { IfOk result (λ said. ThreadsHeld (S.holds source.now) (S.count source.now) capacity said.printed.items said.turns.items) }
     ensures refused { IfErr result (λ fault. ToldOfRun (S.holds source.now) (S.fails source.now) fault (S.count source.now) Serial) }
 {
-    check_count(source.count())?;
-    let known = read_schema(alloc, source)?;
+    let known = schema_for_run(alloc, source)?;
     let scripts = read_scripts(alloc, source, &known)?;
     Ok(threads_text(rt, alloc, known, capacity, scripts.as_slice())?)
 }

@@ -12,9 +12,9 @@ ghost use Rattle.dbtg.specs.Sources.{ReadSchema, ToldOfRun};
 use crate::copies::copy_scripts;
 use crate::fault::Fault;
 use crate::order::OrderKind;
-use crate::replay::check_count;
+use crate::replay::schema_for_run;
 use crate::source::Source;
-use crate::texts::{Scripts, read_moves, read_schema, read_scripts_with_texts, read_turns};
+use crate::texts::{Scripts, read_moves, read_scripts_with_texts, read_turns};
 use dbtg_schema::{Row, Schema};
 use dbtg_script::statement_lines;
 use dbtg_step::{Turned, run_turns};
@@ -188,7 +188,6 @@ pub fn timeline<S: Source>(
     ensures done { IfOk result (λ out. TimelineHeld (S.holds source.now) (S.count source.now) (S.order source.now) capacity svg out.items) }
     ensures refused { IfErr result (λ fault. ToldOfRun (S.holds source.now) (S.fails source.now) fault (S.count source.now) (S.order source.now)) }
 {
-    check_count(source.count())?;
-    let known = read_schema(alloc, source)?;
+    let known = schema_for_run(alloc, source)?;
     timeline_known(alloc, source, &known, capacity, svg)
 }

@@ -9,9 +9,9 @@ ghost use Rattle.dbtg.specs.Sources.{MovesHeld, ReadSchema, ToldOfTurns};
 ghost use Rattle.dbtg.specs.declared.order.OrderKind.TheVariants.{Turns};
 
 use crate::fault::Fault;
-use crate::replay::check_count;
+use crate::replay::schema_for_run;
 use crate::source::Source;
-use crate::texts::{read_schema, read_scripts, read_turns};
+use crate::texts::{read_scripts, read_turns};
 use dbtg_schema::{Row, Schema};
 use dbtg_script::moves_words_text;
 use dbtg_step::{Turned, run_turns};
@@ -72,7 +72,6 @@ pub fn moves_for_turns<S: Source>(
     ensures done { IfOk result (λ out. MovesHeld (S.holds source.now) (S.count source.now) capacity out.items) }
     ensures refused { IfErr result (λ fault. ToldOfTurns (S.holds source.now) (S.fails source.now) fault (S.count source.now) capacity) }
 {
-    check_count(source.count())?;
-    let known = read_schema(alloc, source)?;
+    let known = schema_for_run(alloc, source)?;
     turns_known(alloc, source, &known, capacity)
 }

@@ -1,18 +1,23 @@
-use Rattle.std.proofs.Common.{inl, inr, sym, ap, ◌∙◌}
+use Rattle.std.proofs.Common.{inl, inr, sym, ◌∙◌}
 use Rattle.std.proofs.lemmas.Result.{err_from_is_err_and}
-use Rattle.dbtg.specs.Refusals.{is_count}
+use Rattle.dbtg.specs.declared.order.OrderKind.TheVariants.{Serial}
 use Rattle.dbtg.proofs.SavedTurns.{runs_on_threads}
 use Rattle.dbtg.proofs.threads.run_on_threads.Goals as goal
+
+pub returns-in_err-known-clause-refused : goal.returns-in_err-known-clause-refused
+returns-in_err-known-clause-refused g c =
+    let told = err_from_is_err_and c.from_residual.result c.from_residual.ensures.1 in
+    rw (told.1, told.2) (c.in_err-known.ensures.refused Serial)
 
 pub returns-in_err-scripts-clause-refused : goal.returns-in_err-scripts-clause-refused
 returns-in_err-scripts-clause-refused g c =
     let told = err_from_is_err_and c.from_residual-in_err-scripts.result c.from_residual-in_err-scripts.ensures.1 in
-    let right = ap is_count (sym c.count.ensures) ∙ c.in_ok-check_count.ensures.right in
+    let right = c.in_ok-known.ensures.counted in
     rw (told.1, told.2) (inr (right, inl (inr (c.in_ok-known.known, c.in_ok-known.ensures.read, c.in_err-scripts.ensures.refused))))
 
 pub returns-clause-done : goal.returns-clause-done
 returns-clause-done g c =
-    let right = ap is_count (sym c.count.ensures) ∙ c.in_ok-check_count.ensures.right in
+    let right = c.in_ok-known.ensures.counted in
     let read = c.in_ok-scripts.ensures.read in
     let same = c.as_slice.ensures ∙ read.1 in
     runs_on_threads _ c.in_ok-known.known _ c.args.capacity _ _ right c.in_ok-known.ensures.read read.0

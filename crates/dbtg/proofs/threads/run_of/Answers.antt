@@ -1,0 +1,30 @@
+use Rattle.std.proofs.Common.{◌≡◌, ◌∙◌, sym, ap, subst, All, arith, length}
+use Rattle.dbtg_run.specs.Running.{IsRun}
+use Rattle.dbtg_run.specs.UnitView.{BelongsTo}
+use Rattle.dbtg.specs.Threading.{IsHistoryOfAll}
+use Rattle.dbtg.proofs.OnThreads.{history_of_all, opened_belong, opened_count}
+use Rattle.dbtg.proofs.threads.run_of.Goals as goal
+
+pub run_units-requires-clause-belong : goal.run_units-requires-clause-belong
+run_units-requires-clause-belong g c κs within =
+    subst (All (BelongsTo c.in_ok-db.db)) (sym c.in_ok-db.ensures.units) (opened_belong c.in_ok-db.db (length c.args.scripts.now))
+
+pub run_units-requires-clause-scripts : goal.run_units-requires-clause-scripts
+run_units-requires-clause-scripts g c κs within =
+    let e = ap length c.in_ok-db.ensures.units ∙ opened_count c.in_ok-db.db (length c.args.scripts.now) in omega arith
+
+pub returns-in-Ok-clause-history : goal.returns-in-Ok-clause-history
+returns-in-Ok-clause-history g c =
+    let db = c.in_ok-db.db in
+    let settled = c.in-Ok.settled in
+    let run = subst (λ us. IsRun db c.args.scripts.now us settled) c.in_ok-db.ensures.units c.in-Ok.ensures.ok in
+    let made = history_of_all db c.args.scripts.now settled c.in_ok-db.ensures.database.2 run in
+    let of_schema = subst (λ s. IsHistoryOfAll s db.about.capacity c.args.scripts.now settled.history settled.image settled.units) c.in_ok-db.ensures.database.0 made in
+    subst (λ n. IsHistoryOfAll c.args.schema n c.args.scripts.now settled.history settled.image settled.units) c.in_ok-db.ensures.database.1 of_schema
+
+pub returns-in-Ok-clause-schema : goal.returns-in-Ok-clause-schema
+returns-in-Ok-clause-schema g c =
+    let db = c.in_ok-db.db in
+    let settled = c.in-Ok.settled in
+    let run = subst (λ us. IsRun db c.args.scripts.now us settled) c.in_ok-db.ensures.units c.in-Ok.ensures.ok in
+    run.ends.schema ∙ c.in_ok-db.ensures.database.0
