@@ -70,7 +70,9 @@ pub fn check<S: Source>(alloc: Global, source: &S) -> Result<Vec<u8>, Fault>
     ensures refused { IfErr result (λ fault. ToldOfTexts (S.holds source.now) (S.fails source.now) fault (S.count source.now)) }
 {
     let known = read_schema(alloc, source)?;
-    check_known(alloc, source, &known)
+    let said = check_known(alloc, source, &known);
+    drop(known);
+    said
 }
 
 /// What `check` prints of a schema and scripts at hand, or their first fault.

@@ -44,7 +44,11 @@ pub fn draw<S: Source>(alloc: Global, source: &S, form: Form) -> Result<Vec<u8>,
     ensures refused { IfErr result (λ fault. ToldOfSchema (S.holds source.now) (S.fails source.now) fault) }
 {
     match read_schema(alloc, source) {
-        Ok(known) => draw_known(alloc, form, &known),
+        Ok(known) => {
+            let drawn = draw_known(alloc, form, &known);
+            drop(known);
+            drawn
+        }
         Err(fault) => Err(fault),
     }
 }

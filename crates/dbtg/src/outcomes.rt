@@ -185,7 +185,9 @@ fn push_result(
         one.turns.as_slice(),
         MOST_MOVES,
     )?;
-    push_made(alloc, out, schema, number, one, &turned)
+    let pushed = push_made(alloc, out, schema, number, one, &turned);
+    drop(turned);
+    pushed
 }
 
 // The summary, and then result by result.
@@ -269,5 +271,7 @@ pub fn print_outcomes<S: Source>(
     ensures refused { IfErr result (λ fault. ToldOfOutcomes (S.holds source.now) (S.fails source.now) fault (S.count source.now) capacity answers limit) }
 {
     let known = schema_for_run(alloc, source)?;
-    outcomes_known(alloc, source, &known, capacity, answers, limit)
+    let said = outcomes_known(alloc, source, &known, capacity, answers, limit);
+    drop(known);
+    said
 }

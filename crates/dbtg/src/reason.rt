@@ -130,7 +130,11 @@ fn word_in(
     let alloc = rt.alloc();
     let files = Files { reader: rt, paths };
     match read_schema(alloc, &files) {
-        Ok(known) => said_of_word(alloc, &known, line, number, meaning),
+        Ok(known) => {
+            let said = said_of_word(alloc, &known, line, number, meaning);
+            drop(known);
+            said
+        }
         Err(_) => Ok(Vec::new(alloc)),
     }
 }

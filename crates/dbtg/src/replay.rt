@@ -214,7 +214,9 @@ pub fn replay<S: Source>(
     ensures refused { IfErr result (λ fault. ToldOfRun (S.holds source.now) (S.fails source.now) fault (S.count source.now) (S.order source.now)) }
 {
     let known = schema_for_run(alloc, source)?;
-    replay_known(alloc, source, &known, capacity, echo)
+    let said = replay_known(alloc, source, &known, capacity, echo);
+    drop(known);
+    said
 }
 
 /// What `replay` prints of a schema, scripts and moves or turns at hand, or their first fault.

@@ -100,7 +100,9 @@ fn threads_text<R: Threads + Wait + Sync>(
     ensures { IfOk result (λ said. IsPrintedOnThreads schema capacity scripts.now said.printed.items said.turns.items) }
 {
     let settled = run_of(rt, alloc, schema, capacity, scripts)?;
-    said_of(alloc, &settled)
+    let said = said_of(alloc, &settled);
+    drop(settled);
+    said
 }
 
 /// What `threads` prints of the schema and the scripts that a source gives, with the turns by which `replay` prints the same, or

@@ -189,5 +189,7 @@ pub fn timeline<S: Source>(
     ensures refused { IfErr result (λ fault. ToldOfRun (S.holds source.now) (S.fails source.now) fault (S.count source.now) (S.order source.now)) }
 {
     let known = schema_for_run(alloc, source)?;
-    timeline_known(alloc, source, &known, capacity, svg)
+    let said = timeline_known(alloc, source, &known, capacity, svg);
+    drop(known);
+    said
 }

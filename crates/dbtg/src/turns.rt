@@ -73,5 +73,7 @@ pub fn moves_for_turns<S: Source>(
     ensures refused { IfErr result (λ fault. ToldOfTurns (S.holds source.now) (S.fails source.now) fault (S.count source.now) capacity) }
 {
     let known = schema_for_run(alloc, source)?;
-    turns_known(alloc, source, &known, capacity)
+    let said = turns_known(alloc, source, &known, capacity);
+    drop(known);
+    said
 }
