@@ -9,7 +9,7 @@ use Rattle.dbtg.proofs.threads.threads_text.Goals as goal
 pub returns : goal.returns
 returns g c =
     let settled = c.in_ok-settled.settled in
-    both_ok c.said_of.result
+    both_ok c.said_of-said.result
     (λ said. said.printed.items ≡ run_text settled.schema settled.history settled.image.records settled.image.lists settled.image.next settled.image.usage settled.units ++ audit_line)
     (λ said. said.turns.items ≡ turns_text (map (λ (e : Entry). e.unit) settled.history))
     (λ said. IsPrintedOnThreads c.args.schema c.args.capacity c.args.scripts.now said.printed.items said.turns.items)
@@ -21,4 +21,4 @@ returns g c =
       is_text = text ∙ ap (λ s. run_text s settled.history settled.image.records settled.image.lists settled.image.next settled.image.usage settled.units ++ audit_line) c.in_ok-settled.ensures.schema;
       are_turns = turns;
     })
-    c.said_of.ensures.printed c.said_of.ensures.turns
+    c.said_of-said.ensures.printed c.said_of-said.ensures.turns
