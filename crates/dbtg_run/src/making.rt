@@ -163,7 +163,11 @@ impl Database {
                 },
                 made,
             )),
-            Err(error) => Err(error),
+            Err(error) => {
+                drop(schema);
+                drop(about);
+                Err(error)
+            }
         }
     }
 }
