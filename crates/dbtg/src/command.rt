@@ -732,9 +732,7 @@ fn shell_call<'a>(alloc: Global, given: &ArgMatches<'a>) -> Result<Call<'a>, Err
     }))
 }
 
-/// What the words ask for. `Err` has the text that answers other words, and help.
-pub fn call_of<'a>(alloc: Global, words: &'a [String]) -> Result<Call<'a>, Error> {
-    let matches = command(alloc)?.try_get_matches_from(words)?;
+fn call_in<'a>(alloc: Global, matches: &ArgMatches<'a>) -> Result<Call<'a>, Error> {
     match matches.subcommand() {
         Some(("check", given)) => check_call(alloc, given),
         Some(("replay", given)) => replay_call(alloc, given),
@@ -747,4 +745,12 @@ pub fn call_of<'a>(alloc: Global, words: &'a [String]) -> Result<Call<'a>, Error
         Some(("shell", given)) => shell_call(alloc, given),
         _ => Err(Error::from(AllocError)),
     }
+}
+
+/// What the words ask for. `Err` has the text that answers other words, and help.
+pub fn call_of<'a>(alloc: Global, words: &'a [String]) -> Result<Call<'a>, Error> {
+    let matches = command(alloc)?.try_get_matches_from(words)?;
+    let call = call_in(alloc, &matches);
+    drop(matches);
+    call
 }
