@@ -20,7 +20,8 @@ class BadEdit(Exception):
 
 class Edit:
     """An edit, with the text that each function's body gets; `elsewhere` where it changes more than bodies of functions. Where another
-    edit of the same check changes the same function, it has a `twin`: its body is that of a second function like it."""
+    edit of the same check changes the same function, or a function that calls it, it has a `twin`: its body is that of a second function
+    like it."""
 
     def __init__(self, path, crate_folder, sources):
         self.path, self.name = path, os.path.basename(path).removesuffix(".edit")
@@ -34,6 +35,8 @@ class Edit:
                 self.bodies.update({(file, function): body for function, body in found.items()})
         if self.elsewhere != bool(self.refused):
             raise BadEdit("it names the function that has to be refused if, and only if, it changes more than bodies of functions")
+        places = [it for file, function in self.bodies for it in places_of(function, module_of(file), sources.declared())]
+        self.is_by_hand = any(os.path.isdir(f"{crate_folder}/proofs/{it}") for it in places)
 
     def is_harmless(self):
         """Whether the edit changes no meaning: it stands among the others to show that such a one is told from them."""
@@ -52,6 +55,11 @@ class Edit:
         return len(self.bodies) == 1 and all(
             not function.trait and function.name != "main" and not re.search(rf"\b{function.name}\b", body) for (_, function), body in self.bodies.items()
         )
+
+    def is_called_by(self, other):
+        """Whether a body of another edit calls the function outside impl blocks that this one changes."""
+        called = [rf"(?<![.:\w]){function.name}\(" for _, function in self.bodies if not function.owner]
+        return any(re.search(it, body) for it in called for body in other.bodies.values())
 
     def make_twin(self, number):
         ((_, function),) = self.bodies
@@ -221,7 +229,17 @@ def in_batches(edits):
         if number:
             it.make_twin(number)
         room.append(it)
+    for batch in batches:
+        uncover(batch)
     return sorted(batches, key=len, reverse=True)
+
+
+def uncover(batch):
+    """Gives a twin to each edit that would hide others, where no part of the proof is by hand: where a wrong body is called, its callers
+    are not judged."""
+    for it in batch:
+        if not it.twin and it.can_have_twin() and not it.is_by_hand and any(it.is_called_by(other) for other in batch if other is not it):
+            it.make_twin(sum(bool(set(it.bodies) & set(other.bodies)) for other in batch))
 
 
 def has_room(batch, edit):

@@ -29,7 +29,7 @@ class StandIns:
 
     def __init__(self, folder, sources, edits, are_wanted):
         self.folder, self.sources = folder, sources
-        self.changed = {it for edit in edits for it in edit.bodies}
+        self.changed = changed_by(edits)
         self.are_none = not are_wanted or any(not file.startswith("src/") for edit in edits for file in edit.texts)
 
     def functions(self, file, batch):
@@ -37,7 +37,8 @@ class StandIns:
         changes elsewhere than in bodies."""
         if self.are_none or any(it.elsewhere and file in it.texts for it in batch):
             return []
-        return [it for it in self.sources.functions(file) if (file, it) not in self.changed]
+        changed = self.changed | changed_by(batch)
+        return [it for it in self.sources.functions(file) if (file, it) not in changed]
 
     def files(self):
         """The source files in which others stand in, as paths in the crate."""
@@ -68,6 +69,11 @@ class StandIns:
                 for name in names:
                     if name in BY_HAND:
                         os.remove(f"{at}/{name}")
+
+
+def changed_by(edits):
+    """The functions whose bodies edits change, not those of which they change a twin, each with its file."""
+    return {it for edit in edits if not edit.twin for it in edit.bodies}
 
 
 def cycles_of(function, folder):

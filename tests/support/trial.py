@@ -3,6 +3,7 @@ against the contracts of the others. An edit passes only where a goal of the fun
 was proved before, a check proves anew what is changed; over nothing, it is asked for the functions that are changed, and others stand
 in for those that no edit changes."""
 
+import contextlib
 import os
 import shutil
 import signal
@@ -21,24 +22,42 @@ from verdicts import Said, Verdict, names_of
 
 class Lanes:
     """As many processes of checks at a time as there are lanes, each as nice as is said; counts the processor seconds that they
-    took. A check waits for memory while others run, and is what the system kills first where memory ends: then it runs again."""
+    took. A lane that is free goes to the crate with the most libraries below it, since its trial begins last and is among the longest.
+    A check waits for memory while others run, and is what the system kills first where memory ends: then it runs again."""
 
     ROOM = 5_000_000_000
     RUNS = 3
 
     def __init__(self, count, nice=0):
-        self.nice, self.lane, self.lock = nice, threading.Semaphore(count), threading.Lock()
-        self.seconds, self.running = {}, 0
+        self.nice, self.free, self.waiting, self.turn = nice, count, [], threading.Condition()
+        self.seconds, self.running, self.lock = {}, 0, threading.Lock()
 
     def run(self, crate, words, folder):
         """Runs a check once a lane is free, and gives what it printed. It is one process: several of one check load and prove much twice."""
-        with self.lane:
+        with self.lane(crate):
             for _ in range(self.RUNS):
                 self.wait_for_memory()
                 status, text = self.ran(crate, words, folder)
                 if status != -signal.SIGKILL:
                     break
             return text
+
+    @contextlib.contextmanager
+    def lane(self, crate):
+        """Has a lane, once one is free and no crate with more libraries below it waits for one."""
+        below = len(kit.below(kit.crates_of(), crate))
+        with self.turn:
+            self.waiting.append(below)
+            self.turn.wait_for(lambda: self.free and below == max(self.waiting))
+            self.waiting.remove(below)
+            self.free -= 1
+            self.turn.notify_all()
+        try:
+            yield
+        finally:
+            with self.turn:
+                self.free += 1
+                self.turn.notify_all()
 
     def wait_for_memory(self):
         while self.running and kit.free_memory() < self.ROOM:
@@ -166,9 +185,9 @@ class Trial:
                 with open(f"{copy}/{file}", "w", encoding="utf-8") as out:
                     out.write(text)
             self.make_library(copy)
-            self.stand_ins.enter(copy, batch)
             for it in batch:
                 it.enter_twin(copy, self.crate, self.sources)
+            self.stand_ins.enter(copy, batch)
             if not kept:
                 kept = f"{copy}/kept"
                 shutil.copytree(self.kept, kept, copy_function=linked)

@@ -2,10 +2,10 @@
 use Rattle.std.proofs.Common.{false, ◌≡◌, ℕ, ◌+◌, ◌-◌, List, [], ◌∷◌, ◌++◌, length, Some, None, inl, inr, ⊎_elim, refl, sym, ap, ◌∙◌, subst, arith}
 use Rattle.std.specs.Prelude.{slice_get}
 use Rattle.std.proofs.Math.Seq.{get_or-append_seam}
-use Rattle.std.proofs.lemmas.List.{append-nil, append_assoc, length-append}
+use Rattle.std.proofs.lemmas.List.{append-nil, append_assoc, length-append, nil_from_length}
 use Rattle.std.proofs.lemmas.Option.{get_or_from_slice_get, slice_get_within}
 use Rattle.dbtg_schema.specs.Lists.{Lists}
-use Rattle.dbtg_schema.specs.SchemaFaults.{refusal as schema_refusal}
+use Rattle.dbtg_schema.specs.Texts.SchemaFaults.{refusal as schema_refusal}
 use Rattle.dbtg_script.specs.StatementFaults.{refusal as script_refusal}
 use Rattle.dbtg.specs.declared.fault.Fault.{Fault}
 use Rattle.dbtg.specs.declared.fault.Fault.TheVariants.{Memory}
@@ -39,14 +39,10 @@ first_are schema order front (first ∷ rest) (text ∷ texts) held =
     let next = first_are schema order (front ++ first ∷ []) rest texts (subst (λ (k : ℕ). HoldsScripts (StandsIn schema ((front ++ first ∷ []) ++ rest) order) k texts) number moved) in
     (next.0, ap (λ (xs : List (List ℕ)). first ∷ xs) next.1 ∙ ap (λ (x : List ℕ). x ∷ (texts ++ next.0)) same)
 
-nothing : (xs : List (List ℕ)) → length xs ≡ 0 → xs ≡ []
-nothing [] none = refl
-nothing (x ∷ xs) none = absurd (omega arith)
-
 all_are : (schema : List ℕ) (order : Order (List ℕ)) (scripts texts : List (List ℕ)) → HoldsScripts (StandsIn schema scripts order) 1 texts → length texts ≡ length scripts → texts ≡ scripts
 all_are schema order scripts texts held many =
     let first = first_are schema order [] scripts texts held in
-    let none = nothing first.0 (omega (arith, many, ap length first.1, length-append texts first.0)) in
+    let none = nil_from_length first.0 (omega (arith, many, ap length first.1, length-append texts first.0)) in
     sym (first.1 ∙ ap (λ (xs : List (List ℕ)). texts ++ xs) none ∙ append-nil texts)
 
 order_is : (schema : List ℕ) (scripts : List (List ℕ)) (given order : Order (List ℕ)) → HoldsOrder (StandsIn schema scripts given) order → kind_of order ≡ kind_of given → order ≡ given

@@ -7,7 +7,7 @@ use Rattle.dbtg.specs.declared.fault.Fault.TheVariants.{Memory}
 use Rattle.dbtg.specs.Checking.{script_lines}
 use Rattle.dbtg.specs.Refusals.{AllAccepted, RefusesScripts}
 use Rattle.dbtg_script.specs.Statements.{script}
-use Rattle.dbtg_script.specs.Texts.{script_line}
+use Rattle.dbtg_script.specs.Printing.Texts.{script_line}
 
 pub accepted_behind : (lists : Lists) (front rest : List (List ℕ)) → AllAccepted lists front → AllAccepted lists rest → AllAccepted lists (front ++ rest)
 accepted_behind lists [] rest a b = b

@@ -12,16 +12,16 @@ use Rattle.dbtg_unit.specs.declared.unit.Cause.{Cause}
 use Rattle.dbtg_unit.specs.declared.unit.Cause.TheVariants.{AreaNotOpen, ChangedByAnother, DuplicatesNotAllowed, NoSuchCurrent, End, UpdateModeNeeded, NoRoom, NoCurrentOfRunUnit, MandatoryAutomatic, Mandatory, AlreadyMember, Deleted, OtherRecordType, NotMember, PositionLost, NoneSatisfies, AreaAlreadyOpen, UsageConflict, OwnerHasMembers, NotKept}
 use Rattle.dbtg_unit.specs.declared.unit.Status.{Status}
 use Rattle.dbtg_unit.specs.declared.unit.Status.TheVariants.{Done, Refused}
-use Rattle.dbtg_unit.specs.Codes.{cause_code, statement_code, status_code}
+use Rattle.dbtg_unit.specs.Database.Statements.Codes.{cause_code, statement_code, status_code}
 use Rattle.dbtg_outcomes.specs.declared.answered.Answered.{Answered}
 use Rattle.dbtg_outcomes.specs.declared.outcomes.OneResult.{OneResult}
 use Rattle.dbtg_outcomes.specs.declared.outcomes.Outcomes.{Outcomes}
 use Rattle.dbtg_outcomes.specs.Outcomes.{AreOutcomes, AreStatuses, Comes, HasStatus}
 use Rattle.dbtg_outcomes.specs.Results.{Meeting}
 use Rattle.dbtg_script.specs.Statements.{script}
-use Rattle.dbtg_script.specs.WordTexts.{moves_words_text, turns_text}
+use Rattle.dbtg_script.specs.Printing.WordTexts.{moves_words_text, turns_text}
 use Rattle.dbtg_step.specs.declared.results.Run.{Run}
-use Rattle.dbtg_step.specs.Turns.{IsRunByTurns}
+use Rattle.dbtg_step.specs.Core.Turns.{IsRunByTurns}
 use Rattle.dbtg_unit.specs.declared.moves.Move.{Move}
 use Rattle.dbtg.specs.declared.fault.Fault.{Fault}
 use Rattle.dbtg.specs.declared.fault.Fault.TheVariants.{Memory, MovesOver}

@@ -7,16 +7,16 @@ use Rattle.dbtg_schema.specs.Lists.{Lists}
 use Rattle.dbtg_unit.specs.declared.moves.Move.{Move}
 use Rattle.dbtg_unit.specs.declared.statement.Statement.{Statement}
 use Rattle.dbtg_step.specs.declared.results.Run.{Run}
-use Rattle.dbtg_step.specs.SequentialDatabase.{SequentialDatabase, unit_at}
-use Rattle.dbtg_step.specs.Machine.{SequentialState, State}
-use Rattle.dbtg_step.specs.Headline.{machine_after, machine_of, opening_of}
-use Rattle.dbtg_step.specs.Network.{network}
-use Rattle.dbtg_step.specs.Turns.{AreEvents, AreTurns, IsRunByTurns, IsTurn, IsTurnOf, left_of}
+use Rattle.dbtg_step.specs.Machine.SequentialDatabase.{SequentialDatabase, unit_at}
+use Rattle.dbtg_step.specs.Machine.Machine.{SequentialState, State}
+use Rattle.dbtg_step.specs.Machine.Headline.{machine_after, machine_of, opening_of}
+use Rattle.dbtg_step.specs.Machine.Network.{network}
+use Rattle.dbtg_step.specs.Core.Turns.{AreEvents, AreTurns, IsRunByTurns, IsTurn, IsTurnOf, left_of}
 use Rattle.dbtg_script.specs.Laws.{has_unit_number, is_unit_number}
 use Rattle.dbtg_script.specs.Moves.{refusal as moves_refusal}
 use Rattle.dbtg_script.specs.Statements.{script}
-use Rattle.dbtg_script.specs.WordTexts.{moves_words_text}
-use Rattle.dbtg_script.proofs.ReadBack.{moves_back}
+use Rattle.dbtg_script.specs.Printing.WordTexts.{moves_words_text}
+use Rattle.dbtg_script.proofs.Public.{moves_read_back}
 use Rattle.dbtg.specs.declared.fault.Fault.{Fault}
 use Rattle.dbtg.specs.declared.order.Order.TheVariants.{Turns}
 use Rattle.dbtg.specs.declared.place.Place.{Place}
@@ -56,7 +56,7 @@ pub moves_said : (lists : Lists) (capacity : ℕ) (scripts : List (List Statemen
     → IsRunByTurns lists capacity scripts turns moves given → list_all (λ u. nat_le u 99) turns ≡ true → length moves ≤ 1000000 → out ≡ moves_words_text moves → AreMovesOf lists capacity scripts turns out
 moves_said lists capacity scripts turns moves given out run small few is =
     let named = turns_named (network lists capacity) (opening_of lists capacity (length scripts)) turns small (machine_of lists capacity scripts) (machine_after lists capacity scripts moves) moves run.moves_are in
-    let back = moves_back moves named few in
+    let back = moves_read_back moves named few in
     let says : moves_in out ≡ moves = ap moves_in is ∙ back.1 in
     record {
       accepted = ap moves_refusal is ∙ back.0;

@@ -2,13 +2,13 @@
 use Rattle.std.proofs.Common.{◌≡◌, ℕ, zero, suc, ◌+◌, ◌<◌, ◌≤◌, List, [], ◌∷◌, ◌++◌, length, map, refl, sym, ap, ◌∙◌, subst, inl, inr, ⊎_elim, arith, get_or, Some, All, Result, Ok, Err, IfOk}
 use Rattle.std.specs.Prelude.{slice_get}
 use Rattle.std.specs.List.{range_with_len}
-use Rattle.std.proofs.lemmas.List.{get_or-map, length-append, length-map}
+use Rattle.std.proofs.lemmas.List.{get_or-map, length-append, length-map, nil_from_length}
 use Rattle.std.proofs.lemmas.List.FromFn.{get_or-range_with_len, length-range_with_len}
 use Rattle.std.proofs.lemmas.Option.{get_or_from_slice_get, slice_get_within}
 use Rattle.dbtg_unit.specs.declared.statement.Statement.{Statement}
 use Rattle.dbtg_unit.specs.declared.unit.Entry.{Entry}
-use Rattle.dbtg_unit.specs.Replay.{entries_of}
-use Rattle.dbtg_step.specs.Audit.{LeadsTo}
+use Rattle.dbtg_unit.specs.Database.Laws.Replay.{entries_of}
+use Rattle.dbtg_step.specs.Core.Audit.{LeadsTo}
 use Rattle.dbtg_run.specs.Running.{IsRun, IsWhole, Ran}
 use Rattle.dbtg_run.specs.UnitView.{BelongsTo, UnitView, opening_view, opening_views}
 use Rattle.dbtg_run.specs.Views.{Has}
@@ -41,10 +41,6 @@ pub opened_belong : (db : Database) (count : ℕ) → All (BelongsTo db) (openin
 opened_belong db count k d below =
     subst (BelongsTo db) (sym (opened_at db count k d (let l = opened_count db count in omega arith))) (record { about = refl; table = refl })
 
-nothing : (left : List Statement) → length left ≡ 0 → left ≡ []
-nothing [] none = refl
-nothing (x ∷ xs) none = absurd (omega arith)
-
 one_more : (k : ℕ) → 1 + k ≡ k + 1
 one_more k = omega arith
 
@@ -71,7 +67,7 @@ are_of script number db after history ran whole own = record {
         omega arith
 
     none_left : length script ≡ length ran.made → ran.left ≡ []
-    none_left same = nothing ran.left (let l = ap length ran.script_is ∙ length-append (map (λ (e : Entry). e.statement) ran.made) ran.left in let m = length-map ran.made (λ (e : Entry). e.statement) in omega arith)
+    none_left same = nil_from_length ran.left (let l = ap length ran.script_is ∙ length-append (map (λ (e : Entry). e.statement) ran.made) ran.left in let m = length-map ran.made (λ (e : Entry). e.statement) in omega arith)
 
 -- a run of units that were opened with their database: its history is that of all scripts
 pub history_of_all : (db : Database) (scripts : List (List Statement)) (settled : Settled) → db.about.units ≡ length scripts

@@ -6,7 +6,7 @@ use Rattle.dbtg_unit.specs.declared.statement.Statement.{Statement}
 use Rattle.dbtg_script.specs.Lines.{statement_lines}
 use Rattle.dbtg_script.specs.Statements.{script}
 use Rattle.dbtg_step.specs.declared.results.Run.{Run}
-use Rattle.dbtg_step.specs.Turns.{IsRunByTurns}
+use Rattle.dbtg_step.specs.Core.Turns.{IsRunByTurns}
 use Rattle.dbtg_timeline.specs.Watching.{events_of_run}
 use Rattle.dbtg.specs.declared.place.Place.{Place}
 use Rattle.dbtg.specs.declared.order.Order.{Order}

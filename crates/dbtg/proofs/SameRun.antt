@@ -1,34 +1,28 @@
 -- Runs of the same scripts whose entries are of the same units in turn print the same.
 use Rattle.std.proofs.Common.{◌≡◌, ℕ, List, ◌++◌, length, map, sym, ap, ◌∙◌}
-use Rattle.std.specs.List.{range_with_len}
-use Rattle.std.proofs.lemmas.List.{length-map}
-use Rattle.std.proofs.lemmas.List.FromFn.{length-range_with_len}
 use Rattle.dbtg_schema.specs.Lists.{Lists}
 use Rattle.dbtg_unit.specs.declared.moves.Stepped.{Stepped}
 use Rattle.dbtg_unit.specs.declared.statement.Statement.{Statement}
 use Rattle.dbtg_unit.specs.declared.unit.Entry.{Entry}
 use Rattle.dbtg_unit.specs.declared.unit.Unit.{Unit}
-use Rattle.dbtg_unit.specs.Image.{Image, image_of}
-use Rattle.dbtg_unit.specs.Replay.{opening_state, replay}
-use Rattle.dbtg_unit.specs.Units.{opening_unit}
-use Rattle.dbtg_step.specs.Headline.{IsSequential}
+use Rattle.dbtg_unit.specs.Database.State.Image.{Image, image_of}
+use Rattle.dbtg_unit.specs.Database.Laws.Replay.{opening_state, replay}
+use Rattle.dbtg_unit.proofs.Public.{opening_length}
+use Rattle.dbtg_step.specs.Machine.Headline.{IsSequential}
 use Rattle.dbtg_script.specs.Statements.{script}
-use Rattle.dbtg_script.specs.Texts.{moves_text, run_text}
+use Rattle.dbtg_script.specs.Printing.Texts.{moves_text, run_text}
 use Rattle.dbtg.specs.declared.order.Order.TheVariants.{Moves, Turns}
 use Rattle.dbtg.specs.ByTurns.{StandFor}
 use Rattle.dbtg.specs.Refusals.{schema_in}
 use Rattle.dbtg.specs.Replaying.{IsReplay, moves_in, turns_in}
 use Rattle.dbtg.proofs.UnitEntries.{same_history}
 
-pub units_count : (lists : Lists) (n : ℕ) → length (opening_state lists n).units ≡ n
-units_count lists n = length-map (range_with_len 1 n) (opening_unit lists) ∙ length-range_with_len 1 n
-
 pub same_text : (lists : Lists) (capacity : ℕ) (scripts : List (List Statement)) (es fs : List Entry) (image other : Image) (units others : List Unit)
     → IsSequential lists capacity scripts es image units → IsSequential lists capacity scripts fs other others → map (λ (e : Entry). e.unit) es ≡ map (λ (e : Entry). e.unit) fs
     → run_text lists es image.records image.lists image.next image.usage units ≡ run_text lists fs other.records other.lists other.next other.usage others
 same_text lists capacity scripts es fs image other units others a b turns =
     let before = opening_state lists (length scripts) in
-    let history = same_history lists capacity before scripts es fs (units_count lists (length scripts)) a.tickets b.tickets a.answers b.answers a.scripts_begin b.scripts_begin turns in
+    let history = same_history lists capacity before scripts es fs (opening_length lists (length scripts)) a.tickets b.tickets a.answers b.answers a.scripts_begin b.scripts_begin turns in
     let shown : image ≡ other = a.image_is ∙ ap (λ h. image_of lists capacity (replay lists capacity before h).database) history ∙ sym b.image_is in
     let left : units ≡ others = a.units_are ∙ ap (λ h. (replay lists capacity before h).units) history ∙ sym b.units_are in
     λ i. run_text lists (history i) (shown i).records (shown i).lists (shown i).next (shown i).usage (left i)

@@ -8,24 +8,25 @@ use Rattle.dbtg_schema.specs.Lists.{Lists}
 use Rattle.dbtg_unit.specs.declared.statement.Statement.{Statement}
 use Rattle.dbtg_unit.specs.declared.unit.Entry.{Entry}
 use Rattle.dbtg_unit.specs.declared.unit.Unit.{Unit}
-use Rattle.dbtg_unit.specs.Image.{Image}
-use Rattle.dbtg_unit.specs.Replay.{entries_of, opening_state}
-use Rattle.dbtg_step.specs.SequentialDatabase.{unit_at}
-use Rattle.dbtg_step.specs.Headline.{IsSequential}
-use Rattle.dbtg_step.specs.Turns.{made_turns}
-use Rattle.dbtg_step.proofs.UnitLists.{map_at}
+use Rattle.dbtg_unit.specs.Database.State.Image.{Image}
+use Rattle.dbtg_unit.specs.Database.Laws.Replay.{entries_of, opening_state}
+use Rattle.dbtg_unit.proofs.Public.{opening_length}
+use Rattle.dbtg_step.specs.Machine.SequentialDatabase.{unit_at}
+use Rattle.dbtg_step.specs.Machine.Headline.{IsSequential}
+use Rattle.dbtg_step.specs.Core.Turns.{made_turns}
+use Rattle.dbtg_step.proofs.Public.{map_at}
 use Rattle.dbtg_script.specs.Laws.{is_unit_number}
 use Rattle.dbtg_script.specs.Statements.{script}
 use Rattle.dbtg_script.specs.Turns.{turns_refusal}
-use Rattle.dbtg_script.specs.WordTexts.{turns_text}
-use Rattle.dbtg_script.proofs.ReadBack.{turns_back}
+use Rattle.dbtg_script.specs.Printing.WordTexts.{turns_text}
+use Rattle.dbtg_script.proofs.Public.{turns_read_back}
 use Rattle.dbtg.specs.declared.order.Order.TheVariants.{Serial, Turns}
 use Rattle.dbtg.specs.declared.place.Place.{Place}
 use Rattle.dbtg.specs.Refusals.{AcceptsTexts, AllAccepted, is_count, schema_in}
 use Rattle.dbtg.specs.Replaying.{IsReplay, turns_in}
 use Rattle.dbtg.specs.Sources.{ReadSchema, ReadScripts, ThreadsHeld}
 use Rattle.dbtg.specs.Threading.{IsHistoryOfAll, IsPrintedOnThreads, audit_line}
-use Rattle.dbtg.proofs.SameRun.{same_text, units_count}
+use Rattle.dbtg.proofs.SameRun.{same_text}
 use Rattle.dbtg.proofs.ScriptLength.{few_statements}
 use Rattle.dbtg.proofs.TextsRead.{all_accepted, read_texts}
 use Rattle.dbtg.proofs.UnitEntries.{AllWithin, Begins, Few, all_made, all_within, total, total_few}
@@ -108,7 +109,7 @@ saved_again text scripts capacity out turns right accepted printed_is = (ap turn
     most = leb-true (length scripts) 8 (and_parts (nat_le 1 (length scripts)) (nat_le (length scripts) 8) right).1
 
     within : AllWithin (length all) history
-    within = all_within lists capacity (length all) (opening_state lists (length all)) history (units_count lists (length all)) law.answers
+    within = all_within lists capacity (length all) (opening_state lists (length all)) history (opening_length lists (length all)) law.answers
 
     made : (made_turns (map length all) units ≡ units) × (length history ≤ total (map length all))
     made = all_made (map length all) history (subst (λ n. AllWithin n history) (sym lefts) within) (few all history law.scripts_begin)
@@ -121,7 +122,7 @@ saved_again text scripts capacity out turns right accepted printed_is = (ap turn
         omega (arith, t, h, u, lefts, many, most)
 
     back : (turns_refusal (turns_text units) ≡ None) × (turns_in (turns_text units) ≡ units)
-    back = turns_back units (numbers (length all) history (omega (arith, many, most)) within) short
+    back = turns_read_back units (numbers (length all) history (omega (arith, many, most)) within) short
 
     says : turns_in turns ≡ units
     says = ap turns_in printed_is.are_turns ∙ back.1

@@ -10,9 +10,11 @@ use Rattle.dbtg_script.specs.declared.fault.Cause.TheVariants as cause
 use Rattle.dbtg_script.specs.Lines.{is_allowed, is_statement, lines, trimmed}
 use Rattle.dbtg_script.specs.StatementGrammar.{fits, statement}
 use Rattle.dbtg_script.specs.Tokens.{tokens}
-use Rattle.dbtg_schema.specs.Forms.{labels}
+use Rattle.dbtg_schema.specs.Texts.Forms.{labels}
+use Rattle.dbtg_schema.proofs.Public.{none_at_all}
 use Rattle.dbtg_script.specs.Statements.{line_statement, prepend, script, statement_of, statements_of}
 use Rattle.dbtg_script.specs.StatementFaults.{count_after, faults, line_faults, lines_faults, refusal, statement_faults, too_long, when}
+use Rattle.dbtg_script.proofs.Public.{not_when}
 
 none_in_front : {X : Type 0} (xs ys : List X) → xs ++ ys ≡ [] → xs ≡ []
 none_in_front [] ys e = refl
@@ -25,14 +27,6 @@ none_behind (x ∷ xs) ys e = absurd (cc (e))
 none_mapped : {X Y : Type 0} (f : X → Y) (xs : List X) → map f xs ≡ [] → xs ≡ []
 none_mapped f [] e = refl
 none_mapped f (x ∷ xs) e = absurd (cc (e))
-
-none_first : {X : Type 0} (xs : List X) → first xs ≡ None → xs ≡ []
-none_first [] e = refl
-none_first (x ∷ xs) e = absurd (cc (e))
-
-not_when : (b : Bool) (c : Cause) → when b c ≡ [] → b ≡ false
-not_when true c e = absurd (cc (e))
-not_when false c e = refl
 
 -- a line that has no fault leaves room for what it holds
 room : (b : Bool) (count : ℕ) (s : Statement) (ss : List Statement) → count ≤ 65535 → when (b && nat_le 65535 count) cause.TooMuch ≡ []
@@ -56,7 +50,7 @@ few_in_lines schema count number (l ∷ ls) few none =
 
 pub few_statements : (schema : Lists) (text : List ℕ) → refusal schema text ≡ None → length (script schema text) ≤ 65535
 few_statements schema text accepted =
-    let none = none_behind (too_long text) _ (none_first (faults schema text) accepted) in
+    let none = none_behind (too_long text) _ (none_at_all (faults schema text) accepted) in
     let few = few_in_lines schema 0 1 (lines text) (omega arith) none in
     omega (arith, few)
 
@@ -67,6 +61,6 @@ room_if false count x s said none = absurd (cc (said))
 
 pub room_for : (schema : Lists) (count : ℕ) (line : List ℕ) (s : Statement) → line_statement schema line ≡ Some s → first (line_faults schema count line) ≡ None → count < 65535
 room_for schema count line s said fine =
-    let none = none_first (line_faults schema count line) fine in
+    let none = none_at_all (line_faults schema count line) fine in
     let ample : when (is_statement line && nat_le 65535 count) cause.TooMuch ≡ [] = none_in_front _ (when (not (is_allowed line)) cause.LineNotAllowed) (none_in_front _ (cond (is_statement line) (statement_faults schema line) []) none) in
     room_if (is_statement line) count (statement_of schema (labels fits statement (tokens false line))) s said ample

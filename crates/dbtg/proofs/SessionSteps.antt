@@ -1,25 +1,24 @@
 -- A session by one line more.
-use Rattle.std.proofs.Common.{◌≡◌, ◌≢◌, ℕ, zero, suc, ◌+◌, ◌-◌, ◌<◌, ◌≤◌, ◌⊎◌, Bool, true, false, eqb, cond, List, [], ◌∷◌, ◌++◌, length, map, take, None, Some, slice_get, slice_set, inl, inr, refl, sym, ap, ◌∙◌, subst, arith, length-append, Option}
+use Rattle.std.proofs.Common.{◌≡◌, ℕ, zero, suc, ◌+◌, ◌-◌, ◌<◌, ◌≤◌, Bool, true, false, List, [], ◌∷◌, ◌++◌, length, map, take, None, Some, slice_get, slice_set, inl, inr, refl, sym, ap, ◌∙◌, subst, arith, length-append, Option}
 use Rattle.std.specs.Prelude.{Err, IfOk, Ok, OnErr, Result, nat_le, option_map, replicate, unwrap_or}
-use Rattle.std.proofs.lemmas.Bool.{and_parts, eq-eqb, leb-true, ne_eqb}
-use Rattle.std.proofs.lemmas.List.{append-nil, length-map, map_push}
-use Rattle.std.proofs.lemmas.List.Elements.{filter-append}
+use Rattle.std.proofs.lemmas.Bool.{and_parts, leb-true}
+use Rattle.std.proofs.lemmas.List.{length-map, map_push, length-set}
 use Rattle.std.proofs.lemmas.Option.{slice_get-map}
 use Rattle.dbtg_schema.specs.Lists.{Lists}
 use Rattle.dbtg_schema.specs.Lookups.{first}
 use Rattle.dbtg_schema.specs.Sound.{IsSound}
-use Rattle.dbtg_unit.specs.Replay.{entries_of}
+use Rattle.dbtg_unit.specs.Database.Laws.Replay.{entries_of}
 use Rattle.dbtg_unit.specs.declared.unit.Entry.{Entry}
-use Rattle.dbtg_step.specs.Whole.{Making}
+use Rattle.dbtg_unit.proofs.Public.{entries_mine, entries_other}
+use Rattle.dbtg_step.specs.Core.Whole.{Making}
+use Rattle.dbtg_step.proofs.Public.{found_of}
 use Rattle.dbtg_script.specs.Lines.{closes, trimmed}
 use Rattle.dbtg_script.specs.StatementFaults.{line_faults, refusal as script_refusal}
 use Rattle.dbtg_script.specs.Statements.{line_statement, prepend, script}
-use Rattle.dbtg_script.proofs.LineBehind.{is_read_behind, nothing_read}
-use Rattle.dbtg.proofs.UnitEntries.{set_length}
+use Rattle.dbtg_script.proofs.Public.{is_read_behind, nothing_read}
 use Rattle.dbtg.specs.Refusals.{is_count}
-use Rattle.dbtg.specs.Sessions.{HasMadeLine, HasNoRoom, IsAsBefore, IsScriptOf, IsSession, MakesLine, RefusesBehind, RefusesLine, Takes, Typed, text_of}
+use Rattle.dbtg.specs.Sessions.{HasMadeLine, IsAsBefore, IsScriptOf, IsSession, MakesLine, RefusesBehind, RefusesLine, Takes, Typed, text_of}
 use Rattle.dbtg.specs.declared.shell.session.Refusal.{Refusal}
-use Rattle.dbtg.specs.declared.shell.session.Refusal.TheVariants.{Fault, Memory}
 use Rattle.dbtg.specs.declared.shell.session.Script.{Script}
 
 -- at most 8 units
@@ -31,29 +30,11 @@ pub front_again : (text line : List ℕ) → take (length text) (text ++ line ++
 front_again [] line = refl
 front_again (b ∷ bs) line = ap (λ (text : List ℕ). b ∷ text) (front_again bs line)
 
--- ENTRIES
-
-entries_more : (u : ℕ) (before : List Entry) (e : Entry) → entries_of u (before ++ e ∷ []) ≡ entries_of u before ++ cond (eqb e.unit u) (e ∷ []) []
-entries_more u before e = filter-append (λ (x : Entry). eqb x.unit u) before (e ∷ [])
-
-mine : (u : ℕ) (before : List Entry) (e : Entry) → e.unit ≡ u → entries_of u (before ++ e ∷ []) ≡ entries_of u before ++ e ∷ []
-mine u before e q = entries_more u before e ∙ ap (λ (b : Bool). entries_of u before ++ cond b (e ∷ []) []) (eq-eqb e.unit u q)
-
-others : (u : ℕ) (before : List Entry) (e : Entry) → e.unit ≢ u → entries_of u (before ++ e ∷ []) ≡ entries_of u before
-others u before e n = entries_more u before e ∙ ap (λ (b : Bool). entries_of u before ++ cond b (e ∷ []) []) (ne_eqb e.unit u n) ∙ append-nil (entries_of u before)
-
 -- SCRIPTS
 
 -- the text of each
 abbrev pub texts_in : List Script → List (List ℕ)
 texts_in scripts = map (λ (x : Script). x.text.items) scripts
-
-set_at : (xs : List Script) (i j : ℕ) (y z : Script) → slice_get (slice_set xs i y) j ≡ Some z → ((j ≡ i) × (y ≡ z)) ⊎ ((j ≢ i) × (slice_get xs j ≡ Some z))
-set_at [] i j y z e = absurd (cc (e))
-set_at (x ∷ xs) zero zero y z e = inl (refl, cc (e))
-set_at (x ∷ xs) zero (suc j) y z e = inr (omega arith, e)
-set_at (x ∷ xs) (suc i) zero y z e = inr (omega arith, e)
-set_at (x ∷ xs) (suc i) (suc j) y z e = elim (set_at xs i j y z e) [ inl p ↦ inl (ap suc p.0, p.1) | inr p ↦ inr (λ q. p.0 (cc (q)), p.1) ]
 
 texts_set : (xs : List Script) (k : ℕ) (y : Script) → texts_in (slice_set xs k y) ≡ slice_set (texts_in xs) k y.text.items
 texts_set [] k y = refl
@@ -88,7 +69,7 @@ module _ (schema : Lists) (old new : Making) (scripts : List Script) (session : 
 
   each_as_before : IsAsBefore one next → (j : ℕ) (other : Script) → slice_get (slice_set scripts (u - 1) next) j ≡ Some other → IsScriptOf schema other.text.items other.count (entries_of (j + 1) old.history)
   each_as_before same j other found =
-      elim (set_at scripts (u - 1) j next other found) [
+      elim (found_of scripts (u - 1) j next other found) [
         | inl p ↦
             subst (λ (z : Script). IsScriptOf schema z.text.items z.count (entries_of (j + 1) old.history)) p.1
             (subst (λ (n : ℕ). IsScriptOf schema next.text.items next.count (entries_of n old.history)) (sym (ap (λ (n : ℕ). n + 1) p.0 ∙ number)) (own_as_before same))
@@ -99,7 +80,7 @@ module _ (schema : Lists) (old new : Making) (scripts : List Script) (session : 
   session_as_before unchanged same = subst (λ (m : Making). IsSession schema m (slice_set scripts (u - 1) next)) (sym unchanged) (record {
     sound = session.sound;
     schema_is = session.schema_is;
-    many = set_length scripts (u - 1) next ∙ session.many;
+    many = length-set scripts (u - 1) next ∙ session.many;
     counted = session.counted;
     each = each_as_before same;
   })
@@ -115,7 +96,7 @@ module _ (schema : Lists) (old new : Making) (scripts : List Script) (session : 
     read = is_read_behind schema one.text.items line own.closed m.room own.accepted (ap (λ (n : ℕ). first (line_faults schema n (trimmed line))) many_made ∙ m.fine)
 
     more : entries_of u (old.history ++ entry ∷ []) ≡ entries_of u old.history ++ entry ∷ []
-    more = mine u old.history entry refl
+    more = entries_mine u old.history entry refl
 
     says_then : script schema (one.text.items ++ line ++ 10 ∷ []) ≡ map (λ (e : Entry). e.statement) (entries_of u (old.history ++ entry ∷ []))
     says_then =
@@ -144,18 +125,18 @@ module _ (schema : Lists) (old new : Making) (scripts : List Script) (session : 
 
     each_then : (j : ℕ) (other : Script) → slice_get (slice_set scripts (u - 1) next) j ≡ Some other → IsScriptOf schema other.text.items other.count (entries_of (j + 1) (old.history ++ entry ∷ []))
     each_then j other found =
-        elim (set_at scripts (u - 1) j next other found) [
+        elim (found_of scripts (u - 1) j next other found) [
           | inl p ↦
               subst (λ (z : Script). IsScriptOf schema z.text.items z.count (entries_of (j + 1) (old.history ++ entry ∷ []))) p.1
               (subst (λ (n : ℕ). IsScriptOf schema next.text.items next.count (entries_of n (old.history ++ entry ∷ []))) (sym (ap (λ (n : ℕ). n + 1) p.0 ∙ number)) own_then)
-          | inr p ↦ subst (IsScriptOf schema other.text.items other.count) (sym (others (j + 1) old.history entry (λ (q : u ≡ j + 1). p.0 (omega (arith, q))))) (session.each j other p.1)
+          | inr p ↦ subst (IsScriptOf schema other.text.items other.count) (sym (entries_other (j + 1) old.history entry (λ (q : u ≡ j + 1). p.0 (omega (arith, q))))) (session.each j other p.1)
         ]
 
     session_made : IsSession schema new (slice_set scripts (u - 1) next)
     session_made = record {
       sound = session.sound;
       schema_is = ap (λ (x : Making). x.schema) m.made.new_is ∙ session.schema_is;
-      many = set_length scripts (u - 1) next ∙ session.many ∙ ap (λ (x : Making). x.units) (sym m.made.new_is);
+      many = length-set scripts (u - 1) next ∙ session.many ∙ ap (λ (x : Making). x.units) (sym m.made.new_is);
       counted = ap (λ (x : Making). is_count x.units) m.made.new_is ∙ session.counted;
       each = λ j other found. subst (λ (es : List Entry). IsScriptOf schema other.text.items other.count (entries_of (j + 1) es)) (ap (λ (x : Making). x.history) (sym m.made.new_is)) (each_then j other found);
     }
@@ -188,11 +169,6 @@ module _ (schema : Lists) (old new : Making) (scripts : List Script) (session : 
       subst (λ (s : Lists). RefusesBehind refusal s (length (entries_of u old.history)) (length (text_of (typed old scripts) u)) line) (sym session.schema_is)
       (subst (λ (n : ℕ). RefusesBehind refusal schema n (length (text_of (typed old scripts) u)) line) own.count_is
       (subst (λ (n : ℕ). RefusesBehind refusal schema one.count n line) (ap length (sym (text_at old scripts u one at))) h))
-
--- a script without room for the line refuses it, whatever the schema and the statements
-pub no_room : (refusal : Refusal) (schema : Lists) (count size : ℕ) (line : List ℕ) → HasNoRoom refusal (size + length line) → RefusesBehind refusal schema count size line
-no_room Memory schema count size line h = tt
-no_room (Fault cause) schema count size line h = inr h
 
 -- AT THE OPENING
 

@@ -4,18 +4,18 @@ use Rattle.std.specs.Prelude.{option_map}
 use Rattle.std.proofs.lemmas.List.{append-nil, append_cancel_right, length-map}
 use Rattle.std.proofs.lemmas.Option.{slice_get-map}
 use Rattle.dbtg_schema.specs.Lists.{Lists}
-use Rattle.dbtg_schema.specs.SchemaFaults.{refusal as schema_refusal}
-use Rattle.dbtg_unit.specs.Image.{Image, image_of}
-use Rattle.dbtg_unit.specs.Replay.{IsHistoryOf, entries_of}
+use Rattle.dbtg_schema.specs.Texts.SchemaFaults.{refusal as schema_refusal}
+use Rattle.dbtg_unit.specs.Database.State.Image.{Image, image_of}
+use Rattle.dbtg_unit.specs.Database.Laws.Replay.{IsHistoryOf, entries_of}
 use Rattle.dbtg_unit.specs.declared.statement.Statement.{Statement}
 use Rattle.dbtg_unit.specs.declared.unit.Entry.{Entry}
-use Rattle.dbtg_step.specs.Audit.{LeadsTo}
-use Rattle.dbtg_step.specs.Whole.{Making, state_now}
+use Rattle.dbtg_step.specs.Core.Audit.{LeadsTo}
+use Rattle.dbtg_step.specs.Core.Whole.{Making, state_now}
 use Rattle.dbtg_script.specs.StatementFaults.{refusal as script_refusal}
 use Rattle.dbtg_script.specs.Statements.{script}
-use Rattle.dbtg_script.specs.Texts.{run_text}
+use Rattle.dbtg_script.specs.Printing.Texts.{run_text}
 use Rattle.dbtg_script.specs.Turns.{turns_refusal}
-use Rattle.dbtg_script.specs.WordTexts.{turns_text}
+use Rattle.dbtg_script.specs.Printing.WordTexts.{turns_text}
 use Rattle.dbtg.specs.declared.order.Order.TheVariants.{Turns}
 use Rattle.dbtg.specs.declared.shell.session.Script.{Script}
 use Rattle.dbtg.specs.Refusals.{AllAccepted, is_count, schema_in}

@@ -1,7 +1,8 @@
 -- What is told of a line.
-use Rattle.std.proofs.Common.{◌≡◌, ℕ, ◌+◌, ◌-◌, List, [], ◌∷◌, ◌++◌, length, None, Some, slice_get, inl, inr, refl, ap, sym, ◌∙◌, subst, arith, length-append, IfOk, Result, Ok, Err}
+use Rattle.std.proofs.Common.{◌≡◌, ℕ, ◌+◌, ◌-◌, List, [], ◌∷◌, ◌++◌, length, None, Some, slice_get, inl, inr, ap, sym, ◌∙◌, subst, arith, length-append, IfOk, Result, Ok, Err}
 use Rattle.std.proofs.lemmas.Result.{IfOk-weaker}
 use Rattle.dbtg_schema.specs.Lists.{Lists}
+use Rattle.dbtg_cells.proofs.Public.{get_behind}
 use Rattle.dbtg_unit.specs.declared.unit.Entry.{Entry}
 use Rattle.dbtg_script.specs.Lines.{trimmed}
 use Rattle.dbtg_script.specs.Statements.{line_statement}
@@ -15,15 +16,11 @@ use Rattle.dbtg.specs.declared.shell.session.Refusal.TheVariants.{Fault}
 
 -- THE LAST ENTRY
 
-found_last : (before : List Entry) (e : Entry) → slice_get (before ++ e ∷ []) (length before) ≡ Some e
-found_last [] e = refl
-found_last (x ∷ before) e = found_last before e
-
 last_entry : (history before : List Entry) (e : Entry) → history ≡ before ++ e ∷ [] → slice_get history (length history - 1) ≡ Some e
 last_entry history before e is =
     let many : length history ≡ length before + 1 = ap length is ∙ length-append before (e ∷ []) in
     let place : length history - 1 ≡ length before = omega (arith, many) in
-    ap (slice_get history) place ∙ ap (λ (es : List Entry). slice_get es (length before)) is ∙ found_last before e
+    ap (slice_get history) place ∙ ap (λ (es : List Entry). slice_get es (length before)) is ∙ get_behind before e []
 
 pub no_last : (typed : Typed) (out : List ℕ) → None ≡ slice_get typed.making.history (length typed.making.history - 1) → IsLastAnswer typed out
 no_last typed out none = λ before e is. let some = none ∙ last_entry typed.making.history before e is in absurd (cc (some))

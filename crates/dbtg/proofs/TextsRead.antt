@@ -1,20 +1,19 @@
 -- Texts that are read one after another, and what is then true of all.
-use Rattle.std.proofs.Common.{◌≡◌, ℕ, suc, ◌+◌, ◌<◌, Bool, true, List, [], ◌∷◌, ◌++◌, length, map, None, Option, inr, refl, sym, ap, ◌∙◌, subst, arith}
+use Rattle.std.proofs.Common.{◌≡◌, ℕ, suc, ◌+◌, ◌<◌, Bool, true, List, [], ◌∷◌, ◌++◌, length, map, None, Option, refl, sym, ap, ◌∙◌, subst, arith}
 use Rattle.std.proofs.lemmas.List.{append-nil, append_assoc, length-append, map_push}
 use Rattle.std.specs.List.{list_all}
 use Rattle.std.proofs.lemmas.List.Folds.{list_all-append}
 use Rattle.dbtg_schema.specs.Lists.{Lists}
-use Rattle.dbtg_unit.specs.Fits.{fits}
+use Rattle.dbtg_unit.specs.Database.Statements.Fits.{fits}
 use Rattle.dbtg_unit.specs.declared.moves.Move.{Move}
-use Rattle.dbtg_step.specs.Headline.{RunIs}
+use Rattle.dbtg_step.specs.Machine.Headline.{RunIs}
 use Rattle.dbtg_step.specs.Laws.{scripts_fit}
-use Rattle.dbtg_step.specs.Serial.{SerialRunIs}
+use Rattle.dbtg_step.specs.Core.Serial.{SerialRunIs}
 use Rattle.dbtg_unit.specs.declared.statement.Statement.{Statement}
 use Rattle.dbtg_script.specs.StatementFaults.{refusal as script_refusal}
 use Rattle.dbtg_script.specs.Statements.{script}
-use Rattle.dbtg_script.specs.Texts.{moves_text, script_line}
+use Rattle.dbtg_script.specs.Printing.Texts.{moves_text, script_line}
 use Rattle.dbtg.specs.declared.fault.Fault.{Fault}
-use Rattle.dbtg.specs.declared.fault.Fault.TheVariants.{Memory}
 use Rattle.dbtg.specs.declared.place.Place.{Place}
 use Rattle.dbtg.specs.declared.place.Place.TheVariants.{Script}
 use Rattle.dbtg.specs.declared.order.Order.{Order}
@@ -23,7 +22,7 @@ use Rattle.dbtg.specs.declared.order.OrderKind.TheVariants as kind
 use Rattle.dbtg.specs.Checking.{check_text, script_lines}
 use Rattle.dbtg.specs.Refusals.{AcceptsOrder, AcceptsTexts, AllAccepted, RefusesScript, is_count}
 use Rattle.dbtg.specs.Replaying.{IsPrinted, IsPrintedRun, RunByTurnsIs, echo_of, moves_in, shown_text, turns_in}
-use Rattle.dbtg.specs.Sources.{ChecksHeld, HoldsOrder, HoldsScripts, ReadMoves, ReadSchema, ReadScripts, ReadTurns, ReplaysHeld, Texts, ToldIn, ToldOfSchema, ToldOfScripts, kind_of}
+use Rattle.dbtg.specs.Sources.{ChecksHeld, HoldsOrder, HoldsScripts, ReadMoves, ReadSchema, ReadScripts, ReadTurns, ReplaysHeld, Texts, ToldIn, ToldOfScripts, kind_of}
 use Rattle.dbtg.proofs.InTurn.{accepted_behind, lines_behind}
 
 -- a text that is held behind others
@@ -82,10 +81,6 @@ fit_behind lists statements before after e all one =
 pub told_here : (holds : Place → List ℕ → Type 0) (fails : Place → Fault → Type 0) (fault : Fault) (lists : Lists) (i count : ℕ) → ReadScripts holds lists i → i < count
     → ToldIn holds fails fault (Script (i + 1)) (λ text. RefusesScript fault (i + 1) (script_refusal lists text)) → ToldOfScripts holds fails fault lists count
 told_here holds fails fault lists i count read within told = record { before = i; read = read; within = within; told = told }
-
--- want of memory, once a schema is read
-pub memory_told : (holds : Place → List ℕ → Type 0) (fails : Place → Fault → Type 0) (lists : Lists) → ReadSchema holds lists → ToldOfSchema holds fails Memory
-memory_told holds fails lists read = inr (read.text, read.held, tt)
 
 -- what was read is accepted, as the schema's text says it
 pub all_accepted : (holds : Place → List ℕ → Type 0) (lists : Lists) (count : ℕ) (read : ReadSchema holds lists) (scripts : ReadScripts holds lists count) → AcceptsTexts read.text scripts.texts

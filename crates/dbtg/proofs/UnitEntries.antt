@@ -4,40 +4,26 @@ use Rattle.std.specs.Prelude.{nat_lt, option_map, ⊤}
 use Rattle.std.specs.Option.{unwrap_or}
 use Rattle.std.specs.List.{range_with_len}
 use Rattle.std.proofs.lemmas.Bool.{cond-true, cond-false, eq-eqb, ne_eqb, lt-ltb}
-use Rattle.std.proofs.lemmas.List.{length-map}
+use Rattle.std.proofs.lemmas.List.{length-map, length-set}
 use Rattle.dbtg_schema.specs.Lists.{Lists}
+use Rattle.dbtg_cells.proofs.Public.{there_is}
 use Rattle.dbtg_unit.specs.declared.statement.Statement.{Statement}
 use Rattle.dbtg_unit.specs.declared.unit.Entry.{Entry}
 use Rattle.dbtg_unit.specs.declared.unit.Unit.{Unit}
-use Rattle.dbtg_unit.specs.Effect.{Outcome, effect}
-use Rattle.dbtg_unit.specs.Replay.{State, AnswersHold, TicketsInOrder, after_entry, after_outcome, answers, entries_of, outcome_of}
-use Rattle.dbtg_unit.specs.Replaying.{statements_of}
-use Rattle.dbtg_unit.proofs.ReplayLemmas.{statements_determine}
-use Rattle.dbtg_step.specs.SequentialDatabase.{unit_at, with_unit_at}
-use Rattle.dbtg_step.specs.Turns.{made_turns}
-use Rattle.dbtg_step.proofs.UnitLists.{set_found}
+use Rattle.dbtg_unit.specs.Database.Statements.Effect.{Outcome, effect}
+use Rattle.dbtg_unit.specs.Database.Laws.Replay.{State, AnswersHold, TicketsInOrder, after_entry, after_outcome, answers, entries_of, outcome_of}
+use Rattle.dbtg_unit.specs.Database.Laws.Replaying.{statements_of}
+use Rattle.dbtg_unit.proofs.Public.{statements_determine}
+use Rattle.dbtg_step.specs.Machine.SequentialDatabase.{unit_at, with_unit_at}
+use Rattle.dbtg_step.specs.Core.Turns.{made_turns}
+use Rattle.dbtg_step.proofs.Public.{entries_same, length_with, set_found}
 
 -- LISTS BY NUMBER
-
-found_at : {X : Type 0} (xs : List X) (n : ℕ) → n < length xs → (x : X) × (slice_get xs n ≡ Some x)
-found_at [] n below = absurd (omega arith)
-found_at (x ∷ xs) zero below = (x, refl)
-found_at (x ∷ xs) (suc n) below = found_at xs n (omega arith)
 
 there : {X : Type 0} (xs : List X) (u : ℕ) → 0 < u → u ≤ length xs → (x : X) × (unit_at xs u ≡ Some x)
 unfolding unit_at
 there xs zero some most = absurd (omega arith)
-there xs (suc n) some most = found_at xs n (omega arith)
-
-pub set_length : {X : Type 0} (xs : List X) (n : ℕ) (x : X) → length (slice_set xs n x) ≡ length xs
-set_length [] n x = refl
-set_length (y ∷ ys) zero x = refl
-set_length (y ∷ ys) (suc n) x = ap suc (set_length ys n x)
-
-with_length : {X : Type 0} (xs : List X) (u : ℕ) (x : X) → length (with_unit_at xs u x) ≡ length xs
-unfolding with_unit_at
-with_length xs zero x = refl
-with_length xs (suc n) x = set_length xs n x
+there xs (suc n) some most = there_is xs n (omega arith)
 
 -- OF THE UNITS THAT THERE ARE
 
@@ -58,7 +44,7 @@ answered_by schema capacity state entry (suc n) e =
 
 as_many : (state : State) (number : ℕ) (o : Option Outcome) → length (after_outcome state number o).units ≡ length state.units
 as_many state number None = refl
-as_many state number (Some o) = set_length state.units (number - 1) o.unit
+as_many state number (Some o) = length-set state.units (number - 1) o.unit
 
 pub all_within : (schema : Lists) (capacity n : ℕ) (state : State) (es : List Entry) → length state.units ≡ n → AnswersHold schema capacity state es → AllWithin n es
 unfolding AnswersHold
@@ -114,26 +100,11 @@ same_statements scripts (e ∷ es) (f ∷ fs) within a b units =
     let statement : e.statement ≡ f.statement = cc (same) in
     let rest : one.0 ≡ other.0 = cc (same) in
     let then = subst (λ u. Begins (with_unit_at scripts u one.0) fs) (sym unit) (subst (λ xs. Begins (with_unit_at scripts f.unit xs) fs) (sym rest) other.2) in
-    let all = subst (λ n. AllWithin n es) (sym (with_length scripts e.unit one.0)) within.2 in
+    let all = subst (λ n. AllWithin n es) (sym (length_with scripts e.unit one.0)) within.2 in
     let behind = same_statements (with_unit_at scripts e.unit one.0) es fs all one.2 then units_then in
     λ i. (unit i, statement i) ∷ behind i
 
 -- STATEMENTS DETERMINE A HISTORY
-
-entries_same : (es fs : List Entry) → map (λ (e : Entry). e.ticket) es ≡ map (λ (e : Entry). e.ticket) fs → statements_of es ≡ statements_of fs → map (λ (e : Entry). Some e.answer) es ≡ map (λ (e : Entry). Some e.answer) fs → es ≡ fs
-entries_same [] [] t s a = refl
-entries_same [] (f ∷ fs) t s a = absurd (cc (t))
-entries_same (e ∷ es) [] t s a = absurd (cc (t))
-entries_same (e ∷ es) (f ∷ fs) t s a =
-    let ticket : e.ticket ≡ f.ticket = cc (t) in
-    let tickets : map (λ (e : Entry). e.ticket) es ≡ map (λ (e : Entry). e.ticket) fs = cc (t) in
-    let pair : (e.unit, e.statement) ≡ (f.unit, f.statement) = cc (s) in
-    let unit = ap (λ (p : ℕ × Statement). p.0) pair in
-    let statement = ap (λ (p : ℕ × Statement). p.1) pair in
-    let statements : statements_of es ≡ statements_of fs = cc (s) in
-    let answer : e.answer ≡ f.answer = cc (a) in
-    let answers_then : map (λ (e : Entry). Some e.answer) es ≡ map (λ (e : Entry). Some e.answer) fs = cc (a) in
-    λ i. record { ticket = ticket i; unit = unit i; statement = statement i; answer = answer i } ∷ entries_same es fs tickets statements answers_then i
 
 -- two histories of the same scripts whose entries are of the same units in turn are the same
 pub same_history : (schema : Lists) (capacity : ℕ) (state : State) (scripts : List (List Statement)) (es fs : List Entry) → length state.units ≡ length scripts
@@ -186,7 +157,7 @@ all_made lefts (e ∷ es) within few =
     let k = found.0 in
     let more : suc (length (entries_of e.unit es)) ≤ k = subst (λ n. n ≤ k) (ap length (own_entry e es)) (few e.unit k found.1) in
     let some : 0 < k = omega (arith, more) in
-    let all = subst (λ n. AllWithin n es) (sym (with_length lefts e.unit (k - 1))) within.2 in
+    let all = subst (λ n. AllWithin n es) (sym (length_with lefts e.unit (k - 1))) within.2 in
     let next = all_made (with_unit_at lefts e.unit (k - 1)) es all (λ u j at. elim (set_found lefts e.unit u (k - 1) j at) [
       | inl p ↦ let own : length (entries_of u es) ≡ length (entries_of e.unit es) = ap (λ n. length (entries_of n es)) p.0 in omega (arith, own, more, p.1)
       | inr p ↦ subst (λ n. n ≤ j) (ap length (other_entry e es u (λ q. p.0 (sym q)))) (few u j p.1)

@@ -4,7 +4,7 @@ use Rattle.std.specs.List.{list_all}
 use Rattle.std.specs.Prelude.{⊤}
 use Rattle.std.proofs.lemmas.List.Folds.{list_all-append}
 use Rattle.dbtg_script.specs.Moves.{begins_with, counted, plain_number, repeated, said, spelled_turn, times}
-use Rattle.dbtg_script.specs.Spelling.{is_number, number, in_front, behind, has_byte}
+use Rattle.dbtg_script.specs.Printing.Spelling.{is_number, number, in_front, behind, has_byte}
 use Rattle.dbtg_script.specs.Turns.{turns_of}
 
 -- a word that says something says a unit of at most 99

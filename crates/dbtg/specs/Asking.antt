@@ -1,10 +1,11 @@
 -- What a line of the shell asks for.
 use Rattle.std.specs.Prelude.{ℕ, ◌^◌, ◌≡◌, min, Bool, ◌&&◌, ◌==◌, nat_le, nat_lt, List, [], ◌∷◌, codes, length, if◌then◌else◌}
 use Rattle.std.specs.Str.{bytes_eq}
-use Rattle.dbtg_script.specs.Spelling.{behind, in_front, is_number, number}
+use Rattle.dbtg_script.specs.Printing.Spelling.{behind, in_front, is_number, number}
 use Rattle.dbtg.specs.declared.shell.asked.Asked.{Asked}
 use Rattle.dbtg.specs.declared.shell.asked.Asked.TheVariants.{Command, Statement, StatementOf}
 
+-- the bytes without the spaces in front
 abbrev pub behind_spaces : List ℕ → List ℕ
 behind_spaces [] = []
 behind_spaces (b ∷ bs) = if b == 32 then behind_spaces bs else b ∷ bs

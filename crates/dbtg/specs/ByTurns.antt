@@ -6,12 +6,12 @@ use Rattle.dbtg_unit.specs.declared.moves.Move.{Move}
 use Rattle.dbtg_unit.specs.declared.moves.Stepped.{Stepped}
 use Rattle.dbtg_unit.specs.declared.statement.Statement.{Statement}
 use Rattle.dbtg_step.specs.declared.results.Run.{Run}
-use Rattle.dbtg_step.specs.Turns.{IsRunByTurns}
+use Rattle.dbtg_step.specs.Core.Turns.{IsRunByTurns}
 use Rattle.dbtg_script.specs.Moves.{refusal as moves_refusal}
 use Rattle.dbtg_script.specs.Statements.{script}
-use Rattle.dbtg_script.specs.Texts.{moves_text}
+use Rattle.dbtg_script.specs.Printing.Texts.{moves_text}
 use Rattle.dbtg_script.specs.Turns.{turns_refusal}
-use Rattle.dbtg_script.specs.WordTexts.{moves_words_text}
+use Rattle.dbtg_script.specs.Printing.WordTexts.{moves_words_text}
 use Rattle.dbtg.specs.declared.fault.Fault.{Fault}
 use Rattle.dbtg.specs.declared.fault.Fault.TheVariants as fault
 use Rattle.dbtg.specs.declared.order.Order.TheVariants.{Moves, Turns}

@@ -1,6 +1,6 @@
 -- The capacity, the number of units and the limit of states, as the command's words say them.
 use Rattle.std.specs.Prelude.{ℕ, ◌&&◌, nat_le, List, Option, Some, None, if◌then◌else◌}
-use Rattle.dbtg_script.specs.Spelling.{is_number, number}
+use Rattle.dbtg_script.specs.Printing.Spelling.{is_number, number}
 
 -- digits alone, from 1 to the greatest
 abbrev pub count_in : ℕ → List ℕ → Option ℕ

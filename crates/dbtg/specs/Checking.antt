@@ -2,7 +2,7 @@
 use Rattle.std.specs.Prelude.{ℕ, ◌≡◌, ◌+◌, List, [], ◌∷◌, ◌++◌, length}
 use Rattle.dbtg_schema.specs.Lists.{Lists}
 use Rattle.dbtg_script.specs.Statements.{script}
-use Rattle.dbtg_script.specs.Texts.{schema_line, script_line}
+use Rattle.dbtg_script.specs.Printing.Texts.{schema_line, script_line}
 use Rattle.dbtg.specs.Refusals.{schema_in, AcceptsTexts}
 
 -- a line for each script, from number n on

@@ -1,7 +1,7 @@
 -- What `draw` prints.
 use Rattle.std.specs.Prelude.{ℕ, ◌≡◌, List, None}
 use Rattle.dbtg_schema.specs.Lists.{Lists}
-use Rattle.dbtg_schema.specs.SchemaFaults.{refusal as schema_refusal}
+use Rattle.dbtg_schema.specs.Texts.SchemaFaults.{refusal as schema_refusal}
 use Rattle.dbtg_draw.specs.Dot.{dot_text}
 use Rattle.dbtg_draw.specs.Svg.{svg_text}
 use Rattle.dbtg.specs.declared.draw.Form.{Form}

@@ -1,6 +1,6 @@
 -- What `explain` is asked for.
 use Rattle.std.specs.Prelude.{ℕ, List, ◌≡◌, ◌%◌}
-use Rattle.dbtg_script.specs.Spelling.{in_front, number}
+use Rattle.dbtg_script.specs.Printing.Spelling.{in_front, number}
 use Rattle.dbtg.specs.declared.explain.Topic.{Topic}
 use Rattle.dbtg.specs.declared.explain.Topic.TheVariants.{All, Done, Status, Fault}
 

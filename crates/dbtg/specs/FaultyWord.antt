@@ -2,10 +2,10 @@
 -- its refusal says the word.
 use Rattle.std.specs.Prelude.{ℕ, zero, suc, ◌==◌, ◌&&◌, ◌||◌, nat_le, Bool, List, [], ◌∷◌, ◌++◌, Option, Some, None, if◌then◌else◌}
 use Rattle.std.specs.List.{flat_map}
-use Rattle.dbtg_schema.specs.Causes.{cause_number}
-use Rattle.dbtg_schema.specs.Words.{is_gap}
+use Rattle.dbtg_schema.specs.Texts.Causes.{cause_number}
+use Rattle.dbtg_schema.specs.Texts.Words.{is_gap}
 use Rattle.dbtg_schema.specs.declared.fault.Fault.{Fault}
-use Rattle.dbtg_script.specs.Spelling.{behind, in_front}
+use Rattle.dbtg_script.specs.Printing.Spelling.{behind, in_front}
 
 -- a byte between words ends a line, and a period stands alone
 abbrev pub apart : ℕ → List ℕ

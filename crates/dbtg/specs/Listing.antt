@@ -12,10 +12,10 @@ use Rattle.dbtg_outcomes.specs.declared.outcomes.Outcomes.{Outcomes}
 use Rattle.dbtg_outcomes.specs.Outcomes.{AreOutcomes, count_states}
 use Rattle.dbtg_outcomes.specs.Results.{Meeting}
 use Rattle.dbtg_script.specs.Statements.{script}
-use Rattle.dbtg_script.specs.Texts.{four_digits}
-use Rattle.dbtg_script.specs.WordTexts.{moves_words_text, turns_text}
+use Rattle.dbtg_script.specs.Printing.Texts.{four_digits}
+use Rattle.dbtg_script.specs.Printing.WordTexts.{moves_words_text, turns_text}
 use Rattle.dbtg_step.specs.declared.results.Run.{Run}
-use Rattle.dbtg_step.specs.Turns.{IsRunByTurns}
+use Rattle.dbtg_step.specs.Core.Turns.{IsRunByTurns}
 use Rattle.dbtg.specs.declared.fault.Fault.{Fault}
 use Rattle.dbtg.specs.declared.fault.Fault.TheVariants as fault
 use Rattle.dbtg.specs.declared.order.OrderKind.TheVariants as kind
@@ -30,6 +30,7 @@ abbrev pub orders_text : Option ℕ → List ℕ
 orders_text (Some n) = decimal n
 orders_text None = codes "over 18446744073709551615"
 
+-- a space and the status in four digits
 abbrev pub spaced_status : ℕ → List ℕ
 spaced_status status = 32 ∷ four_digits status
 
@@ -38,6 +39,7 @@ abbrev pub differing_text : Answered → List ℕ
 differing_text a =
     if nat_lt (length a.statuses.items) 2 then [] else codes "differs " ++ decimal a.unit ++ codes "." ++ decimal a.place ++ flat_map spaced_status a.statuses.items ++ 10 ∷ []
 
+-- the first line: how many orders and how many results there are
 abbrev pub count_text : Outcomes → List ℕ
 count_text all = codes "orders " ++ orders_text all.orders ++ codes ", results " ++ decimal (length all.results.items) ++ 10 ∷ []
 
@@ -50,9 +52,11 @@ abbrev pub worded : List ℕ → List ℕ → List ℕ
 worded word [] = word ++ 10 ∷ []
 worded word (c ∷ line) = word ++ 32 ∷ c ∷ line
 
+-- the line above result k: how many orders lead to it
 abbrev pub result_line : ℕ → OneResult → List ℕ
 result_line k one = codes "result " ++ decimal k ++ codes ", orders " ++ orders_text one.orders ++ 10 ∷ []
 
+-- a result: its line, the turns and the moves of its first order, and what is printed after them
 abbrev pub result_text : Lists → ℕ → OneResult → List Move → Run → List ℕ
 result_text lists k one moves given =
     result_line k one ++ worded (codes "turns") (turns_text one.turns) ++ worded (codes "moves") (moves_words_text moves) ++ given_text lists given

@@ -1,12 +1,12 @@
 -- The first fault of what the program is given, in the order number of scripts, schema, scripts, moves or turns; and the status
 -- with which it ends. text is a text's bytes, n the number of a script, from 1.
 use Rattle.std.specs.Prelude.{◌≡◌, ℕ, ◌+◌, Bool, true, false, ◌&&◌, nat_le, List, [], ◌∷◌, Option, Some, None, ◌⊎◌, length}
-use Rattle.dbtg_schema.specs.Forms.{labels}
+use Rattle.dbtg_schema.specs.Texts.Forms.{labels}
 use Rattle.dbtg_schema.specs.Lists.{Lists}
-use Rattle.dbtg_schema.specs.SchemaFaults.{refusal as schema_refusal}
-use Rattle.dbtg_schema.specs.SchemaGrammar.{fits, schema}
-use Rattle.dbtg_schema.specs.SchemaLists.{schema_of}
-use Rattle.dbtg_schema.specs.Words.{text_words}
+use Rattle.dbtg_schema.specs.Texts.SchemaFaults.{refusal as schema_refusal}
+use Rattle.dbtg_schema.specs.Texts.SchemaGrammar.{fits, schema}
+use Rattle.dbtg_schema.specs.Texts.SchemaLists.{schema_of}
+use Rattle.dbtg_schema.specs.Texts.Words.{text_words}
 use Rattle.dbtg_schema.specs.declared.fault.Fault.{Fault as SchemaRefusal}
 use Rattle.dbtg_script.specs.Moves.{refusal as moves_refusal}
 use Rattle.dbtg_script.specs.StatementFaults.{refusal as script_refusal}

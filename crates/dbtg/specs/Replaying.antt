@@ -5,13 +5,13 @@ use Rattle.dbtg_schema.specs.Lists.{Lists}
 use Rattle.dbtg_unit.specs.declared.statement.Statement.{Statement}
 use Rattle.dbtg_step.specs.declared.results.Run.{Run}
 use Rattle.dbtg_unit.specs.declared.moves.Move.{Move}
-use Rattle.dbtg_step.specs.Headline.{RunIs}
-use Rattle.dbtg_step.specs.Serial.{SerialRunIs}
-use Rattle.dbtg_step.specs.Turns.{IsRunByTurns}
-use Rattle.dbtg_script.specs.Echo.{echoed_run_text}
+use Rattle.dbtg_step.specs.Machine.Headline.{RunIs}
+use Rattle.dbtg_step.specs.Core.Serial.{SerialRunIs}
+use Rattle.dbtg_step.specs.Core.Turns.{IsRunByTurns}
+use Rattle.dbtg_script.specs.Printing.Echo.{echoed_run_text}
 use Rattle.dbtg_script.specs.Moves.{moves_of, words}
 use Rattle.dbtg_script.specs.Statements.{script}
-use Rattle.dbtg_script.specs.Texts.{moves_text, run_text}
+use Rattle.dbtg_script.specs.Printing.Texts.{moves_text, run_text}
 use Rattle.dbtg_script.specs.Turns.{turns_of}
 use Rattle.dbtg.specs.declared.order.Order.{Order}
 use Rattle.dbtg.specs.declared.order.Order.TheVariants.{Serial, Moves, Turns}

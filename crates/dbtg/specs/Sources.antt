@@ -3,7 +3,7 @@
 -- that it cannot, and tells a fault.
 use Rattle.std.specs.Prelude.{ℕ, ◌≡◌, ◌+◌, ◌-◌, ◌≤◌, ◌<◌, Bool, true, false, List, [], ◌∷◌, Some, None, ◌⊎◌, length, map, slice_get}
 use Rattle.dbtg_schema.specs.Lists.{Lists}
-use Rattle.dbtg_schema.specs.SchemaFaults.{refusal as schema_refusal}
+use Rattle.dbtg_schema.specs.Texts.SchemaFaults.{refusal as schema_refusal}
 use Rattle.dbtg_script.specs.Moves.{refusal as moves_refusal}
 use Rattle.dbtg_script.specs.StatementFaults.{refusal as script_refusal}
 use Rattle.dbtg_script.specs.Statements.{script}

@@ -5,13 +5,13 @@ use Rattle.dbtg_schema.specs.Lists.{Lists}
 use Rattle.dbtg_unit.specs.declared.statement.Statement.{Statement}
 use Rattle.dbtg_unit.specs.declared.unit.Entry.{Entry}
 use Rattle.dbtg_unit.specs.declared.unit.Unit.{Unit}
-use Rattle.dbtg_unit.specs.Image.{Image}
-use Rattle.dbtg_unit.specs.Replay.{entries_of}
-use Rattle.dbtg_step.specs.Audit.{LeadsTo}
+use Rattle.dbtg_unit.specs.Database.State.Image.{Image}
+use Rattle.dbtg_unit.specs.Database.Laws.Replay.{entries_of}
+use Rattle.dbtg_step.specs.Core.Audit.{LeadsTo}
 use Rattle.dbtg_script.specs.Statements.{script}
-use Rattle.dbtg_script.specs.Texts.{run_text}
+use Rattle.dbtg_script.specs.Printing.Texts.{run_text}
 use Rattle.dbtg_script.specs.Turns.{turns_refusal}
-use Rattle.dbtg_script.specs.WordTexts.{turns_text}
+use Rattle.dbtg_script.specs.Printing.WordTexts.{turns_text}
 use Rattle.dbtg.specs.declared.order.Order.TheVariants.{Turns}
 use Rattle.dbtg.specs.Refusals.{schema_in, is_count, AcceptsTexts}
 use Rattle.dbtg.specs.Replaying.{IsReplay}

@@ -2,7 +2,7 @@
 ghost use Rattle.std.specs.Prelude.{◌≡◌, ◌++◌, None, IfErr, IfOk, OnOk, length};
 ghost use Rattle.dbtg_script.specs.StatementFaults.{refusal as script_refusal};
 ghost use Rattle.dbtg_script.specs.Statements.{script};
-ghost use Rattle.dbtg_script.specs.Texts.{script_line};
+ghost use Rattle.dbtg_script.specs.Printing.Texts.{script_line};
 ghost use Rattle.dbtg.specs.Checking.{IsCheck, script_lines};
 ghost use Rattle.dbtg.specs.Refusals.{RefusesScript, RefusesTexts};
 ghost use Rattle.dbtg.specs.Sources.{ChecksHeld, ReadSchema, ReadScripts, ToldOfScripts, ToldOfTexts};

@@ -12,39 +12,53 @@ use std::alloc::{AllocError, Global};
 /// What is to be done. Paths are as they were given; `-` stands for standard input. `explains` asks for a second line on a fault.
 #[derive(Drop)]
 pub enum Call<'a> {
-    Check {
-        explains: bool,
-        schema: &'a str,
-        scripts: Vec<&'a str>,
-    },
-    Replay {
-        explains: bool,
-        echo: bool,
-        capacity: u16,
-        order: Order<&'a str>,
-        schema: &'a str,
-        scripts: Vec<&'a str>,
-    },
+    Check(CheckCall<'a>),
+    Replay(ReplayCall<'a>),
     Turns(TurnsCall<'a>),
     Timeline(TimelineCall<'a>),
     Outcomes(OutcomesCall<'a>),
-    /// `saved` is where the turns of the run go.
-    Threads {
-        explains: bool,
-        capacity: u16,
-        saved: Option<&'a str>,
-        schema: &'a str,
-        scripts: Vec<&'a str>,
-    },
-    /// A diagram is of a schema alone: `scripts` are none.
-    Draw {
-        explains: bool,
-        form: Form,
-        schema: &'a str,
-        scripts: Vec<&'a str>,
-    },
+    Threads(ThreadsCall<'a>),
+    Draw(DrawCall<'a>),
     Explain(Topic),
     Shell(ShellCall<'a>),
+}
+
+/// What is wanted: how large a schema and its scripts are.
+#[derive(Drop)]
+pub struct CheckCall<'a> {
+    pub explains: bool,
+    pub schema: &'a str,
+    pub scripts: Vec<&'a str>,
+}
+
+/// What is wanted: a run of the scripts, in the order that is told.
+#[derive(Drop)]
+pub struct ReplayCall<'a> {
+    pub explains: bool,
+    pub echo: bool,
+    pub capacity: u16,
+    pub order: Order<&'a str>,
+    pub schema: &'a str,
+    pub scripts: Vec<&'a str>,
+}
+
+/// What is wanted: a run of the scripts on threads; `saved` is where the turns of the run go.
+#[derive(Drop)]
+pub struct ThreadsCall<'a> {
+    pub explains: bool,
+    pub capacity: u16,
+    pub saved: Option<&'a str>,
+    pub schema: &'a str,
+    pub scripts: Vec<&'a str>,
+}
+
+/// What is wanted: a diagram. It is of a schema alone, so `scripts` are none.
+#[derive(Drop)]
+pub struct DrawCall<'a> {
+    pub explains: bool,
+    pub form: Form,
+    pub schema: &'a str,
+    pub scripts: Vec<&'a str>,
 }
 
 /// What is wanted: the moves that turns stand for.
@@ -237,10 +251,11 @@ fn echo_option<'a>(alloc: Global) -> Arg<'a> {
 
 // The command `replay`, by the name that its usage shows.
 fn replay_command<'a>(alloc: Global, name: &'a str) -> Result<Command<'a>, AllocError> {
+    let turns = turns_option(alloc)?;
     let args = vec![in alloc;
         capacity_option(alloc),
         moves_option(alloc),
-        turns_option(alloc)?,
+        turns,
         echo_option(alloc),
         explain_option(alloc),
         schema_word(alloc),
@@ -285,10 +300,11 @@ fn turns_command<'a>(alloc: Global, name: &'a str) -> Result<Command<'a>, AllocE
 
 // The command `timeline`, by the name that its usage shows.
 fn timeline_command<'a>(alloc: Global, name: &'a str) -> Result<Command<'a>, AllocError> {
+    let turns = turns_option(alloc)?;
     let args = vec![in alloc;
         capacity_option(alloc),
         moves_option(alloc),
-        turns_option(alloc)?,
+        turns,
         svg_option(alloc, "Draws as SVG [default: plain text]"),
         explain_option(alloc),
         schema_word(alloc),
@@ -549,11 +565,11 @@ fn check_call<'a>(alloc: Global, given: &ArgMatches<'a>) -> Result<Call<'a>, Err
     let schema = given.get_str("schema").unwrap_or("");
     let scripts = words_of(alloc, given, "scripts")?;
     check_inputs(alloc, Named::Check, schema, scripts.as_slice(), "")?;
-    Ok(Call::Check {
+    Ok(Call::Check(CheckCall {
         explains: given.get_flag("explain"),
         schema,
         scripts,
-    })
+    }))
 }
 
 // What says the order; the reader of the words takes one of the two options.
@@ -587,14 +603,14 @@ fn replay_call<'a>(alloc: Global, given: &ArgMatches<'a>) -> Result<Call<'a>, Er
         scripts.as_slice(),
         order_path(order),
     )?;
-    Ok(Call::Replay {
+    Ok(Call::Replay(ReplayCall {
         explains: given.get_flag("explain"),
         echo: given.get_flag("echo"),
         capacity,
         order,
         schema,
         scripts,
-    })
+    }))
 }
 
 fn turns_call<'a>(alloc: Global, given: &ArgMatches<'a>) -> Result<Call<'a>, Error> {
@@ -670,13 +686,13 @@ fn threads_call<'a>(alloc: Global, given: &ArgMatches<'a>) -> Result<Call<'a>, E
     let saved = given.get_str("save-turns");
     check_inputs(alloc, Named::Threads, schema, scripts.as_slice(), "")?;
     check_saved(alloc, saved)?;
-    Ok(Call::Threads {
+    Ok(Call::Threads(ThreadsCall {
         explains: given.get_flag("explain"),
         capacity,
         saved,
         schema,
         scripts,
-    })
+    }))
 }
 
 fn draw_call<'a>(alloc: Global, given: &ArgMatches<'a>) -> Call<'a> {
@@ -685,12 +701,12 @@ fn draw_call<'a>(alloc: Global, given: &ArgMatches<'a>) -> Call<'a> {
     } else {
         Form::Dot
     };
-    Call::Draw {
+    Call::Draw(DrawCall {
         explains: given.get_flag("explain"),
         form,
         schema: given.get_str("schema").unwrap_or(""),
         scripts: Vec::new(alloc),
-    }
+    })
 }
 
 fn explain_call<'a>(alloc: Global, given: &ArgMatches<'a>) -> Result<Call<'a>, Error> {
@@ -732,18 +748,36 @@ fn shell_call<'a>(alloc: Global, given: &ArgMatches<'a>) -> Result<Call<'a>, Err
     }))
 }
 
+// The command that is asked for, with what it is given.
+fn asked_for<'a, 'b>(matches: &'b ArgMatches<'a>) -> Option<(Named, &'b ArgMatches<'a>)> {
+    let (word, given) = matches.subcommand()?;
+    for named in ALL {
+        if names_of(named).0 == word {
+            return Some((named, given));
+        }
+    }
+    None
+}
+
+fn call_named<'a>(alloc: Global, named: Named, given: &ArgMatches<'a>) -> Result<Call<'a>, Error> {
+    match named {
+        Named::Check => check_call(alloc, given),
+        Named::Replay => replay_call(alloc, given),
+        Named::Turns => turns_call(alloc, given),
+        Named::Timeline => timeline_call(alloc, given),
+        Named::Outcomes => outcomes_call(alloc, given),
+        Named::Threads => threads_call(alloc, given),
+        Named::Draw => Ok(draw_call(alloc, given)),
+        Named::Explain => explain_call(alloc, given),
+        Named::Shell => shell_call(alloc, given),
+    }
+}
+
+// The reader of the words takes no others than those of the commands.
 fn call_in<'a>(alloc: Global, matches: &ArgMatches<'a>) -> Result<Call<'a>, Error> {
-    match matches.subcommand() {
-        Some(("check", given)) => check_call(alloc, given),
-        Some(("replay", given)) => replay_call(alloc, given),
-        Some(("turns", given)) => turns_call(alloc, given),
-        Some(("timeline", given)) => timeline_call(alloc, given),
-        Some(("outcomes", given)) => outcomes_call(alloc, given),
-        Some(("threads", given)) => threads_call(alloc, given),
-        Some(("draw", given)) => Ok(draw_call(alloc, given)),
-        Some(("explain", given)) => explain_call(alloc, given),
-        Some(("shell", given)) => shell_call(alloc, given),
-        _ => Err(Error::from(AllocError)),
+    match asked_for(matches) {
+        Some((named, given)) => call_named(alloc, named, given),
+        None => Err(Error::from(AllocError)),
     }
 }
 

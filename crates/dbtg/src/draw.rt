@@ -1,6 +1,6 @@
 //! The diagram of a schema.
 ghost use Rattle.std.specs.Prelude.{◌≡◌, IfErr, IfOk};
-ghost use Rattle.dbtg_schema.specs.SchemaFaults.{refusal as schema_refusal};
+ghost use Rattle.dbtg_schema.specs.Texts.SchemaFaults.{refusal as schema_refusal};
 ghost use Rattle.dbtg.specs.declared.fault.Fault.TheVariants.{Memory};
 ghost use Rattle.dbtg.specs.Drawing.{DrawsHeld, IsDrawing, drawing};
 ghost use Rattle.dbtg.specs.Refusals.{RefusesSchema};

@@ -29,9 +29,12 @@ mod turns;
 
 use check::check;
 use clap::error::ErrorKind;
-use command::{Call, OutcomesCall, ShellCall, TimelineCall, TurnsCall, call_of};
+use command::{
+    Call, CheckCall, DrawCall, OutcomesCall, ReplayCall, ShellCall, ThreadsCall, TimelineCall,
+    TurnsCall, call_of,
+};
 use dbtg_schema::Schema;
-use draw::{Form, draw};
+use draw::draw;
 use explain::{Topic, explained};
 use fault::{Fault, status_of};
 use files::{Files, Paths};
@@ -92,40 +95,48 @@ fn told_of(rt: &HostRuntime, fault: &Fault, paths: &Paths, explains: bool) -> Ex
     status
 }
 
-fn print_check(rt: &HostRuntime, paths: &Paths, explains: bool) -> ExitCode {
-    let files = Files { reader: rt, paths };
-    print_or_tell(rt, check(rt.alloc(), &files), paths, explains)
+fn print_check(rt: &HostRuntime, call: &CheckCall) -> ExitCode {
+    let paths = paths_of(call.schema, call.scripts.as_slice(), Order::Serial);
+    let files = Files {
+        reader: rt,
+        paths: &paths,
+    };
+    print_or_tell(rt, check(rt.alloc(), &files), &paths, call.explains)
 }
 
-fn print_drawing(rt: &HostRuntime, paths: &Paths, form: Form, explains: bool) -> ExitCode {
-    let files = Files { reader: rt, paths };
-    print_or_tell(rt, draw(rt.alloc(), &files, form), paths, explains)
+fn print_drawing(rt: &HostRuntime, call: &DrawCall) -> ExitCode {
+    let paths = paths_of(call.schema, call.scripts.as_slice(), Order::Serial);
+    let files = Files {
+        reader: rt,
+        paths: &paths,
+    };
+    let given = draw(rt.alloc(), &files, call.form);
+    print_or_tell(rt, given, &paths, call.explains)
 }
 
-fn print_replay(
-    rt: &HostRuntime,
-    paths: &Paths,
-    capacity: u16,
-    echo: bool,
-    explains: bool,
-) -> ExitCode {
-    let files = Files { reader: rt, paths };
-    let given = replay(rt.alloc(), &files, capacity, echo);
-    print_or_tell(rt, given, paths, explains)
+fn print_replay(rt: &HostRuntime, call: &ReplayCall) -> ExitCode {
+    let paths = paths_of(call.schema, call.scripts.as_slice(), call.order);
+    let files = Files {
+        reader: rt,
+        paths: &paths,
+    };
+    let given = replay(rt.alloc(), &files, call.capacity, call.echo);
+    print_or_tell(rt, given, &paths, call.explains)
 }
 
 fn print_threads<R: Threads + Wait + Sync>(
     rt: &HostRuntime,
     threads: &R,
-    paths: &Paths,
-    capacity: u16,
-    explains: bool,
-    saved: Option<&str>,
+    call: &ThreadsCall,
 ) -> ExitCode {
-    let files = Files { reader: rt, paths };
-    match run_on_threads(threads, rt.alloc(), &files, capacity) {
-        Ok(said) => print_saved(rt, &said, saved),
-        Err(fault) => told_of(rt, &fault, paths, explains),
+    let paths = paths_of(call.schema, call.scripts.as_slice(), Order::Serial);
+    let files = Files {
+        reader: rt,
+        paths: &paths,
+    };
+    match run_on_threads(threads, rt.alloc(), &files, call.capacity) {
+        Ok(said) => print_saved(rt, &said, call.saved),
+        Err(fault) => told_of(rt, &fault, &paths, call.explains),
     }
 }
 
@@ -188,48 +199,13 @@ fn paths_of<'a>(schema: &'a str, scripts: &'a [&'a str], order: Order<&'a str>) 
 
 fn carry_out<R: Threads + Wait + Sync>(rt: &HostRuntime, threads: &R, call: &Call) -> ExitCode {
     match call {
-        Call::Check {
-            explains,
-            schema,
-            scripts,
-        } => print_check(
-            rt,
-            &paths_of(*schema, scripts.as_slice(), Order::Serial),
-            *explains,
-        ),
-        Call::Replay {
-            explains,
-            echo,
-            capacity,
-            order,
-            schema,
-            scripts,
-        } => {
-            let paths = paths_of(*schema, scripts.as_slice(), *order);
-            print_replay(rt, &paths, *capacity, *echo, *explains)
-        }
+        Call::Check(call) => print_check(rt, call),
+        Call::Replay(call) => print_replay(rt, call),
         Call::Turns(call) => print_turns(rt, call),
         Call::Timeline(call) => print_timeline(rt, call),
         Call::Outcomes(call) => tell_outcomes(rt, call),
-        Call::Threads {
-            explains,
-            capacity,
-            saved,
-            schema,
-            scripts,
-        } => {
-            let paths = paths_of(*schema, scripts.as_slice(), Order::Serial);
-            print_threads(rt, threads, &paths, *capacity, *explains, *saved)
-        }
-        Call::Draw {
-            explains,
-            form,
-            schema,
-            scripts,
-        } => {
-            let paths = paths_of(*schema, scripts.as_slice(), Order::Serial);
-            print_drawing(rt, &paths, *form, *explains)
-        }
+        Call::Threads(call) => print_threads(rt, threads, call),
+        Call::Draw(call) => print_drawing(rt, call),
         Call::Explain(topic) => print_topic(rt, topic),
         Call::Shell(call) => run_shell(rt, call),
     }
@@ -244,7 +220,11 @@ fn run_shell(rt: &HostRuntime, call: &ShellCall) -> ExitCode {
 fn open_shell(rt: &HostRuntime, paths: &Paths, call: &ShellCall) -> ExitCode {
     let files = Files { reader: rt, paths };
     match read_schema(rt.alloc(), &files) {
-        Ok(known) => open_units(rt, &known, call),
+        Ok(known) => {
+            let status = open_units(rt, &known, call);
+            drop(known);
+            status
+        }
         Err(fault) => told_of(rt, &fault, paths, true),
     }
 }

@@ -4,7 +4,7 @@ ghost use Rattle.std.specs.List.{flat_map, list_all};
 ghost use Rattle.dbtg_schema.specs.Sound.{IsSound};
 ghost use Rattle.dbtg_unit.specs.declared.moves.Move.{Move};
 ghost use Rattle.dbtg_step.specs.Laws.{scripts_fit};
-ghost use Rattle.dbtg_script.specs.WordTexts.{moves_words_text, turns_text};
+ghost use Rattle.dbtg_script.specs.Printing.WordTexts.{moves_words_text, turns_text};
 ghost use Rattle.dbtg.specs.Listing.{AreTold, IsListing, IsLong, IsOver, IsResultText, IsUntold, OutcomesHeld, ToldOfOutcomes, are_short, count_text, differing_text, orders_text, result_line, spaced_status, summary_text, worded};
 ghost use Rattle.dbtg.specs.Refusals.{is_count};
 ghost use Rattle.dbtg.specs.Replaying.{given_text};

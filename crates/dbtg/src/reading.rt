@@ -1,13 +1,13 @@
 //! Reading what the program is given; the readers' faults become the program's.
 ghost use Rattle.std.specs.Prelude.{◌≡◌, ◌++◌, ◌∷◌, [], None, IfErr, IfOk, OnOk, true};
 ghost use Rattle.std.specs.List.{list_all};
-ghost use Rattle.dbtg_schema.specs.SchemaFaults.{refusal as schema_refusal};
+ghost use Rattle.dbtg_schema.specs.Texts.SchemaFaults.{refusal as schema_refusal};
 ghost use Rattle.dbtg_schema.specs.Sound.{IsSound};
 ghost use Rattle.dbtg_script.specs.Moves.{refusal as moves_refusal};
 ghost use Rattle.dbtg_script.specs.StatementFaults.{refusal as script_refusal};
 ghost use Rattle.dbtg_script.specs.Statements.{script};
 ghost use Rattle.dbtg_script.specs.Turns.{turns_refusal};
-ghost use Rattle.dbtg_unit.specs.Fits.{fits};
+ghost use Rattle.dbtg_unit.specs.Database.Statements.Fits.{fits};
 ghost use Rattle.dbtg.specs.Refusals.{RefusesMoves, RefusesSchema, RefusesScript, RefusesTurns, schema_in};
 ghost use Rattle.dbtg.specs.Replaying.{moves_in, turns_in};
 

@@ -2,10 +2,10 @@
 ghost use Rattle.std.specs.Prelude.{◌≡◌, ◌++◌, ◌≤◌, IfErr, IfOk, OnOk, true, false, length, map, option_map};
 ghost use Rattle.dbtg_schema.specs.Sound.{IsSound};
 ghost use Rattle.dbtg_script.specs.Statements.{script};
-ghost use Rattle.dbtg_script.specs.Texts.{moves_text};
-ghost use Rattle.dbtg_step.specs.Headline.{RunIs};
+ghost use Rattle.dbtg_script.specs.Printing.Texts.{moves_text};
+ghost use Rattle.dbtg_step.specs.Machine.Headline.{RunIs};
 ghost use Rattle.dbtg_step.specs.Laws.{scripts_fit};
-ghost use Rattle.dbtg_step.specs.Serial.{SerialRunIs};
+ghost use Rattle.dbtg_step.specs.Core.Serial.{SerialRunIs};
 ghost use Rattle.dbtg.specs.Refusals.{RefusesReplay, is_count};
 ghost use Rattle.dbtg.specs.Replaying.{IsPrinted, IsReplay, RunByTurnsIs, echo_of, shown_text};
 ghost use Rattle.dbtg.specs.Sources.{ReadSchema, ReadScripts, ReplaysHeld, ToldOfRun, order_map};

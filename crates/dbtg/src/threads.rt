@@ -1,8 +1,8 @@
 //! Running scripts on threads, and the text of what comes of it.
 ghost use Rattle.std.specs.Prelude.{◌≡◌, ◌++◌, IfErr, IfOk, length, map, true};
 ghost use Rattle.dbtg_schema.specs.Sound.{IsSound};
-ghost use Rattle.dbtg_script.specs.Texts.{run_text};
-ghost use Rattle.dbtg_script.specs.WordTexts.{turns_text};
+ghost use Rattle.dbtg_script.specs.Printing.Texts.{run_text};
+ghost use Rattle.dbtg_script.specs.Printing.WordTexts.{turns_text};
 ghost use Rattle.dbtg_step.specs.Laws.{scripts_fit};
 ghost use Rattle.dbtg.specs.Refusals.{is_count};
 ghost use Rattle.dbtg.specs.Sources.{ThreadsHeld, ToldOfRun};
@@ -82,7 +82,10 @@ fn run_of<R: Threads + Wait + Sync>(
     match run_units(rt, alloc, db, units, scripts, &NoGate) {
         Ok(settled) => Ok(settled),
         // All units of the database came, so it was memory that was refused.
-        Err(_) => Err(AllocError),
+        Err(unsettled) => {
+            drop(unsettled);
+            Err(AllocError)
+        }
     }
 }
 
@@ -117,6 +120,11 @@ pub fn run_on_threads<R: Threads + Wait + Sync, S: Source>(
     ensures refused { IfErr result (λ fault. ToldOfRun (S.holds source.now) (S.fails source.now) fault (S.count source.now) Serial) }
 {
     let known = schema_for_run(alloc, source)?;
-    let scripts = read_scripts(alloc, source, &known)?;
-    Ok(threads_text(rt, alloc, known, capacity, scripts.as_slice())?)
+    match read_scripts(alloc, source, &known) {
+        Ok(scripts) => Ok(threads_text(rt, alloc, known, capacity, scripts.as_slice())?),
+        Err(fault) => {
+            drop(known);
+            Err(fault)
+        }
+    }
 }

@@ -1,14 +1,15 @@
-pub mod ValueLemmas
-pub mod PlainLemmas
-pub mod Occurrences
-pub mod ExtentLemmas
-pub mod Rising
-pub mod ByCalcLemmas
-pub mod KeyLemmas
-pub mod ChainLemmas
-pub mod RingLemmas
-pub mod Places
-pub mod RingReads
-pub mod NumberLemmas
-pub mod PlacedLaws
-pub mod PlaceNumbers
+mod Occurrences
+mod Rising
+mod Places
+mod RingReads
+mod PlacedLaws
+mod PlaceNumbers
+mod CalcOrder
+mod LinksWritten
+mod NumbersWritten
+mod KeysAlike
+mod NumbersOfCells
+mod PlainLists
+mod WholeRings
+mod ValuesCompared
+pub mod Public

@@ -6,7 +6,7 @@ use Rattle.dbtg_cells.specs.declared.key.Owner.{Owner}
 use Rattle.dbtg_cells.specs.declared.ring.Occurrence.{Occurrence}
 use Rattle.dbtg_cells.specs.Keys.{is_member, key_eq}
 use Rattle.dbtg_cells.specs.Members.{Entry, members_in, keys_in, has_key, with_members}
-use Rattle.dbtg_cells.proofs.PlainLemmas.{any-map}
+use Rattle.dbtg_cells.proofs.PlainLists.{any_map}
 
 abbrev pub shown_as : Option Owner → List Entry → Option Occurrence
 shown_as owner members = option_map (λ o. record { owner = o; members = members }) owner
@@ -15,12 +15,12 @@ pub changed : (owner : Option Owner) (ms ms' : List Entry) (occ : Option Occurre
 changed None ms ms' occ f view is = ap (with_members f) view
 changed (Some o) ms ms' occ f view is = ap (λ l. shown_as (Some o) l) is ∙ ap (with_members f) view
 
-pub members-shown : (owner : Option Owner) (o : Owner) (ms : List Entry) (occ : Option Occurrence) → shown_as owner ms ≡ occ → owner ≡ Some o → members_in occ ≡ ms
-members-shown owner o ms occ view is = sym (ap members_in view) ∙ ap (λ w. members_in (shown_as w ms)) is
+pub members_shown : (owner : Option Owner) (o : Owner) (ms : List Entry) (occ : Option Occurrence) → shown_as owner ms ≡ occ → owner ≡ Some o → members_in occ ≡ ms
+members_shown owner o ms occ view is = sym (ap members_in view) ∙ ap (λ w. members_in (shown_as w ms)) is
 
-pub keys-shown : (owner : Option Owner) (o : Owner) (ms : List Entry) (occ : Option Occurrence) → shown_as owner ms ≡ occ → owner ≡ Some o → keys_in occ ≡ map (λ e. e.0) ms
-keys-shown owner o ms occ view is = ap (map (λ e. e.0)) (members-shown owner o ms occ view is)
+pub keys_shown : (owner : Option Owner) (o : Owner) (ms : List Entry) (occ : Option Occurrence) → shown_as owner ms ≡ occ → owner ≡ Some o → keys_in occ ≡ map (λ e. e.0) ms
+keys_shown owner o ms occ view is = ap (map (λ e. e.0)) (members_shown owner o ms occ view is)
 
-pub member-there : (owner : Option Owner) (ms : List Entry) (occ : Option Occurrence) (k : DbKey) → shown_as owner ms ≡ occ → is_member k (keys_in occ) ≡ true → list_any (has_key k) ms ≡ true
-member-there None ms occ k view h = absurd (true≢false (sym (rw (sym view) at h)))
-member-there (Some o) ms occ k view h = sym (any-map (λ e. e.0) (key_eq k) ms) ∙ ap (is_member k) (sym (keys-shown (Some o) o ms occ view refl)) ∙ h
+pub member_there : (owner : Option Owner) (ms : List Entry) (occ : Option Occurrence) (k : DbKey) → shown_as owner ms ≡ occ → is_member k (keys_in occ) ≡ true → list_any (has_key k) ms ≡ true
+member_there None ms occ k view h = absurd (true≢false (sym (rw (sym view) at h)))
+member_there (Some o) ms occ k view h = sym (any_map (λ e. e.0) (key_eq k) ms) ∙ ap (is_member k) (sym (keys_shown (Some o) o ms occ view refl)) ∙ h

@@ -1,6 +1,6 @@
 -- Where the cells stand in their order: areas, record types, rings set by set, slots type by type.
 use Rattle.std.proofs.Common.{◌≡◌, ℕ, zero, suc, ◌+◌, ◌*◌, ◌-◌, ◌<◌, ◌≤◌, Bool, true, false, ◌&&◌, List, [], ◌∷◌, ◌++◌, Option, Some, None, map, length, refl, sym, ap, ◌∙◌, arith, length-append, slice_get, cond}
-use Rattle.std.specs.Prelude.{is_some, is_none, ◌==◌, nat_lt, nat_le, option_map, option_and_then, unwrap_or}
+use Rattle.std.specs.Prelude.{is_none, ◌==◌, nat_lt, nat_le, option_map, option_and_then, unwrap_or}
 use Rattle.std.specs.List.{flat_map, range_with_len}
 use Rattle.std.proofs.lemmas.Bool.{and_parts, ltb-true, leb-true, eqb-true}
 use Rattle.std.proofs.lemmas.Option.{slice_get-map, slice_get_within}
@@ -9,12 +9,14 @@ use Rattle.dbtg_schema.specs.Lists.{Lists}
 use Rattle.dbtg_schema.specs.Lookups.{some_and}
 use Rattle.dbtg_schema.specs.declared.shape.SetType.{SetType}
 use Rattle.dbtg_schema.specs.Structure.{is_system, owner_type, owns, set_numbers}
+use Rattle.dbtg_schema.proofs.Public.{none_is}
 use Rattle.dbtg_cells.specs.declared.name.CellName.{CellName}
 use Rattle.dbtg_cells.specs.declared.name.CellName.TheVariants.{Usage, Extent, Ring, Slot}
 use Rattle.dbtg_cells.specs.CellNumbers.{cells_in_order, rings_of, slots_of, is_cell, cell_number, cell_count}
-use Rattle.dbtg_cells.proofs.NumberLemmas.{has-number, numbered-at}
+use Rattle.dbtg_cells.proofs.NumbersOfCells.{has_number, numbered_at}
 
-at_left : {X : Type 0} (xs ys : List X) (k : ℕ) (x : X) → slice_get xs k ≡ Some x → slice_get (xs ++ ys) k ≡ Some x
+-- what a list has at an index stays there when more follows
+pub at_left : {X : Type 0} (xs ys : List X) (k : ℕ) (x : X) → slice_get xs k ≡ Some x → slice_get (xs ++ ys) k ≡ Some x
 at_left [] ys k x e = absurd (cc)
 at_left (y ∷ xs) ys zero x e = e
 at_left (y ∷ xs) ys (suc k) x e = at_left xs ys k x e
@@ -29,7 +31,8 @@ in_range a zero k l = absurd (omega arith)
 in_range a (suc n) zero l = ap Some (omega arith)
 in_range a (suc n) (suc k) l = in_range (a + 1) n k (omega arith) ∙ ap Some (omega arith)
 
-mapped_in_range : {X : Type 0} (f : ℕ → X) (a n k : ℕ) → k < n → slice_get (map f (range_with_len a n)) k ≡ Some (f (a + k))
+-- what is made of the numbers from a on, at an index
+pub mapped_in_range : {X : Type 0} (f : ℕ → X) (a n k : ℕ) → k < n → slice_get (map f (range_with_len a n)) k ≡ Some (f (a + k))
 mapped_in_range f a n k l = slice_get-map f (range_with_len a n) k ∙ ap (option_map f) (in_range a n k l)
 
 -- what stands in one part of a list that is made part by part
@@ -62,10 +65,6 @@ parts_more f a (suc n) =
     let sum : length (f a ++ flat_map f (range_with_len (a + 1) (n + 1))) ≡ length (f a ++ flat_map f (range_with_len (a + 1) n)) + length (f (a + suc n)) = omega (arith, here, there, rest) in
     ap (λ m. length (flat_map f (range_with_len a m))) more ∙ sum
 
-no_number : (o : Option ℕ) → is_some o ≡ false → o ≡ None
-no_number None e = refl
-no_number (Some n) e = absurd (cc (e))
-
 module _ (schema : Lists) (capacity : ℕ) where
   -- a set with an owner type has a ring for each number
   pub rings_owned : (s t : ℕ) → is_system schema s ≡ false → owner_type schema s ≡ Some t → length (rings_of schema capacity s) ≡ capacity
@@ -75,12 +74,6 @@ module _ (schema : Lists) (capacity : ℕ) where
       by true o b e = absurd (cc (b))
       by false None b e = absurd (cc (e))
       by false (Some u) b e = length-map-range_with_len (λ n. Ring s (Some (u, n))) 1 capacity
-
-  pub rings_system : (s : ℕ) → is_system schema s ≡ true → length (rings_of schema capacity s) ≡ 1
-  rings_system s b = ap (λ b. length (cond b (Ring s None ∷ []) (unwrap_or (option_map (λ t. map (λ n. Ring s (Some (t, n))) (range_with_len 1 capacity)) (owner_type schema s)) []))) b
-
-  pub rings_none : (s : ℕ) → is_system schema s ≡ false → owner_type schema s ≡ None → length (rings_of schema capacity s) ≡ 0
-  rings_none s b o = λ i. length (cond (b i) (Ring s None ∷ []) (unwrap_or (option_map (λ t. map (λ n. Ring s (Some (t, n))) (range_with_len 1 capacity)) (o i)) []))
 
   abbrev usages : List CellName
   usages = map Usage (range_with_len 0 (length schema.areas))
@@ -117,17 +110,17 @@ module _ (schema : Lists) (capacity : ℕ) where
       ∙ omega arith
 
   pub no_cell : (c : CellName) → is_cell schema capacity c ≡ false → cell_number schema capacity c ≡ None
-  no_cell c e = no_number (cell_number schema capacity c) (has-number schema capacity c ∙ e)
+  no_cell c e = none_is (cell_number schema capacity c) (has_number schema capacity c ∙ e)
 
   pub usage_number : (a : ℕ) → is_cell schema capacity (Usage a) ≡ true → cell_number schema capacity (Usage a) ≡ Some a
-  usage_number a e = numbered-at schema capacity a (Usage a) (at_left usages (extents ++ (rings ++ slots)) a (Usage a) (mapped_in_range Usage 0 (length schema.areas) a (ltb-true _ _ e) ∙ ap (λ b. Some (Usage b)) (omega arith)))
+  usage_number a e = numbered_at schema capacity a (Usage a) (at_left usages (extents ++ (rings ++ slots)) a (Usage a) (mapped_in_range Usage 0 (length schema.areas) a (ltb-true _ _ e) ∙ ap (λ b. Some (Usage b)) (omega arith)))
 
   pub extent_number : (t : ℕ) → is_cell schema capacity (Extent t) ≡ true → cell_number schema capacity (Extent t) ≡ Some (length schema.areas + t)
-  extent_number t e = numbered-at schema capacity _ (Extent t) (behind_usages t ∙ at_left extents (rings ++ slots) t (Extent t) (mapped_in_range Extent 0 (length schema.types) t (ltb-true _ _ e) ∙ ap (λ b. Some (Extent b)) (omega arith)))
+  extent_number t e = numbered_at schema capacity _ (Extent t) (behind_usages t ∙ at_left extents (rings ++ slots) t (Extent t) (mapped_in_range Extent 0 (length schema.types) t (ltb-true _ _ e) ∙ ap (λ b. Some (Extent b)) (omega arith)))
 
   in_rings : (s k : ℕ) (c : CellName) → s < length schema.sets → slice_get (rings_of schema capacity s) k ≡ Some c → cell_number schema capacity c ≡ Some (length schema.areas + length schema.types + (length (flat_map (rings_of schema capacity) (range_with_len 0 s)) + k))
   in_rings s k c l e =
-      numbered-at schema capacity _ c (behind_extents _ ∙ at_left rings slots _ c (in_part (rings_of schema capacity) 0 (length schema.sets) s k c l (ap (λ b. slice_get (rings_of schema capacity b) k) (omega arith) ∙ e)))
+      numbered_at schema capacity _ c (behind_extents _ ∙ at_left rings slots _ c (in_part (rings_of schema capacity) 0 (length schema.sets) s k c l (ap (λ b. slice_get (rings_of schema capacity b) k) (omega arith) ∙ e)))
 
   system_there : (s : ℕ) → is_system schema s ≡ true → s < length schema.sets
   system_there s e = by (slice_get schema.sets s) refl e
@@ -180,5 +173,5 @@ module _ (schema : Lists) (capacity : ℕ) where
       let high : n ≤ capacity = (numbered n (and_parts (nat_lt t (length schema.types)) (nat_lt 0 n && nat_le n capacity) e).1).1 in
       let here : slice_get (slots_of capacity (0 + t)) (n - 1) ≡ Some (Slot t n) =
       mapped_in_range (Slot (0 + t)) 1 capacity (n - 1) (omega arith) ∙ (λ i. Some (Slot ((let zero_and : 0 + t ≡ t = omega arith in zero_and) i) ((let back : 1 + (n - 1) ≡ n = omega arith in back) i))) in
-      numbered-at schema capacity _ (Slot t n) (behind_rings _ ∙ in_part (slots_of capacity) 0 (length schema.types) t (n - 1) (Slot t n) l here)
+      numbered_at schema capacity _ (Slot t n) (behind_rings _ ∙ in_part (slots_of capacity) 0 (length schema.types) t (n - 1) (Slot t n) l here)
       ∙ ap Some (ap (λ m. length schema.areas + length schema.types + length rings + (m + (n - 1))) (slots_length t) ∙ omega arith)

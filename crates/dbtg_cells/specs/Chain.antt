@@ -85,12 +85,16 @@ end_or (Some i) new old = old
 
 -- how the parts of a ring hang together
 pub record IsRing (find : DbKey → Option ℕ) (s : Slots) (first last : Option ℕ) (len : ℕ) : Type 0 where
+  -- the linked nodes, from the first to the last, are linked both ways
   pub chain : List Link
   pub links : Seg s None chain None
+  -- the ring has its ends and their number
   pub starts : first ≡ head_at chain None
   pub ends : last ≡ last_at None chain
   pub counted : len ≡ length chain
+  -- no two lie at one place, and no other node is marked as linked
   pub apart : Apart chain
   pub marked : (i : ℕ) → linked_at s i ≡ true → LiesAt chain i
+  -- the index leads from each key just to its node
   pub found : (k : DbKey) (i : ℕ) → find k ≡ Some i → key_at s i ≡ Some k
   pub keyed : (k : DbKey) (i : ℕ) → key_at s i ≡ Some k → find k ≡ Some i

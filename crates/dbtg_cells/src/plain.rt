@@ -426,6 +426,7 @@ impl PlainRing {
         if self.reserved.contains(&key) {
             return Ok(());
         }
+        // The invariant, which reserving keeps.
         let _ = &self.owner;
         self.members.reserve(self.reserved.len() + 1)?;
         self.reserved.reserve(self.members.len() + 1)?;

@@ -12,13 +12,13 @@ use Rattle.dbtg_draw.specs.Layout.{area_blocks, blocks, system_block, system_blo
 use Rattle.dbtg_draw.specs.declared.blocks.Block.{Block}
 use Rattle.std.specs.Prelude.{if◌then◌else◌}
 
-length-type_blocks : (schema : Lists) (columns : List ℕ) (t : ℕ) (rs : List RecordType) → length (type_blocks schema columns t rs) ≡ length rs
-length-type_blocks schema columns t [] = refl
-length-type_blocks schema columns t (r ∷ rs) = omega (arith, length-type_blocks schema columns (t + 1) rs)
+length_type_blocks : (schema : Lists) (columns : List ℕ) (t : ℕ) (rs : List RecordType) → length (type_blocks schema columns t rs) ≡ length rs
+length_type_blocks schema columns t [] = refl
+length_type_blocks schema columns t (r ∷ rs) = omega (arith, length_type_blocks schema columns (t + 1) rs)
 
-length-area_blocks : (a : ℕ) (areas : List Area) → length (area_blocks a areas) ≡ length areas
-length-area_blocks a [] = refl
-length-area_blocks a (area ∷ areas) = omega (arith, length-area_blocks (a + 1) areas)
+length_area_blocks : (a : ℕ) (areas : List Area) → length (area_blocks a areas) ≡ length areas
+length_area_blocks a [] = refl
+length_area_blocks a (area ∷ areas) = omega (arith, length_area_blocks (a + 1) areas)
 
 one_at_most : (b : Bool) (block : Block) → length (if b then block ∷ [] else []) ≤ 1
 one_at_most true block = omega arith
@@ -34,8 +34,8 @@ few_blocks schema legal =
       arith,
       length-append (front ++ types) areas,
       length-append front types,
-      length-type_blocks schema (columns schema) 0 schema.types,
-      length-area_blocks 0 schema.areas,
+      length_type_blocks schema (columns schema) 0 schema.types,
+      length_area_blocks 0 schema.areas,
       one_at_most (has_system schema.sets) (system_block schema.sets),
       legal.types_limit,
       legal.areas_limit,

@@ -8,15 +8,19 @@ use Rattle.dbtg_schema.specs.declared.shape.RecordType.{RecordType}
 use Rattle.dbtg_schema.specs.declared.shape.SetType.{SetType}
 use Rattle.dbtg_draw.specs.Lines.{detail_lines, member_line, order_line, owner_name, type_name}
 
+-- a name between quotation marks
 unfoldable pub quoted : List ℕ → List ℕ
 quoted name = codes "\"" ++ name ++ codes "\""
 
+-- the first line: a directed graph with the name of the schema
 unfoldable pub front_text : List ℕ → List ℕ
 front_text name = codes "digraph " ++ quoted name ++ codes " {\n"
 
+-- the title between quotation marks
 unfoldable pub titled : List ℕ → List ℕ
 titled name = quoted (codes "SCHEMA " ++ name)
 
+-- the line of the title
 unfoldable pub title_text : List ℕ → List ℕ
 title_text name = codes "label=" ++ titled name ++ codes "\n"
 
@@ -44,6 +48,7 @@ left_line line = line ++ codes "\\l"
 unfoldable pub record_label : Lists → RecordType → List ℕ
 record_label schema r = quoted (codes "{" ++ r.name ++ codes "|" ++ flat_map left_line (detail_lines schema r) ++ codes "}")
 
+-- the box of a record type, in the colour of its area
 unfoldable pub record_node : Lists → RecordType → List ℕ
 record_node schema r = quoted r.name ++ colour_text r.area ++ codes " label=" ++ record_label schema r ++ codes "]\n"
 
@@ -51,6 +56,7 @@ record_node schema r = quoted r.name ++ colour_text r.area ++ codes " label=" ++
 abbrev pub has_system : List SetType → Bool
 has_system sets = list_any (λ s. is_none s.owner) sets
 
+-- the box of SYSTEM, where some set has it as owner
 unfoldable pub system_node : Lists → List ℕ
 system_node schema = if has_system schema.sets then quoted (codes "SYSTEM") ++ codes "\n" else []
 
@@ -63,6 +69,7 @@ unfoldable pub member_edge : Lists → SetType → Member → List ℕ
 member_edge schema set m =
     quoted (owner_name schema set.owner) ++ codes " -> " ++ quoted (type_name schema m.rtype) ++ codes " [label=" ++ member_label schema set m ++ codes "]\n"
 
+-- the arrows of a set, one to each member
 unfoldable pub set_edges : Lists → SetType → List ℕ
 set_edges schema set = flat_map (member_edge schema set) set.members
 
@@ -75,9 +82,11 @@ abbrev pub area_nodes : ℕ → List Area → List ℕ
 area_nodes n [] = []
 area_nodes n (a ∷ areas) = area_node a.name n ++ area_nodes (n + 1) areas
 
+-- the beginning of the legend of areas
 unfoldable pub legend_text : List ℕ
 legend_text = codes "subgraph cluster_areas {\nlabel=AREAS\n"
 
+-- the end of the legend and of the graph
 unfoldable pub end_text : List ℕ
 end_text = codes "}\n}\n"
 

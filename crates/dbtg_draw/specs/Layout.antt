@@ -27,15 +27,19 @@ touches (Some t) set = some_and (λ o. o == t) set.owner || list_any (λ m. m.rt
 abbrev pub count_ends : Option ℕ → List SetType → ℕ
 count_ends node sets = count_by (touches node) sets
 
+-- the block with the schema's name
 abbrev pub title_block : Lists → Block
 title_block schema = record { column = 0; area = None; lines = (codes "SCHEMA " ++ schema.name) ∷ []; ends = 0 }
 
+-- the block of SYSTEM
 abbrev pub system_block : List SetType → Block
 system_block sets = record { column = 0; area = None; lines = codes "SYSTEM" ∷ []; ends = count_ends None sets }
 
+-- the block of SYSTEM, where some set has it as owner
 abbrev pub system_blocks : List SetType → List Block
 system_blocks sets = if has_system sets then system_block sets ∷ [] else []
 
+-- the block of record type t, in its column
 unfoldable pub type_block : Lists → List ℕ → ℕ → RecordType → Block
 type_block schema columns t r = record { column = column_of columns t; area = Some r.area; lines = r.name ∷ detail_lines schema r; ends = count_ends (Some t) schema.sets }
 
@@ -44,6 +48,7 @@ abbrev pub type_blocks : Lists → List ℕ → ℕ → List RecordType → List
 type_blocks schema columns t [] = []
 type_blocks schema columns t (r ∷ rs) = type_block schema columns t r ∷ type_blocks schema columns (t + 1) rs
 
+-- the block of area a, in the legend
 unfoldable pub area_block : ℕ → Area → Block
 area_block a area = record { column = 0; area = Some a; lines = (codes "AREA " ++ area.name) ∷ []; ends = 0 }
 
@@ -73,6 +78,7 @@ links schema s (set ∷ sets) = map (link schema s set) set.members ++ links sch
 
 -- ---- sizes
 
+-- the larger of two numbers
 abbrev pub larger : ℕ → ℕ → ℕ
 larger m n = if nat_lt m n then n else m
 
@@ -88,6 +94,7 @@ scale_of blocks links sets = record {
   sets = sets;
 }
 
+-- the scale of a schema's diagram
 abbrev pub scale : Lists → Scale
 scale schema = scale_of (blocks schema) (links schema 0 schema.sets) (length schema.sets)
 
@@ -128,6 +135,7 @@ pub record Box : Type 0 where
   pub width : ℕ
   pub height : ℕ
 
+-- the box of a block that has its top here
 abbrev pub box_of : Scale → ℕ → Block → Box
 box_of scale top b = record { left = left_of scale b.column; top = top; width = box_width scale; height = height b }
 
@@ -136,16 +144,19 @@ abbrev pub boxes_from : Scale → ℕ → List Block → List Box
 boxes_from scale top [] = []
 boxes_from scale top (b ∷ bs) = box_of scale top b ∷ boxes_from scale (top + pitch b) bs
 
+-- the boxes of a schema's diagram
 abbrev pub boxes : Lists → List Box
 boxes schema = boxes_from (scale schema) 16 (blocks schema)
 
--- the size of the picture: as far right as the last column in use, as far down as the last box
+-- the last column in use
 abbrev pub last_column : List Block → ℕ
 last_column blocks = fold (λ n (b : Block). larger n b.column) 0 blocks
 
+-- the width of the picture: as far right as the last column in use
 abbrev pub picture_width : Scale → List Block → ℕ
 picture_width scale blocks = left_of scale (last_column blocks) + box_width scale + 16
 
+-- the height of the picture: as far down as the last box
 abbrev pub picture_height : List Block → ℕ
 picture_height blocks = 16 + sum_by pitch blocks
 

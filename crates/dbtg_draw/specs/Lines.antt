@@ -19,17 +19,21 @@ use Rattle.dbtg_schema.specs.declared.shape.SetType.{SetType}
 
 -- ---- names by their numbers, empty where there is none
 
+-- the name of area a
 abbrev pub area_name : Lists → ℕ → List ℕ
 area_name schema a = unwrap_or (option_map (λ it. it.name) (slice_get schema.areas a)) []
 
+-- the name of record type t
 abbrev pub type_name : Lists → ℕ → List ℕ
 type_name schema t = unwrap_or (option_map (λ it. it.name) (slice_get schema.types t)) []
 
+-- the name of item i of these
 abbrev pub item_name : List Item → ℕ → List ℕ
 item_name items i = unwrap_or (option_map (λ it. it.name) (slice_get items i)) []
 
 -- ---- a record type
 
+-- the picture of an item
 abbrev pub picture_text : Picture → List ℕ
 picture_text (Number n) = codes "9(" ++ decimal n ++ codes ")"
 picture_text (Text n) = codes "X(" ++ decimal n ++ codes ")"
@@ -38,12 +42,15 @@ picture_text (Text n) = codes "X(" ++ decimal n ++ codes ")"
 abbrev pub item_line : Item → List ℕ
 item_line i = i.name ++ 32 ∷ picture_text i.picture
 
+-- a space and the name of an item
 abbrev pub spaced_item : List Item → ℕ → List ℕ
 spaced_item items i = 32 ∷ item_name items i
 
+-- the CALC key, by the names of its items
 abbrev pub calc_line : List Item → List ℕ → List ℕ
 calc_line items numbers = codes "CALC USING" ++ flat_map (spaced_item items) numbers
 
+-- whether two records may have the same CALC key
 abbrev pub allowed_line : Bool → List ℕ
 allowed_line true = codes "DUPLICATES ALLOWED"
 allowed_line false = codes "DUPLICATES NOT ALLOWED"
@@ -53,6 +60,7 @@ abbrev pub location_lines : List Item → Option Calc → List (List ℕ)
 location_lines items None = []
 location_lines items (Some c) = calc_line items c.items ∷ allowed_line c.duplicates_allowed ∷ []
 
+-- the area of a record type
 abbrev pub within_line : Lists → ℕ → List ℕ
 within_line schema a = codes "WITHIN " ++ area_name schema a
 
@@ -62,6 +70,7 @@ detail_lines schema r = location_lines r.items r.calc ++ within_line schema r.ar
 
 -- ---- an arrow
 
+-- how a record becomes a member and may cease to be one
 abbrev pub class_text : Class → List ℕ
 class_text MandatoryAutomatic = codes "MANDATORY AUTOMATIC"
 class_text MandatoryManual = codes "MANDATORY MANUAL"
@@ -72,10 +81,12 @@ class_text OptionalManual = codes "OPTIONAL MANUAL"
 abbrev pub member_line : SetType → Member → List ℕ
 member_line set m = set.name ++ 32 ∷ class_text m.class
 
+-- whether a sorted set ascends or descends
 abbrev pub direction_text : Bool → List ℕ
 direction_text true = codes "SORTED ASCENDING"
 direction_text false = codes "SORTED DESCENDING"
 
+-- where a member goes that has the sort key of another
 abbrev pub duplicates_text : Duplicates → List ℕ
 duplicates_text duplicates.First = codes " DUPLICATES FIRST"
 duplicates_text duplicates.Last = codes " DUPLICATES LAST"

@@ -9,17 +9,21 @@ use Rattle.dbtg_draw.specs.declared.blocks.Block.{Block}
 use Rattle.dbtg_draw.specs.declared.links.Link.{Link}
 use Rattle.dbtg_draw.specs.declared.scale.Scale.{Scale}
 
+-- an attribute that is a number
 unfoldable pub attribute : List ℕ → ℕ → List ℕ
 attribute name n = 32 ∷ name ++ codes "='" ++ decimal n ++ codes "'"
 
 -- ---- the head
 
+-- the beginning of the opening tag
 unfoldable pub open_text : List ℕ
 open_text = codes "<svg xmlns='http://www.w3.org/2000/svg'"
 
+-- the opening tag, with the size of the picture
 unfoldable pub head_text : ℕ → ℕ → List ℕ
 head_text width height = open_text ++ attribute (codes "width") width ++ attribute (codes "height") height ++ codes ">\n"
 
+-- the title: the name of the schema
 unfoldable pub title_text : List ℕ → List ℕ
 title_text name = codes "<title>" ++ name ++ codes "</title>\n"
 
@@ -42,11 +46,13 @@ unfoldable pub open_rect : Option ℕ → List ℕ
 open_rect None = codes "<rect class='plain'"
 open_rect (Some a) = codes "<rect class='area" ++ decimal a ++ codes "'"
 
+-- the rectangle of a box, in the colour of its area
 unfoldable pub rect_text : Option ℕ → Box → List ℕ
 rect_text area box =
     open_rect area ++ attribute (codes "x") box.left ++ attribute (codes "y") box.top ++ attribute (codes "width") box.width
     ++ attribute (codes "height") box.height ++ codes "/>\n"
 
+-- a line of words at a point
 unfoldable pub line_text : ℕ → ℕ → List ℕ → List ℕ
 line_text x y line = codes "<text" ++ attribute (codes "x") x ++ attribute (codes "y") y ++ codes ">" ++ line ++ codes "</text>\n"
 
@@ -55,6 +61,7 @@ abbrev pub lines_text : ℕ → ℕ → List (List ℕ) → List ℕ
 lines_text x y [] = []
 lines_text x y (line ∷ lines) = line_text x y line ++ lines_text x (y + 16) lines
 
+-- a box and the lines in it
 unfoldable pub box_text : Scale → ℕ → Block → List ℕ
 box_text scale top b = rect_text b.area (box_of scale top b) ++ lines_text (left_of scale b.column + 8) (top + 16) b.lines
 
@@ -65,6 +72,7 @@ boxes_text scale top (b ∷ bs) = box_text scale top b ++ boxes_text scale (top 
 
 -- ---- arrows
 
+-- the beginning of an arrow's path, at the owner
 unfoldable pub start_text : Arrow → List ℕ
 start_text a = codes "<path d='M" ++ decimal a.start ++ codes " " ++ decimal a.from
 
@@ -72,9 +80,11 @@ start_text a = codes "<path d='M" ++ decimal a.start ++ codes " " ++ decimal a.f
 unfoldable pub way_text : Arrow → List ℕ
 way_text a = codes "H" ++ decimal a.lane ++ codes "V" ++ decimal a.to ++ codes "H" ++ decimal a.head
 
+-- the end of an arrow's path, with the head
 unfoldable pub end_text : List ℕ
 end_text = codes "' marker-end='url(#head)'/>\n"
 
+-- the path of an arrow
 unfoldable pub path_text : Arrow → List ℕ
 path_text a = start_text a ++ way_text a ++ end_text
 
@@ -82,18 +92,22 @@ path_text a = start_text a ++ way_text a ++ end_text
 unfoldable pub label_text : ℕ → ℕ → List ℕ → List ℕ
 label_text x y words = codes "<text class='label'" ++ attribute (codes "x") x ++ attribute (codes "y") y ++ codes ">" ++ words ++ codes "</text>\n"
 
+-- an arrow with its words above and below
 unfoldable pub arrow_text : Arrow → Link → List ℕ
 arrow_text a l = path_text a ++ label_text (a.head - 14) (a.to - 4) l.above ++ label_text (a.head - 14) (a.to + 12) l.below
 
+-- the arrow of a link, where the layout has it
 unfoldable pub link_text : Scale → List SetType → List Block → Link → List ℕ
 link_text scale sets blocks l = arrow_text (arrow_of scale sets blocks l) l
 
 -- ---- the whole
 
+-- the picture of these blocks and links
 unfoldable pub drawn_text : Lists → Scale → List Block → List Link → List ℕ
 drawn_text schema scale blocks links =
     head_text (picture_width scale blocks) (picture_height blocks) ++ title_text schema.name ++ style_text ++ colours_text ++ marker_text
     ++ boxes_text scale 16 blocks ++ flat_map (link_text scale schema.sets blocks) links ++ codes "</svg>\n"
 
+-- the diagram of a schema
 unfoldable pub svg_text : Lists → List ℕ
 svg_text schema = drawn_text schema (scale schema) (blocks schema) (links schema 0 schema.sets)

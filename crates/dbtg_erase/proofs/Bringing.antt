@@ -1,12 +1,12 @@
 -- Two work lists that bring the same of each key whose cells are in hand are the same as far as the cells in hand go.
-use Rattle.std.proofs.Common.{◌≡◌, refl, sym, ◌∙◌, ap, subst, ℕ, zero, suc, ◌+◌, ◌≤◌, Bool, true, false, cond, List, [], ◌∷◌, ◌++◌, length, Option, Some, None, arith, append_assoc, length-append}
+use Rattle.std.proofs.Common.{◌≡◌, refl, sym, ◌∙◌, ap, subst, ℕ, zero, suc, ◌+◌, ◌≤◌, Bool, true, false, cond, List, [], ◌∷◌, ◌++◌, length, Option, Some, None, arith, append_assoc, length-append, append-nil}
 use Rattle.std.specs.Prelude.{slice_get}
 use Rattle.std.specs.List.{find, flat_map}
 use Rattle.std.proofs.lemmas.Option.{none-some, slice_get_within}
 use Rattle.dbtg_cells.specs.declared.key.DbKey.{DbKey}
 use Rattle.dbtg_cells.specs.declared.name.CellName.{CellName}
-use Rattle.dbtg_unit.specs.Erasing.{brought, brought_from, with_those}
-use Rattle.dbtg_unit.proofs.InTurn.{append-nil, extends, slice_get_front}
+use Rattle.dbtg_unit.specs.Hands.Erasing.{brought, brought_from, with_those}
+use Rattle.dbtg_unit.proofs.Public.{slice_get_front, with_those_extends}
 
 -- PLACES
 
@@ -16,16 +16,16 @@ from zero xs = xs
 from (suc i) [] = []
 from (suc i) (x ∷ xs) = from i xs
 
-from-at : {X : Type 0} (i : ℕ) (xs : List X) (x : X) → slice_get xs i ≡ Some x → from i xs ≡ x ∷ from (suc i) xs
-from-at i [] x h = absurd (none-some x h)
-from-at zero (y ∷ ys) x h = cc
-from-at (suc i) (y ∷ ys) x h = from-at i ys x h
+from_at : {X : Type 0} (i : ℕ) (xs : List X) (x : X) → slice_get xs i ≡ Some x → from i xs ≡ x ∷ from (suc i) xs
+from_at i [] x h = absurd (none-some x h)
+from_at zero (y ∷ ys) x h = cc
+from_at (suc i) (y ∷ ys) x h = from_at i ys x h
 
-from-past : {X : Type 0} (i : ℕ) (xs : List X) → length xs ≤ i → from i xs ≡ []
-from-past zero [] h = refl
-from-past (suc i) [] h = refl
-from-past zero (x ∷ xs) h = absurd (omega arith)
-from-past (suc i) (x ∷ xs) h = from-past i xs (omega arith)
+from_past : {X : Type 0} (i : ℕ) (xs : List X) → length xs ≤ i → from i xs ≡ []
+from_past zero [] h = refl
+from_past (suc i) [] h = refl
+from_past zero (x ∷ xs) h = absurd (omega arith)
+from_past (suc i) (x ∷ xs) h = from_past i xs (omega arith)
 
 pub past : {X : Type 0} (i : ℕ) (xs : List X) → slice_get xs i ≡ None → length xs ≤ i
 past i [] h = omega arith
@@ -39,21 +39,21 @@ none_past (suc i) (x ∷ xs) h = none_past i xs (omega arith)
 
 -- THE FIRST THAT PASSES
 
-find-first : {X : Type 0} (p : X → Bool) (xs ys : List X) (x : X) → find p xs ≡ Some x → find p (xs ++ ys) ≡ Some x
-find-first p [] ys x h = absurd (none-some x h)
-find-first p (z ∷ xs) ys x h =
-    elim (p z) as (λ b. cond b (Some z) (find p xs) ≡ Some x → cond b (Some z) (find p (xs ++ ys)) ≡ Some x) [ true ↦ λ e. e | false ↦ λ e. find-first p xs ys x e ] h
+find_first : {X : Type 0} (p : X → Bool) (xs ys : List X) (x : X) → find p xs ≡ Some x → find p (xs ++ ys) ≡ Some x
+find_first p [] ys x h = absurd (none-some x h)
+find_first p (z ∷ xs) ys x h =
+    elim (p z) as (λ b. cond b (Some z) (find p xs) ≡ Some x → cond b (Some z) (find p (xs ++ ys)) ≡ Some x) [ true ↦ λ e. e | false ↦ λ e. find_first p xs ys x e ] h
 
-pub find-second : {X : Type 0} (p : X → Bool) (xs ys : List X) → find p xs ≡ None → find p (xs ++ ys) ≡ find p ys
-find-second p [] ys h = refl
-find-second p (z ∷ xs) ys h =
-    elim (p z) as (λ b. cond b (Some z) (find p xs) ≡ None → cond b (Some z) (find p (xs ++ ys)) ≡ find p ys) [ true ↦ λ e. absurd (none-some z (sym e)) | false ↦ λ e. find-second p xs ys e ] h
+pub find_second : {X : Type 0} (p : X → Bool) (xs ys : List X) → find p xs ≡ None → find p (xs ++ ys) ≡ find p ys
+find_second p [] ys h = refl
+find_second p (z ∷ xs) ys h =
+    elim (p z) as (λ b. cond b (Some z) (find p xs) ≡ None → cond b (Some z) (find p (xs ++ ys)) ≡ find p ys) [ true ↦ λ e. absurd (none-some z (sym e)) | false ↦ λ e. find_second p xs ys e ] h
 
 -- WORK LISTS
 
 still_at : (order news : List DbKey) (i : ℕ) (d : DbKey) → slice_get order i ≡ Some d → slice_get (with_those order news) i ≡ Some d
 still_at order news i d e =
-    let r = extends order news in
+    let r = with_those_extends order news in
     ap (λ zs. slice_get zs i) r.1 ∙ slice_get_front order r.0 i (slice_get_within order i d e) ∙ e
 
 module _ (taken : DbKey → List DbKey) where
@@ -63,7 +63,7 @@ module _ (taken : DbKey → List DbKey) where
     by : (d : Option DbKey) → ((zs : List DbKey) → (ys : List DbKey) × (brought taken n (suc i) zs ≡ zs ++ ys)) → (ys : List DbKey) × (brought taken n (suc i) (brought_from taken order d) ≡ order ++ ys)
     by None later = later order
     by (Some d) later =
-        let those = extends order (taken d) in
+        let those = with_those_extends order (taken d) in
         let rest = later (with_those order (taken d)) in
         (those.0 ++ rest.0, rest.1 ∙ ap (λ xs. xs ++ rest.0) those.1 ∙ append_assoc order those.0 rest.0)
 
@@ -94,8 +94,8 @@ module _ (taken taken' : DbKey → List DbKey) (cells cells' : DbKey → List Ce
 
   ended : (i : ℕ) (xs ys order : List DbKey) → xs ≡ order → ys ≡ order → length order ≤ i → Agree i xs ys
   ended i xs ys order e f h = (
-    ap (λ zs. find wanting (flat_map cells (from i zs))) e ∙ ap (λ zs. find wanting (flat_map cells zs)) (from-past i order h)
-        ∙ sym (ap (λ zs. find wanting (flat_map cells' (from i zs))) f ∙ ap (λ zs. find wanting (flat_map cells' zs)) (from-past i order h)),
+    ap (λ zs. find wanting (flat_map cells (from i zs))) e ∙ ap (λ zs. find wanting (flat_map cells zs)) (from_past i order h)
+        ∙ sym (ap (λ zs. find wanting (flat_map cells' (from i zs))) f ∙ ap (λ zs. find wanting (flat_map cells' zs)) (from_past i order h)),
     λ none. e ∙ sym f,
   )
 
@@ -103,20 +103,20 @@ module _ (taken taken' : DbKey → List DbKey) (cells cells' : DbKey → List Ce
   one_more : (i : ℕ) (d : DbKey) (xs ys : List DbKey) → slice_get xs i ≡ Some d → slice_get ys i ≡ Some d → (find wanting (cells d) ≡ None → Agree (suc i) xs ys) → Agree i xs ys
   one_more i d xs ys e f rest = first (find wanting (cells d)) refl where
     here : find wanting (flat_map cells (from i xs)) ≡ find wanting (cells d ++ flat_map cells (from (suc i) xs))
-    here = ap (λ zs. find wanting (flat_map cells zs)) (from-at i xs d e)
+    here = ap (λ zs. find wanting (flat_map cells zs)) (from_at i xs d e)
 
     there : find wanting (flat_map cells' (from i ys)) ≡ find wanting (cells' d ++ flat_map cells' (from (suc i) ys))
-    there = ap (λ zs. find wanting (flat_map cells' zs)) (from-at i ys d f)
+    there = ap (λ zs. find wanting (flat_map cells' zs)) (from_at i ys d f)
 
     first : (c : Option CellName) → find wanting (cells d) ≡ c → Agree i xs ys
     first (Some c) h =
-        let found : find wanting (flat_map cells (from i xs)) ≡ Some c = here ∙ find-first wanting (cells d) (flat_map cells (from (suc i) xs)) c h in
-        (found ∙ sym (there ∙ find-first wanting (cells' d) (flat_map cells' (from (suc i) ys)) c (sym (finds d) ∙ h)), λ none. absurd (none-some c (sym none ∙ found)))
+        let found : find wanting (flat_map cells (from i xs)) ≡ Some c = here ∙ find_first wanting (cells d) (flat_map cells (from (suc i) xs)) c h in
+        (found ∙ sym (there ∙ find_first wanting (cells' d) (flat_map cells' (from (suc i) ys)) c (sym (finds d) ∙ h)), λ none. absurd (none-some c (sym none ∙ found)))
     first None h =
         let rest_is = rest h in (
-          here ∙ find-second wanting (cells d) (flat_map cells (from (suc i) xs)) h ∙ rest_is.0
-              ∙ sym (there ∙ find-second wanting (cells' d) (flat_map cells' (from (suc i) ys)) (sym (finds d) ∙ h)),
-          λ none. rest_is.1 (sym (here ∙ find-second wanting (cells d) (flat_map cells (from (suc i) xs)) h) ∙ none),
+          here ∙ find_second wanting (cells d) (flat_map cells (from (suc i) xs)) h ∙ rest_is.0
+              ∙ sym (there ∙ find_second wanting (cells' d) (flat_map cells' (from (suc i) ys)) (sym (finds d) ∙ h)),
+          λ none. rest_is.1 (sym (here ∙ find_second wanting (cells d) (flat_map cells (from (suc i) xs)) h) ∙ none),
         )
 
   pub agree : (m n i : ℕ) (order : List DbKey) → length (brought taken m i order) ≤ i + m → length (brought taken m i order) ≤ i + n → Agree i (brought taken m i order) (brought taken' n i order)

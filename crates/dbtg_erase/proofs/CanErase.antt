@@ -1,6 +1,6 @@
 -- The edits of a DELETE can be made in turn.
 use Rattle.std.proofs.Common.{◌≡◌, refl, sym, ◌∙◌, ap, subst, ℕ, zero, suc, ◌+◌, ◌<◌, ◌≤◌, ◌^◌, arith, Bool, true, false, cond, not, ◌&&◌, ◌||◌, eqb, List, [], ◌∷◌, ◌++◌, Option, Some, None, inl, inr, map}
-use Rattle.std.specs.Prelude.{filter, option_map, slice_get}
+use Rattle.std.specs.Prelude.{filter, option_map}
 use Rattle.std.specs.List.{flat_map, list_any, range_with_len}
 use Rattle.std.proofs.lemmas.Bool.{and_parts, cases_Bool, cond-false, eq-eqb, eqb-true, false≢true, false_from_ne_true, not-true, or_left, or_right}
 use Rattle.dbtg_schema.specs.Lists.{Lists}
@@ -21,29 +21,23 @@ use Rattle.dbtg_cells.specs.Members.{keys_in}
 use Rattle.dbtg_cells.specs.Names.{name_eq, place_eq}
 use Rattle.dbtg_cells.specs.Numbers.{entry_of, is_used}
 use Rattle.dbtg_cells.specs.Shown.{CellValue, UsageValue, ExtentValue, RingValue, SlotValue}
+use Rattle.dbtg_cells.proofs.Public.{mapped_in_range, same_key}
 use Rattle.dbtg_unit.specs.declared.edit.CellEdit.{CellEdit}
 use Rattle.dbtg_unit.specs.declared.edit.Edit.TheVariants.{ChangeOwner, CloseRing, LeaveNumber, RaiseVersion, TakeOut, Vacate}
-use Rattle.dbtg_unit.specs.CanEdit.{CanEdit}
-use Rattle.dbtg_unit.specs.CellNames.{place_of, slot_name}
-use Rattle.dbtg_unit.specs.Edits.{edited, edited_at, vacated, with_members, with_owner}
-use Rattle.dbtg_unit.specs.EditsOf.{closing_edits, leave_number, leaving_edits, losing_edits, lost_sets, ring_edits, slot_edit, staying_owner}
-use Rattle.dbtg_unit.specs.Legal.{differ, pairwise}
-use Rattle.dbtg_unit.proofs.EditLemmas.{distinct, edited_at-append}
-use Rattle.dbtg_unit.proofs.KeyLemmas.{same_key}
-use Rattle.dbtg_unit.proofs.LiveKeys.{In, all_at, any_element}
-use Rattle.dbtg_unit.proofs.ManyEdits.{Thins, is_of_number, numbers-left, skips-map, thins-flat, thins-ring}
-use Rattle.dbtg_erase.proofs.Possible.{CanEditShown, Possible, after, possible-append, possible-flat, possible-map}
+use Rattle.dbtg_unit.specs.Hands.CanEdit.{CanEdit}
+use Rattle.dbtg_unit.specs.Database.State.CellNames.{place_of, slot_name}
+use Rattle.dbtg_unit.specs.Hands.Edits.{edited, edited_at, vacated, with_members, with_owner}
+use Rattle.dbtg_unit.specs.Hands.EditsOf.{closing_edits, leave_number, leaving_edits, losing_edits, lost_sets, ring_edits, slot_edit, staying_owner}
+use Rattle.dbtg_unit.specs.Database.State.Legal.{differ, pairwise}
+use Rattle.dbtg_unit.proofs.Public.{In, Thins, all_at, any_element, distinct, edited_at_append, is_of_number, numbers_left, skips_map, thins_flat}
+use Rattle.dbtg_unit.proofs.Public.{thins_ring}
+use Rattle.dbtg_erase.proofs.Possible.{CanEditShown, Possible, after, possible_append, possible_flat, possible_map}
 
 -- NUMBERS
 
-slice-range : {X : Type 0} (g : ℕ → X) (a count i : ℕ) → i < count → slice_get (map g (range_with_len a count)) i ≡ Some (g (a + i))
-slice-range g a zero i h = absurd (omega arith)
-slice-range g a (suc count) zero h = let e : a ≡ a + 0 = omega arith in ap (λ z. Some (g z)) e
-slice-range g a (suc count) (suc i) h = let e : (a + 1) + i ≡ a + suc i = omega arith in slice-range g (a + 1) count i (omega arith) ∙ ap (λ z. Some (g z)) e
-
-entry-range : (g : ℕ → Number) (count n : ℕ) → 1 ≤ n → n ≤ count → entry_of n (map g (range_with_len 1 count)) ≡ Some (g n)
-entry-range g count zero low high = absurd (omega arith)
-entry-range g count (suc i) low high = let e : 1 + i ≡ suc i = omega arith in slice-range g 1 count i (omega arith) ∙ ap (λ z. Some (g z)) e
+entry_range : (g : ℕ → Number) (count n : ℕ) → 1 ≤ n → n ≤ count → entry_of n (map g (range_with_len 1 count)) ≡ Some (g n)
+entry_range g count zero low high = absurd (omega arith)
+entry_range g count (suc i) low high = let e : 1 + i ≡ suc i = omega arith in mapped_in_range g 1 count i (omega arith) ∙ ap (λ z. Some (g z)) e
 
 can_leave : (n : ℕ) (numbers : List Number) → some_and is_used (entry_of n numbers) ≡ true → CanEditShown (LeaveNumber n) (ExtentValue numbers)
 can_leave n numbers used (UsageCell v) h = tt
@@ -65,9 +59,9 @@ numbers_possible count [] V f shows once used = tt
 numbers_possible count (d ∷ ds) V f shows once used =
     let ones = and_parts _ _ once in
     let here = used d (inl refl) in (
-      subst (CanEditShown (LeaveNumber d.number)) (sym (shows d.rtype)) (can_leave d.number _ (ap (some_and is_used) (entry-range (f d.rtype) count d.number here.0 here.1) ∙ here.2)),
+      subst (CanEditShown (LeaveNumber d.number)) (sym (shows d.rtype)) (can_leave d.number _ (ap (some_and is_used) (entry_range (f d.rtype) count d.number here.0 here.1) ∙ here.2)),
       numbers_possible count ds (after (leave_number d) V) (left_at d f)
-          (λ t. ap (edited_at (Extent t) (leave_number d ∷ [])) (shows t) ∙ numbers-left t count (d ∷ []) (f t) (λ x i. elim i [ inl e ↦ subst (λ (y : DbKey). 1 ≤ y.number) e here.0 | inr never ↦ absurd never ]))
+          (λ t. ap (edited_at (Extent t) (leave_number d ∷ [])) (shows t) ∙ numbers_left t count (d ∷ []) (f t) (λ x i. elim i [ inl e ↦ subst (λ (y : DbKey). 1 ≤ y.number) e here.0 | inr never ↦ absurd never ]))
           ones.1
           (λ x i.
           let was = used x (inr i) in
@@ -116,7 +110,7 @@ module _ (schema : Lists) (owner : ℕ → DbKey → Option Owner) (gone : List 
   out_by c d m = list_any (λ s. some_and (λ p. name_eq c (Ring s (place_of p)) && key_eq d m) (outer s d)) (set_numbers schema)
 
   thinned : (c : CellName) (d : DbKey) → Thins c (leaving_edits schema owner gone d) (out_by c d)
-  thinned c d = thins-flat c (edits_in d) (λ s m. some_and (λ p. name_eq c (Ring s (place_of p)) && key_eq d m) (outer s d)) (set_numbers schema) (λ s. thins-ring c s d (outer s d))
+  thinned c d = thins_flat c (edits_in d) (λ s m. some_and (λ p. name_eq c (Ring s (place_of p)) && key_eq d m) (outer s d)) (set_numbers schema) (λ s. thins_ring c s d (outer s d))
 
   -- another key stays
   not_out : (c : CellName) (d m : DbKey) → key_eq d m ≡ false → out_by c d m ≡ false
@@ -157,7 +151,7 @@ module _ (schema : Lists) (owner : ℕ → DbKey → Option Owner) (gone : List 
   places_possible sets_once [] V once has = tt
   places_possible sets_once (d ∷ ds) V once has =
       let ones = and_parts _ _ once in
-      possible-append (leaving_edits schema owner gone d) (flat_map (leaving_edits schema owner gone) ds) V
+      possible_append (leaving_edits schema owner gone d) (flat_map (leaving_edits schema owner gone) ds) V
       (sets_possible d (set_numbers schema) V sets_once (has d (inl refl)))
       (places_possible sets_once ds (λ c. edited_at c (leaving_edits schema owner gone d) (V c)) ones.1
       (λ m i s j o e. stays_in (Ring s (place_of o)) d m (V (Ring s (place_of o))) (not-true _ (all_at (differ d) m ds ones.0 i)) (has m (inr i) s j o e)))
@@ -183,10 +177,10 @@ can_change s o (RingCell v) = tt
 can_change s o (SlotCell v) = tt
 
 pub closings_possible : (schema : Lists) (ds : List DbKey) (V : CellName → CellValue) → Possible (flat_map (closing_edits schema) ds) V
-closings_possible schema ds V = possible-flat (closing_edits schema) ds V (λ d W. possible-map (λ s. record { name = Ring s (Some (d.rtype, d.number)); edit = CloseRing }) _ W (λ s x. can_close x))
+closings_possible schema ds V = possible_flat (closing_edits schema) ds V (λ d W. possible_map (λ s. record { name = Ring s (Some (d.rtype, d.number)); edit = CloseRing }) _ W (λ s x. can_close x))
 
 pub vacatings_possible : (ds : List DbKey) (V : CellName → CellValue) → Possible (map (λ d. slot_edit d Vacate) ds) V
-vacatings_possible ds V = possible-map (λ d. slot_edit d Vacate) ds V (λ d x. can_vacate x)
+vacatings_possible ds V = possible_map (λ d. slot_edit d Vacate) ds V (λ d x. can_vacate x)
 
 -- VERSIONS
 
@@ -222,13 +216,13 @@ pub losings_possible : (schema : Lists) (owner : ℕ → DbKey → Option Owner)
 losings_possible schema owner gone [] V once next = tt
 losings_possible schema owner gone (x ∷ xs) V once next =
     let ones = and_parts _ _ once in
-    possible-append (losing_edits schema owner gone x) (flat_map (losing_edits schema owner gone) xs) V
-    (possible-append (map (λ s. slot_edit x (ChangeOwner s None)) (lost_sets schema owner gone x)) (slot_edit x RaiseVersion ∷ []) V (possible-map (λ s. slot_edit x (ChangeOwner s None)) (lost_sets schema owner gone x) V (λ s y. can_change s None y))
+    possible_append (losing_edits schema owner gone x) (flat_map (losing_edits schema owner gone) xs) V
+    (possible_append (map (λ s. slot_edit x (ChangeOwner s None)) (lost_sets schema owner gone x)) (slot_edit x RaiseVersion ∷ []) V (possible_map (λ s. slot_edit x (ChangeOwner s None)) (lost_sets schema owner gone x) V (λ s y. can_change s None y))
     (can_raise _ (next_after (slot_name x) x (lost_sets schema owner gone x) (V (slot_name x)) (next x (inl refl))), tt))
     (losings_possible schema owner gone xs (λ c. edited_at c (losing_edits schema owner gone x) (V c)) ones.1
     (λ y i. subst HasNext (sym (skipped y (not-true _ (all_at (other_slots x) y xs ones.0 i)))) (next y (inr i)))) where
       skipped : (y : DbKey) → name_eq (slot_name y) (slot_name x) ≡ false → edited_at (slot_name y) (losing_edits schema owner gone x) (V (slot_name y)) ≡ V (slot_name y)
       skipped y other =
-          edited_at-append (slot_name y) (map (λ s. slot_edit x (ChangeOwner s None)) (lost_sets schema owner gone x)) (slot_edit x RaiseVersion ∷ []) (V (slot_name y))
-          ∙ ap (edited_at (slot_name y) (slot_edit x RaiseVersion ∷ [])) (skips-map (slot_name y) (λ s. slot_edit x (ChangeOwner s None)) (lost_sets schema owner gone x) (λ s. other) (V (slot_name y)))
+          edited_at_append (slot_name y) (map (λ s. slot_edit x (ChangeOwner s None)) (lost_sets schema owner gone x)) (slot_edit x RaiseVersion ∷ []) (V (slot_name y))
+          ∙ ap (edited_at (slot_name y) (slot_edit x RaiseVersion ∷ [])) (skips_map (slot_name y) (λ s. slot_edit x (ChangeOwner s None)) (lost_sets schema owner gone x) (λ s. other) (V (slot_name y)))
           ∙ ap (λ b. cond b (edited RaiseVersion (V (slot_name y))) (V (slot_name y))) other

@@ -1,5 +1,5 @@
 -- What a DELETE that needs nothing more prepares can be made of the cells in hand.
-use Rattle.std.proofs.Common.{◌≡◌, refl, sym, ◌∙◌, ap, subst, ℕ, ◌≤◌, arith, true, false, cond, List, [], ◌∷◌, length, Option, Some, None, map}
+use Rattle.std.proofs.Common.{◌≡◌, refl, sym, ◌∙◌, ap, subst, ℕ, ◌≤◌, arith, true, false, cond, List, [], length, Option, Some, None, map}
 use Rattle.std.specs.Prelude.{is_some, option_map, unwrap_or}
 use Rattle.std.specs.List.{flat_map, list_all, list_any}
 use Rattle.std.proofs.lemmas.Bool.{and_parts, eqb-true, false≢true, false_from_ne_true, not-true, not_from_false}
@@ -9,7 +9,6 @@ use Rattle.dbtg_cells.specs.declared.cell.Cell.{Cell}
 use Rattle.dbtg_cells.specs.declared.cell.Cell.TheVariants.{Usage as UsageCell, Extent as ExtentCell, Ring as RingCell, Slot as SlotCell}
 use Rattle.dbtg_cells.specs.declared.key.DbKey.{DbKey}
 use Rattle.dbtg_cells.specs.declared.key.Owner.{Owner}
-use Rattle.dbtg_cells.specs.declared.key.Value.{Value}
 use Rattle.dbtg_cells.specs.declared.name.CellName.{CellName}
 use Rattle.dbtg_cells.specs.declared.name.CellName.TheVariants.{Ring, Slot}
 use Rattle.dbtg_cells.specs.Cells.{shown}
@@ -18,39 +17,32 @@ use Rattle.dbtg_cells.specs.Members.{keys_in}
 use Rattle.dbtg_cells.specs.Names.{name_eq}
 use Rattle.dbtg_cells.specs.Numbers.{is_used}
 use Rattle.dbtg_cells.specs.Shown.{CellValue, SlotValue}
+use Rattle.dbtg_cells.proofs.Public.{key_eq_refl}
 use Rattle.dbtg_unit.specs.declared.edit.CellEdit.{CellEdit}
 use Rattle.dbtg_unit.specs.declared.edit.Edit.TheVariants.{Vacate}
 use Rattle.dbtg_unit.specs.declared.statement.Erase.{Erase}
 use Rattle.dbtg_unit.specs.declared.statement.Statement.TheVariants.{Delete}
 use Rattle.dbtg_unit.specs.declared.unit.Unit.{Unit}
-use Rattle.dbtg_unit.specs.Base.{Database, Record, calc_items, is_live, key_at, owner_of, sort_key}
-use Rattle.dbtg_unit.specs.CellNames.{place_of, slot_name}
-use Rattle.dbtg_unit.specs.Cells.{cell, number_of, owner_at, ring_of, slot_of}
-use Rattle.dbtg_unit.specs.Edits.{edited_at}
-use Rattle.dbtg_unit.specs.EditsOf.{closing_edits, delete_edits, leave_number, leaving_edits, left_behind, losing_edits, slot_edit, staying_owner}
-use Rattle.dbtg_unit.specs.Effect.{is_gone}
-use Rattle.dbtg_unit.specs.Erasing.{delete_cells, doomed_in_turn, members_of_all}
-use Rattle.dbtg_unit.specs.Hands.{Hands}
-use Rattle.dbtg_unit.specs.Legal.{differ, pairwise}
-use Rattle.dbtg_unit.specs.Local.{Agrees, holds}
-use Rattle.dbtg_unit.specs.Prepared.{Plan}
-use Rattle.dbtg_unit.specs.Making.{CanFinish, CanMake, HaveNextVersions, MayPrepare}
-use Rattle.dbtg_unit.proofs.DeleteCells.{left_live, left_once, skips_closings, skips_leavings}
-use Rattle.dbtg_unit.proofs.EditLemmas.{range-distinct}
-use Rattle.dbtg_unit.proofs.InHandLemmas.{held_shows}
-use Rattle.dbtg_unit.proofs.InTurn.{all_from, met_are_live, met_once}
-use Rattle.dbtg_unit.proofs.KeyLemmas.{key_eq-refl}
-use Rattle.dbtg_unit.proofs.LiveKeys.{In, all_at, in_member, latest, listed, member_of_owner}
-use Rattle.dbtg_unit.proofs.ManyEdits.{skips-map, slots-vacated}
-use Rattle.dbtg_unit.proofs.OnePlan.{may_plan}
-use Rattle.dbtg_unit.proofs.OwnersFound.{standing}
-use Rattle.dbtg_unit.proofs.PlacingOrder.{pairwise-weaker}
-use Rattle.dbtg_unit.proofs.ReadingCells.{held_cell}
+use Rattle.dbtg_unit.specs.Database.State.Base.{Database, Record, calc_items, is_live, key_at, owner_of, sort_key}
+use Rattle.dbtg_unit.specs.Database.State.CellNames.{place_of, slot_name}
+use Rattle.dbtg_unit.specs.Database.State.Cells.{cell, number_of, owner_at, ring_of, slot_of}
+use Rattle.dbtg_unit.specs.Hands.Edits.{edited_at}
+use Rattle.dbtg_unit.specs.Hands.EditsOf.{closing_edits, delete_edits, leave_number, leaving_edits, left_behind, losing_edits, slot_edit, staying_owner}
+use Rattle.dbtg_unit.specs.Database.Statements.Effect.{is_gone}
+use Rattle.dbtg_unit.specs.Hands.Erasing.{delete_cells, doomed_in_turn, members_of_all}
+use Rattle.dbtg_unit.specs.Hands.Hands.{Hands}
+use Rattle.dbtg_unit.specs.Database.State.Legal.{differ, pairwise}
+use Rattle.dbtg_unit.specs.Hands.Local.{Agrees, holds}
+use Rattle.dbtg_unit.specs.Hands.Prepared.{Plan}
+use Rattle.dbtg_unit.specs.Hands.Making.{CanFinish, CanMake, HaveNextVersions, MayPrepare}
+use Rattle.dbtg_unit.proofs.Public.{In, all_at, all_from, firsts_pairs, held_cell_agrees, held_shows, in_member, left_live, left_once, listed_has_occurrence}
+use Rattle.dbtg_unit.proofs.Public.{live_is_latest, may_plan, member_of_owner, met_are_live, met_once, owner_stands_at_place, pairwise_weaker}
+use Rattle.dbtg_unit.proofs.Public.{range_distinct, skips_closings, skips_leavings, skips_map, slots_vacated}
 use Rattle.dbtg_erase.specs.ErasePlan.{whole_plan}
 use Rattle.dbtg_erase.proofs.CanErase.{HasNext, IsIn, apart, closings_possible, losings_possible, numbers_possible, places_possible, vacatings_possible}
 use Rattle.dbtg_erase.proofs.ErasePlan.{edits_are as planned_edits, left_held}
 use Rattle.dbtg_erase.proofs.PlanIsEffect.{Passed, is_prepared, plan_by}
-use Rattle.dbtg_erase.proofs.Possible.{Possible, possible-append, possible_can_make}
+use Rattle.dbtg_erase.proofs.Possible.{Possible, possible_append, possible_can_make}
 
 module _ (schema : Lists) (capacity : ℕ) (db : Database) (hands : Hands) (unit : Unit) (agrees : Agrees schema capacity db hands unit) (option : Erase) (k : DbKey)
     (has : (c : CellName) → In c (delete_cells schema capacity db unit option k) → holds hands.cells c ≡ true) (next : HaveNextVersions hands.cells) (p : Passed schema capacity db unit option k) where
@@ -78,11 +70,11 @@ module _ (schema : Lists) (capacity : ℕ) (db : Database) (hands : Hands) (unit
   -- live records that differ have not one number
   apart_live : (xs : List DbKey) → list_all (is_live db) xs ≡ true → pairwise differ xs ≡ true → pairwise apart xs ≡ true
   apart_live xs live once =
-      pairwise-weaker differ apart (is_live db) xs
+      pairwise_weaker differ apart (is_live db) xs
       (λ x y lx ly d. not_from_false _ (false_from_ne_true _ (λ g.
       let gs = and_parts _ _ g in
-      let same : y ≡ x = sym (latest schema capacity db agrees.legal y ly) ∙ (λ i. key_at db (eqb-true y.rtype x.rtype gs.0 i) (eqb-true y.number x.number gs.1 i)) ∙ latest schema capacity db agrees.legal x lx in
-      false≢true (sym (not-true _ d) ∙ ap (key_eq x) same ∙ key_eq-refl x)))) live once
+      let same : y ≡ x = sym (live_is_latest schema capacity db agrees.legal y ly) ∙ (λ i. key_at db (eqb-true y.rtype x.rtype gs.0 i) (eqb-true y.number x.number gs.1 i)) ∙ live_is_latest schema capacity db agrees.legal x lx in
+      false≢true (sym (not-true _ d) ∙ ap (key_eq x) same ∙ key_eq_refl x)))) live once
 
   turn_live : list_all (is_live db) turn ≡ true
   turn_live = met_are_live schema capacity db agrees.legal option k p.live
@@ -92,7 +84,7 @@ module _ (schema : Lists) (capacity : ℕ) (db : Database) (hands : Hands) (unit
       let live = all_at (is_live db) d turn turn_live i in
       let facts = agrees.legal.keys d live in
       let low = facts.1 in
-      (omega arith, facts.2, ap (λ x. is_some (option_map (λ (r : Record). calc_items schema d.rtype r.items) (db.records x))) (latest schema capacity db agrees.legal d live) ∙ there (db.records d) live) where
+      (omega arith, facts.2, ap (λ x. is_some (option_map (λ (r : Record). calc_items schema d.rtype r.items) (db.records x))) (live_is_latest schema capacity db agrees.legal d live) ∙ there (db.records d) live) where
         there : (r : Option Record) → is_some r ≡ true → is_some (option_map (λ (r : Record). calc_items schema d.rtype r.items) r) ≡ true
         there None h = h
         there (Some r) h = refl
@@ -102,22 +94,18 @@ module _ (schema : Lists) (capacity : ℕ) (db : Database) (hands : Hands) (unit
   numbers_can = numbers_possible capacity turn shows (number_of schema db) (λ t. refl) (apart_live turn turn_live (met_once schema capacity db agrees.legal option k p.live)) used
 
   -- a record is a member in the ring of its owner
-  keys-are : (f : DbKey → Option Value) (xs : List DbKey) → map (λ (e : DbKey × Option Value). e.0) (map (λ x. (x, f x)) xs) ≡ xs
-  keys-are f [] = refl
-  keys-are f (x ∷ xs) = ap (λ ys. x ∷ ys) (keys-are f xs)
-
   is_in_ring : (d : DbKey) (s : ℕ) (o : Owner) → owner_of schema capacity db s d ≡ Some o → IsIn d (shows (Ring s (place_of o)))
   unfolding cell
   is_in_ring d s o e =
       let member = member_of_owner schema capacity db agrees.legal s o d e in
-      let place = standing schema capacity db agrees.legal s o (listed schema capacity db agrees.legal s o d member) in (
+      let place = owner_stands_at_place schema capacity db agrees.legal s o (listed_has_occurrence schema capacity db agrees.legal s o d member) in (
         option_map (ring_of schema db s (owner_at db (place_of o))) (db.lists s (owner_at db (place_of o))),
         refl,
         subst (λ (q : Owner). is_member d (keys_in (option_map (ring_of schema db s q) (db.lists s q))) ≡ true) (sym place) (of (db.lists s o) member),
       ) where
         of : (l : Option (List DbKey)) → is_member d (unwrap_or l []) ≡ true → is_member d (keys_in (option_map (ring_of schema db s o) l)) ≡ true
         of None h = h
-        of (Some list) h = ap (is_member d) (keys-are (sort_key schema db s) list) ∙ h
+        of (Some list) h = ap (is_member d) (firsts_pairs (sort_key schema db s) list) ∙ h
 
   stays_of : (q : Option Owner) (o : Owner) → staying_owner turn q ≡ Some o → q ≡ Some o
   stays_of None o h = absurd (none-some o h)
@@ -126,8 +114,8 @@ module _ (schema : Lists) (capacity : ℕ) (db : Database) (hands : Hands) (unit
 
   leavings_can : Possible leavings (λ c. edited_at c numbers (shows c))
   leavings_can =
-      places_possible schema (owner_of schema capacity db) turn (range-distinct 0 (length schema.sets)) turn _ (met_once schema capacity db agrees.legal option k p.live)
-      (λ d i s j o e. subst (IsIn d) (sym (skips-map (Ring s (place_of o)) leave_number turn (λ x. refl) (shows (Ring s (place_of o))))) (is_in_ring d s o (stays_of (owner_of schema capacity db s d) o e)))
+      places_possible schema (owner_of schema capacity db) turn (range_distinct 0 (length schema.sets)) turn _ (met_once schema capacity db agrees.legal option k p.live)
+      (λ d i s j o e. subst (IsIn d) (sym (skips_map (Ring s (place_of o)) leave_number turn (λ x. refl) (shows (Ring s (place_of o))))) (is_in_ring d s o (stays_of (owner_of schema capacity db s d) o e)))
 
   -- the slot of one that is left behind shows what it did
   slot_shown : (t n : ℕ) → HasNext (shows (Slot t n)) → HasNext (edited_at (Slot t n) vacatings (edited_at (Slot t n) closings (edited_at (Slot t n) leavings (edited_at (Slot t n) numbers (shows (Slot t n))))))
@@ -137,8 +125,8 @@ module _ (schema : Lists) (capacity : ℕ) (db : Database) (hands : Hands) (unit
       let o = option_map (slot_of schema capacity db (key_at db t n)) (db.records (key_at db t n)) in
       let same : edited_at c vacatings (edited_at c closings (edited_at c leavings (edited_at c numbers (shows c)))) ≡ SlotValue (cond (list_any (λ d. name_eq c (slot_name d)) turn) None o)
       = ap (edited_at c vacatings)
-      (skips_closings schema capacity db unit option k agrees.legal p.live c (λ s q. refl) _ ∙ skips_leavings schema capacity db unit option k agrees.legal p.live c (λ s q. refl) _ ∙ skips-map c leave_number turn (λ d. refl) (shows c))
-      ∙ slots-vacated c turn o in
+      (skips_closings schema capacity db unit option k agrees.legal p.live c (λ s q. refl) _ ∙ skips_leavings schema capacity db unit option k agrees.legal p.live c (λ s q. refl) _ ∙ skips_map c leave_number turn (λ d. refl) (shows c))
+      ∙ slots_vacated c turn o in
       subst HasNext (sym same) (elim (list_any (λ d. name_eq c (slot_name d)) turn) as (λ b. HasNext (SlotValue (cond b None o))) [ true ↦ λ r e. absurd (cc) | false ↦ h ])
 
   left_next : (x : DbKey) → In x left → HasNext (shows (slot_name x))
@@ -159,11 +147,11 @@ module _ (schema : Lists) (capacity : ℕ) (db : Database) (hands : Hands) (unit
 
   pub edits_can : CanMake (delete_edits schema capacity db option k) hands.cells
   edits_can =
-      possible_can_make (delete_edits schema capacity db option k) shows hands.cells (λ c x there. held_cell schema capacity db hands.cells c x agrees.cells there)
-      (possible-append numbers _ shows numbers_can
-      (possible-append leavings _ _ leavings_can
-      (possible-append closings _ _ (closings_possible schema turn _)
-      (possible-append vacatings _ _ (vacatings_possible turn _) losings_can))))
+      possible_can_make (delete_edits schema capacity db option k) shows hands.cells (λ c x there. held_cell_agrees schema capacity db hands.cells c x agrees.cells there)
+      (possible_append numbers _ shows numbers_can
+      (possible_append leavings _ _ leavings_can
+      (possible_append closings _ _ (closings_possible schema turn _)
+      (possible_append vacatings _ _ (vacatings_possible turn _) losings_can))))
 
 module _ (schema : Lists) (capacity : ℕ) (unit : Unit) (hands : Hands) (option : Erase) (may : MayPrepare schema capacity unit hands (Delete option)) where
   can_make : (db : Database) → Agrees schema capacity db hands unit → CanMake (whole_plan schema capacity hands unit option).cells hands.cells

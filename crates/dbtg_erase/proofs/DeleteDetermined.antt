@@ -8,12 +8,12 @@ use Rattle.dbtg_unit.specs.declared.statement.Erase.{Erase}
 use Rattle.dbtg_unit.specs.declared.statement.Statement.TheVariants.{Delete}
 use Rattle.dbtg_unit.specs.declared.unit.Cause.{Cause}
 use Rattle.dbtg_unit.specs.declared.unit.Unit.{Unit}
-use Rattle.dbtg_unit.specs.Base.{Database}
-use Rattle.dbtg_unit.specs.Checks.{refused_at_once}
-use Rattle.dbtg_unit.specs.Hands.{Hands}
-use Rattle.dbtg_unit.specs.Local.{Agrees}
-use Rattle.dbtg_unit.specs.Needs.{areas_in_order, need}
-use Rattle.dbtg_unit.proofs.OnePlan.{one_plan_does_the_same}
+use Rattle.dbtg_unit.specs.Database.State.Base.{Database}
+use Rattle.dbtg_unit.specs.Database.Statements.Checks.{refused_at_once}
+use Rattle.dbtg_unit.specs.Hands.Hands.{Hands}
+use Rattle.dbtg_unit.specs.Hands.Local.{Agrees}
+use Rattle.dbtg_unit.specs.Hands.Needs.{areas_in_order, need}
+use Rattle.dbtg_unit.proofs.Public.{one_plan_does_the_same}
 use Rattle.dbtg_erase.specs.ErasePlan.{whole_plan}
 use Rattle.dbtg_erase.specs.Locality.{DeleteIsDetermined}
 use Rattle.dbtg_erase.proofs.NextNeed.{area_wanted, cell_wanted, ready_refused}

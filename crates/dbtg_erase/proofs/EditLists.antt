@@ -1,16 +1,12 @@
 -- Lists of edits, as they grow.
-use Rattle.std.proofs.Common.{◌≡◌, refl, sym, ◌∙◌, ap, ℕ, ◌+◌, ◌<◌, ◌≤◌, Bool, true, false, cond, List, [], ◌∷◌, ◌++◌, drop, map, append_assoc}
+use Rattle.std.proofs.Common.{◌≡◌, refl, sym, ◌∙◌, ap, ℕ, ◌+◌, ◌<◌, ◌≤◌, Bool, true, false, cond, List, [], ◌∷◌, ◌++◌, drop, map, append_assoc, append-nil}
 use Rattle.std.specs.Prelude.{filter}
 use Rattle.std.specs.List.{range_with_len}
 use Rattle.dbtg_unit.specs.declared.edit.CellEdit.{CellEdit}
-use Rattle.dbtg_unit.proofs.NumberLemmas.{numbers_end, numbers_next}
+use Rattle.dbtg_unit.proofs.Public.{numbers_end, numbers_next}
 
 pub edits_append : (edits xs ys : List CellEdit) → (edits ++ xs) ++ ys ≡ edits ++ (xs ++ ys)
 edits_append edits xs ys = append_assoc edits xs ys
-
-append_nil : (edits : List CellEdit) → edits ++ [] ≡ edits
-append_nil [] = refl
-append_nil (e ∷ es) = ap (λ xs. e ∷ xs) (append_nil es)
 
 split : (f : ℕ → CellEdit) (p : ℕ → Bool) (i : ℕ) (xs : List ℕ) → map f (filter p (i ∷ xs)) ≡ map f (filter p (i ∷ [])) ++ map f (filter p xs)
 split f p i xs = elim (p i) as (λ b. map f (cond b (i ∷ filter p xs) (filter p xs)) ≡ map f (cond b (i ∷ []) []) ++ map f (filter p xs)) [ true ↦ refl | false ↦ refl ]
@@ -30,4 +26,4 @@ edits_of_next edits new goal f p n i set below is new_is h =
 pub edits_of_end : (edits goal : List CellEdit) (f : List ℕ → List CellEdit) (n i : ℕ) → n ≤ i → f [] ≡ []
     → edits ++ (f (drop i (range_with_len 0 n))) ≡ goal → edits ≡ goal
 edits_of_end edits goal f n i past none h =
-    sym (append_nil edits) ∙ ap (λ es. edits ++ es) (sym (ap f (numbers_end n i past) ∙ none)) ∙ h
+    sym (append-nil edits) ∙ ap (λ es. edits ++ es) (sym (ap f (numbers_end n i past) ∙ none)) ∙ h

@@ -15,8 +15,13 @@ use Rattle.dbtg_cells.specs.declared.name.CellName.{CellName}
 use Rattle.dbtg_cells.specs.declared.name.CellName.TheVariants.{Extent, Ring}
 use Rattle.dbtg_cells.specs.Keys.{is_member, key_eq}
 use Rattle.dbtg_cells.specs.Names.{name_eq}
-use Rattle.dbtg_unit.proofs.SameView.{own_checks_agree}
-use Rattle.dbtg_unit.specs.View.{whole}
+use Rattle.dbtg_cells.proofs.Public.{either_way, key_eq_refl, map_twice, same_key, same_name}
+use Rattle.dbtg_unit.proofs.Public.{In, after_delete, all_at, all_from, all_in, any_element, any_in, filter_agrees, flat_map_agrees, in_filter, in_flat_map}
+use Rattle.dbtg_unit.proofs.Public.{in_left, in_map, in_range, in_right, is_taken_out, left_are_taken_out, listed_has_occurrence, map_same, member_in}
+use Rattle.dbtg_unit.proofs.Public.{member_of_owner, members_in_hand as members_are, met_are_live, names_once_complete, of_append, of_filter, of_flat_map}
+use Rattle.dbtg_unit.proofs.Public.{of_map, own_checks_agree, owner_in as among_owners, owner_in_hand, same_record, version_in_hand, version_left}
+use Rattle.dbtg_unit.proofs.Public.{with_those_pass}
+use Rattle.dbtg_unit.specs.Database.Statements.View.{whole}
 use Rattle.dbtg_unit.specs.declared.edit.CellEdit.{CellEdit}
 use Rattle.dbtg_unit.specs.declared.edit.Edit.TheVariants.{ChangeOwner, CloseRing, RaiseVersion, TakeOut, Vacate}
 use Rattle.dbtg_unit.specs.declared.edit.UnitEdit.TheVariants.{LoseCurrent}
@@ -25,74 +30,54 @@ use Rattle.dbtg_unit.specs.declared.unit.Cause.{Cause}
 use Rattle.dbtg_unit.specs.declared.unit.Cause.TheVariants.{OwnerHasMembers}
 use Rattle.dbtg_unit.specs.declared.unit.Status.TheVariants.{Done}
 use Rattle.dbtg_unit.specs.declared.unit.Unit.{Unit}
-use Rattle.dbtg_unit.specs.Base.{Database, is_live, members_of, owner_of, owners}
-use Rattle.dbtg_unit.specs.CellNames.{place_of, slot_name}
-use Rattle.dbtg_unit.specs.EditsOf.{closing_edits, delete_edits, erasing_edits, leave_number, leaving_edits, left_behind, losing_edits, lost_sets, ring_edits, slot_edit, staying_owner}
-use Rattle.dbtg_unit.specs.Checks.{delete_checks, own_checks}
-use Rattle.dbtg_unit.specs.Conditions.{has_members, is_plain}
-use Rattle.dbtg_unit.specs.Effect.{is_gone, version_of}
-use Rattle.dbtg_unit.specs.Erasing.{cells_of_doomed, delete_cells, doomed_in_turn, members_of_all, names_once, outer_cells, own_rings, rings_to_member, with_those}
-use Rattle.dbtg_unit.specs.Hands.{Hands}
-use Rattle.dbtg_unit.specs.InHand.{owner_in, version_in, in_hand}
-use Rattle.dbtg_unit.specs.Kept.{entry_again, noted_again}
-use Rattle.dbtg_unit.specs.Local.{Agrees, holds}
-use Rattle.dbtg_unit.specs.Prepared.{Plan, renoted_at}
-use Rattle.dbtg_unit.proofs.InHandLemmas.{members_in_hand as members_are, owner_in_hand, version_in_hand, same_record}
-use Rattle.dbtg_unit.proofs.CellNameLemmas.{same_name}
-use Rattle.dbtg_unit.proofs.KeyLemmas.{key_eq-refl, same_key}
-use Rattle.dbtg_unit.proofs.LiveKeys.{In, all_at, any_element, any_in, in_filter, in_flat_map, in_left, in_map, in_range, in_right, listed, member_in, member_of_owner, of_append, of_filter, of_flat_map, of_map, owner_in as among_owners}
-use Rattle.dbtg_unit.proofs.DeleteCells.{left_is, version_left}
-use Rattle.dbtg_unit.proofs.InTurn.{all_from, all_pass, met_are_live}
-use Rattle.dbtg_unit.proofs.LocalDelete.{after_delete, is_taken_out}
-use Rattle.dbtg_unit.proofs.LocalStatements.{once_has}
+use Rattle.dbtg_unit.specs.Database.State.Base.{Database, is_live, members_of, owner_of, owners}
+use Rattle.dbtg_unit.specs.Database.State.CellNames.{place_of, slot_name}
+use Rattle.dbtg_unit.specs.Hands.EditsOf.{closing_edits, delete_edits, erasing_edits, leave_number, leaving_edits, left_behind, losing_edits, lost_sets, ring_edits, slot_edit, staying_owner}
+use Rattle.dbtg_unit.specs.Database.Statements.Checks.{delete_checks, own_checks}
+use Rattle.dbtg_unit.specs.Database.Statements.Conditions.{has_members, is_plain}
+use Rattle.dbtg_unit.specs.Database.Statements.Effect.{is_gone, version_of}
+use Rattle.dbtg_unit.specs.Hands.Erasing.{cells_of_doomed, delete_cells, doomed_in_turn, members_of_all, names_once, outer_cells, own_rings, rings_to_member, with_those}
+use Rattle.dbtg_unit.specs.Hands.Hands.{Hands}
+use Rattle.dbtg_unit.specs.Hands.InHand.{owner_in, version_in, in_hand}
+use Rattle.dbtg_unit.specs.Database.State.Kept.{entry_again, noted_again}
+use Rattle.dbtg_unit.specs.Hands.Local.{Agrees, holds}
+use Rattle.dbtg_unit.specs.Hands.Prepared.{Plan, renoted_at}
 use Rattle.dbtg_erase.specs.ErasePlan.{erasing_plan, raised_versions}
 use Rattle.dbtg_erase.specs.WorkList.{gone_in, list_in, members_in_hand, own_sets}
-use Rattle.dbtg_erase.proofs.Reading.{all_members_are, filter-agree, flat-agree, gone_agrees, unowned, unowned_in}
+use Rattle.dbtg_erase.proofs.Reading.{all_members_are, gone_agrees, unowned, unowned_in}
 
 -- THE FIRST CAUSE
 
-refused-first : (xs ys : List (Bool × Cause)) (cause : Cause) → first_cause xs ≡ Some cause → first_cause (xs ++ ys) ≡ Some cause
-refused-first [] ys cause h = absurd (none-some cause h)
-refused-first (x ∷ xs) ys cause h =
-    elim x.0 as (λ b. cond b (Some x.1) (first_cause xs) ≡ Some cause → cond b (Some x.1) (first_cause (xs ++ ys)) ≡ Some cause) [ true ↦ λ e. e | false ↦ λ e. refused-first xs ys cause e ] h
+refused_first : (xs ys : List (Bool × Cause)) (cause : Cause) → first_cause xs ≡ Some cause → first_cause (xs ++ ys) ≡ Some cause
+refused_first [] ys cause h = absurd (none-some cause h)
+refused_first (x ∷ xs) ys cause h =
+    elim x.0 as (λ b. cond b (Some x.1) (first_cause xs) ≡ Some cause → cond b (Some x.1) (first_cause (xs ++ ys)) ≡ Some cause) [ true ↦ λ e. e | false ↦ λ e. refused_first xs ys cause e ] h
 
 -- the first cause of a list, or of what is behind it
 pub cause_append : (xs ys : List (Bool × Cause)) → first_cause (xs ++ ys) ≡ option_or (first_cause xs) (first_cause ys)
 cause_append [] ys = refl
 cause_append (x ∷ xs) ys = elim x.0 as (λ b. cond b (Some x.1) (first_cause (xs ++ ys)) ≡ option_or (cond b (Some x.1) (first_cause xs)) (first_cause ys)) [ true ↦ refl | false ↦ cause_append xs ys ]
 
-pub any-filter : (p q : ℕ → Bool) (xs : List ℕ) → ((x : ℕ) → q x ≡ false → p x ≡ false) → list_any p (filter q xs) ≡ list_any p xs
-any-filter p q [] h = refl
-any-filter p q (x ∷ xs) h =
+pub any_filter : (p q : ℕ → Bool) (xs : List ℕ) → ((x : ℕ) → q x ≡ false → p x ≡ false) → list_any p (filter q xs) ≡ list_any p xs
+any_filter p q [] h = refl
+any_filter p q (x ∷ xs) h =
     elim (cases_Bool (q x)) [
-      | inl e ↦ ap (λ b. list_any p (cond b (x ∷ filter q xs) (filter q xs))) e ∙ ap (λ b. p x || b) (any-filter p q xs h)
-      | inr e ↦ ap (λ b. list_any p (cond b (x ∷ filter q xs) (filter q xs))) e ∙ any-filter p q xs h ∙ ap (λ b. b || list_any p xs) (sym (h x e))
+      | inl e ↦ ap (λ b. list_any p (cond b (x ∷ filter q xs) (filter q xs))) e ∙ ap (λ b. p x || b) (any_filter p q xs h)
+      | inr e ↦ ap (λ b. list_any p (cond b (x ∷ filter q xs) (filter q xs))) e ∙ any_filter p q xs h ∙ ap (λ b. b || list_any p xs) (sym (h x e))
     ]
 
-pub any-same : (p q : ℕ → Bool) (xs : List ℕ) → ((x : ℕ) → In x xs → p x ≡ q x) → list_any p xs ≡ list_any q xs
-any-same p q [] h = refl
-any-same p q (x ∷ xs) h = λ i. h x (inl refl) i || any-same p q xs (λ y j. h y (inr j)) i
+pub any_same : (p q : ℕ → Bool) (xs : List ℕ) → ((x : ℕ) → In x xs → p x ≡ q x) → list_any p xs ≡ list_any q xs
+any_same p q [] h = refl
+any_same p q (x ∷ xs) h = λ i. h x (inl refl) i || any_same p q xs (λ y j. h y (inr j)) i
 
 -- all are there where none is wanting
 all_there : {X : Type 0} (has : X → Bool) (xs : List X) → ((x : X) → In x xs → has x ≡ true) → find (λ x. not (has x)) xs ≡ None
 all_there has [] h = refl
 all_there has (x ∷ xs) h = ap (λ b. cond (not b) (Some x) (find (λ x. not (has x)) xs)) (h x (inl refl)) ∙ all_there has xs (λ y j. h y (inr j))
 
-all_in : {X : Type 0} (p : X → Bool) (xs : List X) → ((x : X) → In x xs → p x ≡ true) → list_all p xs ≡ true
-all_in p [] h = refl
-all_in p (x ∷ xs) h = and_from _ _ (h x (inl refl)) (all_in p xs (λ y j. h y (inr j)))
-
-map-same : {X Y : Type 0} (f g : X → Y) (xs : List X) → ((x : X) → f x ≡ g x) → map f xs ≡ map g xs
-map-same f g [] h = refl
-map-same f g (x ∷ xs) h = λ i. h x i ∷ map-same f g xs h i
-
-map-map : {X : Type 0} (f g : X → X) (xs : List X) → map f (map g xs) ≡ map (λ x. f (g x)) xs
-map-map f g [] = refl
-map-map f g (x ∷ xs) = ap (λ ys. f (g x) ∷ ys) (map-map f g xs)
-
-map-id : {X : Type 0} (xs : List X) → xs ≡ map (λ x. x) xs
-map-id [] = refl
-map-id (x ∷ xs) = ap (λ ys. x ∷ ys) (map-id xs)
+map_id : {X : Type 0} (xs : List X) → xs ≡ map (λ x. x) xs
+map_id [] = refl
+map_id (x ∷ xs) = ap (λ ys. x ∷ ys) (map_id xs)
 
 -- KEPT VERSIONS
 
@@ -100,32 +85,28 @@ map-id (x ∷ xs) = ap (λ ys. x ∷ ys) (map-id xs)
 abbrev entry_at : (DbKey → ℕ) → List DbKey → DbKey × ℕ → DbKey × ℕ
 entry_at version ys e = if is_member e.0 ys then (e.0, version e.0) else e
 
-key_eq-swap : (x y : DbKey) → key_eq x y ≡ key_eq y x
-key_eq-swap x y =
+key_eq_swap : (x y : DbKey) → key_eq x y ≡ key_eq y x
+key_eq_swap x y =
     elim (cases_Bool (key_eq y x)) [
-      | inl e ↦ ap (key_eq x) (same_key y x e) ∙ key_eq-refl x ∙ sym e
-      | inr e ↦ false_from_ne_true _ (λ h. false≢true (sym e ∙ ap (key_eq y) (same_key x y h) ∙ key_eq-refl y)) ∙ sym e
+      | inl e ↦ ap (key_eq x) (same_key y x e) ∙ key_eq_refl x ∙ sym e
+      | inr e ↦ false_from_ne_true _ (λ h. false≢true (sym e ∙ ap (key_eq y) (same_key x y h) ∙ key_eq_refl y)) ∙ sym e
     ]
 
-either_way : {X : Type 0} (b : Bool) (x : X) → cond b x x ≡ x
-either_way true x = refl
-either_way false x = refl
-
-noted-each : (version : DbKey → ℕ) (ys : List DbKey) (kept : List (DbKey × ℕ)) → renoted_at (map (λ x. (x, version x)) ys) kept ≡ map (entry_at version ys) kept
-noted-each version [] kept = map-id kept
-noted-each version (y ∷ ys) kept =
-    noted-each version ys (noted_again y (version y) kept) ∙ map-map (entry_at version ys) (entry_again y (version y)) kept ∙ map-same _ _ kept one where
+noted_each : (version : DbKey → ℕ) (ys : List DbKey) (kept : List (DbKey × ℕ)) → renoted_at (map (λ x. (x, version x)) ys) kept ≡ map (entry_at version ys) kept
+noted_each version [] kept = map_id kept
+noted_each version (y ∷ ys) kept =
+    noted_each version ys (noted_again y (version y) kept) ∙ map_twice (entry_at version ys) (entry_again y (version y)) kept ∙ map_same _ _ kept one where
       one : (e : DbKey × ℕ) → entry_at version ys (entry_again y (version y) e) ≡ entry_at version (y ∷ ys) e
       one e =
           elim (cases_Bool (key_eq e.0 y)) [
             | inl same ↦
                 let is_y : e.0 ≡ y = same_key e.0 y same in
-                ap (λ b. entry_at version ys (cond b (e.0, version y) e)) (key_eq-swap y e.0 ∙ same)
+                ap (λ b. entry_at version ys (cond b (e.0, version y) e)) (key_eq_swap y e.0 ∙ same)
                 ∙ ap (λ z. entry_at version ys (e.0, version z)) (sym is_y)
                 ∙ either_way (is_member e.0 ys) (e.0, version e.0)
                 ∙ ap (λ b. cond (b || is_member e.0 ys) (e.0, version e.0) e) (sym same)
             | inr other ↦
-                ap (λ b. entry_at version ys (cond b (e.0, version y) e)) (key_eq-swap y e.0 ∙ other)
+                ap (λ b. entry_at version ys (cond b (e.0, version y) e)) (key_eq_swap y e.0 ∙ other)
                 ∙ ap (λ b. cond (b || is_member e.0 ys) (e.0, version e.0) e) (sym other)
           ]
 
@@ -138,19 +119,19 @@ module _ (schema : Lists) (owner owner' : ℕ → DbKey → Option Owner) (membe
     (same_owner : (d : DbKey) → In d gone → (s : ℕ) → In s (set_numbers schema) → owner s d ≡ owner' s d) (same_members : (d : DbKey) → In d gone → members d ≡ members' d)
     (same_left : (x : DbKey) → In x (left_behind members gone) → (s : ℕ) → In s (set_numbers schema) → owner s x ≡ owner' s x) where
   pub same_behind : left_behind members gone ≡ left_behind members' gone
-  same_behind = ap (λ ms. with_those [] (filter (λ x. not (is_member x gone)) ms)) (flat-agree members members' gone same_members)
+  same_behind = ap (λ ms. with_those [] (filter (λ x. not (is_member x gone)) ms)) (flat_map_agrees members members' gone same_members)
 
   leaving_same : flat_map (leaving_edits schema owner gone) gone ≡ flat_map (leaving_edits schema owner' gone) gone
   leaving_same =
-      flat-agree (leaving_edits schema owner gone) (leaving_edits schema owner' gone) gone
-      (λ d i. flat-agree (λ s. ring_edits s (staying_owner gone (owner s d)) (TakeOut d ∷ [])) (λ s. ring_edits s (staying_owner gone (owner' s d)) (TakeOut d ∷ [])) (set_numbers schema)
+      flat_map_agrees (leaving_edits schema owner gone) (leaving_edits schema owner' gone) gone
+      (λ d i. flat_map_agrees (λ s. ring_edits s (staying_owner gone (owner s d)) (TakeOut d ∷ [])) (λ s. ring_edits s (staying_owner gone (owner' s d)) (TakeOut d ∷ [])) (set_numbers schema)
       (λ s j. ap (λ o. ring_edits s (staying_owner gone o) (TakeOut d ∷ [])) (same_owner d i s j)))
 
   losing_same : flat_map (losing_edits schema owner gone) (left_behind members gone) ≡ flat_map (losing_edits schema owner' gone) (left_behind members' gone)
   losing_same =
-      flat-agree (losing_edits schema owner gone) (losing_edits schema owner' gone) (left_behind members gone)
+      flat_map_agrees (losing_edits schema owner gone) (losing_edits schema owner' gone) (left_behind members gone)
       (λ x i. ap (λ sets. map (λ s. slot_edit x (ChangeOwner s None)) sets ++ slot_edit x RaiseVersion ∷ [])
-      (filter-agree (λ s. some_and (is_gone gone) (owner s x)) (λ s. some_and (is_gone gone) (owner' s x)) (set_numbers schema) (λ s j. ap (some_and (is_gone gone)) (same_left x i s j))))
+      (filter_agrees (λ s. some_and (is_gone gone) (owner s x)) (λ s. some_and (is_gone gone) (owner' s x)) (set_numbers schema) (λ s j. ap (some_and (is_gone gone)) (same_left x i s j))))
       ∙ ap (flat_map (losing_edits schema owner' gone)) same_behind
 
   pub same_edits : erasing_edits schema owner members gone ≡ erasing_edits schema owner' members' gone
@@ -180,7 +161,7 @@ module _ (schema : Lists) (capacity : ℕ) (db : Database) (hands : Hands) (unit
 
   members_are_some : has_members schema (whole schema capacity db) k ≡ list_any (λ s. nat_lt 0 (length (members_of db s (Rec k)))) owned
   members_are_some =
-      sym (any-filter (λ s. nat_lt 0 (length (members_of db s (Rec k)))) (λ s. owns schema s k.rtype) (set_numbers schema)
+      sym (any_filter (λ s. nat_lt 0 (length (members_of db s (Rec k)))) (λ s. owns schema s k.rtype) (set_numbers schema)
       (λ s e. ap (λ xs. nat_lt 0 (length xs)) (unowned schema capacity db hands unit agrees k s e)))
 
   module _ (own : first_cause (own_checks (whole schema capacity db) unit k) ≡ None) where
@@ -195,7 +176,7 @@ module _ (schema : Lists) (capacity : ℕ) (db : Database) (hands : Hands) (unit
     -- else all that it names
     all_held : has_any ≡ false → (c : CellName) → In c names → holds hands.cells c ≡ true
     all_held h c i =
-        let once : list_any (name_eq c) (names_once [] names) ≡ true = true_from (list_any (name_eq c) (names_once [] names)) (λ e. once_has names c c e i refl) in
+        let once : list_any (name_eq c) (names_once [] names) ≡ true = true_from (list_any (name_eq c) (names_once [] names)) (λ e. names_once_complete names c c e i refl) in
         let d = any_element (name_eq c) (names_once [] names) once in
         ap (holds hands.cells) (same_name c d.0 d.2)
         ∙ has d.0 (subst (In d.0) (sym (cond-false (is_some (first_cause (own_checks (whole schema capacity db) unit k))) (slot_name k ∷ []) _ (ap is_some own) ∙ cond-false has_any (slot_name k ∷ rings_to_member schema db k owned) (names_once [] names) h)) d.1) where
@@ -222,7 +203,7 @@ module _ (schema : Lists) (capacity : ℕ) (db : Database) (hands : Hands) (unit
 
     found_in_hand : has_members schema (in_hand hands) k ≡ list_any (λ s. nat_lt 0 (length (list_in hands k s))) owned
     found_in_hand =
-        sym (any-filter (λ s. nat_lt 0 (length (list_in hands k s))) (λ s. owns schema s k.rtype) (set_numbers schema)
+        sym (any_filter (λ s. nat_lt 0 (length (list_in hands k s))) (λ s. owns schema s k.rtype) (set_numbers schema)
         (λ s e. ap (λ xs. nat_lt 0 (length xs)) (unowned_in schema capacity db hands unit agrees k s e)))
 
     members_found : (is_plain option && has_members schema (in_hand hands) k) ≡ has_any
@@ -234,7 +215,7 @@ module _ (schema : Lists) (capacity : ℕ) (db : Database) (hands : Hands) (unit
               and_from _ _ hs.0 (found_member owned (as_far h) (sym members_are_some ∙ hs.1)) ∙ sym h
           | inr h ↦
               ap (λ b. is_plain option && b)
-              (any-same (λ s. nat_lt 0 (length (list_in hands k s))) (λ s. nat_lt 0 (length (members_of db s (Rec k)))) owned
+              (any_same (λ s. nat_lt 0 (length (list_in hands k s))) (λ s. nat_lt 0 (length (members_of db s (Rec k)))) owned
               (λ s i. ap (λ xs. nat_lt 0 (length xs)) (sym (ring_held s
               (all_held h (Ring s (Some (k.rtype, k.number))) (inr (in_left _ (own_rings schema k ++ flat_map (cells_of_doomed schema db) (doomed_in_turn schema capacity db option k)) (outer_cells schema capacity db (doomed_in_turn schema capacity db option k))
               (in_left _ (own_rings schema k) (flat_map (cells_of_doomed schema db) (doomed_in_turn schema capacity db option k)) (in_map (λ s. Ring s (Some (k.rtype, k.number))) s owned i))))))))
@@ -245,8 +226,8 @@ module _ (schema : Lists) (capacity : ℕ) (db : Database) (hands : Hands) (unit
   checks_are = by (first_cause (own_checks (whole schema capacity db) unit k)) refl where
     by : (o : Option Cause) → first_cause (own_checks (whole schema capacity db) unit k) ≡ o → first_cause (delete_checks schema (in_hand hands) unit option k) ≡ first_cause (delete_checks schema (whole schema capacity db) unit option k)
     by (Some cause) e =
-        refused-first (own_checks (in_hand hands) unit k) ((is_plain option && has_members schema (in_hand hands) k, OwnerHasMembers) ∷ []) cause (ap first_cause own_are ∙ e)
-        ∙ sym (refused-first (own_checks (whole schema capacity db) unit k) ((has_any, OwnerHasMembers) ∷ []) cause e)
+        refused_first (own_checks (in_hand hands) unit k) ((is_plain option && has_members schema (in_hand hands) k, OwnerHasMembers) ∷ []) cause (ap first_cause own_are ∙ e)
+        ∙ sym (refused_first (own_checks (whole schema capacity db) unit k) ((has_any, OwnerHasMembers) ∷ []) cause e)
     by None e = λ i. first_cause (own_are i ++ (members_found e i, OwnerHasMembers) ∷ [])
 
   -- WHAT IS DONE
@@ -276,7 +257,7 @@ module _ (schema : Lists) (capacity : ℕ) (db : Database) (hands : Hands) (unit
     pub left_held : (x : DbKey) → In x left → holds hands.cells (slot_name x) ≡ true
     left_held x i =
         all_at (λ y. holds hands.cells (slot_name y)) x left
-        (all_pass (λ y. holds hands.cells (slot_name y)) [] (filter (λ y. not (is_member y turn)) (flat_map (members_of_all schema db) turn)) refl
+        (with_those_pass (λ y. holds hands.cells (slot_name y)) [] (filter (λ y. not (is_member y turn)) (flat_map (members_of_all schema db) turn)) refl
         (all_from (λ y. holds hands.cells (slot_name y)) _ (λ y j.
         let d = of_flat_map (members_of_all schema db) y turn (of_filter (λ y. not (is_member y turn)) y (flat_map (members_of_all schema db) turn) j).0 in
         of_doomed d.0 d.1 (slot_name y) (inr (in_right (slot_name y) (own_rings schema d.0) (map slot_name (members_of_all schema db d.0)) (in_map slot_name y (members_of_all schema db d.0) d.2)))))) i
@@ -302,8 +283,8 @@ module _ (schema : Lists) (capacity : ℕ) (db : Database) (hands : Hands) (unit
         ≡ map (λ e. if is_taken_out schema capacity db unit option k e.0 then (e.0, version_of (after_delete schema capacity db unit option k) e.0) else e) unit.kept
     kept_are =
         ap (λ xs. renoted_at (map (λ x. (x, version_in hands x + 1)) xs) unit.kept) (sym left_same)
-        ∙ noted-each (λ x. version_in hands x + 1) left unit.kept
-        ∙ map-same (entry_at (λ x. version_in hands x + 1) left) _ unit.kept one where
+        ∙ noted_each (λ x. version_in hands x + 1) left unit.kept
+        ∙ map_same (entry_at (λ x. version_in hands x + 1) left) _ unit.kept one where
           one : (e : DbKey × ℕ) → entry_at (λ x. version_in hands x + 1) left e ≡ (if is_taken_out schema capacity db unit option k e.0 then (e.0, version_of (after_delete schema capacity db unit option k) e.0) else e)
           one e =
               elim (cases_Bool (is_member e.0 left)) [
@@ -313,10 +294,10 @@ module _ (schema : Lists) (capacity : ℕ) (db : Database) (hands : Hands) (unit
                     ∙ sym (version_left schema capacity db unit option k agrees.legal live e.0 h) in
                     cond-true (is_member e.0 left) _ e h
                     ∙ ap (λ v. pair e.0 v) version
-                    ∙ sym (cond-true (is_taken_out schema capacity db unit option k e.0) _ e (sym (left_is schema capacity db unit option k agrees.legal live e.0) ∙ h))
+                    ∙ sym (cond-true (is_taken_out schema capacity db unit option k e.0) _ e (sym (left_are_taken_out schema capacity db unit option k agrees.legal live e.0) ∙ h))
                 | inr h ↦
                     cond-false (is_member e.0 left) _ e h
-                    ∙ sym (cond-false (is_taken_out schema capacity db unit option k e.0) _ e (sym (left_is schema capacity db unit option k agrees.legal live e.0) ∙ h))
+                    ∙ sym (cond-false (is_taken_out schema capacity db unit option k e.0) _ e (sym (left_are_taken_out schema capacity db unit option k agrees.legal live e.0) ∙ h))
               ]
 
     -- every edit is of a cell in hand
@@ -357,7 +338,7 @@ module _ (schema : Lists) (capacity : ℕ) (db : Database) (hands : Hands) (unit
                           ∙ outer_held (Ring s (place_of o)) (in_right _ extents rings
                           (in_flat_map (λ s. map (λ o. Ring s (place_of o)) (filter (λ o. list_any (λ d. is_member d (members_of db s o)) turn) (owners schema capacity db s))) s _ (set_numbers schema) j
                           (in_map (λ o. Ring s (place_of o)) o _ (in_filter (λ o. list_any (λ d. is_member d (members_of db s o)) turn) o (owners schema capacity db s)
-                          (among_owners schema capacity db agrees.legal s o (listed schema capacity db agrees.legal s o d has)) (any_in (λ d. is_member d (members_of db s o)) d turn i has)))))
+                          (among_owners schema capacity db agrees.legal s o (listed_has_occurrence schema capacity db agrees.legal s o d has)) (any_in (λ d. is_member d (members_of db s o)) d turn i has)))))
                       | inr never ↦ absurd never
                     ]
               ]

@@ -4,23 +4,18 @@ use Rattle.std.proofs.Math.Seq.{drop-cons}
 use Rattle.std.specs.Prelude.{filter, is_some}
 use Rattle.std.specs.List.{find, flat_map, range_with_len}
 use Rattle.std.specs.Option.{option_or}
+use Rattle.std.proofs.lemmas.List.{map-append}
 use Rattle.dbtg_cells.specs.declared.cell.Cell.{Cell}
 use Rattle.dbtg_cells.specs.declared.key.DbKey.{DbKey}
 use Rattle.dbtg_cells.specs.declared.name.CellName.{CellName}
-use Rattle.dbtg_cells.specs.Names.{name_eq}
-use Rattle.dbtg_unit.specs.Hands.{Hands, cell_of}
-use Rattle.dbtg_unit.specs.Local.{holds}
-use Rattle.dbtg_unit.proofs.NumberLemmas.{numbers_end, numbers_next}
+use Rattle.dbtg_unit.specs.Hands.Hands.{Hands, cell_of}
+use Rattle.dbtg_unit.specs.Hands.Local.{holds}
+use Rattle.dbtg_unit.proofs.Public.{holds_there, numbers_end, numbers_next}
 use Rattle.dbtg_erase.proofs.KeyLists.{append_nil}
-
-pub found_by_name : (cells : List (CellName × Cell)) (c : CellName) → is_some (cell_of c cells) ≡ holds cells c
-found_by_name [] c = refl
-found_by_name (e ∷ es) c =
-    elim (name_eq c e.0) as (λ b. is_some (cond b (Some e.1) (cell_of c es)) ≡ cond b true (holds es c)) [ true ↦ refl | false ↦ found_by_name es c ]
 
 -- a cell is held where one is found by its name
 pub held_by_name : (hands : Hands) (c : CellName) (o : Option Cell) → o ≡ cell_of c hands.cells → is_some o ≡ holds hands.cells c
-held_by_name hands c o e = ap is_some e ∙ found_by_name hands.cells c
+held_by_name hands c o e = ap is_some e ∙ holds_there hands.cells c
 
 pub find_or : (p : CellName → Bool) (xs ys : List CellName) → find p (xs ++ ys) ≡ option_or (find p xs) (find p ys)
 find_or p [] ys = refl
@@ -33,14 +28,10 @@ Splits names = (i : ℕ) (xs : List ℕ) → names (i ∷ xs) ≡ names (i ∷ [
 pub splits_map : (f : ℕ → CellName) (p : ℕ → Bool) → Splits (λ xs. map f (filter p xs))
 splits_map f p i xs = elim (p i) as (λ b. map f (cond b (i ∷ filter p xs) (filter p xs)) ≡ map f (cond b (i ∷ []) []) ++ map f (filter p xs)) [ true ↦ refl | false ↦ refl ]
 
-map_append : (g : DbKey → CellName) (xs ys : List DbKey) → map g (xs ++ ys) ≡ map g xs ++ map g ys
-map_append g [] ys = refl
-map_append g (x ∷ xs) ys = ap (λ zs. g x ∷ zs) (map_append g xs ys)
-
 pub splits_flat : (g : DbKey → CellName) (f : ℕ → List DbKey) (p : ℕ → Bool) → Splits (λ xs. map g (flat_map f (filter p xs)))
 splits_flat g f p i xs =
     elim (p i) as (λ b. map g (flat_map f (cond b (i ∷ filter p xs) (filter p xs))) ≡ map g (flat_map f (cond b (i ∷ []) [])) ++ map g (flat_map f (filter p xs))) [
-      | true ↦ map_append g (f i) (flat_map f (filter p xs)) ∙ ap (λ ks. map g ks ++ map g (flat_map f (filter p xs))) (sym (append_nil (f i)))
+      | true ↦ map-append g (f i) (flat_map f (filter p xs)) ∙ ap (λ ks. map g ks ++ map g (flat_map f (filter p xs))) (sym (append_nil (f i)))
       | false ↦ refl
     ]
 

@@ -4,22 +4,14 @@ use Rattle.std.specs.Prelude.{filter, slice_get}
 use Rattle.std.specs.List.{flat_map, range_with_len}
 use Rattle.dbtg_cells.specs.declared.key.DbKey.{DbKey}
 use Rattle.dbtg_cells.specs.Keys.{is_member}
-use Rattle.dbtg_unit.specs.Erasing.{brought, brought_from, with_those}
-use Rattle.dbtg_unit.proofs.NumberLemmas.{numbers_end, numbers_next}
+use Rattle.dbtg_unit.specs.Hands.Erasing.{brought, brought_from, with_those}
+use Rattle.dbtg_unit.proofs.Public.{numbers_end, numbers_next}
 use Rattle.dbtg_erase.proofs.Bringing.{past, stable}
 
 -- those of a list, and then of another
 pub with_those_append : (order xs ys : List DbKey) → with_those order (xs ++ ys) ≡ with_those (with_those order xs) ys
 with_those_append order [] ys = refl
 with_those_append order (x ∷ xs) ys = with_those_append (cond (is_member x order) order (order ++ x ∷ [])) xs ys
-
-pub filter_append : {X : Type 0} (p : X → Bool) (xs ys : List X) → filter p (xs ++ ys) ≡ filter p xs ++ filter p ys
-filter_append p [] ys = refl
-filter_append p (x ∷ xs) ys =
-    elim (p x) as (λ b. cond b (x ∷ filter p (xs ++ ys)) (filter p (xs ++ ys)) ≡ cond b (x ∷ filter p xs) (filter p xs) ++ filter p ys) [
-      | true ↦ ap (λ zs. x ∷ zs) (filter_append p xs ys)
-      | false ↦ filter_append p xs ys
-    ]
 
 -- the key at i brings those that it takes along
 pub brought_next : (taken : DbKey → List DbKey) (n i : ℕ) (order : List DbKey) (d : DbKey) → i < n → slice_get order i ≡ Some d

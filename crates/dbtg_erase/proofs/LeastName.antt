@@ -4,15 +4,15 @@ use Rattle.std.specs.Prelude.{filter}
 use Rattle.std.specs.List.{find, flat_map}
 use Rattle.std.proofs.lemmas.Bool.{and_parts, cases_Bool, false≢true, false_from_ne_true}
 use Rattle.std.proofs.lemmas.Option.{none-some, same_Some}
+use Rattle.std.proofs.lemmas.List.Elements.{filter-append}
 use Rattle.dbtg_cells.specs.declared.key.DbKey.{DbKey}
 use Rattle.dbtg_cells.specs.declared.name.CellName.{CellName}
 use Rattle.dbtg_cells.specs.Names.{name_lt}
-use Rattle.dbtg_unit.specs.Legal.{pairwise}
-use Rattle.dbtg_unit.proofs.LiveKeys.{In, all_at, in_filter, of_filter}
-use Rattle.dbtg_unit.proofs.NameOrder.{name_chain, name_never}
+use Rattle.dbtg_cells.proofs.Public.{either_way}
+use Rattle.dbtg_unit.specs.Database.State.Legal.{pairwise}
+use Rattle.dbtg_unit.proofs.Public.{In, all_at, in_filter, name_chain, name_never, of_filter}
 use Rattle.dbtg_erase.specs.NextCell.{least_name, nearer}
 use Rattle.dbtg_erase.proofs.FirstNames.{drop_at}
-use Rattle.dbtg_erase.proofs.KeyLists.{filter_append}
 
 pub least_append : (best : Option CellName) (xs ys : List CellName) → least_name best (xs ++ ys) ≡ least_name (least_name best xs) ys
 least_append best [] ys = refl
@@ -20,7 +20,7 @@ least_append best (x ∷ xs) ys = least_append (Some (nearer best x)) xs ys
 
 -- of two lists, those that pass
 pub least_of_both : (p : CellName → Bool) (best : Option CellName) (xs ys : List CellName) → least_name best (filter p (xs ++ ys)) ≡ least_name (least_name best (filter p xs)) (filter p ys)
-least_of_both p best xs ys = ap (least_name best) (filter_append p xs ys) ∙ least_append best (filter p xs) (filter p ys)
+least_of_both p best xs ys = ap (least_name best) (filter-append p xs ys) ∙ least_append best (filter p xs) (filter p ys)
 
 -- c, or a name behind it
 abbrev AtOrBehind : CellName → CellName → Type 0
@@ -35,10 +35,6 @@ stays_best : (c : CellName) (xs : List CellName) → ((d : CellName) → In d xs
 stays_best c [] h = refl
 stays_best c (x ∷ xs) h = ap (λ b. least_name (Some (cond b x c)) xs) (not_before c x (h x (inl refl))) ∙ stays_best c xs (λ d i. h d (inr i))
 
-either : (t : Bool) (c : CellName) → cond t c c ≡ c
-either true c = refl
-either false c = refl
-
 -- it becomes the best where it is among the names, and the others are behind it
 becomes_best : (c : CellName) (best : Option CellName) (xs : List CellName) → ((b : CellName) → best ≡ Some b → AtOrBehind c b) → In c xs → ((d : CellName) → In d xs → AtOrBehind c d) → least_name best xs ≡ Some c
 becomes_best c best [] behind i h = absurd i
@@ -47,7 +43,7 @@ becomes_best c best (x ∷ xs) behind (inl e) h = ap (λ (b : CellName). least_n
   now None behind = e
   now (Some b) behind = by (behind b refl) where
     by : AtOrBehind c b → cond (name_lt x b) x b ≡ c
-    by (inl same) = ap (λ (y : CellName). cond (name_lt y b) y b) e ∙ ap (λ (y : CellName). cond (name_lt c y) c y) same ∙ either (name_lt c c) c
+    by (inl same) = ap (λ (y : CellName). cond (name_lt y b) y b) e ∙ ap (λ (y : CellName). cond (name_lt c y) c y) same ∙ either_way (name_lt c c) c
     by (inr later) = ap (λ (y : CellName). cond (name_lt y b) y b) e ∙ ap (λ t. cond t c b) later
 becomes_best c best (x ∷ xs) behind (inr i) h = becomes_best c (Some (nearer best x)) xs (λ b e. subst (AtOrBehind c) (same_Some (nearer best x) b e) (one best behind)) i (λ d j. h d (inr j)) where
   one : (best : Option CellName) → ((b : CellName) → best ≡ Some b → AtOrBehind c b) → AtOrBehind c (nearer best x)

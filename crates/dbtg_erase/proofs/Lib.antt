@@ -7,7 +7,6 @@ pub mod CanErase
 pub mod CanFinish
 pub mod KeyLists
 pub mod EditLists
-pub mod NextVersions
 pub mod FirstNames
 pub mod LeastName
 pub mod OuterCells

@@ -12,30 +12,27 @@ use Rattle.dbtg_cells.specs.declared.key.DbKey.{DbKey}
 use Rattle.dbtg_cells.specs.declared.key.Owner.TheVariants.{Rec}
 use Rattle.dbtg_cells.specs.declared.name.CellName.{CellName}
 use Rattle.dbtg_cells.specs.Names.{name_eq}
-use Rattle.dbtg_unit.proofs.SameView.{own_checks_agree}
-use Rattle.dbtg_unit.specs.View.{whole}
+use Rattle.dbtg_cells.proofs.Public.{same_name}
+use Rattle.dbtg_unit.proofs.Public.{In, all_at, in_flat_map, in_map, members_in_hand as members_are, met_are_live, own_checks_agree, owner_in_hand}
+use Rattle.dbtg_unit.proofs.Public.{passes_check, same_record}
+use Rattle.dbtg_unit.specs.Database.Statements.View.{whole}
 use Rattle.dbtg_unit.specs.declared.statement.Erase.{Erase}
 use Rattle.dbtg_unit.specs.declared.unit.Cause.{Cause}
 use Rattle.dbtg_unit.specs.declared.unit.Cause.TheVariants.{Deleted}
 use Rattle.dbtg_unit.specs.declared.unit.Unit.{Unit}
-use Rattle.dbtg_unit.specs.Base.{Database, is_live, members_of, owner_of}
-use Rattle.dbtg_unit.specs.CellNames.{slot_name}
-use Rattle.dbtg_unit.specs.Doomed.{all_keys}
-use Rattle.dbtg_unit.specs.Checks.{own_checks}
-use Rattle.dbtg_unit.specs.Conditions.{has_members, is_plain}
-use Rattle.dbtg_unit.specs.Erasing.{cells_of_doomed, delete_cells, doomed_in_turn, members_of_all, names_once, outer_cells, own_rings, rings_to_member, taken_with}
-use Rattle.dbtg_unit.specs.Hands.{Hands}
-use Rattle.dbtg_unit.specs.InHand.{owner_in, in_hand}
-use Rattle.dbtg_unit.specs.Local.{Agrees, holds}
-use Rattle.dbtg_unit.proofs.CellNameLemmas.{same_name}
-use Rattle.dbtg_unit.proofs.CheckLemmas.{passes_check}
-use Rattle.dbtg_unit.proofs.InHandLemmas.{members_in_hand as members_are, owner_in_hand, same_record}
-use Rattle.dbtg_unit.proofs.InTurn.{met_are_live}
-use Rattle.dbtg_unit.proofs.LiveKeys.{In, all_at, in_flat_map, in_map}
+use Rattle.dbtg_unit.specs.Database.State.Base.{Database, is_live, members_of, owner_of}
+use Rattle.dbtg_unit.specs.Database.State.CellNames.{slot_name}
+use Rattle.dbtg_unit.specs.Database.Statements.Doomed.{all_keys}
+use Rattle.dbtg_unit.specs.Database.Statements.Checks.{own_checks}
+use Rattle.dbtg_unit.specs.Database.Statements.Conditions.{has_members, is_plain}
+use Rattle.dbtg_unit.specs.Hands.Erasing.{cells_of_doomed, delete_cells, doomed_in_turn, members_of_all, names_once, outer_cells, own_rings, rings_to_member, taken_with}
+use Rattle.dbtg_unit.specs.Hands.Hands.{Hands}
+use Rattle.dbtg_unit.specs.Hands.InHand.{owner_in, in_hand}
+use Rattle.dbtg_unit.specs.Hands.Local.{Agrees, holds}
 use Rattle.dbtg_erase.specs.NextCell.{first_missing, is_missing, least_name, next_cell_in, next_of_gone, next_of_passed, outer_names, ring_of, stops_at, unless_stopped}
 use Rattle.dbtg_erase.specs.WorkList.{cells_of_gone, gone_in, list_in, own_sets}
 use Rattle.dbtg_erase.proofs.Bringing.{prefix}
-use Rattle.dbtg_erase.proofs.ErasePlan.{any-filter, any-same}
+use Rattle.dbtg_erase.proofs.ErasePlan.{any_filter, any_same}
 use Rattle.dbtg_erase.proofs.FirstNames.{find_or}
 use Rattle.dbtg_erase.proofs.LeastName.{first_is_least}
 use Rattle.dbtg_erase.proofs.OuterCells.{named_outer, outer_ascend, outer_named}
@@ -171,11 +168,11 @@ module _ (schema : Lists) (capacity : ℕ) (db : Database) (hands : Hands) (unit
 
   members_owned : has_members schema (whole schema capacity db) k ≡ list_any some_of owned
   members_owned =
-      sym (any-filter some_of (λ s. owns schema s k.rtype) (set_numbers schema) (λ s e. ap (λ xs. nat_lt 0 (length xs)) (unowned schema capacity db hands unit agrees k s e)))
+      sym (any_filter some_of (λ s. owns schema s k.rtype) (set_numbers schema) (λ s e. ap (λ xs. nat_lt 0 (length xs)) (unowned schema capacity db hands unit agrees k s e)))
 
   found_owned : has_members schema (in_hand hands) k ≡ list_any some_in owned
   found_owned =
-      sym (any-filter some_in (λ s. owns schema s k.rtype) (set_numbers schema) (λ s e. ap (λ xs. nat_lt 0 (length xs)) (unowned_in schema capacity db hands unit agrees k s e)))
+      sym (any_filter some_in (λ s. owns schema s k.rtype) (set_numbers schema) (λ s e. ap (λ xs. nat_lt 0 (length xs)) (unowned_in schema capacity db hands unit agrees k s e)))
 
   -- WHAT GOES
 
@@ -271,7 +268,7 @@ module _ (schema : Lists) (capacity : ℕ) (db : Database) (hands : Hands) (unit
       by None h =
           sym (ap (λ o. option_or o (cond (has_members schema (in_hand hands) k) None general)) (rings_are ∙ h)
           ∙ cond-false (has_members schema (in_hand hands) k) None general
-          (found_owned ∙ any-same some_in some_of owned (λ s i. sym (some_is s (none_wanting (holds hands.cells) (own_rings schema k) h (ring s) (in_map ring s owned i)))) ∙ none))
+          (found_owned ∙ any_same some_in some_of owned (λ s i. sym (some_is s (none_wanting (holds hands.cells) (own_rings schema k) h (ring s) (in_map ring s owned i)))) ∙ none))
 
     passed_is : find wanting (cells_passed has_any) ≡ next_of_passed schema capacity hands option k
     passed_is = by (is_plain option) where

@@ -13,13 +13,13 @@ use Rattle.dbtg_unit.specs.declared.statement.Erase.{Erase}
 use Rattle.dbtg_unit.specs.declared.statement.Statement.TheVariants.{Delete}
 use Rattle.dbtg_unit.specs.declared.unit.Cause.{Cause}
 use Rattle.dbtg_unit.specs.declared.unit.Unit.{Unit}
-use Rattle.dbtg_unit.specs.Base.{Database, is_live, owner_of}
-use Rattle.dbtg_unit.specs.Checks.{refused_at_once}
-use Rattle.dbtg_unit.specs.Erasing.{delete_cells_of}
-use Rattle.dbtg_unit.specs.Hands.{Hands}
-use Rattle.dbtg_unit.specs.Local.{Agrees}
-use Rattle.dbtg_unit.specs.Needs.{areas_in_order, cells_of, is_stale, is_wrong_guess, need, need_of_cells, next_of, stale_owners}
-use Rattle.dbtg_unit.proofs.LocalReady.{holds_any}
+use Rattle.dbtg_unit.specs.Database.State.Base.{Database, is_live, owner_of}
+use Rattle.dbtg_unit.specs.Database.Statements.Checks.{refused_at_once}
+use Rattle.dbtg_unit.specs.Hands.Erasing.{delete_cells_of}
+use Rattle.dbtg_unit.specs.Hands.Hands.{Hands}
+use Rattle.dbtg_unit.specs.Hands.Local.{Agrees}
+use Rattle.dbtg_unit.specs.Hands.Needs.{areas_in_order, cells_of, is_stale, is_wrong_guess, need, need_of_cells, next_of, stale_owners}
+use Rattle.dbtg_unit.proofs.Public.{holds_any}
 use Rattle.dbtg_erase.specs.NextCell.{need_of, next_cell_of}
 use Rattle.dbtg_erase.proofs.NextCell.{next_cell_is}
 

@@ -12,29 +12,26 @@ use Rattle.dbtg_cells.specs.declared.name.CellName.{CellName}
 use Rattle.dbtg_cells.specs.declared.name.CellName.TheVariants.{Extent, Ring}
 use Rattle.dbtg_cells.specs.Keys.{is_member}
 use Rattle.dbtg_cells.specs.Names.{name_lt}
-use Rattle.dbtg_unit.specs.Base.{Database, is_live, key_at, live_keys, members_of, owner_of, owners}
-use Rattle.dbtg_unit.specs.CellNames.{place_of}
-use Rattle.dbtg_unit.specs.Erasing.{outer_cells}
-use Rattle.dbtg_unit.specs.Hands.{Hands}
-use Rattle.dbtg_unit.specs.InHand.{owner_in}
-use Rattle.dbtg_unit.specs.Legal.{Legal, pairwise}
-use Rattle.dbtg_unit.specs.Needs.{ring_names}
-use Rattle.dbtg_unit.proofs.Ascending.{ascending_filter, ascending_join, ascending_range}
-use Rattle.dbtg_unit.proofs.LiveKeys.{In, all_at, any_element, any_in, in_filter, in_flat_map, in_left, in_map, in_range, in_right, listed, member_of_owner, of_append, of_filter, of_flat_map, of_map, owner_in as among_owners, owner_is}
+use Rattle.dbtg_unit.specs.Database.State.Base.{Database, is_live, key_at, live_keys, members_of, owner_of, owners}
+use Rattle.dbtg_unit.specs.Database.State.CellNames.{place_of}
+use Rattle.dbtg_unit.specs.Hands.Erasing.{outer_cells}
+use Rattle.dbtg_unit.specs.Hands.Hands.{Hands}
+use Rattle.dbtg_unit.specs.Hands.InHand.{owner_in}
+use Rattle.dbtg_unit.specs.Database.State.Legal.{Legal, pairwise}
+use Rattle.dbtg_unit.specs.Hands.Needs.{ring_names}
+use Rattle.dbtg_unit.proofs.Public.{In, all_at, all_in, any_element, any_in, ascending_join, ascending_range, in_filter, in_flat_map, in_left, in_map}
+use Rattle.dbtg_unit.proofs.Public.{in_range, in_right, listed_has_occurrence, member_of_owner, of_append, of_filter, of_flat_map, of_map}
+use Rattle.dbtg_unit.proofs.Public.{owner_in as among_owners, owner_of_member, pairwise_filter}
 use Rattle.dbtg_erase.specs.NextCell.{outer_names}
 
 -- IN ORDER
 
-pairwise-map : {X Y : Type 0} (f : X → Y) (r : Y → Y → Bool) (q : X → X → Bool) (xs : List X) → ((x y : X) → q x y ≡ true → r (f x) (f y) ≡ true) → pairwise q xs ≡ true → pairwise r (map f xs) ≡ true
-pairwise-map f r q [] h g = refl
-pairwise-map f r q (x ∷ xs) h g = let gs = and_parts _ _ g in and_from _ _ (all xs gs.0) (pairwise-map f r q xs h gs.1) where
+pairwise_map : {X Y : Type 0} (f : X → Y) (r : Y → Y → Bool) (q : X → X → Bool) (xs : List X) → ((x y : X) → q x y ≡ true → r (f x) (f y) ≡ true) → pairwise q xs ≡ true → pairwise r (map f xs) ≡ true
+pairwise_map f r q [] h g = refl
+pairwise_map f r q (x ∷ xs) h g = let gs = and_parts _ _ g in and_from _ _ (all xs gs.0) (pairwise_map f r q xs h gs.1) where
   all : (ys : List _) → list_all (q x) ys ≡ true → list_all (r (f x)) (map f ys) ≡ true
   all [] e = refl
   all (y ∷ ys) e = let es = and_parts _ _ e in and_from _ _ (h x y es.0) (all ys es.1)
-
-all-in : {X : Type 0} (p : X → Bool) (xs : List X) → ((x : X) → In x xs → p x ≡ true) → list_all p xs ≡ true
-all-in p [] h = refl
-all-in p (x ∷ xs) h = and_from _ _ (h x (inl refl)) (all-in p xs (λ y i. h y (inr i)))
 
 -- rings set by set
 rings_ascend : (f : ℕ → List CellName) (sets : List ℕ) → pairwise nat_lt sets ≡ true
@@ -43,7 +40,7 @@ rings_ascend f [] h between each = refl
 rings_ascend f (s ∷ sets) h between each =
     let hs = and_parts _ _ h in
     ascending_join name_lt (f s) (flat_map f sets) (each s) (rings_ascend f sets hs.1 between each)
-    (λ c i. all-in (name_lt c) (flat_map f sets) (λ d j. let t = of_flat_map f d sets j in between s t.0 c d i t.2 (all_at (nat_lt s) t.0 sets hs.0 t.1)))
+    (λ c i. all_in (name_lt c) (flat_map f sets) (λ d j. let t = of_flat_map f d sets j in between s t.0 c d i t.2 (all_at (nat_lt s) t.0 sets hs.0 t.1)))
 
 module _ (schema : Lists) (capacity : ℕ) (db : Database) (gone : List DbKey) where
   abbrev has_type_gone : ℕ → Bool
@@ -63,8 +60,8 @@ module _ (schema : Lists) (capacity : ℕ) (db : Database) (gone : List DbKey) w
 
   extents_ascend : pairwise name_lt extents ≡ true
   extents_ascend =
-      pairwise-map Extent name_lt nat_lt (filter has_type_gone (range_with_len 0 (length schema.types))) (λ t u h. h)
-      (ascending_filter nat_lt has_type_gone (range_with_len 0 (length schema.types)) (ascending_range 0 (length schema.types)))
+      pairwise_map Extent name_lt nat_lt (filter has_type_gone (range_with_len 0 (length schema.types))) (λ t u h. h)
+      (pairwise_filter nat_lt has_type_gone (range_with_len 0 (length schema.types)) (ascending_range 0 (length schema.types)))
 
   -- the owners of a set, by their rings
   abbrev before : ℕ → Owner → Owner → Bool
@@ -72,9 +69,9 @@ module _ (schema : Lists) (capacity : ℕ) (db : Database) (gone : List DbKey) w
 
   keys_ascend : (s t : ℕ) → pairwise (before s) (map Rec (live_keys capacity db t)) ≡ true
   keys_ascend s t =
-      pairwise-map Rec (before s) (λ j k. before s (Rec j) (Rec k)) (live_keys capacity db t) (λ j k h. h)
-      (ascending_filter (λ j k. before s (Rec j) (Rec k)) (is_live db) (map (key_at db t) (range_with_len 1 capacity))
-      (pairwise-map (key_at db t) (λ j k. before s (Rec j) (Rec k)) nat_lt (range_with_len 1 capacity)
+      pairwise_map Rec (before s) (λ j k. before s (Rec j) (Rec k)) (live_keys capacity db t) (λ j k h. h)
+      (pairwise_filter (λ j k. before s (Rec j) (Rec k)) (is_live db) (map (key_at db t) (range_with_len 1 capacity))
+      (pairwise_map (key_at db t) (λ j k. before s (Rec j) (Rec k)) nat_lt (range_with_len 1 capacity)
       (λ n m h. or_right _ _ (and_from _ _ (eq-eqb s s refl) (or_right _ _ (and_from _ _ (eq-eqb t t refl) h)))) (ascending_range 1 capacity)))
 
   owners_ascend : (s : ℕ) → pairwise (before s) (owners schema capacity db s) ≡ true
@@ -92,8 +89,8 @@ module _ (schema : Lists) (capacity : ℕ) (db : Database) (gone : List DbKey) w
       let o = of_map (λ o. Ring s (place_of o)) c _ i in
       let p = of_map (λ o. Ring t (place_of o)) d _ j in
       subst (λ (x : CellName). name_lt x d ≡ true) o.2 (subst (λ (y : CellName). name_lt (Ring s (place_of o.0)) y ≡ true) p.2 (or_left _ _ h)))
-      (λ s. pairwise-map (λ o. Ring s (place_of o)) name_lt (before s) (filter (has_gone s) (owners schema capacity db s)) (λ o p h. h) (ascending_filter (before s) (has_gone s) (owners schema capacity db s) (owners_ascend s))))
-      (λ c i. all-in (name_lt c) rings (λ d j.
+      (λ s. pairwise_map (λ o. Ring s (place_of o)) name_lt (before s) (filter (has_gone s) (owners schema capacity db s)) (λ o p h. h) (pairwise_filter (before s) (has_gone s) (owners schema capacity db s) (owners_ascend s))))
+      (λ c i. all_in (name_lt c) rings (λ d j.
       let t = of_map Extent c _ i in
       let s = of_flat_map rings_of d (set_numbers schema) j in
       let o = of_map (λ o. Ring s.0 (place_of o)) d _ s.2 in
@@ -119,7 +116,7 @@ module _ (schema : Lists) (capacity : ℕ) (db : Database) (gone : List DbKey) w
         in_flat_map (outer_names schema hands) d.0 c gone d.1
         (inr (in_flat_map (λ s. ring_names s (owner_in hands s d.0)) s.0 c (set_numbers schema) s.1
         (subst (λ (x : CellName). In x (ring_names s.0 (owner_in hands s.0 d.0))) o.2
-        (named d.0 s.0 (owner_in hands s.0 d.0) o.0 (sym (owners_are d.0 d.1 s.0 s.1) ∙ owner_is schema capacity db legal s.0 o.0 d.0 d.2))))))
+        (named d.0 s.0 (owner_in hands s.0 d.0) o.0 (sym (owners_are d.0 d.1 s.0 s.1) ∙ owner_of_member schema capacity db legal s.0 o.0 d.0 d.2))))))
         (of_append c extents rings i)
 
     pub named_outer : (c : CellName) → In c (flat_map (outer_names schema hands) gone) → In c (outer_cells schema capacity db gone)
@@ -131,7 +128,7 @@ module _ (schema : Lists) (capacity : ℕ) (db : Database) (gone : List DbKey) w
           ⊎_elim
           (λ same. subst (λ (x : CellName). In x rings) same
           (in_flat_map rings_of s (Ring s (place_of o)) (set_numbers schema) j
-          (in_map (λ o. Ring s (place_of o)) o _ (in_filter (has_gone s) o (owners schema capacity db s) (among_owners schema capacity db legal s o (listed schema capacity db legal s o d has))
+          (in_map (λ o. Ring s (place_of o)) o _ (in_filter (has_gone s) o (owners schema capacity db s) (among_owners schema capacity db legal s o (listed_has_occurrence schema capacity db legal s o d has))
           (any_in (λ d. is_member d (members_of db s o)) d gone i has)))))
           (λ never. absurd never) m
 

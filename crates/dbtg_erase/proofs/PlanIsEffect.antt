@@ -7,7 +7,7 @@ use Rattle.dbtg_schema.specs.Lookups.{first_cause}
 use Rattle.dbtg_cells.specs.declared.key.DbKey.{DbKey}
 use Rattle.dbtg_cells.specs.declared.key.Owner.{Owner}
 use Rattle.dbtg_cells.specs.declared.name.CellName.{CellName}
-use Rattle.dbtg_unit.specs.View.{whole}
+use Rattle.dbtg_unit.specs.Database.Statements.View.{whole}
 use Rattle.dbtg_unit.specs.declared.edit.CellEdit.{CellEdit}
 use Rattle.dbtg_unit.specs.declared.statement.Erase.{Erase}
 use Rattle.dbtg_unit.specs.declared.statement.Statement.{Statement}
@@ -15,26 +15,21 @@ use Rattle.dbtg_unit.specs.declared.statement.Statement.TheVariants.{Delete}
 use Rattle.dbtg_unit.specs.declared.unit.Cause.{Cause}
 use Rattle.dbtg_unit.specs.declared.unit.Cause.TheVariants.{Deleted, NoCurrentOfRunUnit, OwnerHasMembers}
 use Rattle.dbtg_unit.specs.declared.unit.Unit.{Unit}
-use Rattle.dbtg_unit.specs.Base.{Database, is_live}
-use Rattle.dbtg_unit.specs.Cells.{cell}
-use Rattle.dbtg_unit.specs.Checks.{delete_checks, own_checks, refused_at_once}
-use Rattle.dbtg_unit.specs.Conditions.{has_members, is_plain}
-use Rattle.dbtg_unit.specs.Edits.{edited_at}
-use Rattle.dbtg_unit.specs.EditsOf.{delete_edits, edits_of_current}
-use Rattle.dbtg_unit.specs.Effect.{Outcome, deleted, effect, effect_on_cells, refused, unless_refused}
-use Rattle.dbtg_unit.proofs.Outcomes.{on_current}
-use Rattle.dbtg_unit.specs.Erasing.{delete_cells, delete_cells_of}
-use Rattle.dbtg_unit.specs.Guesses.{guesses_after}
-use Rattle.dbtg_unit.specs.Hands.{Hands}
-use Rattle.dbtg_unit.specs.Local.{Agrees, holds}
-use Rattle.dbtg_unit.specs.Prepared.{IsEffect, IsPrepared, Plan}
-use Rattle.dbtg_unit.specs.Units.{forgotten}
-use Rattle.dbtg_unit.proofs.CheckLemmas.{passes, passes-append, passes_check}
-use Rattle.dbtg_unit.proofs.EveryEdit.{every_effect_is_its_edits}
-use Rattle.dbtg_unit.proofs.LiveKeys.{In}
-use Rattle.dbtg_unit.proofs.LocalReady.{legal_after}
-use Rattle.dbtg_unit.proofs.OnePlan.{MayPlan}
-use Rattle.dbtg_unit.proofs.ReadyParts.{prepared_has_all}
+use Rattle.dbtg_unit.specs.Database.State.Base.{Database, is_live}
+use Rattle.dbtg_unit.specs.Database.State.Cells.{cell}
+use Rattle.dbtg_unit.specs.Database.Statements.Checks.{delete_checks, own_checks, refused_at_once}
+use Rattle.dbtg_unit.specs.Database.Statements.Conditions.{has_members, is_plain}
+use Rattle.dbtg_unit.specs.Hands.Edits.{edited_at}
+use Rattle.dbtg_unit.specs.Hands.EditsOf.{delete_edits, edits_of_current}
+use Rattle.dbtg_unit.specs.Database.Statements.Effect.{Outcome, deleted, effect, effect_on_cells, refused, unless_refused}
+use Rattle.dbtg_unit.proofs.Public.{In, MayPlan, every_effect_is_its_edits, first_check_passes, legal_after, on_current, passes_append, passes_check}
+use Rattle.dbtg_unit.proofs.Public.{prepared_has_all}
+use Rattle.dbtg_unit.specs.Hands.Erasing.{delete_cells, delete_cells_of}
+use Rattle.dbtg_unit.specs.Hands.Guesses.{guesses_after}
+use Rattle.dbtg_unit.specs.Hands.Hands.{Hands}
+use Rattle.dbtg_unit.specs.Hands.Local.{Agrees, holds}
+use Rattle.dbtg_unit.specs.Hands.Prepared.{IsEffect, IsPrepared, Plan}
+use Rattle.dbtg_unit.specs.Database.State.Units.{forgotten}
 use Rattle.dbtg_erase.specs.ErasePlan.{delete_plan, erasing_plan, refusal, unless_refusal, whole_plan}
 use Rattle.dbtg_erase.specs.WorkList.{gone_in}
 use Rattle.dbtg_erase.proofs.ErasePlan.{checks_are, edits_are, edits_held, kept_are}
@@ -61,10 +56,10 @@ pub record Passed (schema : Lists) (capacity : ℕ) (db : Database) (unit : Unit
 
 pub passed : (schema : Lists) (capacity : ℕ) (db : Database) (unit : Unit) (option : Erase) (k : DbKey) → first_cause (delete_checks schema (whole schema capacity db) unit option k) ≡ None → Passed schema capacity db unit option k
 passed schema capacity db unit option k h =
-    let parts = passes-append (own_checks (whole schema capacity db) unit k) ((is_plain option && has_members schema (whole schema capacity db) k, OwnerHasMembers) ∷ []) h in
+    let parts = passes_append (own_checks (whole schema capacity db) unit k) ((is_plain option && has_members schema (whole schema capacity db) k, OwnerHasMembers) ∷ []) h in
     record {
       own = parts.0;
-      none = (passes (is_plain option && has_members schema (whole schema capacity db) k, OwnerHasMembers) [] parts.1).0;
+      none = (first_check_passes (is_plain option && has_members schema (whole schema capacity db) k, OwnerHasMembers) [] parts.1).0;
       live = not-false _ (passes_check (not (is_live db k)) Deleted _ parts.0).0;
     }
 

@@ -9,15 +9,15 @@ use Rattle.dbtg_cells.specs.declared.name.CellName.{CellName}
 use Rattle.dbtg_cells.specs.Cells.{shown}
 use Rattle.dbtg_cells.specs.Names.{name_eq}
 use Rattle.dbtg_cells.specs.Shown.{CellValue}
+use Rattle.dbtg_cells.proofs.Public.{same_name}
 use Rattle.dbtg_unit.specs.declared.edit.CellEdit.{CellEdit}
 use Rattle.dbtg_unit.specs.declared.edit.Edit.{Edit}
-use Rattle.dbtg_unit.specs.CanEdit.{CanEdit}
-use Rattle.dbtg_unit.specs.Edits.{edited, edited_at}
-use Rattle.dbtg_unit.specs.Hands.{cell_of}
-use Rattle.dbtg_unit.specs.Lends.{with_cell}
-use Rattle.dbtg_unit.specs.Making.{CanMake, ShowsEdited}
-use Rattle.dbtg_unit.proofs.CellNameLemmas.{same_name}
-use Rattle.dbtg_unit.proofs.MakingLemmas.{Held, cell_of-other, written_over}
+use Rattle.dbtg_unit.specs.Hands.CanEdit.{CanEdit}
+use Rattle.dbtg_unit.specs.Hands.Edits.{edited, edited_at}
+use Rattle.dbtg_unit.specs.Hands.Hands.{cell_of}
+use Rattle.dbtg_unit.specs.Hands.Lends.{with_cell}
+use Rattle.dbtg_unit.specs.Hands.Making.{CanMake, ShowsEdited}
+use Rattle.dbtg_unit.proofs.Public.{Held, cell_of_other, written_over}
 
 -- the edit can be made of each cell that shows this
 abbrev pub CanEditShown : Edit → CellValue → Type 0
@@ -50,19 +50,19 @@ possible_can_make (e ∷ es) V cells shows possible =
                 ∙ ap (λ d. edited e.edit (V d)) (sym is)
                 ∙ ap (λ b. cond b (edited e.edit (V c)) (V c)) (sym same)
             | inr other ↦
-                shows c x (sym (cell_of-other e.name c y cells other) ∙ there) ∙ ap (λ b. cond b (edited e.edit (V c)) (V c)) (sym other)
+                shows c x (sym (cell_of_other e.name c y cells other) ∙ there) ∙ ap (λ b. cond b (edited e.edit (V c)) (V c)) (sym other)
           ]
 
 -- edits, and then others
-pub possible-append : (xs ys : List CellEdit) (V : CellName → CellValue) → Possible xs V → Possible ys (λ c. edited_at c xs (V c)) → Possible (xs ++ ys) V
-possible-append [] ys V p q = q
-possible-append (x ∷ xs) ys V p q = (p.0, possible-append xs ys (after x V) p.1 q)
+pub possible_append : (xs ys : List CellEdit) (V : CellName → CellValue) → Possible xs V → Possible ys (λ c. edited_at c xs (V c)) → Possible (xs ++ ys) V
+possible_append [] ys V p q = q
+possible_append (x ∷ xs) ys V p q = (p.0, possible_append xs ys (after x V) p.1 q)
 
 -- edits that can be made of any cell
-pub possible-map : {X : Type 0} (f : X → CellEdit) (xs : List X) (V : CellName → CellValue) → ((x : X) (y : Cell) → CanEdit (f x).edit y) → Possible (map f xs) V
-possible-map f [] V h = tt
-possible-map f (x ∷ xs) V h = (λ y shows. h x y, possible-map f xs (after (f x) V) h)
+pub possible_map : {X : Type 0} (f : X → CellEdit) (xs : List X) (V : CellName → CellValue) → ((x : X) (y : Cell) → CanEdit (f x).edit y) → Possible (map f xs) V
+possible_map f [] V h = tt
+possible_map f (x ∷ xs) V h = (λ y shows. h x y, possible_map f xs (after (f x) V) h)
 
-pub possible-flat : {X : Type 0} (f : X → List CellEdit) (xs : List X) (V : CellName → CellValue) → ((x : X) (W : CellName → CellValue) → Possible (f x) W) → Possible (flat_map f xs) V
-possible-flat f [] V h = tt
-possible-flat f (x ∷ xs) V h = possible-append (f x) (flat_map f xs) V (h x V) (possible-flat f xs (λ c. edited_at c (f x) (V c)) h)
+pub possible_flat : {X : Type 0} (f : X → List CellEdit) (xs : List X) (V : CellName → CellValue) → ((x : X) (W : CellName → CellValue) → Possible (f x) W) → Possible (flat_map f xs) V
+possible_flat f [] V h = tt
+possible_flat f (x ∷ xs) V h = possible_append (f x) (flat_map f xs) V (h x V) (possible_flat f xs (λ c. edited_at c (f x) (V c)) h)

@@ -5,7 +5,7 @@ use Rattle.dbtg_schema.specs.Lists.{Lists}
 use Rattle.dbtg_schema.specs.Lookups.{first_cause}
 use Rattle.dbtg_cells.specs.declared.key.DbKey.{DbKey}
 use Rattle.dbtg_cells.specs.declared.name.CellName.TheVariants.{Ring}
-use Rattle.dbtg_unit.specs.Checks.{delete_checks, refused_at_once}
+use Rattle.dbtg_unit.specs.Database.Statements.Checks.{delete_checks, refused_at_once}
 use Rattle.dbtg_unit.specs.declared.edit.CellEdit.{CellEdit}
 use Rattle.dbtg_unit.specs.declared.edit.Edit.TheVariants.{ChangeOwner, CloseRing}
 use Rattle.dbtg_unit.specs.declared.edit.UnitEdit.TheVariants.{LoseCurrent, Same}
@@ -15,10 +15,10 @@ use Rattle.dbtg_unit.specs.declared.unit.Cause.{Cause}
 use Rattle.dbtg_unit.specs.declared.unit.Cause.TheVariants.{NoCurrentOfRunUnit}
 use Rattle.dbtg_unit.specs.declared.unit.Status.TheVariants.{Done, Refused}
 use Rattle.dbtg_unit.specs.declared.unit.Unit.{Unit}
-use Rattle.dbtg_unit.specs.EditsOf.{erasing_edits, left_behind, slot_edit}
-use Rattle.dbtg_unit.specs.Hands.{Hands}
-use Rattle.dbtg_unit.specs.InHand.{owner_in, version_in, in_hand}
-use Rattle.dbtg_unit.specs.Prepared.{Plan}
+use Rattle.dbtg_unit.specs.Hands.EditsOf.{erasing_edits, left_behind, slot_edit}
+use Rattle.dbtg_unit.specs.Hands.Hands.{Hands}
+use Rattle.dbtg_unit.specs.Hands.InHand.{owner_in, version_in, in_hand}
+use Rattle.dbtg_unit.specs.Hands.Prepared.{Plan}
 use Rattle.dbtg_erase.specs.WorkList.{gone_in, members_in_hand}
 
 -- refused for a cause: nothing is changed

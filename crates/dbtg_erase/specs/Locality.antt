@@ -6,13 +6,13 @@ use Rattle.dbtg_unit.specs.declared.held.Need.TheVariants.{Ready}
 use Rattle.dbtg_unit.specs.declared.statement.Erase.{Erase}
 use Rattle.dbtg_unit.specs.declared.statement.Statement.TheVariants.{Delete}
 use Rattle.dbtg_unit.specs.declared.unit.Unit.{Unit}
-use Rattle.dbtg_unit.specs.Base.{Database}
-use Rattle.dbtg_unit.specs.Belongs.{IsUnitOf, IsWithin}
-use Rattle.dbtg_unit.specs.Effect.{effect}
-use Rattle.dbtg_unit.specs.Hands.{Hands}
-use Rattle.dbtg_unit.specs.Local.{Agrees}
-use Rattle.dbtg_unit.specs.Locality.{DoTheSame}
-use Rattle.dbtg_unit.specs.Needs.{need}
+use Rattle.dbtg_unit.specs.Database.State.Base.{Database}
+use Rattle.dbtg_unit.specs.Database.State.Belongs.{IsUnitOf, IsWithin}
+use Rattle.dbtg_unit.specs.Database.Statements.Effect.{effect}
+use Rattle.dbtg_unit.specs.Hands.Hands.{Hands}
+use Rattle.dbtg_unit.specs.Hands.Local.{Agrees}
+use Rattle.dbtg_unit.specs.Hands.Locality.{DoTheSame}
+use Rattle.dbtg_unit.specs.Hands.Needs.{need}
 
 -- what a DELETE has in hand, once it is ready, determines its answer, its unit and the cells in hand
 abbrev pub DeleteIsDetermined : Type 0

@@ -10,17 +10,17 @@ use Rattle.dbtg_cells.specs.declared.key.DbKey.{DbKey}
 use Rattle.dbtg_cells.specs.declared.name.CellName.{CellName}
 use Rattle.dbtg_cells.specs.declared.name.CellName.TheVariants.{Extent, Ring}
 use Rattle.dbtg_cells.specs.Names.{name_lt}
-use Rattle.dbtg_unit.specs.Checks.{own_checks}
+use Rattle.dbtg_unit.specs.Database.Statements.Checks.{own_checks}
 use Rattle.dbtg_unit.specs.declared.held.Need.{Need}
 use Rattle.dbtg_unit.specs.declared.held.Need.TheVariants.{Take, Ready}
 use Rattle.dbtg_unit.specs.declared.statement.Erase.{Erase}
 use Rattle.dbtg_unit.specs.declared.unit.Unit.{Unit}
-use Rattle.dbtg_unit.specs.CellNames.{slot_name}
-use Rattle.dbtg_unit.specs.Effect.{is_plain}
-use Rattle.dbtg_unit.specs.Hands.{Hands}
-use Rattle.dbtg_unit.specs.InHand.{owner_in, in_hand}
-use Rattle.dbtg_unit.specs.Local.{holds}
-use Rattle.dbtg_unit.specs.Needs.{ring_names}
+use Rattle.dbtg_unit.specs.Database.State.CellNames.{slot_name}
+use Rattle.dbtg_unit.specs.Database.Statements.Effect.{is_plain}
+use Rattle.dbtg_unit.specs.Hands.Hands.{Hands}
+use Rattle.dbtg_unit.specs.Hands.InHand.{owner_in, in_hand}
+use Rattle.dbtg_unit.specs.Hands.Local.{holds}
+use Rattle.dbtg_unit.specs.Hands.Needs.{ring_names}
 use Rattle.dbtg_erase.specs.WorkList.{cells_of_gone, gone_in, list_in}
 
 -- the cell of this name is not in hand

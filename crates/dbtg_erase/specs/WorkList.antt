@@ -12,11 +12,11 @@ use Rattle.dbtg_cells.specs.declared.name.CellName.{CellName}
 use Rattle.dbtg_cells.specs.Keys.{owner_eq}
 use Rattle.dbtg_cells.specs.Members.{keys_in}
 use Rattle.dbtg_unit.specs.declared.statement.Erase.{Erase}
-use Rattle.dbtg_unit.specs.CellNames.{slot_name}
-use Rattle.dbtg_unit.specs.Doomed.{takes_member}
-use Rattle.dbtg_unit.specs.Erasing.{brought, own_rings}
-use Rattle.dbtg_unit.specs.Hands.{Hands}
-use Rattle.dbtg_unit.specs.InHand.{occurrence_in, owner_in}
+use Rattle.dbtg_unit.specs.Database.State.CellNames.{slot_name}
+use Rattle.dbtg_unit.specs.Database.Statements.Doomed.{takes_member}
+use Rattle.dbtg_unit.specs.Hands.Erasing.{brought, own_rings}
+use Rattle.dbtg_unit.specs.Hands.Hands.{Hands}
+use Rattle.dbtg_unit.specs.Hands.InHand.{occurrence_in, owner_in}
 
 -- the sets that d owns, by number
 abbrev pub own_sets : Lists → DbKey → List ℕ

@@ -4,9 +4,9 @@ ghost use Rattle.std.specs.List.{flat_map};
 ghost use Rattle.dbtg_schema.specs.Lookups.{some_and};
 ghost use Rattle.dbtg_schema.specs.Structure.{owns, set_numbers};
 ghost use Rattle.dbtg_unit.specs.declared.edit.Edit.TheVariants.{ChangeOwner, Vacate};
-ghost use Rattle.dbtg_unit.specs.EditsOf.{closing_edits, erasing_edits, leave_number, leaving_edits, left_behind, losing_edits, lost_sets, slot_edit, staying_owner};
-ghost use Rattle.dbtg_unit.specs.Effect.{is_gone};
-ghost use Rattle.dbtg_unit.specs.InHand.{owner_in};
+ghost use Rattle.dbtg_unit.specs.Hands.EditsOf.{closing_edits, erasing_edits, leave_number, leaving_edits, left_behind, losing_edits, lost_sets, slot_edit, staying_owner};
+ghost use Rattle.dbtg_unit.specs.Database.Statements.Effect.{is_gone};
+ghost use Rattle.dbtg_unit.specs.Hands.InHand.{owner_in};
 ghost use Rattle.dbtg_erase.specs.ErasePlan.{close_ring, lose_owner};
 ghost use Rattle.dbtg_erase.specs.WorkList.{members_in_hand};
 
@@ -75,7 +75,7 @@ fn leave_numbers(gone: &[DbKey], edits: &mut Row<CellEdit>) -> Result<(), AllocE
 }
 
 // Takes a record out of the lists of the owners that stay.
-#[tactic(auto, using(dbtg_unit::proofs::NumberLemmas::numbers_next, dbtg_unit::proofs::NumberLemmas::numbers_end, crate::proofs::EditLists::edits_append))]
+#[tactic(auto, using(dbtg_unit::proofs::Public::numbers_next, dbtg_unit::proofs::Public::numbers_end, crate::proofs::EditLists::edits_append))]
 fn leave_lists(
     schema: &Schema,
     held: &Held,

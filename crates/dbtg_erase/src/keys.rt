@@ -1,7 +1,7 @@
 //! Keys, each once, in the order in which they came.
 ghost use Rattle.std.specs.Prelude.{◌≡◌, [], ◌∷◌, slice_get, IfOk, OnOk};
 ghost use Rattle.dbtg_cells.specs.Keys.{is_member};
-ghost use Rattle.dbtg_unit.specs.Erasing.{with_those};
+ghost use Rattle.dbtg_unit.specs.Hands.Erasing.{with_those};
 
 use dbtg_cells::DbKey;
 use indexmap::IndexSet;

@@ -3,8 +3,8 @@ ghost use Rattle.std.specs.Prelude.{◌≡◌, [], ◌∷◌, ◌++◌, filter, 
 ghost use Rattle.std.specs.List.{flat_map};
 ghost use Rattle.dbtg_schema.specs.Structure.{owns};
 ghost use Rattle.dbtg_cells.specs.Keys.{is_member};
-ghost use Rattle.dbtg_unit.specs.EditsOf.{left_behind};
-ghost use Rattle.dbtg_unit.specs.Erasing.{with_those};
+ghost use Rattle.dbtg_unit.specs.Hands.EditsOf.{left_behind};
+ghost use Rattle.dbtg_unit.specs.Hands.Erasing.{with_those};
 ghost use Rattle.dbtg_erase.specs.WorkList.{list_in, members_in_hand};
 
 use crate::keys::Keys;

@@ -2,14 +2,14 @@
 ghost use Rattle.std.specs.Prelude.{◌≡◌, ◌==◌, not, [], ◌∷◌, None, filter, map, if◌then◌else◌, IfOk, OnErr};
 ghost use Rattle.std.specs.List.{find, flat_map, list_any};
 ghost use Rattle.dbtg_schema.specs.Structure.{owns, set_numbers};
-ghost use Rattle.dbtg_unit.specs.Base.{Database};
-ghost use Rattle.dbtg_unit.specs.CellNames.{slot_name};
+ghost use Rattle.dbtg_unit.specs.Database.State.Base.{Database};
+ghost use Rattle.dbtg_unit.specs.Database.State.CellNames.{slot_name};
 ghost use Rattle.dbtg_unit.specs.declared.statement.Statement.TheVariants.{Delete};
-ghost use Rattle.dbtg_unit.specs.Effect.{is_plain};
-ghost use Rattle.dbtg_unit.specs.Erasing.{own_rings};
-ghost use Rattle.dbtg_unit.specs.InHand.{owner_in};
-ghost use Rattle.dbtg_unit.specs.Local.{Agrees, holds};
-ghost use Rattle.dbtg_unit.specs.Needs.{areas_in_order, need, ring_names};
+ghost use Rattle.dbtg_unit.specs.Database.Statements.Effect.{is_plain};
+ghost use Rattle.dbtg_unit.specs.Hands.Erasing.{own_rings};
+ghost use Rattle.dbtg_unit.specs.Hands.InHand.{owner_in};
+ghost use Rattle.dbtg_unit.specs.Hands.Local.{Agrees, holds};
+ghost use Rattle.dbtg_unit.specs.Hands.Needs.{areas_in_order, need, ring_names};
 ghost use Rattle.dbtg_erase.specs.NextCell.{first_missing, is_missing, least_name, nearer, need_of, next_cell_in, next_cell_of, next_of_gone, next_of_passed, outer_names, ring_of, stops_at};
 ghost use Rattle.dbtg_erase.specs.WorkList.{cells_of_gone, list_in, members_in_hand};
 
@@ -198,7 +198,7 @@ fn nearest_ring(
 }
 
 // Of the rings of a record's owners, the first that is not in hand.
-#[tactic(auto, using(dbtg_unit::proofs::NumberLemmas::numbers_next, dbtg_unit::proofs::NumberLemmas::numbers_end, crate::proofs::LeastName::least_of_both))]
+#[tactic(auto, using(dbtg_unit::proofs::Public::numbers_next, dbtg_unit::proofs::Public::numbers_end, crate::proofs::LeastName::least_of_both))]
 fn nearest_rings(
     schema: &Schema,
     held: &Held,
@@ -255,7 +255,7 @@ fn stops_at(schema: &Schema, held: &Held, key: &DbKey, set: SetNo) -> bool
     }
 }
 
-#[tactic(auto, using(dbtg_unit::proofs::NumberLemmas::numbers_next, dbtg_unit::proofs::NumberLemmas::numbers_end))]
+#[tactic(auto, using(dbtg_unit::proofs::Public::numbers_next, dbtg_unit::proofs::Public::numbers_end))]
 fn first_stop(schema: &Schema, held: &Held, key: &DbKey) -> Option<SetNo>
     ensures { result ≡ find (stops_at schema.now held.now key.now) (set_numbers schema.now) }
 {

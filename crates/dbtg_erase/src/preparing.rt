@@ -1,10 +1,10 @@
 //! What a DELETE that needs nothing more prepares.
 ghost use Rattle.std.specs.Prelude.{◌≡◌, ◌+◌, length, map, nat_lt, IfOk};
 ghost use Rattle.dbtg_schema.specs.Lookups.{first_cause};
-ghost use Rattle.dbtg_unit.specs.Checks.{delete_checks};
-ghost use Rattle.dbtg_unit.specs.Conditions.{has_members};
-ghost use Rattle.dbtg_unit.specs.InHand.{in_hand, version_in};
-ghost use Rattle.dbtg_unit.specs.Making.{CanFinish, HaveNextVersions, MayPrepare};
+ghost use Rattle.dbtg_unit.specs.Database.Statements.Checks.{delete_checks};
+ghost use Rattle.dbtg_unit.specs.Database.Statements.Conditions.{has_members};
+ghost use Rattle.dbtg_unit.specs.Hands.InHand.{in_hand, version_in};
+ghost use Rattle.dbtg_unit.specs.Hands.Making.{CanFinish, HaveNextVersions, MayPrepare};
 ghost use Rattle.dbtg_unit.specs.declared.statement.Statement.TheVariants.{Delete};
 ghost use Rattle.dbtg_erase.specs.ErasePlan.{erasing_plan, refusal, whole_plan};
 ghost use Rattle.dbtg_erase.specs.WorkList.{gone_in, list_in};
@@ -31,7 +31,7 @@ pub(crate) fn has_any(held: &Held, key: &DbKey, set: SetNo) -> bool
 }
 
 // Has a record a member in some list in hand?
-#[tactic(auto, using(dbtg_unit::proofs::NumberLemmas::numbers_next, dbtg_unit::proofs::NumberLemmas::numbers_end))]
+#[tactic(auto, using(dbtg_unit::proofs::Public::numbers_next, dbtg_unit::proofs::Public::numbers_end))]
 fn has_members(schema: &Schema, held: &Held, key: &DbKey) -> bool
     ensures { result ≡ has_members schema.now (in_hand held.now) key.now }
 {
@@ -86,7 +86,7 @@ fn refused(alloc: Global, cause: Cause) -> Prepared
 }
 
 // The version of a record in hand once it is changed.
-#[tactic(auto, using(crate::proofs::NextVersions::has_next_version))]
+#[tactic(auto, using(dbtg_unit::proofs::Public::has_next_version))]
 fn next_version(held: &Held, key: &DbKey) -> u64
     requires { HaveNextVersions held.now.cells }
     ensures { result ≡ version_in held.now key.now + 1 }

@@ -4,8 +4,8 @@ ghost use Rattle.dbtg_cells.specs.declared.key.Owner.TheVariants.{Rec};
 ghost use Rattle.dbtg_cells.specs.Keys.{owner_eq};
 ghost use Rattle.dbtg_schema.specs.Lookups.{some_and};
 ghost use Rattle.dbtg_schema.specs.Structure.{is_mandatory, member_clause};
-ghost use Rattle.dbtg_unit.specs.Doomed.{takes_member};
-ghost use Rattle.dbtg_unit.specs.Erasing.{with_those};
+ghost use Rattle.dbtg_unit.specs.Database.Statements.Doomed.{takes_member};
+ghost use Rattle.dbtg_unit.specs.Hands.Erasing.{with_those};
 ghost use Rattle.dbtg_erase.specs.WorkList.{elsewhere_in, gone_in, list_in, taken_in, taken_of_set};
 
 use crate::keys::Keys;
@@ -40,7 +40,7 @@ fn is_other(set: SetNo, owner: Option<Owner>, own_set: SetNo, own: &DbKey) -> bo
 }
 
 // Is a member of a record's list of this set a member of another list?
-#[tactic(auto, using(dbtg_unit::proofs::NumberLemmas::numbers_next, dbtg_unit::proofs::NumberLemmas::numbers_end))]
+#[tactic(auto, using(dbtg_unit::proofs::Public::numbers_next, dbtg_unit::proofs::Public::numbers_end))]
 fn is_elsewhere(schema: &Schema, held: &Held, set: SetNo, own: &DbKey, member: &DbKey) -> bool
     ensures { result ≡ elsewhere_in schema.now held.now set (Rec own.now) member.now }
 {
@@ -107,7 +107,7 @@ fn bring_of_set(
 }
 
 // Brings all members that the option takes with the record, set by set.
-#[tactic(auto, using(dbtg_unit::proofs::NumberLemmas::numbers_next, dbtg_unit::proofs::NumberLemmas::numbers_end, crate::proofs::KeyLists::with_those_append))]
+#[tactic(auto, using(dbtg_unit::proofs::Public::numbers_next, dbtg_unit::proofs::Public::numbers_end, crate::proofs::KeyLists::with_those_append))]
 fn bring(
     alloc: Global,
     schema: &Schema,

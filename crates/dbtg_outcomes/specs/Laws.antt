@@ -2,18 +2,18 @@
 -- m is a meeting of scripts, u a unit.
 use Rattle.std.specs.Prelude.{ℕ, ◌≡◌, ◌<◌, ◌≤◌, ◌==◌, List, [], ◌∷◌, ◌++◌, ⊤, Some, None, map, filter, length, flat_map, Contains, if◌then◌else◌}
 use Rattle.dbtg_schema.specs.Lists.{Lists}
-use Rattle.dbtg_script.specs.Texts.{answers_text, run_text}
+use Rattle.dbtg_script.specs.Printing.Texts.{answers_text, run_text}
 use Rattle.dbtg_unit.specs.declared.moves.Move.{Move}
 use Rattle.dbtg_unit.specs.declared.statement.Statement.{Statement}
 use Rattle.dbtg_unit.specs.declared.unit.Entry.{Entry}
-use Rattle.dbtg_unit.specs.Codes.{status_code}
-use Rattle.dbtg_unit.specs.Replay.{entries_of}
-use Rattle.dbtg_unit.specs.Replaying.{statements_of}
+use Rattle.dbtg_unit.specs.Database.Statements.Codes.{status_code}
+use Rattle.dbtg_unit.specs.Database.Laws.Replay.{entries_of}
+use Rattle.dbtg_unit.specs.Database.Laws.Replaying.{statements_of}
 use Rattle.dbtg_step.specs.declared.results.Run.{Run}
-use Rattle.dbtg_step.specs.SequentialDatabase.{unit_at}
-use Rattle.dbtg_step.specs.Machine.{State, UnitState}
-use Rattle.dbtg_step.specs.Network.{network}
-use Rattle.dbtg_step.specs.Headline.{RunIs, machine_after}
+use Rattle.dbtg_step.specs.Machine.SequentialDatabase.{unit_at}
+use Rattle.dbtg_step.specs.Machine.Machine.{State, UnitState}
+use Rattle.dbtg_step.specs.Machine.Network.{network}
+use Rattle.dbtg_step.specs.Machine.Headline.{RunIs, machine_after}
 use Rattle.dbtg_outcomes.specs.Groups.{groups}
 use Rattle.dbtg_outcomes.specs.Orders.{orders}
 use Rattle.dbtg_outcomes.specs.Outcomes.{Comes}

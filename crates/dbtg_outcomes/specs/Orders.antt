@@ -3,7 +3,7 @@
 use Rattle.std.specs.Prelude.{ℕ, zero, suc, ◌+◌, ◌==◌, List, [], ◌∷◌, ◌++◌, Option, filter, length, option_and_then, option_map, option_to_list, slice_get, flat_map}
 use Rattle.std.specs.List.{range_with_len}
 use Rattle.dbtg_unit.specs.declared.statement.Statement.{Statement}
-use Rattle.dbtg_step.specs.SequentialDatabase.{unit_at}
+use Rattle.dbtg_step.specs.Machine.SequentialDatabase.{unit_at}
 
 -- how many statements the unit has made
 abbrev pub made : ℕ → List (ℕ × Statement) → ℕ

@@ -4,11 +4,11 @@ use Rattle.std.specs.Prelude.{ℕ, zero, suc, ◌≡◌, ◌≤◌, ◌<◌, ◌
 use Rattle.std.specs.List.{range_with_len}
 use Rattle.dbtg_schema.specs.Sound.{IsSound}
 use Rattle.dbtg_unit.specs.declared.statement.Statement.{Statement}
-use Rattle.dbtg_unit.specs.Codes.{status_code}
-use Rattle.dbtg_unit.specs.Effect.{Outcome}
-use Rattle.dbtg_unit.specs.Image.{image_of}
-use Rattle.dbtg_unit.specs.Replay.{IsHistoryOf, outcome_of}
-use Rattle.dbtg_unit.specs.Replaying.{statements_of}
+use Rattle.dbtg_unit.specs.Database.Statements.Codes.{status_code}
+use Rattle.dbtg_unit.specs.Database.Statements.Effect.{Outcome}
+use Rattle.dbtg_unit.specs.Database.State.Image.{image_of}
+use Rattle.dbtg_unit.specs.Database.Laws.Replay.{IsHistoryOf, outcome_of}
+use Rattle.dbtg_unit.specs.Database.Laws.Replaying.{statements_of}
 use Rattle.dbtg_step.specs.declared.results.Run.{Run}
 use Rattle.dbtg_step.specs.Laws.{scripts_fit}
 use Rattle.dbtg_outcomes.specs.declared.answered.Answered.{Answered}

@@ -4,11 +4,11 @@ use Rattle.std.specs.Prelude.{ℕ, ◌==◌, Bool, List, [], ◌∷◌, ◌++◌
 use Rattle.std.specs.List.{range_with_len}
 use Rattle.dbtg_schema.specs.Lists.{Lists}
 use Rattle.dbtg_cells.specs.declared.usage.Mode.{Mode}
-use Rattle.dbtg_script.specs.Texts.{answers_text, run_text}
+use Rattle.dbtg_script.specs.Printing.Texts.{answers_text, run_text}
 use Rattle.dbtg_unit.specs.declared.statement.Statement.{Statement}
 use Rattle.dbtg_unit.specs.declared.unit.Entry.{Entry}
-use Rattle.dbtg_unit.specs.Image.{image_of}
-use Rattle.dbtg_unit.specs.Replay.{State, after_outcome, entries_of, opening_state, outcome_of, state_after}
+use Rattle.dbtg_unit.specs.Database.State.Image.{image_of}
+use Rattle.dbtg_unit.specs.Database.Laws.Replay.{State, after_outcome, entries_of, opening_state, outcome_of, state_after}
 use Rattle.dbtg_outcomes.specs.Orders.{made}
 use Rattle.dbtg_outcomes.specs.Spelling.{image_numbers, list_numbers, one_number, unit_numbers}
 

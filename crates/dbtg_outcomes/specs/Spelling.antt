@@ -11,12 +11,13 @@ use Rattle.dbtg_cells.specs.declared.usage.Mode.TheVariants as mode
 use Rattle.dbtg_unit.specs.declared.unit.Place.{Place}
 use Rattle.dbtg_unit.specs.declared.unit.Currency.{Currency}
 use Rattle.dbtg_unit.specs.declared.unit.Unit as unit
-use Rattle.dbtg_unit.specs.Image.{Image}
+use Rattle.dbtg_unit.specs.Database.State.Image.{Image}
 
 -- whatever is spelled behind two things, where all is spelled alike the things are one, and so is what is behind them
 abbrev pub Apart : {X : Type 0} → (X → List ℕ) → Type 0
 Apart {X} numbers = (x y : X) (a b : List ℕ) → numbers x ++ a ≡ numbers y ++ b → (x ≡ y) × (a ≡ b)
 
+-- a number is spelled as itself
 abbrev pub one_number : ℕ → List ℕ
 one_number n = n ∷ []
 
@@ -25,6 +26,7 @@ abbrev pub option_numbers : {X : Type 0} → (X → List ℕ) → Option X → L
 option_numbers numbers None = 0 ∷ []
 option_numbers numbers (Some x) = 1 ∷ numbers x
 
+-- of a pair the first part, then the second
 abbrev pub pair_numbers : {X Y : Type 0} → (X → List ℕ) → (Y → List ℕ) → X × Y → List ℕ
 pair_numbers f g p = f p.0 ++ g p.1
 
@@ -32,13 +34,16 @@ pair_numbers f g p = f p.0 ++ g p.1
 abbrev pub list_numbers : {X : Type 0} → (X → List ℕ) → List X → List ℕ
 list_numbers numbers xs = length xs ∷ flat_map numbers xs
 
+-- of a key its record type, its number and its generation
 abbrev pub key_numbers : DbKey → List ℕ
 key_numbers k = k.rtype ∷ k.number ∷ k.generation ∷ []
 
+-- SYSTEM is a 0; before the key of a record stands a 1
 abbrev pub owner_numbers : Owner → List ℕ
 owner_numbers System = 0 ∷ []
 owner_numbers (Rec k) = 1 ∷ key_numbers k
 
+-- the number of a usage mode
 abbrev pub mode_number : Mode → ℕ
 mode_number mode.Retrieval = 0
 mode_number mode.Update = 1
@@ -47,24 +52,30 @@ mode_number mode.ProtectedUpdate = 3
 mode_number mode.ExclusiveRetrieval = 4
 mode_number mode.ExclusiveUpdate = 5
 
+-- a usage mode is spelled as its number
 abbrev pub mode_numbers : Mode → List ℕ
 mode_numbers m = mode_number m ∷ []
 
+-- of a current of a set its owner, and where it is
 abbrev pub place_numbers : Place → List ℕ
 place_numbers p = owner_numbers p.owner ++ option_numbers key_numbers p.at
 
+-- before a number stands a 0, before a text a 1
 abbrev pub value_numbers : Value → List ℕ
 value_numbers (Num n) = 0 ∷ n ∷ []
 value_numbers (Text t) = 1 ∷ list_numbers one_number t
 
+-- of kept records each key, with the version
 abbrev pub kept_numbers : List (DbKey × ℕ) → List ℕ
 kept_numbers = list_numbers (pair_numbers key_numbers one_number)
 
+-- of the currents those of the run-unit, of the record types, of the areas and of the sets
 abbrev pub currency_numbers : Currency → List ℕ
 currency_numbers c =
     option_numbers key_numbers c.run_unit ++ (list_numbers (option_numbers key_numbers) c.types
     ++ (list_numbers (option_numbers key_numbers) c.areas ++ list_numbers (option_numbers place_numbers) c.sets))
 
+-- of a unit its number, its currents, its usage modes and what it keeps
 abbrev pub unit_numbers : unit.Unit → List ℕ
 unit_numbers u =
     one_number u.number ++ (currency_numbers u.currency ++ (list_numbers (option_numbers mode_numbers) u.modes ++ kept_numbers u.kept))
@@ -83,6 +94,7 @@ noted_numbers i =
     ++ (list_numbers (list_numbers one_number) i.last
     ++ list_numbers (list_numbers (pair_numbers one_number mode_numbers)) i.usage)
 
+-- all of an image
 abbrev pub image_numbers : Image → List ℕ
 image_numbers i = stored_numbers i ++ noted_numbers i
 

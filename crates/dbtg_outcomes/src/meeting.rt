@@ -1,9 +1,9 @@
 //! Scripts that run at the same time, and what one order of their statements leads to.
 ghost use Rattle.std.specs.Prelude.{◌≡◌, ◌++◌, ◌∷◌, ◌<◌, ◌≤◌, [], true, length, map, IfOk};
 ghost use Rattle.std.specs.List.{range_with_len};
-ghost use Rattle.dbtg_unit.specs.Fits.{fits};
-ghost use Rattle.dbtg_unit.specs.Replay.{IsHistoryOf, entries_of};
-ghost use Rattle.dbtg_unit.specs.Replaying.{statements_of};
+ghost use Rattle.dbtg_unit.specs.Database.Statements.Fits.{fits};
+ghost use Rattle.dbtg_unit.specs.Database.Laws.Replay.{IsHistoryOf, entries_of};
+ghost use Rattle.dbtg_unit.specs.Database.Laws.Replaying.{statements_of};
 ghost use Rattle.dbtg_outcomes.specs.Outcomes.{HasStatus, IsMeeting, IsRunOf};
 ghost use Rattle.dbtg_outcomes.specs.Results.{answers_told, result_text, state_key};
 

@@ -1,7 +1,7 @@
 //! A search among all orders of the statements of scripts, layer by layer: a layer has the states after so many statements, each
 //! with the first order that leads there and the number of all orders that do.
 ghost use Rattle.std.specs.Prelude.{◌≡◌, ◌≤◌, ◌<◌, ◌∷◌, [], Some, length, option_map, All, IfErr, IfOk, OnOk};
-ghost use Rattle.dbtg_unit.specs.Replaying.{statements_of};
+ghost use Rattle.dbtg_unit.specs.Database.Laws.Replaying.{statements_of};
 ghost use Rattle.dbtg_outcomes.specs.declared.search.Stop.TheVariants.{Memory, States};
 ghost use Rattle.dbtg_outcomes.specs.Grouped.{IsAdded};
 ghost use Rattle.dbtg_outcomes.specs.Orders.{count_statements, next_of};

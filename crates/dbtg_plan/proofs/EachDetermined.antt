@@ -13,18 +13,18 @@ use Rattle.dbtg_unit.specs.declared.statement.Statement.{Statement}
 use Rattle.dbtg_unit.specs.declared.statement.Statement.TheVariants.{OpenArea, CloseArea, Find, Get, Store, Insert, Remove, Modify, Delete, Keep, Free}
 use Rattle.dbtg_unit.specs.declared.unit.Cause.{Cause}
 use Rattle.dbtg_unit.specs.declared.unit.Unit.{Unit}
-use Rattle.dbtg_unit.specs.Base.{Database}
-use Rattle.dbtg_unit.specs.Belongs.{IsUnitOf, IsWithin}
-use Rattle.dbtg_unit.specs.Checks.{open_checks, refused_at_once}
-use Rattle.dbtg_unit.specs.EditsOf.{is_delete}
-use Rattle.dbtg_unit.specs.Effect.{effect}
-use Rattle.dbtg_unit.specs.Fits.{fits, form_fits, suppress_fits}
-use Rattle.dbtg_unit.specs.Hands.{Hands}
-use Rattle.dbtg_unit.specs.InHand.{in_hand}
-use Rattle.dbtg_unit.specs.Local.{Agrees}
-use Rattle.dbtg_unit.specs.Locality.{DoTheSame}
-use Rattle.dbtg_unit.specs.Needs.{areas_in_order, cells_of, need}
-use Rattle.dbtg_unit.proofs.OnePlan.{HasPlan, MayPlan, one_plan_does_the_same}
+use Rattle.dbtg_unit.specs.Database.State.Base.{Database}
+use Rattle.dbtg_unit.specs.Database.State.Belongs.{IsUnitOf, IsWithin}
+use Rattle.dbtg_unit.specs.Database.Statements.Checks.{open_checks, refused_at_once}
+use Rattle.dbtg_unit.specs.Hands.EditsOf.{is_delete}
+use Rattle.dbtg_unit.specs.Database.Statements.Effect.{effect}
+use Rattle.dbtg_unit.specs.Database.Statements.Fits.{fits, form_fits, suppress_fits}
+use Rattle.dbtg_unit.specs.Hands.Hands.{Hands}
+use Rattle.dbtg_unit.specs.Hands.InHand.{in_hand}
+use Rattle.dbtg_unit.specs.Hands.Local.{Agrees}
+use Rattle.dbtg_unit.specs.Hands.Locality.{DoTheSame}
+use Rattle.dbtg_unit.specs.Hands.Needs.{areas_in_order, cells_of, need}
+use Rattle.dbtg_unit.proofs.Public.{HasPlan, MayPlan, one_plan_does_the_same}
 use Rattle.dbtg_plan.specs.Finding.{found_in, plan_of_found}
 use Rattle.dbtg_plan.specs.Inserting.{insert_plan}
 use Rattle.dbtg_plan.specs.Keeping.{free_plan, get_plan, keep_plan}
@@ -35,15 +35,15 @@ use Rattle.dbtg_plan.specs.Opening.{close_plan, open_plan}
 use Rattle.dbtg_plan.specs.Plans.{refusal, unless_refusal}
 use Rattle.dbtg_plan.specs.Removing.{remove_plan}
 use Rattle.dbtg_plan.specs.Store.{store_plan}
-use Rattle.dbtg_plan.proofs.FindPlans.{find_is_effect, next_cell_is}
-use Rattle.dbtg_plan.proofs.InsertingLemmas.{insert-is_prepared}
-use Rattle.dbtg_plan.proofs.KeepingLemmas.{free_is_effect, get_is_effect, keep_is_effect}
-use Rattle.dbtg_plan.proofs.ModifyReady.{modify_is_effect}
-use Rattle.dbtg_plan.proofs.OpeningLemmas.{close_is_effect, open_is_effect}
-use Rattle.dbtg_plan.proofs.OutcomeLemmas.{refused_finishes}
-use Rattle.dbtg_plan.proofs.RemovingLemmas.{remove-is_prepared}
-use Rattle.dbtg_plan.proofs.StaleLemmas.{area_needed, cell_needed, guesses_needed, refused_needs}
-use Rattle.dbtg_plan.proofs.StoreInHand.{missing-in_hand, plan-is_effect}
+use Rattle.dbtg_plan.proofs.Find.FindPlans.{find_is_effect, next_cell_is}
+use Rattle.dbtg_plan.proofs.Connect.InsertIsEffect.{insert_is_prepared}
+use Rattle.dbtg_plan.proofs.Plans.GetKeepFree.{free_is_effect, get_is_effect, keep_is_effect}
+use Rattle.dbtg_plan.proofs.Modify.ModifyReady.{modify_is_effect}
+use Rattle.dbtg_plan.proofs.Plans.OpenClose.{close_is_effect, open_is_effect}
+use Rattle.dbtg_plan.proofs.Plans.PartByPart.{refused_finishes}
+use Rattle.dbtg_plan.proofs.Connect.RemoveIsEffect.{remove_is_prepared}
+use Rattle.dbtg_plan.proofs.Needs.WrongGuesses.{area_needed, cell_needed, guesses_needed, refused_needs}
+use Rattle.dbtg_plan.proofs.Store.StoreInHand.{missing_in_hand, plan_is_effect}
 
 -- two databases whose statement wants the same first cell need the same
 module _ (schema : Lists) (capacity : ℕ) (db eb : Database) (hands : Hands) (unit : Unit) (statement : Statement) (fit : fits schema statement ≡ true)
@@ -109,10 +109,10 @@ module _ (schema : Lists) (capacity : ℕ) (db eb : Database) (hands : Hands) (u
   of_each (Get r) fit other = by_plan (Get r) fit (λ o there. refl) (λ passes may. (get_plan hands unit, get_is_effect schema capacity unit hands r passes may))
   of_each (Store t items suppress) fit other =
       by_plan (Store t items suppress) fit
-      (λ o there. sym (missing-in_hand schema capacity unit hands t items db agrees hands.guesses suppress) ∙ missing-in_hand schema capacity unit hands t items o there hands.guesses suppress)
-      (λ passes may. (store_plan schema unit hands t items suppress, plan-is_effect schema capacity unit hands t items suppress may passes))
-  of_each (Insert s) fit other = by_plan (Insert s) fit (λ o there. refl) (λ passes may. (insert_plan schema unit hands s, (insert-is_prepared schema capacity unit hands s may passes).effects))
-  of_each (Remove s) fit other = by_plan (Remove s) fit (λ o there. refl) (λ passes may. (remove_plan unit hands s, (remove-is_prepared schema capacity unit hands s may passes).effects))
+      (λ o there. sym (missing_in_hand schema capacity unit hands t items db agrees hands.guesses suppress) ∙ missing_in_hand schema capacity unit hands t items o there hands.guesses suppress)
+      (λ passes may. (store_plan schema unit hands t items suppress, plan_is_effect schema capacity unit hands t items suppress may passes))
+  of_each (Insert s) fit other = by_plan (Insert s) fit (λ o there. refl) (λ passes may. (insert_plan schema unit hands s, (insert_is_prepared schema capacity unit hands s may passes).effects))
+  of_each (Remove s) fit other = by_plan (Remove s) fit (λ o there. refl) (λ passes may. (remove_plan unit hands s, (remove_is_prepared schema capacity unit hands s may passes).effects))
   of_each (Modify t changes) fit other =
       by_plan (Modify t changes) fit (λ o there. refl) (λ passes may. (modify_plan schema hands unit changes, modify_is_effect schema capacity unit hands t changes may passes))
   of_each (Delete option) fit other = absurd (false≢true (sym other))

@@ -5,7 +5,7 @@ use Rattle.dbtg_schema.specs.Lookups.{first}
 use Rattle.dbtg_cells.specs.declared.extent.Number.{Number}
 use Rattle.dbtg_cells.specs.declared.key.DbKey.{DbKey}
 use Rattle.dbtg_cells.specs.Numbers.{is_free, numbers_where}
-use Rattle.dbtg_unit.specs.InHand.{next_key_of}
+use Rattle.dbtg_unit.specs.Hands.InHand.{next_key_of}
 
 -- the key of a new record of type t: the least free number, in its next generation
 abbrev pub fresh_key : List Number → ℕ → Option DbKey

@@ -23,13 +23,13 @@ use Rattle.dbtg_unit.specs.declared.statement.Which.{Which}
 use Rattle.dbtg_unit.specs.declared.unit.Cause.{Cause}
 use Rattle.dbtg_unit.specs.declared.unit.Cause.TheVariants.{Deleted, End, NoneSatisfies, PositionLost}
 use Rattle.dbtg_unit.specs.declared.unit.Unit.{Unit}
-use Rattle.dbtg_unit.specs.CellNames.{slot_name}
-use Rattle.dbtg_unit.specs.Found.{chosen, chosen_by_key, found_unless, is_lost, needs_position, with_current}
-use Rattle.dbtg_unit.specs.Hands.{Hands}
-use Rattle.dbtg_unit.specs.InHand.{key_of, numbers_in, occurrence_in, stored_in, values_of_key}
-use Rattle.dbtg_unit.specs.Needs.{current_owner, found_slot, ring_names, slot_names}
-use Rattle.dbtg_unit.specs.Prepared.{Plan}
-use Rattle.dbtg_unit.specs.Units.{key_of_owner, key_of_place, place_in}
+use Rattle.dbtg_unit.specs.Database.State.CellNames.{slot_name}
+use Rattle.dbtg_unit.specs.Database.Statements.Found.{chosen, chosen_by_key, found_unless, is_lost, needs_position, with_current}
+use Rattle.dbtg_unit.specs.Hands.Hands.{Hands}
+use Rattle.dbtg_unit.specs.Hands.InHand.{key_of, numbers_in, occurrence_in, stored_in, values_of_key}
+use Rattle.dbtg_unit.specs.Hands.Needs.{current_owner, found_slot, ring_names, slot_names}
+use Rattle.dbtg_unit.specs.Hands.Prepared.{Plan}
+use Rattle.dbtg_unit.specs.Database.State.Units.{key_of_owner, key_of_place, place_in}
 use Rattle.dbtg_plan.specs.Missing.{first_missing}
 use Rattle.dbtg_plan.specs.Plans.{done_plan, refusal}
 

@@ -3,15 +3,15 @@
 use Rattle.std.specs.Prelude.{ℕ, ◌+◌, [], ◌∷◌, Some}
 use Rattle.dbtg_schema.specs.Lists.{Lists}
 use Rattle.dbtg_cells.specs.declared.key.DbKey.{DbKey}
-use Rattle.dbtg_unit.specs.Checks.{insert_checks}
+use Rattle.dbtg_unit.specs.Database.Statements.Checks.{insert_checks}
 use Rattle.dbtg_unit.specs.declared.edit.Edit.TheVariants.{ChangeOwner, RaiseVersion}
 use Rattle.dbtg_unit.specs.declared.edit.UnitEdit.TheVariants.{Move}
 use Rattle.dbtg_unit.specs.declared.unit.Unit.{Unit}
-use Rattle.dbtg_unit.specs.Base.{key_item}
-use Rattle.dbtg_unit.specs.EditsOf.{slot_edit}
-use Rattle.dbtg_unit.specs.Hands.{Hands}
-use Rattle.dbtg_unit.specs.InHand.{items_in, version_in, in_hand}
-use Rattle.dbtg_unit.specs.Prepared.{Plan}
+use Rattle.dbtg_unit.specs.Database.State.Base.{key_item}
+use Rattle.dbtg_unit.specs.Hands.EditsOf.{slot_edit}
+use Rattle.dbtg_unit.specs.Hands.Hands.{Hands}
+use Rattle.dbtg_unit.specs.Hands.InHand.{items_in, version_in, in_hand}
+use Rattle.dbtg_unit.specs.Hands.Prepared.{Plan}
 use Rattle.dbtg_plan.specs.Joining.{joined_place, joining_edit}
 use Rattle.dbtg_plan.specs.Plans.{done_answer, on_current_plan}
 

@@ -8,11 +8,11 @@ use Rattle.dbtg_cells.specs.declared.name.CellName.TheVariants.{Ring}
 use Rattle.dbtg_cells.specs.declared.ring.Occurrence.{Occurrence}
 use Rattle.dbtg_unit.specs.declared.edit.CellEdit.{CellEdit}
 use Rattle.dbtg_unit.specs.declared.unit.Unit.{Unit}
-pub use Rattle.dbtg_unit.specs.Conditions.{joined_place}
-use Rattle.dbtg_unit.specs.CellNames.{place_of}
-use Rattle.dbtg_unit.specs.EditsOf.{placed_at}
-use Rattle.dbtg_unit.specs.Hands.{Hands}
-use Rattle.dbtg_unit.specs.InHand.{occurrence_in}
+pub use Rattle.dbtg_unit.specs.Database.Statements.Conditions.{joined_place}
+use Rattle.dbtg_unit.specs.Database.State.CellNames.{place_of}
+use Rattle.dbtg_unit.specs.Hands.EditsOf.{placed_at}
+use Rattle.dbtg_unit.specs.Hands.Hands.{Hands}
+use Rattle.dbtg_unit.specs.Hands.InHand.{occurrence_in}
 
 -- the current occurrence of set s, where its ring is in hand
 abbrev pub joined_occurrence : Lists → Unit → Hands → ℕ → Option Occurrence

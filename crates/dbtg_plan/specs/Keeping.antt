@@ -3,11 +3,11 @@
 use Rattle.std.specs.Prelude.{Bool, true, false, [], Some, None}
 use Rattle.dbtg_unit.specs.declared.edit.UnitEdit.TheVariants.{Same, Keep, Forget, ForgetAll}
 use Rattle.dbtg_unit.specs.declared.unit.Unit.{Unit}
-use Rattle.dbtg_unit.specs.Checks.{live_checks}
-use Rattle.dbtg_unit.specs.Hands.{Hands}
-use Rattle.dbtg_unit.specs.InHand.{in_hand, items_in, version_in}
-use Rattle.dbtg_unit.specs.Prepared.{Plan}
-use Rattle.dbtg_unit.specs.Units.{noted}
+use Rattle.dbtg_unit.specs.Database.Statements.Checks.{live_checks}
+use Rattle.dbtg_unit.specs.Hands.Hands.{Hands}
+use Rattle.dbtg_unit.specs.Hands.InHand.{in_hand, items_in, version_in}
+use Rattle.dbtg_unit.specs.Hands.Prepared.{Plan}
+use Rattle.dbtg_unit.specs.Database.State.Units.{noted}
 use Rattle.dbtg_plan.specs.Plans.{done_plan, on_current_plan}
 
 -- GET of the current of run-unit

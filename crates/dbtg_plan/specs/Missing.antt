@@ -4,7 +4,7 @@ use Rattle.std.specs.Prelude.{Bool, not, List, Option}
 use Rattle.std.specs.List.{find, list_any}
 use Rattle.dbtg_cells.specs.declared.name.CellName.{CellName}
 use Rattle.dbtg_cells.specs.Names.{name_eq}
-use Rattle.dbtg_unit.specs.Hands.{Hands}
+use Rattle.dbtg_unit.specs.Hands.Hands.{Hands}
 
 -- the cell of this name is not in hand
 abbrev pub is_missing : Hands → CellName → Bool

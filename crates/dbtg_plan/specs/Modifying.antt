@@ -13,14 +13,14 @@ use Rattle.dbtg_unit.specs.declared.edit.Edit.TheVariants.{ChangeItems, ChangeNu
 use Rattle.dbtg_unit.specs.declared.edit.UnitEdit.TheVariants.{Same}
 use Rattle.dbtg_unit.specs.declared.statement.Change.{Change}
 use Rattle.dbtg_unit.specs.declared.unit.Unit.{Unit}
-use Rattle.dbtg_unit.specs.Base.{calc_items, key_item}
-use Rattle.dbtg_unit.specs.Checks.{modify_checks}
-use Rattle.dbtg_unit.specs.Conditions.{changed_items, names_calc, refuses_equal, sort_key_taken}
-use Rattle.dbtg_unit.specs.EditsOf.{ring_edits, slot_edit}
-use Rattle.dbtg_unit.specs.Hands.{Hands}
-use Rattle.dbtg_unit.specs.InHand.{in_hand, items_in, owner_in, version_in}
-use Rattle.dbtg_unit.specs.Prepared.{Plan}
-use Rattle.dbtg_unit.specs.Units.{place_in}
+use Rattle.dbtg_unit.specs.Database.State.Base.{calc_items, key_item}
+use Rattle.dbtg_unit.specs.Database.Statements.Checks.{modify_checks}
+use Rattle.dbtg_unit.specs.Database.Statements.Conditions.{changed_items, names_calc, refuses_equal, sort_key_taken}
+use Rattle.dbtg_unit.specs.Hands.EditsOf.{ring_edits, slot_edit}
+use Rattle.dbtg_unit.specs.Hands.Hands.{Hands}
+use Rattle.dbtg_unit.specs.Hands.InHand.{in_hand, items_in, owner_in, version_in}
+use Rattle.dbtg_unit.specs.Hands.Prepared.{Plan}
+use Rattle.dbtg_unit.specs.Database.State.Units.{place_in}
 use Rattle.dbtg_plan.specs.Plans.{done_answer, on_current_plan}
 
 -- THE SETS

@@ -7,7 +7,7 @@ use Rattle.dbtg_unit.specs.declared.edit.Edit.{Edit}
 use Rattle.dbtg_unit.specs.declared.edit.Edit.TheVariants.{EnterUser, LeaveUser}
 use Rattle.dbtg_unit.specs.declared.edit.UnitEdit.TheVariants.{SetMode}
 use Rattle.dbtg_unit.specs.declared.unit.Unit.{Unit}
-use Rattle.dbtg_unit.specs.Prepared.{Plan}
+use Rattle.dbtg_unit.specs.Hands.Prepared.{Plan}
 use Rattle.dbtg_plan.specs.Plans.{done_answer}
 
 -- area a is open for the unit in a mode, or no more: an edit of its usage cell, and the unit's mode

@@ -9,7 +9,7 @@ use Rattle.dbtg_unit.specs.declared.unit.Answer.{Answer}
 use Rattle.dbtg_unit.specs.declared.unit.Cause.{Cause}
 use Rattle.dbtg_unit.specs.declared.unit.Cause.TheVariants.{NoCurrentOfRunUnit}
 use Rattle.dbtg_unit.specs.declared.unit.Status.TheVariants.{Done, Refused}
-use Rattle.dbtg_unit.specs.Prepared.{Plan}
+use Rattle.dbtg_unit.specs.Hands.Prepared.{Plan}
 
 -- done, with neither a key nor items
 abbrev pub done_answer : Answer

@@ -2,14 +2,14 @@
 -- k is a key, s a set.
 use Rattle.std.specs.Prelude.{ℕ, ◌+◌, [], ◌∷◌, ◌++◌, None}
 use Rattle.dbtg_cells.specs.declared.key.DbKey.{DbKey}
-use Rattle.dbtg_unit.specs.Checks.{remove_checks}
+use Rattle.dbtg_unit.specs.Database.Statements.Checks.{remove_checks}
 use Rattle.dbtg_unit.specs.declared.edit.Edit.TheVariants.{ChangeOwner, RaiseVersion, TakeOut}
 use Rattle.dbtg_unit.specs.declared.edit.UnitEdit.TheVariants.{Leave}
 use Rattle.dbtg_unit.specs.declared.unit.Unit.{Unit}
-use Rattle.dbtg_unit.specs.EditsOf.{ring_edits, slot_edit}
-use Rattle.dbtg_unit.specs.Hands.{Hands}
-use Rattle.dbtg_unit.specs.InHand.{owner_in, version_in, in_hand}
-use Rattle.dbtg_unit.specs.Prepared.{Plan}
+use Rattle.dbtg_unit.specs.Hands.EditsOf.{ring_edits, slot_edit}
+use Rattle.dbtg_unit.specs.Hands.Hands.{Hands}
+use Rattle.dbtg_unit.specs.Hands.InHand.{owner_in, version_in, in_hand}
+use Rattle.dbtg_unit.specs.Hands.Prepared.{Plan}
 use Rattle.dbtg_plan.specs.Plans.{done_answer, on_current_plan}
 
 -- k out of its owner's list, with no owner and its next version

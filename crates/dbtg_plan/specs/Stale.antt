@@ -11,9 +11,9 @@ use Rattle.dbtg_unit.specs.declared.held.Need.{Need}
 use Rattle.dbtg_unit.specs.declared.held.Need.TheVariants.{Ready, Stale}
 use Rattle.dbtg_unit.specs.declared.statement.Statement.{Statement}
 use Rattle.dbtg_unit.specs.declared.unit.Unit.{Unit}
-use Rattle.dbtg_unit.specs.Hands.{Hands}
-use Rattle.dbtg_unit.specs.InHand.{owner_in}
-use Rattle.dbtg_unit.specs.Needs.{guessed_sets, is_wrong_guess}
+use Rattle.dbtg_unit.specs.Hands.Hands.{Hands}
+use Rattle.dbtg_unit.specs.Hands.InHand.{owner_in}
+use Rattle.dbtg_unit.specs.Hands.Needs.{guessed_sets, is_wrong_guess}
 
 -- the owner of k in set s, where the set is needed and that owner is not the guess
 abbrev pub wrong_owner_in : Hands → List ℕ → DbKey → ℕ → Option Owner

@@ -1,4 +1,5 @@
--- STORE, read off the cells in hand.
+-- STORE, read off the cells in hand: the cells that it needs; what it does; and then, set by set as the code goes, its checks, its
+-- edits, its owners and its room.
 -- k is the key of the new record, s a set, t its record type, c the name of a cell.
 use Rattle.std.specs.Prelude.{◌≡◌, ℕ, Bool, true, false, ◌==◌, List, [], ◌∷◌, ◌++◌, Option, Some, None, if◌then◌else◌, option_map, unwrap_or}
 use Rattle.std.specs.List.{list_any}
@@ -11,8 +12,8 @@ use Rattle.dbtg_cells.specs.declared.key.Owner.TheVariants.{Rec}
 use Rattle.dbtg_cells.specs.declared.key.Value.{Value}
 use Rattle.dbtg_cells.specs.declared.name.CellName.{CellName}
 use Rattle.dbtg_cells.specs.declared.name.CellName.TheVariants.{Extent, Ring}
-use Rattle.dbtg_unit.specs.Checks.{place_checks, store_checks}
-use Rattle.dbtg_unit.specs.Conditions.{calc_taken}
+use Rattle.dbtg_unit.specs.Database.Statements.Checks.{place_checks, store_checks}
+use Rattle.dbtg_unit.specs.Database.Statements.Conditions.{calc_taken}
 use Rattle.dbtg_cells.specs.Numbers.{is_free, numbers_where}
 use Rattle.dbtg_unit.specs.declared.edit.CellEdit.{CellEdit}
 use Rattle.dbtg_unit.specs.declared.edit.Edit.TheVariants.{OpenRing}
@@ -21,15 +22,15 @@ use Rattle.dbtg_unit.specs.declared.statement.Suppress.{Suppress}
 use Rattle.dbtg_unit.specs.declared.unit.Cause.{Cause}
 use Rattle.dbtg_unit.specs.declared.unit.Status.TheVariants.{Done}
 use Rattle.dbtg_unit.specs.declared.unit.Unit.{Unit}
-use Rattle.dbtg_unit.specs.Base.{key_item}
-use Rattle.dbtg_unit.specs.CellNames.{place_of, slot_name}
-use Rattle.dbtg_unit.specs.EditsOf.{first_owners, joining_edits, store_edits}
-use Rattle.dbtg_unit.specs.Hands.{Hands}
-use Rattle.dbtg_unit.specs.InHand.{numbers_in, in_hand, next_key_of}
-use Rattle.dbtg_unit.specs.Needs.{current_owner, ring_names, store_rings}
-use Rattle.dbtg_unit.specs.Prepared.{Plan}
-use Rattle.dbtg_unit.specs.Reserving.{CanTakeMember, OfHeld}
-use Rattle.dbtg_unit.specs.Units.{place_in}
+use Rattle.dbtg_unit.specs.Database.State.Base.{key_item}
+use Rattle.dbtg_unit.specs.Database.State.CellNames.{place_of, slot_name}
+use Rattle.dbtg_unit.specs.Hands.EditsOf.{first_owners, joining_edits, store_edits}
+use Rattle.dbtg_unit.specs.Hands.Hands.{Hands}
+use Rattle.dbtg_unit.specs.Hands.InHand.{numbers_in, in_hand, next_key_of}
+use Rattle.dbtg_unit.specs.Hands.Needs.{current_owner, ring_names, store_rings}
+use Rattle.dbtg_unit.specs.Hands.Prepared.{Plan}
+use Rattle.dbtg_unit.specs.Hands.Reserving.{CanTakeMember, OfHeld}
+use Rattle.dbtg_unit.specs.Database.State.Units.{place_in}
 use Rattle.dbtg_plan.specs.Calc.{fresh_key}
 use Rattle.dbtg_plan.specs.Joining.{joined_place}
 use Rattle.dbtg_plan.specs.Missing.{first_missing}
@@ -73,7 +74,7 @@ stored_plan schema unit items suppress k =
 abbrev pub stored_key : Hands → ℕ → DbKey
 stored_key hands t = next_key_of (numbers_in hands t) t (unwrap_or (first (numbers_where is_free (numbers_in hands t))) 0)
 
--- STORE of a record of type t
+-- what STORE of a record of type t does, unless it is refused
 abbrev pub store_plan : Lists → Unit → Hands → ℕ → List Value → Suppress → Plan
 store_plan schema unit hands t items suppress =
     unless_refusal (first_cause (store_checks schema (in_hand hands) unit t items)) (stored_plan schema unit items suppress (stored_key hands t))
@@ -92,7 +93,7 @@ joins_of schema unit k items s = if list_any (λ s'. s' == s) (automatic_sets sc
 abbrev pub openings_of : Lists → DbKey → ℕ → List CellEdit
 openings_of schema k s = if owns schema s k.rtype then record { name = Ring s (Some (k.rtype, k.number)); edit = OpenRing (Rec k) } ∷ [] else []
 
--- the first owner in set s of a record of type t
+-- the owner in set s of a new record of type t
 abbrev pub first_owner : Lists → Unit → ℕ → ℕ → Option Owner
 first_owner schema unit t s = if list_any (λ s'. s' == s) (automatic_sets schema t) then option_map (λ place. place.owner) (place_in schema unit s) else None
 

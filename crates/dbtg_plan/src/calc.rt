@@ -5,9 +5,9 @@ ghost use Rattle.std.specs.List.{list_any, slice_index_or};
 ghost use Rattle.dbtg_cells.specs.Keys.{value_eq, values_eq};
 ghost use Rattle.dbtg_cells.specs.Numbers.{entry_of, has_values, is_number_left_out, numbers_where};
 ghost use Rattle.dbtg_schema.specs.Lookups.{some_and};
-ghost use Rattle.dbtg_unit.specs.Base.{calc_items, picked};
-ghost use Rattle.dbtg_unit.specs.Conditions.{calc_taken};
-ghost use Rattle.dbtg_unit.specs.InHand.{in_hand};
+ghost use Rattle.dbtg_unit.specs.Database.State.Base.{calc_items, picked};
+ghost use Rattle.dbtg_unit.specs.Database.Statements.Conditions.{calc_taken};
+ghost use Rattle.dbtg_unit.specs.Hands.InHand.{in_hand};
 ghost use Rattle.dbtg_plan.specs.Calc.{fresh_key};
 
 use dbtg_cells::{DbKey, Extent, Value, same_value};

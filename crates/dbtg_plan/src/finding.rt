@@ -1,12 +1,12 @@
 //! FIND: what is found, read off the cells in hand. Nothing here takes memory.
 ghost use Rattle.std.specs.Prelude.{◌≡◌, ◌∷◌, [], true, take, None};
-ghost use Rattle.dbtg_unit.specs.Base.{Database};
-ghost use Rattle.dbtg_unit.specs.Belongs.{IsUnitOf, IsWithin};
-ghost use Rattle.dbtg_unit.specs.Checks.{refused_at_once};
-ghost use Rattle.dbtg_unit.specs.Fits.{form_fits};
-ghost use Rattle.dbtg_unit.specs.Local.{Agrees};
-ghost use Rattle.dbtg_unit.specs.Making.{CanFinish, MayPrepare};
-ghost use Rattle.dbtg_unit.specs.Needs.{current_owner, find_cells};
+ghost use Rattle.dbtg_unit.specs.Database.State.Base.{Database};
+ghost use Rattle.dbtg_unit.specs.Database.State.Belongs.{IsUnitOf, IsWithin};
+ghost use Rattle.dbtg_unit.specs.Database.Statements.Checks.{refused_at_once};
+ghost use Rattle.dbtg_unit.specs.Database.Statements.Fits.{form_fits};
+ghost use Rattle.dbtg_unit.specs.Hands.Local.{Agrees};
+ghost use Rattle.dbtg_unit.specs.Hands.Making.{CanFinish, MayPrepare};
+ghost use Rattle.dbtg_unit.specs.Hands.Needs.{current_owner, find_cells};
 ghost use Rattle.dbtg_unit.specs.declared.statement.Statement.TheVariants.{Find};
 ghost use Rattle.dbtg_plan.specs.Finding.{cells_to_find, found_in, next_cell_in, owners_in, plan_of_found};
 ghost use Rattle.dbtg_plan.specs.Missing.{first_missing};

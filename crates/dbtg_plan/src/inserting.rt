@@ -1,14 +1,14 @@
 //! INSERT: what it needs next, and what it does once it needs nothing more.
 ghost use Rattle.std.specs.Prelude.{◌≡◌, ℕ, [], ◌∷◌, Some, IfOk};
 ghost use Rattle.dbtg_schema.specs.Lookups.{first_cause};
-ghost use Rattle.dbtg_unit.specs.Checks.{insert_checks};
+ghost use Rattle.dbtg_unit.specs.Database.Statements.Checks.{insert_checks};
 ghost use Rattle.dbtg_unit.specs.declared.statement.Statement.TheVariants.{Insert};
-ghost use Rattle.dbtg_unit.specs.Base.{Database, key_item};
-ghost use Rattle.dbtg_unit.specs.Checks.{refused_at_once};
-ghost use Rattle.dbtg_unit.specs.EditsOf.{slot_edit};
-ghost use Rattle.dbtg_unit.specs.InHand.{items_in, in_hand};
-ghost use Rattle.dbtg_unit.specs.Making.{CanFinish, HaveNextVersions, MayPrepare, ShowsTheSame};
-ghost use Rattle.dbtg_unit.specs.Needs.{cells_of};
+ghost use Rattle.dbtg_unit.specs.Database.State.Base.{Database, key_item};
+ghost use Rattle.dbtg_unit.specs.Database.Statements.Checks.{refused_at_once};
+ghost use Rattle.dbtg_unit.specs.Hands.EditsOf.{slot_edit};
+ghost use Rattle.dbtg_unit.specs.Hands.InHand.{items_in, in_hand};
+ghost use Rattle.dbtg_unit.specs.Hands.Making.{CanFinish, HaveNextVersions, MayPrepare, ShowsTheSame};
+ghost use Rattle.dbtg_unit.specs.Hands.Needs.{cells_of};
 ghost use Rattle.dbtg_plan.specs.Inserting.{inserting};
 ghost use Rattle.dbtg_plan.specs.Joining.{joined_place, joining_edit};
 ghost use Rattle.dbtg_plan.specs.Missing.{first_missing};
@@ -129,6 +129,7 @@ pub(crate) fn prepare_insert(
     ensures shows { ShowsTheSame held.old held.new }
     ensures prepared { IfOk result (λ plan. CanFinish schema.now capacity unit.now held.new (Insert set) plan) }
 {
+    // Only the contract names the capacity.
     let _ = capacity;
     let Some(key) = unit.currency.run_unit else {
         return Ok(refused(alloc, Cause::NoCurrentOfRunUnit));

@@ -1,7 +1,7 @@
 //! GET, KEEP and FREE: what is done with the current of run-unit alone.
 ghost use Rattle.std.specs.Prelude.{◌≡◌, IfOk, None};
-ghost use Rattle.dbtg_unit.specs.Checks.{refused_at_once};
-ghost use Rattle.dbtg_unit.specs.Making.{CanFinish, MayPrepare};
+ghost use Rattle.dbtg_unit.specs.Database.Statements.Checks.{refused_at_once};
+ghost use Rattle.dbtg_unit.specs.Hands.Making.{CanFinish, MayPrepare};
 ghost use Rattle.dbtg_plan.specs.Keeping.{free_plan, get_plan, keep_plan};
 
 use crate::outcomes::{done, refused};
@@ -53,7 +53,7 @@ fn free(alloc: Global, unit: &Unit, all: bool) -> Prepared
 }
 
 /// GET of the current of run-unit.
-#[tactic(auto, using(crate::proofs::KeepingLemmas::get_finishes))]
+#[tactic(auto, using(crate::proofs::Plans::GetKeepFree::get_finishes))]
 pub(crate) fn prepare_get(
     alloc: Global,
     schema: &Schema,
@@ -70,7 +70,7 @@ pub(crate) fn prepare_get(
 }
 
 /// KEEP of the current of run-unit.
-#[tactic(auto, using(crate::proofs::KeepingLemmas::keep_finishes))]
+#[tactic(auto, using(crate::proofs::Plans::GetKeepFree::keep_finishes))]
 pub(crate) fn prepare_keep(
     alloc: Global,
     schema: &Schema,

@@ -1,9 +1,9 @@
 //! A record in hand as a member of sets: its sort key, its next version; and edits of its slot.
 ghost use Rattle.std.specs.Prelude.{◌≡◌, ◌+◌, IfOk};
-ghost use Rattle.dbtg_unit.specs.Base.{key_item};
-ghost use Rattle.dbtg_unit.specs.EditsOf.{slot_edit};
-ghost use Rattle.dbtg_unit.specs.InHand.{items_in, version_in};
-ghost use Rattle.dbtg_unit.specs.Making.{HaveNextVersions};
+ghost use Rattle.dbtg_unit.specs.Database.State.Base.{key_item};
+ghost use Rattle.dbtg_unit.specs.Hands.EditsOf.{slot_edit};
+ghost use Rattle.dbtg_unit.specs.Hands.InHand.{items_in, version_in};
+ghost use Rattle.dbtg_unit.specs.Hands.Making.{HaveNextVersions};
 
 use crate::calc::copy_item;
 use dbtg_cells::{CellName, DbKey, Value};
@@ -22,7 +22,7 @@ pub(crate) fn slot_edit(key: &DbKey, edit: Edit) -> CellEdit
 }
 
 /// The version of a record in hand once it is changed.
-#[tactic(auto, using(crate::proofs::VersionLemmas::has_next_version))]
+#[tactic(auto, using(dbtg_unit::proofs::Public::has_next_version))]
 pub(crate) fn next_version(held: &Held, key: &DbKey) -> u64
     requires { HaveNextVersions held.now.cells }
     ensures { result ≡ version_in held.now key.now + 1 }

@@ -1,6 +1,6 @@
 //! The cells that are not in hand, in the order of taking. Nothing here takes memory.
 ghost use Rattle.std.specs.Prelude.{◌≡◌, [], ◌∷◌};
-ghost use Rattle.dbtg_unit.specs.Needs.{ring_names, slot_names};
+ghost use Rattle.dbtg_unit.specs.Hands.Needs.{ring_names, slot_names};
 ghost use Rattle.dbtg_plan.specs.Missing.{first_missing, is_missing};
 
 use dbtg_cells::{CellName, DbKey, Owner};
@@ -8,7 +8,7 @@ use dbtg_schema::SetNo;
 use dbtg_unit::Held;
 
 /// Is the cell of this name not in hand?
-#[tactic(auto, using(crate::proofs::MissingLemmas::missing_by_name))]
+#[tactic(auto, using(crate::proofs::Needs::FoundByName::missing_by_name))]
 pub(crate) fn is_missing(held: &Held, name: &CellName) -> bool
     ensures { result ≡ is_missing held.now name.now }
 {

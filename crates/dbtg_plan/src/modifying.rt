@@ -5,14 +5,14 @@ ghost use Rattle.std.specs.Option.{option_to_list};
 ghost use Rattle.dbtg_schema.specs.Lookups.{at, first_cause};
 ghost use Rattle.dbtg_schema.specs.Structure.{rekeyed_sets, set_numbers};
 ghost use Rattle.dbtg_unit.specs.declared.statement.Statement.TheVariants.{Modify};
-ghost use Rattle.dbtg_unit.specs.Base.{Database, key_item};
-ghost use Rattle.dbtg_unit.specs.Checks.{modify_checks, refused_at_once};
-ghost use Rattle.dbtg_unit.specs.Conditions.{calc_taken, changed_items, names_calc, refuses_equal};
-ghost use Rattle.dbtg_unit.specs.EditsOf.{slot_edit};
-ghost use Rattle.dbtg_unit.specs.InHand.{in_hand, items_in};
-ghost use Rattle.dbtg_unit.specs.Making.{CanFinish, HaveNextVersions, MayPrepare};
-ghost use Rattle.dbtg_unit.specs.Needs.{cells_of, ring_names};
-ghost use Rattle.dbtg_unit.specs.Units.{place_in};
+ghost use Rattle.dbtg_unit.specs.Database.State.Base.{Database, key_item};
+ghost use Rattle.dbtg_unit.specs.Database.Statements.Checks.{modify_checks, refused_at_once};
+ghost use Rattle.dbtg_unit.specs.Database.Statements.Conditions.{calc_taken, changed_items, names_calc, refuses_equal};
+ghost use Rattle.dbtg_unit.specs.Hands.EditsOf.{slot_edit};
+ghost use Rattle.dbtg_unit.specs.Hands.InHand.{in_hand, items_in};
+ghost use Rattle.dbtg_unit.specs.Hands.Making.{CanFinish, HaveNextVersions, MayPrepare};
+ghost use Rattle.dbtg_unit.specs.Hands.Needs.{cells_of, ring_names};
+ghost use Rattle.dbtg_unit.specs.Database.State.Units.{place_in};
 ghost use Rattle.dbtg_plan.specs.Missing.{first_missing};
 ghost use Rattle.dbtg_plan.specs.Modifying.{calc_edits_in, is_refused, is_rekeyed, modified_plan, modify_edits_in, modify_plan, replacing_edits_in};
 
@@ -424,7 +424,7 @@ fn plan_of(
 
 /// What a MODIFY does that needs nothing more: the CALC values where one is named, the places in sets that are sorted by an
 /// item that is named, the items, the version.
-#[tactic(auto, using(crate::proofs::ModifyReady::modify_can_finish))]
+#[tactic(auto, using(crate::proofs::Modify::ModifyReady::modify_can_finish))]
 pub(crate) fn prepare_modify(
     alloc: Global,
     schema: &Schema,
@@ -438,6 +438,7 @@ pub(crate) fn prepare_modify(
     requires passes { refused_at_once schema.now capacity unit.now (Modify rtype changes.now) ≡ None }
     ensures { IfOk result (λ plan. CanFinish schema.now capacity unit.now held.now (Modify rtype changes.now) plan) }
 {
+    // Only the contract names the record type and the capacity.
     let _ = (rtype, capacity);
     plan_of(alloc, schema, unit, changes, held)
 }

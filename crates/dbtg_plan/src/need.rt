@@ -1,12 +1,12 @@
 //! What a statement needs next: its areas in order, then its cells in order, then other guesses where the record in hand shows
 //! them to be wrong. Nothing here takes memory.
 ghost use Rattle.std.specs.Prelude.{◌≡◌, true, false};
-ghost use Rattle.dbtg_unit.specs.Base.{Database};
-ghost use Rattle.dbtg_unit.specs.Belongs.{IsUnitOf, IsWithin};
-ghost use Rattle.dbtg_unit.specs.EditsOf.{is_delete};
-ghost use Rattle.dbtg_unit.specs.Fits.{fits};
-ghost use Rattle.dbtg_unit.specs.Local.{Agrees};
-ghost use Rattle.dbtg_unit.specs.Needs.{cells_of, need};
+ghost use Rattle.dbtg_unit.specs.Database.State.Base.{Database};
+ghost use Rattle.dbtg_unit.specs.Database.State.Belongs.{IsUnitOf, IsWithin};
+ghost use Rattle.dbtg_unit.specs.Hands.EditsOf.{is_delete};
+ghost use Rattle.dbtg_unit.specs.Database.Statements.Fits.{fits};
+ghost use Rattle.dbtg_unit.specs.Hands.Local.{Agrees};
+ghost use Rattle.dbtg_unit.specs.Hands.Needs.{cells_of, need};
 ghost use Rattle.dbtg_plan.specs.Missing.{first_missing};
 
 use crate::finding::next_cell_of_find;

@@ -1,10 +1,10 @@
 //! OPEN and CLOSE: what is done with the usage cell of an area.
 ghost use Rattle.std.specs.Prelude.{◌≡◌, IfOk, None};
 ghost use Rattle.std.specs.List.{list_any};
-ghost use Rattle.dbtg_unit.specs.Checks.{refused_at_once};
-ghost use Rattle.dbtg_unit.specs.Effect.{conflict};
-ghost use Rattle.dbtg_unit.specs.InHand.{users_in};
-ghost use Rattle.dbtg_unit.specs.Making.{CanFinish, MayPrepare, ShowsTheSame};
+ghost use Rattle.dbtg_unit.specs.Database.Statements.Checks.{refused_at_once};
+ghost use Rattle.dbtg_unit.specs.Database.Statements.Effect.{conflict};
+ghost use Rattle.dbtg_unit.specs.Hands.InHand.{users_in};
+ghost use Rattle.dbtg_unit.specs.Hands.Making.{CanFinish, MayPrepare, ShowsTheSame};
 ghost use Rattle.dbtg_plan.specs.Opening.{close_plan, mode_plan, open_plan};
 
 use crate::outcomes::refused;

@@ -1,7 +1,7 @@
 //! What a statement prepares once it needs nothing more: its answer and its changes, with room for all of them.
 ghost use Rattle.std.specs.Prelude.{◌≡◌, false, IfOk};
-ghost use Rattle.dbtg_unit.specs.EditsOf.{is_delete};
-ghost use Rattle.dbtg_unit.specs.Making.{CanFinish, MayPrepare, ShowsTheSame};
+ghost use Rattle.dbtg_unit.specs.Hands.EditsOf.{is_delete};
+ghost use Rattle.dbtg_unit.specs.Hands.Making.{CanFinish, MayPrepare, ShowsTheSame};
 
 use crate::finding::prepare_find;
 use crate::inserting::prepare_insert;

@@ -1,14 +1,14 @@
 //! REMOVE: what it needs next, and what it does once it needs nothing more.
 ghost use Rattle.std.specs.Prelude.{◌≡◌, ℕ, [], ◌∷◌, ◌++◌, None, is_some, IfOk};
 ghost use Rattle.dbtg_schema.specs.Lookups.{first_cause};
-ghost use Rattle.dbtg_unit.specs.Checks.{remove_checks};
+ghost use Rattle.dbtg_unit.specs.Database.Statements.Checks.{remove_checks};
 ghost use Rattle.dbtg_unit.specs.declared.statement.Statement.TheVariants.{Remove};
-ghost use Rattle.dbtg_unit.specs.Base.{Database};
-ghost use Rattle.dbtg_unit.specs.Checks.{refused_at_once};
-ghost use Rattle.dbtg_unit.specs.EditsOf.{ring_edits, slot_edit};
-ghost use Rattle.dbtg_unit.specs.InHand.{owner_in, in_hand};
-ghost use Rattle.dbtg_unit.specs.Making.{CanFinish, HaveNextVersions, MayPrepare};
-ghost use Rattle.dbtg_unit.specs.Needs.{cells_of};
+ghost use Rattle.dbtg_unit.specs.Database.State.Base.{Database};
+ghost use Rattle.dbtg_unit.specs.Database.Statements.Checks.{refused_at_once};
+ghost use Rattle.dbtg_unit.specs.Hands.EditsOf.{ring_edits, slot_edit};
+ghost use Rattle.dbtg_unit.specs.Hands.InHand.{owner_in, in_hand};
+ghost use Rattle.dbtg_unit.specs.Hands.Making.{CanFinish, HaveNextVersions, MayPrepare};
+ghost use Rattle.dbtg_unit.specs.Hands.Needs.{cells_of};
 ghost use Rattle.dbtg_plan.specs.Missing.{first_missing};
 ghost use Rattle.dbtg_plan.specs.Removing.{removing};
 
@@ -32,6 +32,7 @@ pub(crate) fn next_cell_of_remove(
 ) -> Option<CellName>
     ensures { (capacity : ℕ) (db : Database) → result ≡ first_missing held.now (cells_of schema.now capacity db unit.now held.now.guesses (Remove set)) }
 {
+    // Only the contract names the schema.
     let _ = schema;
     let ring = missing_ring(held, set, held.guess(set));
     if ring.is_some() {
@@ -98,6 +99,7 @@ pub(crate) fn prepare_remove(
     requires passes { refused_at_once schema.now capacity unit.now (Remove set) ≡ None }
     ensures { IfOk result (λ plan. CanFinish schema.now capacity unit.now held.now (Remove set) plan) }
 {
+    // Only the contract names the schema and the capacity.
     let _ = schema;
     let _ = capacity;
     let Some(key) = unit.currency.run_unit else {

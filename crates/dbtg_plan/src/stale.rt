@@ -2,7 +2,7 @@
 ghost use Rattle.std.specs.Prelude.{◌≡◌, ◌==◌, ◌<◌, is_some, length, map};
 ghost use Rattle.std.specs.List.{list_any};
 ghost use Rattle.dbtg_schema.specs.Structure.{rekeyed_sets};
-ghost use Rattle.dbtg_unit.specs.Needs.{guessed_sets, is_wrong_guess};
+ghost use Rattle.dbtg_unit.specs.Hands.Needs.{guessed_sets, is_wrong_guess};
 ghost use Rattle.dbtg_plan.specs.Stale.{need_of_guesses, need_of_owners, wrong_owner_in, wrong_owners_in};
 
 use dbtg_cells::{DbKey, Owner, same_owner};
@@ -22,6 +22,7 @@ fn is_guessed(schema: &Schema, unit: &Unit, statement: &Statement, set: SetNo) -
     requires { set < length schema.now.sets }
     ensures { result ≡ list_any (λ s. s == set) (guessed_sets schema.now unit.now statement.now) }
 {
+    // Only the contract names the unit.
     let _ = unit;
     match statement {
         Statement::Remove(named) => named.index() == set.index(),

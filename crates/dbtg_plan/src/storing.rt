@@ -4,18 +4,18 @@ ghost use Rattle.std.specs.List.{flat_map, list_any};
 ghost use Rattle.dbtg_cells.specs.declared.key.DbKey.{DbKey};
 ghost use Rattle.dbtg_schema.specs.Lookups.{first_cause};
 ghost use Rattle.dbtg_schema.specs.Structure.{automatic_sets, owns, set_numbers};
-ghost use Rattle.dbtg_unit.specs.Checks.{place_checks, store_checks};
+ghost use Rattle.dbtg_unit.specs.Database.Statements.Checks.{place_checks, store_checks};
 ghost use Rattle.dbtg_unit.specs.declared.statement.Statement.TheVariants.{Store};
-ghost use Rattle.dbtg_unit.specs.Base.{Database, key_item};
-ghost use Rattle.dbtg_unit.specs.CellNames.{place_of};
-ghost use Rattle.dbtg_unit.specs.Checks.{refused_at_once};
-ghost use Rattle.dbtg_unit.specs.EditsOf.{first_owners, joining_edits, slot_edit, store_edits};
-ghost use Rattle.dbtg_unit.specs.InHand.{numbers_in, in_hand};
-ghost use Rattle.dbtg_unit.specs.Local.{Agrees};
-ghost use Rattle.dbtg_unit.specs.Making.{CanFinish, MayPrepare, ShowsTheSame};
-ghost use Rattle.dbtg_unit.specs.Needs.{cells_of, current_owner, ring_names, store_rings};
-ghost use Rattle.dbtg_unit.specs.Reserving.{KeepsOthers};
-ghost use Rattle.dbtg_unit.specs.Units.{place_in};
+ghost use Rattle.dbtg_unit.specs.Database.State.Base.{Database, key_item};
+ghost use Rattle.dbtg_unit.specs.Database.State.CellNames.{place_of};
+ghost use Rattle.dbtg_unit.specs.Database.Statements.Checks.{refused_at_once};
+ghost use Rattle.dbtg_unit.specs.Hands.EditsOf.{first_owners, joining_edits, slot_edit, store_edits};
+ghost use Rattle.dbtg_unit.specs.Hands.InHand.{numbers_in, in_hand};
+ghost use Rattle.dbtg_unit.specs.Hands.Local.{Agrees};
+ghost use Rattle.dbtg_unit.specs.Hands.Making.{CanFinish, MayPrepare, ShowsTheSame};
+ghost use Rattle.dbtg_unit.specs.Hands.Needs.{cells_of, current_owner, ring_names, store_rings};
+ghost use Rattle.dbtg_unit.specs.Hands.Reserving.{KeepsOthers};
+ghost use Rattle.dbtg_unit.specs.Database.State.Units.{place_in};
 ghost use Rattle.dbtg_plan.specs.Calc.{fresh_key};
 ghost use Rattle.dbtg_plan.specs.Joining.{joined_place};
 ghost use Rattle.dbtg_plan.specs.Missing.{first_missing};
@@ -36,7 +36,7 @@ use dbtg_unit::{
 use std::alloc::{AllocError, Global};
 
 // Does STORE connect a record of this type in the set?
-#[tactic(auto, using(crate::proofs::StoreSteps::connected))]
+#[tactic(auto, using(crate::proofs::Store::StoreSteps::connected))]
 fn connects(schema: &Schema, set: SetNo, rtype: RecordNo) -> bool
     ensures { result ≡ list_any (λ s. s == set) (automatic_sets schema.now rtype) }
 {
@@ -156,6 +156,7 @@ pub(crate) fn next_cell_of_store(
 ) -> Option<CellName>
     ensures { (db : Database) (suppress : Suppress) → Agrees schema.now capacity db held.now unit.now → result ≡ first_missing held.now (cells_of schema.now capacity db unit.now held.now.guesses (Store rtype items.now suppress)) }
 {
+    // Only the contract names the capacity.
     let _ = capacity;
     missing_cell(schema, unit, rtype, items.as_slice(), held)
 }
@@ -467,6 +468,7 @@ pub(crate) fn prepare_store(
     ensures shows { ShowsTheSame held.old held.new }
     ensures prepared { IfOk result (λ plan. CanFinish schema.now capacity unit.now held.new (Store rtype items.now suppress) plan) }
 {
+    // Only the contract names the capacity.
     let _ = capacity;
     plan_store(alloc, schema, unit, rtype, items, suppress, held)
 }

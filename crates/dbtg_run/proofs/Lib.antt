@@ -1,25 +1,5 @@
-mod Base
-mod Areas
-mod Facts
-mod Machines
-mod Moves
-mod Steps
-mod Alone
-mod CellSteps
-mod History
-mod Tickets
-mod Ends
-mod Needing
-mod Uses
-mod Rested
-mod Opens
 mod Rows
-mod Commits
-mod Prepares
-mod Closed
-mod Joined
-mod Made
-mod Merged
-mod Runs
-mod Abreast
 pub mod Crosses
+pub mod TheRule
+pub mod Units
+pub mod Together

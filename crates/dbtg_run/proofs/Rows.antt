@@ -11,11 +11,11 @@ use Rattle.dbtg_cells.specs.CellNumbers.{cell_number}
 use Rattle.dbtg_unit.specs.declared.statement.Statement.{Statement}
 use Rattle.dbtg_unit.specs.declared.statement.Statement.TheVariants.{OpenArea}
 use Rattle.dbtg_unit.specs.declared.unit.Unit.{Unit}
-use Rattle.dbtg_unit.specs.Effect.{effect}
-use Rattle.dbtg_unit.specs.Needs.{areas_in_order, cells_of}
-use Rattle.dbtg_unit.specs.Replay.{State, opening_state, state_after}
-use Rattle.dbtg_unit.specs.Units.{opening_unit}
-use Rattle.dbtg_unit.proofs.Schemas.{shop, main, customers}
+use Rattle.dbtg_unit.specs.Database.Statements.Effect.{effect}
+use Rattle.dbtg_unit.specs.Hands.Needs.{areas_in_order, cells_of}
+use Rattle.dbtg_unit.specs.Database.Laws.Replay.{State, opening_state, state_after}
+use Rattle.dbtg_unit.specs.Database.State.Units.{opening_unit}
+use Rattle.dbtg_unit.proofs.Rows.Defined.Schemas.{shop, main, customers}
 use Rattle.dbtg_unit.proofs.Rows.Words.{by, store, text}
 use Rattle.dbtg_run.specs.declared.view.About.{About}
 use Rattle.dbtg_run.specs.Kept.{area_word, cell_word}

@@ -6,8 +6,8 @@ use Rattle.dbtg_unit.specs.declared.statement.Statement.{Statement}
 use Rattle.dbtg_unit.specs.declared.unit.Answer.{Answer}
 use Rattle.dbtg_unit.specs.declared.unit.Entry.{Entry}
 use Rattle.dbtg_unit.specs.declared.unit.Unit.{Unit}
-use Rattle.dbtg_unit.specs.Prepared.{Plan, edited_values, values_of}
-use Rattle.dbtg_unit.specs.Replay.{IsHistoryOf, entries_of, opening_state, replay as replay_entries, unit_of}
+use Rattle.dbtg_unit.specs.Hands.Prepared.{Plan, edited_values, values_of}
+use Rattle.dbtg_unit.specs.Database.Laws.Replay.{IsHistoryOf, entries_of, opening_state, replay as replay_entries, unit_of}
 use Rattle.dbtg_run.specs.declared.view.About.{About}
 use Rattle.dbtg_run.specs.Views.{Has, bare}
 use Rattle.dbtg_run.specs.Kept.{entry}

@@ -9,20 +9,23 @@ use Rattle.dbtg_cells.specs.CellNumbers.{cell_number, cells_in_order}
 use Rattle.dbtg_cells.specs.Names.{name_eq}
 use Rattle.dbtg_unit.specs.declared.unit.Entry.{Entry}
 use Rattle.dbtg_unit.specs.declared.unit.Unit.{Unit}
-use Rattle.dbtg_unit.specs.Belongs.{IsUnitOf, IsWithin}
-use Rattle.dbtg_unit.specs.Hands.{Hands}
-use Rattle.dbtg_step.specs.TurningBack.{count}
+use Rattle.dbtg_unit.specs.Database.State.Belongs.{IsUnitOf, IsWithin}
+use Rattle.dbtg_unit.specs.Hands.Hands.{Hands}
+use Rattle.dbtg_step.specs.Machine.TurningBack.{count}
 use Rattle.dbtg_run.specs.declared.view.About.{About}
 use Rattle.dbtg_run.specs.declared.view.Member.{Member}
 use Rattle.dbtg_run.specs.Views.{lone, bared}
 use Rattle.dbtg_run.specs.Kept.{Sat, area_count, cells_of_table}
 
+-- the unit as a member of a view: its held cells without room
 abbrev pub member_of : Unit → List Entry → Bool → Hands → Member
 member_of unit journal exclusive hands = record { place = unit.number - 1; unit = unit; journal = journal; exclusive = exclusive; areas = hands.areas; held = bared hands.cells }
 
+-- the number of a cell, 0 for one that the schema has not
 abbrev pub number_or_0 : About → CellName → ℕ
 number_or_0 about c = unwrap_or (cell_number about.schema.value about.capacity c) 0
 
+-- the slot of a held cell, with nothing in it
 abbrev pub empty_slot : About → CellName × Cell → ℕ × Option Cell
 empty_slot about e = (number_or_0 about e.0, None)
 
@@ -30,9 +33,11 @@ empty_slot about e = (number_or_0 about e.0, None)
 abbrev pub empty_slots : About → List (CellName × Cell) → List (ℕ × Option Cell)
 empty_slots about cells = reverse (map (empty_slot about) cells)
 
+-- what the seat of a unit has: the unit as its one member, and the slots of the held cells
 abbrev pub posed : About → Unit → List Entry → Bool → Hands → Sat
 posed about unit journal exclusive hands = (lone about (member_of unit journal exclusive hands), empty_slots about hands.cells)
 
+-- the table has a word for the tickets, for each area and for each cell, and a slot for each cell
 pub record IsSized (about : About) (z : TableId) : Type 0 where
   pub words : z.words ≡ 1 + area_count about + cells_of_table about
   pub slots : z.slots ≡ cells_of_table about

@@ -1,8 +1,8 @@
 //! The ticket of a unit at work.
 ghost use Rattle.std.specs.Prelude.{◌≡◌, ◌<◌, length, vec_len, vec_capacity, true};
-ghost use Rattle.dbtg_unit.specs.Fits.{fits};
-ghost use Rattle.dbtg_unit.specs.Making.{CanFinish, IsReady};
-ghost use Rattle.dbtg_unit.specs.Prepared.{unit_after};
+ghost use Rattle.dbtg_unit.specs.Database.Statements.Fits.{fits};
+ghost use Rattle.dbtg_unit.specs.Hands.Making.{CanFinish, IsReady};
+ghost use Rattle.dbtg_unit.specs.Hands.Prepared.{unit_after};
 ghost use Rattle.dbtg_run.specs.Drawn.{IsDone, cells_after};
 ghost use Rattle.dbtg_run.specs.Works.{Belongs, IsAtWork};
 

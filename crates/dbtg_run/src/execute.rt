@@ -1,7 +1,7 @@
 //! A statement of a unit at work: what it needs is taken, the ticket is drawn, and all goes back.
 ghost use Rattle.std.specs.Prelude.{◌≡◌, ◌≢◌, ◌↔◌, ◌<◌, ◌≤◌, ◌∷◌, [], true, length, vec_len, vec_capacity, IfOk, IfNone, IfSome, IsSome, OnErr};
-ghost use Rattle.dbtg_unit.specs.Fits.{fits};
-ghost use Rattle.dbtg_unit.specs.Making.{CanFinish, IsReady};
+ghost use Rattle.dbtg_unit.specs.Database.Statements.Fits.{fits};
+ghost use Rattle.dbtg_unit.specs.Hands.Making.{CanFinish, IsReady};
 ghost use Rattle.dbtg_run.specs.Drawn.{IsDone};
 ghost use Rattle.dbtg_run.specs.Outcomes.{IfDone, IfNotDone, NeedsNoLatch};
 ghost use Rattle.dbtg_run.specs.Works.{Belongs, IsAtWork, IsSameUnit};

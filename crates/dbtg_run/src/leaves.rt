@@ -30,7 +30,7 @@ impl Work {
         ensures rest { self.new.held ≡ record self.old.held { cells = self.new.held.cells } }
     {
         let Some((name, cell)) = self.held.pop_cell() else {
-            return;
+            unreachable!()
         };
         let Some(number) = cell_number(&db.schema, db.about.capacity, &name) else {
             unreachable!()

@@ -1,7 +1,7 @@
 //! How a database is made: its table with all cells at home, and a seat there for each of its units.
 ghost use Rattle.std.specs.Prelude.{◌≡◌, ◌<◌, ◌≤◌, [], false, map, Some, IfOk};
 ghost use Rattle.dbtg_schema.specs.Sound.{IsSound};
-ghost use Rattle.dbtg_unit.specs.Units.{opening_unit};
+ghost use Rattle.dbtg_unit.specs.Database.State.Units.{opening_unit};
 ghost use Rattle.dbtg_run.specs.Kept.{first_view};
 ghost use Rattle.dbtg_run.specs.Posed.{posed, IsSized};
 ghost use Rattle.dbtg_run.specs.UnitView.{opening_view, opening_views};

@@ -1,6 +1,6 @@
 //! A unit makes a script, on whatever thread it is.
 ghost use Rattle.std.specs.Prelude.{◌≡◌, ◌⊎◌, ◌≤◌, true, length, All, IfOk};
-ghost use Rattle.dbtg_unit.specs.Fits.{fits};
+ghost use Rattle.dbtg_unit.specs.Database.Statements.Fits.{fits};
 ghost use Rattle.dbtg_run.specs.Running.{IsWhole, Ran};
 ghost use Rattle.dbtg_run.specs.UnitView.{BelongsTo};
 

@@ -1,6 +1,6 @@
 //! The end of a database: its units come together, and their journals are one history.
 ghost use Rattle.std.specs.Prelude.{◌≡◌, ◌↔◌, ◌<◌, ◌≤◌, length, All, IfOk, IfErr};
-ghost use Rattle.dbtg_step.specs.Audit.{IsAudited};
+ghost use Rattle.dbtg_step.specs.Core.Audit.{IsAudited};
 ghost use Rattle.dbtg_run.specs.Settling.{AreAll, HaveJoined, IsSettled, all_entries, by_ticket};
 ghost use Rattle.dbtg_run.specs.UnitView.{BelongsTo};
 
@@ -53,6 +53,7 @@ fn audit_all(
     requires some { 0 < length units.now }
     ensures { IfOk result (λ r. (r.0.items ≡ by_ticket (all_entries units.now)) × IsAudited db.now.schema db.now.about.capacity db.now.about.units r.0.items r.1) }
 {
+    // What the units know of the database: its schema is sound, for the audit.
     let _about = units[0].about();
     let history = merge(alloc, units)?;
     let found = audit(

@@ -5,13 +5,14 @@ ghost use Rattle.dbtg_cells.specs.declared.name.CellName.{CellName};
 ghost use Rattle.dbtg_cells.specs.CellNumbers.{cell_number};
 ghost use Rattle.dbtg_unit.specs.declared.held.Need.{Need};
 ghost use Rattle.dbtg_unit.specs.declared.held.Need.TheVariants.{Take};
-ghost use Rattle.dbtg_unit.specs.Base.{Database as Db};
-ghost use Rattle.dbtg_unit.specs.EditsOf.{is_delete};
-ghost use Rattle.dbtg_unit.specs.Fits.{fits};
-ghost use Rattle.dbtg_unit.specs.Guesses.{with_owners};
-ghost use Rattle.dbtg_unit.specs.Local.{Agrees};
-ghost use Rattle.dbtg_unit.specs.Making.{IsReady};
-ghost use Rattle.dbtg_unit.specs.Needs.{need};
+ghost use Rattle.dbtg_unit.specs.Database.State.Base.{Database as Db};
+ghost use Rattle.dbtg_unit.specs.Hands.EditsOf.{is_delete};
+ghost use Rattle.dbtg_unit.specs.Database.Statements.Fits.{fits};
+ghost use Rattle.dbtg_unit.specs.Hands.Guesses.{with_owners};
+ghost use Rattle.dbtg_unit.specs.Hands.Local.{Agrees};
+ghost use Rattle.dbtg_unit.specs.Hands.Making.{IsReady};
+ghost use Rattle.dbtg_unit.specs.Hands.Needs.{need};
+ghost use Rattle.dbtg_step.specs.Core.Events.{HaveRings};
 ghost use Rattle.dbtg_run.specs.Posed.{HoldsSo, turns_left};
 ghost use Rattle.dbtg_run.specs.Views.{times};
 ghost use Rattle.dbtg_run.specs.Kept.{area_count};
@@ -153,6 +154,7 @@ impl Work {
         ensures err { OnErr result (self.new.held ≡ self.old.held) }
         ensures alone { self.old.about.units ≡ 1 → IfOk result (λ b. b ≡ true) }
     {
+        // Only the contract names the statement.
         let _ = statement.fits(&db.schema);
         let word = 1 + db.schema.areas().len() + number;
         let board = &db.board.shared;
@@ -177,6 +179,7 @@ impl Work {
     // Other guesses.
     fn guess(&mut self, owners: Owners)
         requires count { length owners ≡ length self.old.about.schema.value.sets }
+        requires rings { HaveRings self.old.about.schema.value self.old.about.capacity (with_owners self.old.held.guesses owners) }
         requires work { IsAtWork self.old }
         ensures same { IsSameUnit self.old self.new }
         ensures work { IsAtWork self.new }
@@ -212,7 +215,7 @@ impl Work {
             Need::Area(area) => self.take_area(db, area, exclusive),
             Need::Take(name) => match cell_number(&db.schema, db.about.capacity, &name) {
                 Some(number) => self.take_cell(db, statement, name, number),
-                None => Err(AllocError),
+                None => unreachable!(),
             },
             Need::Stale(owners) => {
                 self.put_cells(db);

@@ -1,7 +1,7 @@
 //! Units make their scripts side by side, each on a thread of its own, and the database is settled.
 ghost use Rattle.std.specs.Prelude.{◌≡◌, ◌↔◌, ◌<◌, ◌≤◌, true, length, All, IfOk, IfErr, vec_len, vec_capacity};
 ghost use Rattle.std.specs.Thread.{IsSync};
-ghost use Rattle.dbtg_unit.specs.Fits.{fits};
+ghost use Rattle.dbtg_unit.specs.Database.Statements.Fits.{fits};
 ghost use Rattle.dbtg_run.specs.Running.{HaveMade, HaveRun, IsRun, IsWhole, Ran};
 ghost use Rattle.dbtg_run.specs.UnitView.{BelongsTo};
 

@@ -1,9 +1,9 @@
 -- Laws of the definition of reading.
 use Rattle.std.specs.Prelude.{◌≡◌, ℕ, List, map, None}
-use Rattle.dbtg_schema.specs.Words.{text_words}
-use Rattle.dbtg_schema.specs.Forms.{labels, Derives}
-use Rattle.dbtg_schema.specs.SchemaGrammar.{Labelled, fits, schema}
-use Rattle.dbtg_schema.specs.SchemaFaults.{refusal}
+use Rattle.dbtg_schema.specs.Texts.Words.{text_words}
+use Rattle.dbtg_schema.specs.Texts.Forms.{labels, Derives}
+use Rattle.dbtg_schema.specs.Texts.SchemaGrammar.{Labelled, fits, schema}
+use Rattle.dbtg_schema.specs.Texts.SchemaFaults.{refusal}
 
 -- a derivation of a text: its words, each with a role, and how the grammar derives them with these roles
 abbrev pub Derivation : List ℕ → Type 0

@@ -2,7 +2,7 @@
 use Rattle.std.specs.Prelude.{◌≡◌, true}
 use Rattle.std.specs.List.{All}
 use Rattle.dbtg_schema.specs.Lists.{Lists}
-use Rattle.dbtg_schema.specs.Spelling.{is_name}
+use Rattle.dbtg_schema.specs.Texts.Spelling.{is_name}
 
 -- the schema, its areas, its record types and their items, and its sets have names that are spelled as names
 pub record IsNamed (schema : Lists) : Type 0 where

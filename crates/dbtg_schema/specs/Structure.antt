@@ -1,4 +1,7 @@
--- What a schema says of its record types, sets and areas, by their numbers.
+-- What a schema says of its record types, sets and areas, by their numbers: the owner of a set, its members and their classes;
+-- the area of a record type and how it is found by value; the home area of a set; the areas of a DELETE; the sets that a MODIFY
+-- may sort anew; the member types and the order of a set; the items of a record type and their pictures.
+-- s is a set, t and r are record types, a is an area, i an item.
 use Rattle.std.specs.Prelude.{ℕ, Bool, true, false, ◌&&◌, ◌==◌, List, [], ◌∷◌, Option, is_some, is_none, unwrap_or, option_map, option_and_then, map, filter, length, slice_get}
 use Rattle.std.specs.List.{list_any, find, range_with_len, position_from}
 use Rattle.std.specs.Str.{bytes_eq}
@@ -64,7 +67,7 @@ area_of schema t = unwrap_or (option_map (λ r. r.area) (slice_get schema.types 
 abbrev pub calc_of : Lists → ℕ → Option Calc
 calc_of schema t = option_and_then (λ r. r.calc) (slice_get schema.types t)
 
--- the home area of set s: its owner type's area, for SYSTEM its first member type's
+-- the record type of the first of these members, 0 without one
 abbrev pub first_member : List Member → ℕ
 first_member [] = 0
 first_member (m ∷ ms) = m.rtype

@@ -1,10 +1,10 @@
 //! The grammar of a schema text as an automaton: in each state the words that are wanted.
 
-ghost use Rattle.dbtg_schema.specs.Forms.{may_end, start_with, starts};
-ghost use Rattle.dbtg_schema.specs.SchemaGrammar.{fits};
-ghost use Rattle.dbtg_schema.specs.Words.{view};
+ghost use Rattle.dbtg_schema.specs.Texts.Forms.{may_end, start_with, starts};
+ghost use Rattle.dbtg_schema.specs.Texts.SchemaGrammar.{fits};
+ghost use Rattle.dbtg_schema.specs.Texts.Words.{view};
 ghost use Rattle.std.specs.Prelude.{◌≡◌, ◌<◌, ◌^◌, ℕ, length, map, option_map};
-ghost use Rattle.dbtg_schema.specs.Automaton.{rest_of, view_start, view_starts, view_kind, spelling};
+ghost use Rattle.dbtg_schema.specs.Texts.Automaton.{rest_of, view_start, view_starts, view_kind, spelling};
 
 use crate::names::is_name;
 use crate::pictures::spelled_picture;

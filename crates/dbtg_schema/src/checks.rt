@@ -1,15 +1,15 @@
 //! The faults at a place of a schema text.
 
 ghost use Rattle.dbtg_schema.specs.Lookups.{first};
-ghost use Rattle.dbtg_schema.specs.Spelling.{among};
-ghost use Rattle.dbtg_schema.specs.Forms.{starts};
-ghost use Rattle.dbtg_schema.specs.Labels.{first_named, is, named, since};
-ghost use Rattle.dbtg_schema.specs.SchemaFaults.{at_end, at_other, at_word, calc_faults, ended, fault, is_allowed, is_key_wrong, is_owner, is_surplus, is_there_twice, items_of, line_of, member_end, record_end, said, unknown_vias, wants_calc, wants_name, wants_picture, when};
+ghost use Rattle.dbtg_schema.specs.Texts.Spelling.{among};
+ghost use Rattle.dbtg_schema.specs.Texts.Forms.{starts};
+ghost use Rattle.dbtg_schema.specs.Texts.Labels.{first_named, is, named, since};
+ghost use Rattle.dbtg_schema.specs.Texts.SchemaFaults.{at_end, at_other, at_word, calc_faults, ended, fault, is_allowed, is_key_wrong, is_owner, is_surplus, is_there_twice, items_of, line_of, member_end, record_end, said, unknown_vias, wants_calc, wants_name, wants_picture, when};
 ghost use Rattle.std.specs.Prelude.{◌≡◌, ◌||◌, ℕ, [], map, filter};
 ghost use Rattle.std.specs.List.{list_all};
-ghost use Rattle.dbtg_schema.specs.Automaton.{rest_of, view_starts};
-ghost use Rattle.dbtg_schema.specs.Words.{view};
-ghost use Rattle.dbtg_schema.specs.Views.{view_labelled, views};
+ghost use Rattle.dbtg_schema.specs.Texts.Automaton.{rest_of, view_starts};
+ghost use Rattle.dbtg_schema.specs.Texts.Words.{view};
+ghost use Rattle.dbtg_schema.specs.Texts.Views.{view_labelled, views};
 ghost use Rattle.std.specs.Prelude.{Some, None};
 ghost use Rattle.dbtg_schema.specs.declared.role.Role.TheVariants as role;
 
@@ -109,7 +109,7 @@ fn is_key_wrong(words: &[Labelled]) -> bool
 }
 
 /// What is wrong at the period of a MEMBER sentence.
-#[tactic(auto, using(crate::proofs::Firsts::first_steps))]
+#[tactic(auto, using(crate::proofs::Forms::Firsts::first_steps))]
 fn member_end(words: &[Labelled]) -> Option<Fault>
     ensures { result ≡ first (member_end (views words.now)) }
 {
@@ -209,7 +209,7 @@ fn said(words: &[Labelled], word: &Labelled) -> Option<Fault>
 }
 
 /// The first fault at a word that the grammar wants, behind these words.
-#[tactic(auto, using(crate::proofs::Firsts::first_steps))]
+#[tactic(auto, using(crate::proofs::Forms::Firsts::first_steps))]
 pub fn at_word(words: &[Labelled], word: &Labelled) -> Option<Fault>
     ensures { result ≡ first (at_word (views words.now) (view_labelled word.now)) }
 {
@@ -332,7 +332,7 @@ fn unknown_via(words: &[Labelled]) -> Option<Fault>
 }
 
 /// The first fault at the end of a text.
-#[tactic(auto, using(crate::proofs::Firsts::first_steps))]
+#[tactic(auto, using(crate::proofs::Forms::Firsts::first_steps))]
 pub fn at_end(line: u64, words: &[Labelled], state: State) -> Option<Fault>
     ensures { result ≡ first (at_end line (views words.now) (rest_of state)) }
 {

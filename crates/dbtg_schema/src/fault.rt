@@ -2,7 +2,7 @@
 
 ghost use Rattle.std.specs.Prelude.{◌≡◌};
 ghost use Rattle.dbtg_schema.specs.declared.fault.SchemaFault.TheVariants.{Memory, Refused};
-ghost use Rattle.dbtg_schema.specs.Causes.{cause_number};
+ghost use Rattle.dbtg_schema.specs.Texts.Causes.{cause_number};
 
 use std::alloc::{AllocError, AllocFailed};
 use thiserror::Error;

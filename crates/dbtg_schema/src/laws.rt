@@ -1,8 +1,8 @@
 //! Laws of the definitions. The functions do nothing: their contracts are the laws.
 
 ghost use Rattle.std.specs.Prelude.{◌≡◌, ◌∷◌, List, None};
-ghost use Rattle.dbtg_schema.specs.Forms.{starts, start_with, Derives};
-ghost use Rattle.dbtg_schema.specs.SchemaGrammar.{Form, Labelled, fits};
+ghost use Rattle.dbtg_schema.specs.Texts.Forms.{starts, start_with, Derives};
+ghost use Rattle.dbtg_schema.specs.Texts.SchemaGrammar.{Form, Labelled, fits};
 ghost use Rattle.dbtg_schema.specs.Laws.{AcceptedIsDerivedOnce};
 
 /// Where no start of a form fits a word, nothing that the form derives begins with that word: what a reader refuses

@@ -1,6 +1,6 @@
 //! Names and pictures.
 
-ghost use Rattle.dbtg_schema.specs.Spelling.{among, is_capital, is_digit, is_name, is_name_byte, reserved};
+ghost use Rattle.dbtg_schema.specs.Texts.Spelling.{among, is_capital, is_digit, is_name, is_name_byte, reserved};
 ghost use Rattle.std.specs.Prelude.{◌≡◌, ◌==◌, ◌-◌, ◌<◌, ℕ, length, map, slice_index};
 ghost use Rattle.std.specs.List.{list_all};
 

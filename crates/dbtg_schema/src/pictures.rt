@@ -1,6 +1,6 @@
 //! Pictures, as they are spelled.
 
-ghost use Rattle.dbtg_schema.specs.Spelling.{in_parentheses, is_digit, of_size, spelled_picture};
+ghost use Rattle.dbtg_schema.specs.Texts.Spelling.{in_parentheses, is_digit, of_size, spelled_picture};
 ghost use Rattle.std.specs.Prelude.{◌≡◌, ◌==◌, ◌+◌, ◌<◌, ◌≤◌, ◌^◌, ℕ, length, option_map, IfSome};
 ghost use Rattle.std.specs.List.{list_all};
 

@@ -1,11 +1,11 @@
 //! What the words of a schema text say, by their roles.
 
-ghost use Rattle.dbtg_schema.specs.Spelling.{among};
-ghost use Rattle.dbtg_schema.specs.Labels.{count_of, first_named, is, named, since};
-ghost use Rattle.dbtg_schema.specs.SchemaFaults.{open_record};
+ghost use Rattle.dbtg_schema.specs.Texts.Spelling.{among};
+ghost use Rattle.dbtg_schema.specs.Texts.Labels.{count_of, first_named, is, named, since};
+ghost use Rattle.dbtg_schema.specs.Texts.SchemaFaults.{open_record};
 ghost use Rattle.std.specs.Prelude.{◌≡◌, ℕ, ◌≤◌, length, count_by};
 ghost use Rattle.std.specs.List.{list_any};
-ghost use Rattle.dbtg_schema.specs.Views.{view_labelled, views};
+ghost use Rattle.dbtg_schema.specs.Texts.Views.{view_labelled, views};
 
 use crate::role::Role;
 use crate::scanner::Word;

@@ -1,17 +1,17 @@
 //! Reading a schema text: its words with their roles, or the first fault.
 
-ghost use Rattle.dbtg_schema.specs.Words.{is_noise, last_line, text_words};
-ghost use Rattle.dbtg_schema.specs.Forms.{Derives, labels};
-ghost use Rattle.dbtg_schema.specs.SchemaGrammar.{fits, schema};
-ghost use Rattle.dbtg_schema.specs.SchemaFaults.{refusal};
+ghost use Rattle.dbtg_schema.specs.Texts.Words.{is_noise, last_line, text_words};
+ghost use Rattle.dbtg_schema.specs.Texts.Forms.{Derives, labels};
+ghost use Rattle.dbtg_schema.specs.Texts.SchemaGrammar.{fits, schema};
+ghost use Rattle.dbtg_schema.specs.Texts.SchemaFaults.{refusal};
 ghost use Rattle.std.specs.Prelude.{◌≡◌, ◌∷◌, ◌++◌, ℕ, List, [], Some, None, IfOk, OnOk, IfErr, MatchResult, not, ◌<◌, ◌≤◌, ◌^◌, length};
-ghost use Rattle.dbtg_schema.specs.Words.{Word as SeenWord, view, words};
-ghost use Rattle.dbtg_schema.specs.Automaton.{rest_of};
-ghost use Rattle.dbtg_schema.specs.Views.{views};
-ghost use Rattle.dbtg_schema.specs.SchemaLists.{schema_of};
+ghost use Rattle.dbtg_schema.specs.Texts.Words.{Word as SeenWord, view, words};
+ghost use Rattle.dbtg_schema.specs.Texts.Automaton.{rest_of};
+ghost use Rattle.dbtg_schema.specs.Texts.Views.{views};
+ghost use Rattle.dbtg_schema.specs.Texts.SchemaLists.{schema_of};
 ghost use Rattle.dbtg_schema.specs.WellFormed.{IsSchema};
 ghost use Rattle.dbtg_schema.specs.Sound.{IsSound};
-ghost use Rattle.dbtg_schema.specs.Reading.{verdict, Refuses, WithinLimits};
+ghost use Rattle.dbtg_schema.specs.Texts.Reading.{verdict, Refuses, WithinLimits};
 
 use crate::automaton::{State, follow};
 use crate::checks::{at_end, at_other, at_word};

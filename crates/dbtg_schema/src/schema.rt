@@ -3,13 +3,13 @@
 ghost use Rattle.std.specs.Prelude.{◌≡◌, ◌==◌, ◌≤◌, length, None, IfOk, IfSome, map, IfErr, OnOk, option_map, slice_get};
 ghost use Rattle.dbtg_schema.specs.Erasing.{AreErased};
 ghost use Rattle.dbtg_schema.specs.Lookups.{some_and};
-ghost use Rattle.dbtg_schema.specs.Words.{text_words};
-ghost use Rattle.dbtg_schema.specs.Forms.{labels, Derives};
-ghost use Rattle.dbtg_schema.specs.SchemaGrammar.{fits, schema};
-ghost use Rattle.dbtg_schema.specs.SchemaFaults.{refusal};
-ghost use Rattle.dbtg_schema.specs.SchemaLists.{schema_of};
-ghost use Rattle.dbtg_schema.specs.Reading.{Refuses, WithinLimits};
-ghost use Rattle.dbtg_schema.specs.Views.{views};
+ghost use Rattle.dbtg_schema.specs.Texts.Words.{text_words};
+ghost use Rattle.dbtg_schema.specs.Texts.Forms.{labels, Derives};
+ghost use Rattle.dbtg_schema.specs.Texts.SchemaGrammar.{fits, schema};
+ghost use Rattle.dbtg_schema.specs.Texts.SchemaFaults.{refusal};
+ghost use Rattle.dbtg_schema.specs.Texts.SchemaLists.{schema_of};
+ghost use Rattle.dbtg_schema.specs.Texts.Reading.{Refuses, WithinLimits};
+ghost use Rattle.dbtg_schema.specs.Texts.Views.{views};
 ghost use Rattle.dbtg_schema.specs.WellFormed.{IsSchema};
 ghost use Rattle.dbtg_schema.specs.Sound.{IsSound};
 ghost use Rattle.dbtg_schema.specs.Named.{IsNamed};
@@ -193,6 +193,7 @@ impl Schema {
     pub fn is_well_formed(&self)
         ensures { IsSchema self.now }
     {
+        // The invariant says it.
         let _ = &self.name;
     }
 

@@ -1,6 +1,6 @@
 -- What is left of the grammar in each state of the reader.
 use Rattle.std.specs.Prelude.{ℕ, List, map, codes}
-use Rattle.dbtg_schema.specs.Forms.{nothing, one, either, many, maybe, ◌▹◌}
+use Rattle.dbtg_schema.specs.Texts.Forms.{nothing, one, either, many, maybe, ◌▹◌}
 use Rattle.dbtg_script.specs.declared.role.Role.TheVariants as role
 use Rattle.dbtg_script.specs.declared.automaton.State.{State}
 use Rattle.dbtg_script.specs.declared.automaton.State.TheVariants as state
@@ -11,6 +11,7 @@ use Rattle.dbtg_script.specs.declared.keyword.Keyword.{Keyword}
 use Rattle.dbtg_script.specs.declared.keyword.Keyword.TheVariants as keyword
 use Rattle.dbtg_script.specs.StatementGrammar.{Kind, key, other_than, name, equals_sign, signed, keyed, value, Form, Start, say, word, currents, suppress, assignment, further, set_word, record_word, set_or_area, place, inside, of_set, of_type, any_kind, current, calc_items, next_one, find_form, sharing, access, usage_mode, statement}
 
+-- the form of the words that are still to come in a state
 abbrev pub rest_of : State → Form
 rest_of state.Opening = statement
 rest_of state.OpenArea = (say (codes "AREA")) ▹ ((one name role.AreaName) ▹ usage_mode)
@@ -63,6 +64,7 @@ rest_of state.CalcItem = (assignment ▹ (many further)) ▹ (maybe suppress)
 rest_of state.DuplicateRecord = record_word ▹ (maybe suppress)
 rest_of state.MoreChanges = many assignment
 
+-- the word of a keyword
 abbrev pub spelling : Keyword → List ℕ
 spelling keyword.Open = codes "OPEN"
 spelling keyword.Close = codes "CLOSE"
@@ -104,6 +106,7 @@ spelling keyword.Update = codes "UPDATE"
 spelling keyword.Set = codes "SET"
 spelling keyword.Using = codes "USING"
 
+-- a kind of word of the code, as the grammar has it
 abbrev pub view_kind : code_kind.Kind → Kind
 view_kind (code.Key k) = key (spelling k)
 view_kind (code.OtherThan k) = other_than (spelling k)
@@ -113,8 +116,10 @@ view_kind code.Signed = signed
 view_kind code.Keyed = keyed
 view_kind code.Value = value
 
+-- a word that may come next: its kind, its role, and what is left behind it
 abbrev pub view_start : code_start.Start → Start
 view_start s = record { kind = view_kind s.kind; role = s.role; rest = rest_of s.next }
 
+-- the words that may come next
 abbrev pub view_starts : List code_start.Start → List Start
 view_starts ss = map view_start ss

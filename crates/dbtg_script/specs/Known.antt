@@ -24,6 +24,7 @@ abbrev pub IsReadAt : Lists → List Statement → Option Seen → Type 0
 IsReadAt schema ss None = Unit {0}
 IsReadAt schema ss (Some s) = IsRead schema ss s.line.now s.at
 
+-- of all lines that are kept
 abbrev pub IsKnown : Lists → List Statement → List (Option Seen) → Type 0
 IsKnown schema ss [] = Unit {0}
 IsKnown schema ss (p ∷ ps) = IsReadAt schema ss p × IsKnown schema ss ps

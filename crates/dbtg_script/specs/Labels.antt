@@ -72,6 +72,7 @@ abbrev pub lead : List Labelled → Role
 lead [] = role.Plain
 lead (w ∷ ws) = w.role
 
+-- the text of a word
 abbrev pub text_of : Token → List ℕ
 text_of (plain t) = t
 text_of equals = []
@@ -86,6 +87,7 @@ abbrev pub last_text : Role → List ℕ → List Labelled → List ℕ
 last_text r t [] = t
 last_text r t (w ∷ ws) = last_text r (if is r w then text_of w.word else t) ws
 
+-- the text of the last word with this role, nothing where there is none
 abbrev pub named : Role → List Labelled → List ℕ
 named r ws = last_text r [] ws
 

@@ -1,7 +1,7 @@
 -- Laws of scripts and printed texts.
 use Rattle.std.specs.Prelude.{◌≡◌, ℕ, ◌+◌, ◌≤◌, ◌<◌, ◌^◌, Bool, true, false, ◌&&◌, nat_le, nat_lt, List, [], ◌∷◌, ◌++◌, length, map, slice_get, Some, None}
 use Rattle.std.specs.List.{list_all}
-use Rattle.dbtg_schema.specs.Forms.{labels, Derives}
+use Rattle.dbtg_schema.specs.Texts.Forms.{labels, Derives}
 use Rattle.dbtg_schema.specs.Lists.{Lists}
 use Rattle.dbtg_schema.specs.Lookups.{first}
 use Rattle.dbtg_schema.specs.Sound.{IsSound}
@@ -10,26 +10,26 @@ use Rattle.dbtg_cells.specs.declared.key.DbKey.{DbKey}
 use Rattle.dbtg_cells.specs.declared.key.Owner.{Owner}
 use Rattle.dbtg_cells.specs.declared.key.Owner.TheVariants.{System, Rec}
 use Rattle.dbtg_unit.specs.declared.unit.Unit as unit
-use Rattle.dbtg_unit.specs.Belongs.{IsUnitOf}
-use Rattle.dbtg_unit.specs.Fits.{if_named}
-use Rattle.dbtg_unit.specs.Replay.{entries_of}
+use Rattle.dbtg_unit.specs.Database.State.Belongs.{IsUnitOf}
+use Rattle.dbtg_unit.specs.Database.Statements.Fits.{if_named}
+use Rattle.dbtg_unit.specs.Database.Laws.Replay.{entries_of}
 use Rattle.dbtg_unit.specs.declared.moves.Move.{Move}
 use Rattle.dbtg_unit.specs.declared.statement.Statement.{Statement}
 use Rattle.dbtg_unit.specs.declared.unit.Entry.{Entry}
 use Rattle.dbtg_unit.specs.declared.moves.Move.TheVariants.{Step, Quit}
-use Rattle.dbtg_script.specs.Echo.{lines_beside}
+use Rattle.dbtg_script.specs.Printing.Echo.{lines_beside}
 use Rattle.dbtg_script.specs.Lines.{closes, statement_lines, trimmed}
 use Rattle.dbtg_script.specs.Moves.{moves_of, refusal, words}
 use Rattle.dbtg_script.specs.Turns.{turns_of, turns_refusal}
-use Rattle.dbtg_script.specs.WordTexts.{moves_words_text, turns_text}
-use Rattle.dbtg_script.specs.Spelling.{has_byte}
+use Rattle.dbtg_script.specs.Printing.WordTexts.{moves_words_text, turns_text}
+use Rattle.dbtg_script.specs.Printing.Spelling.{has_byte}
 use Rattle.dbtg_script.specs.Lookups.{type_named}
 use Rattle.dbtg_script.specs.Statements.{key_of, line_statement, prepend, script}
 use Rattle.dbtg_script.specs.Tokens.{tokens}
 use Rattle.dbtg_script.specs.StatementGrammar.{fits, statement}
 use Rattle.dbtg_script.specs.StatementFaults.{line_faults, statement_faults}
 use Rattle.dbtg_script.specs.StatementFaults as script_text
-use Rattle.dbtg_script.specs.Texts.{key_text, type_name, unit_text}
+use Rattle.dbtg_script.specs.Printing.Texts.{key_text, type_name, unit_text}
 
 -- a key in range, whose record type is found by its name; no name has a colon
 pub record IsKeyOf (schema : Lists) (k : DbKey) : Type 0 where
@@ -76,6 +76,7 @@ UnitsPrintDifferently =
 abbrev pub is_unit_number : ℕ → Bool
 is_unit_number u = nat_le 1 u && nat_le u 99
 
+-- the unit of a move is one that a word can name
 abbrev pub has_unit_number : Move → Bool
 has_unit_number (Step u) = is_unit_number u
 has_unit_number (Quit u) = is_unit_number u

@@ -12,6 +12,7 @@ unfoldable pub lines : List ℕ → List (List ℕ)
 lines [] = []
 lines (b ∷ bs) = if b == 10 then [] ∷ lines bs else onto_line b (lines bs)
 
+-- the last byte of the line is c
 abbrev pub ends_with : ℕ → List ℕ → Bool
 ends_with c line = nat_lt 0 (length line) && slice_index line (length line - 1) == c
 
@@ -23,6 +24,7 @@ without_last c line = if ends_with c line then take (length line - 1) line else 
 abbrev pub trimmed : List ℕ → List ℕ
 trimmed line = without_last 46 (without_last 13 line)
 
+-- a line that begins with an asterisk
 abbrev pub is_comment : List ℕ → Bool
 is_comment [] = false
 is_comment (b ∷ bs) = b == 42

@@ -6,7 +6,7 @@ use Rattle.dbtg_script.specs.declared.moves.MovesCause.{MovesCause}
 use Rattle.dbtg_script.specs.declared.moves.MovesCause.TheVariants.{NotAMove, TooManyMoves}
 use Rattle.dbtg_script.specs.declared.moves.MovesFault.{MovesFault}
 use Rattle.dbtg_script.specs.declared.moves.MovesFault.TheVariants.{Refused, Memory}
-use Rattle.dbtg_script.specs.Spelling.{is_number, number, in_front, behind, has_byte}
+use Rattle.dbtg_script.specs.Printing.Spelling.{is_number, number, in_front, behind, has_byte}
 
 -- space, tab, line feed and carriage return separate words
 abbrev pub is_gap : ℕ → Bool
@@ -18,10 +18,12 @@ onto_word b [] ws = (b ∷ []) ∷ ws
 onto_word b (c ∷ cs) [] = (b ∷ []) ∷ []
 onto_word b (c ∷ cs) (w ∷ ws) = if is_gap c then (b ∷ []) ∷ w ∷ ws else (b ∷ w) ∷ ws
 
+-- the words of a text, with gaps between them
 unfoldable pub words : List ℕ → List (List ℕ)
 words [] = []
 words (b ∷ bs) = if is_gap b then words bs else onto_word b bs (words bs)
 
+-- the first byte of the word is c
 abbrev pub begins_with : ℕ → List ℕ → Bool
 begins_with c [] = false
 begins_with c (b ∷ bs) = b == c
@@ -35,6 +37,7 @@ abbrev pub times : Option ℕ → ℕ → Option (ℕ × ℕ)
 times None k = None
 times (Some u) k = Some (u, k)
 
+-- the unit that the text names, so often as the number says
 abbrev pub counted : List ℕ → Option ℕ → Option (ℕ × ℕ)
 counted t None = None
 counted t (Some k) = times (plain_number 99 t) k
@@ -45,10 +48,12 @@ spelled_turn t =
     if has_byte 42 t then counted (in_front 42 t) (plain_number 1000000 (behind 42 t))
     else times (plain_number 99 t) 1
 
+-- the quit of a unit, once
 abbrev pub quit_of : Option ℕ → Option (Move × ℕ)
 quit_of None = None
 quit_of (Some u) = Some (Quit u, 1)
 
+-- so many steps of a unit
 abbrev pub steps_of : Option (ℕ × ℕ) → Option (Move × ℕ)
 steps_of None = None
 steps_of (Some r) = Some (Step r.0, r.1)
@@ -57,6 +62,7 @@ steps_of (Some r) = Some (Step r.0, r.1)
 abbrev pub spelled_move : List ℕ → Option (Move × ℕ)
 spelled_move t = if begins_with 81 t then quit_of (plain_number 99 (behind 81 t)) else steps_of (spelled_turn t)
 
+-- what a word says, so often as it says it
 abbrev pub repeated : {A : Type 0} → Option (A × ℕ) → List A
 repeated None = []
 repeated (Some m) = replicate m.1 m.0
@@ -75,10 +81,12 @@ abbrev pub passes : {A : Type 0} → ℕ → Option (A × ℕ) → Bool
 passes total None = false
 passes total (Some m) = nat_lt 1000000 (total + m.1)
 
+-- how many entries there are with those that a word says
 abbrev pub total_after : {A : Type 0} → ℕ → Option (A × ℕ) → ℕ
 total_after total None = total
 total_after total (Some m) = total + m.1
 
+-- the word is one that the file may have
 abbrev pub says_something : {A : Type 0} → Option (A × ℕ) → Bool
 says_something None = false
 says_something (Some m) = true
@@ -91,6 +99,7 @@ refused_word total number (s ∷ ss) =
     else (if passes total s then Some (number, TooManyMoves)
     else refused_word (total_after total s) (number + 1) ss)
 
+-- the first fault of a moves file: the number of the word, and its cause
 abbrev pub refusal : List ℕ → Option (ℕ × MovesCause)
 refusal text = refused_word 0 1 (map spelled_move (words text))
 

@@ -3,10 +3,10 @@ use Rattle.std.specs.Prelude.{ℕ, ◌+◌, Bool, true, false, not, ◌&&◌, �
 use Rattle.std.specs.List.{list_any, list_all}
 use Rattle.dbtg_schema.specs.Lists.{Lists}
 use Rattle.dbtg_schema.specs.Lookups.{first}
-use Rattle.dbtg_schema.specs.Spelling.{among}
+use Rattle.dbtg_schema.specs.Texts.Spelling.{among}
 use Rattle.dbtg_schema.specs.Structure.{area_of, calc_of, is_system, member_clause, order_of}
 use Rattle.dbtg_schema.specs.WellFormed.{is_sorted}
-use Rattle.dbtg_schema.specs.Forms.{starts, may_end, start_with, by_start, labelled}
+use Rattle.dbtg_schema.specs.Texts.Forms.{starts, may_end, start_with, by_start, labelled}
 use Rattle.dbtg_schema.specs.declared.shape.Calc.{Calc}
 use Rattle.dbtg_schema.specs.declared.shape.Picture.{Picture}
 use Rattle.dbtg_script.specs.declared.role.Role.{Role}
@@ -16,7 +16,7 @@ use Rattle.dbtg_script.specs.declared.fault.Cause.TheVariants as cause
 use Rattle.dbtg_script.specs.declared.fault.Fault.{Fault}
 use Rattle.dbtg_script.specs.Tokens.{Token, tokens}
 use Rattle.dbtg_script.specs.Lines.{lines, trimmed, is_statement, is_allowed, ends_in_text}
-use Rattle.dbtg_script.specs.Spelling.{number, key_name, key_number, generation}
+use Rattle.dbtg_script.specs.Printing.Spelling.{number, key_name, key_number, generation}
 use Rattle.dbtg_script.specs.StatementGrammar.{fits, Form, Labelled, statement}
 use Rattle.dbtg_script.specs.Labels.{has, text_of, texts, named, first_word}
 use Rattle.dbtg_script.specs.Lookups.{area_named, type_named, set_named, item_named, type_no, set_no, area_no, item_no, item_picture, sort_picture}
@@ -30,13 +30,15 @@ when b c = if b then c ∷ [] else []
 abbrev pub type_text : List Labelled → List ℕ
 type_text ws = if has role.TypeName ws then named role.TypeName ws else named role.RecordName ws
 
+-- the number of the record type that is named
 abbrev pub type_in : Lists → List Labelled → ℕ
 type_in schema ws = type_no schema (type_text ws)
 
--- the set and the area that stand before SET and AREA
+-- the number of the set that is named before SET
 abbrev pub set_in : Lists → List Labelled → ℕ
 set_in schema ws = set_no schema (named role.Name ws)
 
+-- the number of the area that is named before AREA
 abbrev pub area_in : Lists → List Labelled → ℕ
 area_in schema ws = area_no schema (named role.Name ws)
 
@@ -90,10 +92,11 @@ abbrev pub differs_from : Option Calc → List ℕ → Bool
 differs_from None items = true
 differs_from (Some calc) items = not (length items == length calc.items) || not (list_all (λ i. list_any (λ j. j == i) calc.items) items)
 
--- the items that are named
+-- the numbers of the items that are named
 abbrev pub items_in : Lists → List Labelled → List ℕ
 items_in schema ws = map (item_no schema (type_in schema ws)) (texts role.ItemName ws)
 
+-- the schema has no such way to find a record: other items than the CALC key, no CALC key, no sort key, no owner
 abbrev pub is_misused : Lists → List Labelled → Bool
 is_misused schema ws =
     (has role.FindCalc ws && differs_from (calc_of schema (type_in schema ws)) (items_in schema ws))
@@ -101,6 +104,7 @@ is_misused schema ws =
     || (has role.FindSorted ws && not (is_sorted (order_of schema (set_in schema ws))))
     || (has role.FindOwner ws && is_system schema (set_in schema ws))
 
+-- the faults of the value that a sort key is to have
 abbrev pub sorted_faults : Option Picture → Option Token → List Cause
 sorted_faults p None = []
 sorted_faults p (Some t) = value_faults p t

@@ -1,12 +1,12 @@
 -- The grammar of a statement, with a role for each word.
 use Rattle.std.specs.Prelude.{ℕ, Bool, true, false, not, List, codes}
 use Rattle.std.specs.Str.{bytes_eq}
-use Rattle.dbtg_schema.specs.Forms as forms
-use Rattle.dbtg_schema.specs.Forms.{one, either, many, some, maybe, ◌▹◌}
+use Rattle.dbtg_schema.specs.Texts.Forms as forms
+use Rattle.dbtg_schema.specs.Texts.Forms.{one, either, many, some, maybe, ◌▹◌}
 use Rattle.dbtg_script.specs.declared.role.Role.{Role}
 use Rattle.dbtg_script.specs.declared.role.Role.TheVariants as role
 use Rattle.dbtg_script.specs.Tokens.{Token, plain, equals, literal}
-use Rattle.dbtg_script.specs.Spelling.{is_number, is_signed, is_key}
+use Rattle.dbtg_script.specs.Printing.Spelling.{is_number, is_signed, is_key}
 
 -- what stands in one place: this very word, any word but this, any word, the sign =, a number with or without a minus, a key, or a value
 pub data Kind : Type 0 where

@@ -3,16 +3,19 @@ use Rattle.std.specs.Prelude.{ℕ, Bool, true, false, not, ◌&&◌, List, [], �
 use Rattle.dbtg_script.specs.declared.token.Token as code
 use Rattle.dbtg_script.specs.declared.token.Token.TheVariants.{Plain, Equals, Literal}
 
+-- a word without quotation marks, an equals sign alone, or what stands between quotation marks
 pub data Token : Type 0 where
   plain : List ℕ → Token
   equals : Token
   literal : List ℕ → Token
 
+-- a word of the code, without where it lies in memory
 abbrev pub view : code.Token → Token
 view (Plain t) = plain t.now
 view Equals = equals
 view (Literal t) = literal t.now
 
+-- a byte that may be in a plain word: no space, no equals sign, no quotation mark
 abbrev pub is_letter : ℕ → Bool
 is_letter b = not (b == 32) && not (b == 61) && not (b == 34)
 

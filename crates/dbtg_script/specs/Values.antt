@@ -5,7 +5,7 @@ use Rattle.dbtg_schema.specs.declared.shape.Picture.TheVariants.{Number, Text as
 use Rattle.dbtg_cells.specs.declared.key.Value.{Value}
 use Rattle.dbtg_cells.specs.declared.key.Value.TheVariants.{Num, Text}
 use Rattle.dbtg_script.specs.Tokens.{Token, plain, equals, literal}
-use Rattle.dbtg_script.specs.Spelling.{number}
+use Rattle.dbtg_script.specs.Printing.Spelling.{number}
 
 -- a text, filled with spaces to this length
 abbrev pub filled : ℕ → List ℕ → List ℕ

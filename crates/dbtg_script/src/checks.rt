@@ -192,7 +192,7 @@ fn sorted_fault(picture: Option<Picture>, token: Option<Token>) -> Option<Cause>
 }
 
 /// The first fault of a statement as a whole.
-#[tactic(auto, using(crate::proofs::Firsts::first_steps))]
+#[tactic(auto, using(crate::proofs::Reading::Firsts::first_steps))]
 pub fn end_fault(schema: &Schema, words: &[Labelled]) -> Option<Cause>
     ensures { result ≡ first (end_faults schema.now (views words.now)) }
 {

@@ -1,6 +1,6 @@
 //! Answers with their statements beside them, in two columns.
 
-ghost use Rattle.dbtg_script.specs.Echo.{echo_text, lines_beside, lines_for, padded, rows_text, wider, widened};
+ghost use Rattle.dbtg_script.specs.Printing.Echo.{echo_text, lines_beside, lines_for, padded, rows_text, wider, widened};
 ghost use Rattle.dbtg_script.specs.Lines.{statement_lines};
 ghost use Rattle.std.specs.Prelude.{◌≡◌, ◌++◌, ◌<◌, ℕ, [], IfOk, OnOk, length, map, slice_get, slice_index, unwrap_or};
 

@@ -1,6 +1,6 @@
 //! Why a script is refused.
 
-ghost use Rattle.dbtg_script.specs.Causes.{cause_number};
+ghost use Rattle.dbtg_script.specs.Printing.Causes.{cause_number};
 ghost use Rattle.dbtg_script.specs.declared.fault.ScriptFault.TheVariants.{Memory, Refused};
 ghost use Rattle.dbtg_script.specs.declared.fault.LineFault.TheVariants as line_fault;
 ghost use Rattle.std.specs.Prelude.{◌≡◌};

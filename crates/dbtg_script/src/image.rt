@@ -1,6 +1,6 @@
 //! The printed texts: the image of a database, and what the moves of a run came to.
 
-ghost use Rattle.dbtg_script.specs.Texts.{area_text, areas_text, image_text, letter, letters_text, list_text, lists_text, moves_text, next_text, opened_text, record_text, records_text, spaced_number};
+ghost use Rattle.dbtg_script.specs.Printing.Texts.{area_text, areas_text, image_text, letter, letters_text, list_text, lists_text, moves_text, next_text, opened_text, record_text, records_text, spaced_number};
 ghost use Rattle.std.specs.List.{flat_map};
 ghost use Rattle.std.specs.Prelude.{◌≡◌, ◌++◌, IfOk, OnOk, map};
 

@@ -1,6 +1,6 @@
 //! What the words of a statement say, by their roles.
 
-ghost use Rattle.dbtg_schema.specs.Spelling.{among};
+ghost use Rattle.dbtg_schema.specs.Texts.Spelling.{among};
 ghost use Rattle.dbtg_script.specs.Labels.{first_word, given, has, is, last_text, lead, named, text_of, texts};
 ghost use Rattle.dbtg_script.specs.Tokens.{view};
 ghost use Rattle.dbtg_script.specs.Views.{view_labelled, views};

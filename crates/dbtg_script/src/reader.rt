@@ -1,6 +1,6 @@
 //! Reading a script: the statement of each line, or the first fault.
 
-ghost use Rattle.dbtg_schema.specs.Forms.{labels};
+ghost use Rattle.dbtg_schema.specs.Texts.Forms.{labels};
 ghost use Rattle.dbtg_script.specs.Automaton.{rest_of};
 ghost use Rattle.dbtg_schema.specs.Lookups.{first};
 ghost use Rattle.dbtg_schema.specs.Lists.{Lists};
@@ -15,7 +15,7 @@ ghost use Rattle.dbtg_script.specs.Views.{views};
 ghost use Rattle.std.specs.Prelude.{◌≡◌, ◌∷◌, ◌++◌, ℕ, List, [], None, IfErr, IfOk, IfSome, MatchResult, OnOk, false, true, length};
 ghost use Rattle.std.specs.List.{list_all};
 ghost use Rattle.dbtg_schema.specs.Sound.{IsSound};
-ghost use Rattle.dbtg_unit.specs.Fits.{fits as statement_fits};
+ghost use Rattle.dbtg_unit.specs.Database.Statements.Fits.{fits as statement_fits};
 
 use crate::automaton::{State, follow};
 use crate::checks::{at_other, end_fault, said};

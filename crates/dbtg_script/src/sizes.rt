@@ -1,7 +1,7 @@
 //! How large schemas and scripts are, as `check` prints it; and all that a run gives, as `replay` does.
 
-ghost use Rattle.dbtg_script.specs.Echo.{echoed_run_text};
-ghost use Rattle.dbtg_script.specs.Texts.{count_part, name_part, run_text, schema_line, script_line, text_behind};
+ghost use Rattle.dbtg_script.specs.Printing.Echo.{echoed_run_text};
+ghost use Rattle.dbtg_script.specs.Printing.Texts.{count_part, name_part, run_text, schema_line, script_line, text_behind};
 ghost use Rattle.std.specs.Prelude.{◌≡◌, ◌++◌, IfOk, OnOk};
 
 use crate::echo::echo_text;

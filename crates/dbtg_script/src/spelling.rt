@@ -1,7 +1,7 @@
 //! Numbers and keys, as they are spelled in a statement. It takes no memory.
 
-ghost use Rattle.dbtg_schema.specs.Spelling.{is_digit};
-ghost use Rattle.dbtg_script.specs.Spelling.{behind, generation, has_byte, has_generation, in_front, is_key, is_number, is_signed, key_generation, key_name, key_number, number};
+ghost use Rattle.dbtg_schema.specs.Texts.Spelling.{is_digit};
+ghost use Rattle.dbtg_script.specs.Printing.Spelling.{behind, generation, has_byte, has_generation, in_front, is_key, is_number, is_signed, key_generation, key_name, key_number, number};
 ghost use Rattle.std.specs.Prelude.{◌≡◌, ◌^◌, ◌*◌, ◌+◌, ◌-◌, length, min};
 ghost use Rattle.std.specs.List.{list_all};
 

@@ -1,6 +1,6 @@
 //! The statement that the words of a line say.
 
-ghost use Rattle.dbtg_schema.specs.Spelling.{among};
+ghost use Rattle.dbtg_schema.specs.Texts.Spelling.{among};
 ghost use Rattle.dbtg_schema.specs.Structure.{calc_of, item_list};
 ghost use Rattle.dbtg_script.specs.Labels.{has, texts};
 ghost use Rattle.dbtg_script.specs.StatementFaults.{set_in, type_in};

@@ -1,7 +1,7 @@
 //! The printed texts: answers and units.
 
-ghost use Rattle.dbtg_script.specs.Texts.{answer_front, answer_text, answers_text, current_text, found_text, named_answer_text, unit_text, units_text};
-ghost use Rattle.dbtg_unit.specs.Codes.{status_code};
+ghost use Rattle.dbtg_script.specs.Printing.Texts.{answer_front, answer_text, answers_text, current_text, found_text, named_answer_text, unit_text, units_text};
+ghost use Rattle.dbtg_unit.specs.Database.Statements.Codes.{status_code};
 ghost use Rattle.std.specs.Prelude.{◌≡◌, ◌++◌, ◌<◌, IfOk, OnOk, codes, decimal, option_map};
 
 use crate::print::{

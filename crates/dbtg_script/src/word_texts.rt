@@ -1,6 +1,6 @@
 //! Moves and turns as texts that are read back.
 
-ghost use Rattle.dbtg_script.specs.WordTexts.{in_one_word, line_of, move_word, moves_words_text, onto_run, run_words, runs, times_text, turns_text};
+ghost use Rattle.dbtg_script.specs.Printing.WordTexts.{in_one_word, line_of, move_word, moves_words_text, onto_run, run_words, runs, times_text, turns_text};
 ghost use Rattle.std.specs.Prelude.{◌≡◌, ◌++◌, IfOk, OnOk, map};
 
 use crate::print::push_number;

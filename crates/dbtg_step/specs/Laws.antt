@@ -1,4 +1,7 @@
--- The laws of the machine over the network database of a schema.
+-- The laws of the machine over the network database of a schema: each event and every run keep a lawful state; the image of a
+-- lawful state is that of its history; no run is stuck; how many events a statement has; a history is never rewritten. Then of
+-- scripts that fit: the machine before them is an opening state, every run is sequential, and a serial run is a run. At the end
+-- what statements need: in which order, and that it exists.
 use Rattle.std.specs.Prelude.{ℕ, ◌≡◌, ◌++◌, Bool, true, List, ◌∷◌, Option, Some, map, length}
 use Rattle.std.specs.List.{list_all}
 use Rattle.dbtg_schema.specs.Lists.{Lists}
@@ -10,21 +13,21 @@ use Rattle.dbtg_unit.specs.declared.statement.Statement.{Statement}
 use Rattle.dbtg_unit.specs.declared.unit.Entry.{Entry}
 use Rattle.dbtg_unit.specs.declared.unit.Unit.{Unit}
 use Rattle.dbtg_cells.specs.declared.key.Owner.{Owner}
-use Rattle.dbtg_unit.specs.Base.{Database}
-use Rattle.dbtg_unit.specs.Cells.{cell}
-use Rattle.dbtg_unit.specs.Fits.{fits}
-use Rattle.dbtg_unit.specs.Image.{Image, image_of}
+use Rattle.dbtg_unit.specs.Database.State.Base.{Database}
+use Rattle.dbtg_unit.specs.Database.State.Cells.{cell}
+use Rattle.dbtg_unit.specs.Database.Statements.Fits.{fits}
+use Rattle.dbtg_unit.specs.Database.State.Image.{Image, image_of}
 use Rattle.dbtg_unit.specs.declared.moves.Move.{Move}
-use Rattle.dbtg_step.specs.SequentialDatabase.{HeldCell, NeedsCell, In, MayMake, NamesCells, unit_at}
-use Rattle.dbtg_step.specs.Machine.{UnitState, Progress, State, SequentialState, HistoryEntry, replay}
-use Rattle.dbtg_step.specs.Step.{transition, MovedTo, next_need, run}
-use Rattle.dbtg_step.specs.Lawful.{Lawful, IsOpening, ImageHas}
-use Rattle.dbtg_step.specs.NeverStuck.{IsNotStuck, NeedsInOrder}
-use Rattle.dbtg_step.specs.EventCount.{EventsAreCounted}
-use Rattle.dbtg_unit.specs.CellNames.{area_of_cell}
-use Rattle.dbtg_step.specs.Network.{network}
-use Rattle.dbtg_step.specs.Serial.{IsAfterScripts, IsSerialRun}
-use Rattle.dbtg_step.specs.Headline.{IsSequential, entry_of, machine_after, machine_of, opening_of}
+use Rattle.dbtg_step.specs.Machine.SequentialDatabase.{HeldCell, NeedsCell, In, MayMake, NamesCells, unit_at}
+use Rattle.dbtg_step.specs.Machine.Machine.{UnitState, Progress, State, SequentialState, HistoryEntry, replay}
+use Rattle.dbtg_step.specs.Machine.Step.{transition, MovedTo, next_need, run}
+use Rattle.dbtg_step.specs.Machine.Lawful.{Lawful, IsOpening, ImageHas}
+use Rattle.dbtg_step.specs.Machine.NeverStuck.{IsNotStuck, NeedsInOrder}
+use Rattle.dbtg_step.specs.Machine.EventCount.{EventsAreCounted}
+use Rattle.dbtg_unit.specs.Database.State.CellNames.{area_of_cell}
+use Rattle.dbtg_step.specs.Machine.Network.{network}
+use Rattle.dbtg_step.specs.Core.Serial.{IsAfterScripts, IsSerialRun}
+use Rattle.dbtg_step.specs.Machine.Headline.{IsSequential, entry_of, machine_after, machine_of, opening_of}
 
 -- each event, of a step or a quit, leads from a lawful state to a lawful state
 abbrev pub EachEventKeepsLawful : Lists → ℕ → Type 0
@@ -96,11 +99,11 @@ pub record SerialRunComesTo (schema : Lists) (capacity : ℕ) (scripts : List (L
       (map (λ state. state.unit) last.units)
   pub only : (history : List Entry) (image : Image) (units : List Unit) → IsSerialRun schema capacity scripts history image units → history ≡ map entry_of last.history
 
--- of all scripts that fit
+-- a serial run of all scripts that fit is a run, and comes to an end
 abbrev pub EverySerialRunIsARun : Lists → ℕ → Type 0
 EverySerialRunIsARun schema capacity = (scripts : List (List Statement)) → scripts_fit schema scripts ≡ true → SerialRunComesTo schema capacity scripts
 
--- A cell that a statement needs isn't held, and lies in an area that is held. Where all that is held was taken in turn, an
+-- a cell that a statement needs isn't held, and lies in an area that is held. Where all that is held was taken in turn, an
 -- area that is needed is above all that are held, and no cell is held; and a cell that is needed is above all that are held,
 -- unless the statement is a DELETE
 pub record NeedsAreInOrder (schema : Lists) (capacity : ℕ) : Type 0 where

@@ -1,105 +1,15 @@
--- The states of the machine of events, and the replay of a history on the sequential database.
-use Rattle.std.specs.Prelude.{ℕ, ◌≡◌, Bool, false, cond, eqb, List, [], ◌∷◌, Option, Some, None}
-use Rattle.dbtg_step.specs.SequentialDatabase.{HeldCell, SequentialDatabase, unit_at, with_unit_at}
-
--- where a cell is: at home with its value, or with the unit that holds it
-pub data Location (V : Type 0) : Type 0 where
-  Home : V → Location V
-  HeldBy : ℕ → Location V
-
-module _ (D : SequentialDatabase) where
-  -- how far a unit is with its statement. Areas and cells stand with the newest first; `linked` counts the cells that are
-  -- linked after the ticket, in the order of taking
-  pub record Progress : Type 0 where
-    pub exclusive : Bool
-    pub areas : List ℕ
-    pub cells : List (HeldCell D.Cell D.Value)
-    pub turning_back : Bool
-    pub ticket : Option ℕ
-    pub linked : ℕ
-
-  -- a run-unit: `remaining` has the statements of its script that have no ticket yet; without progress it is between
-  -- statements
-  pub record UnitState : Type 0 where
-    pub unit : D.Unit
-    pub guesses : D.Guesses
-    pub script : List D.Statement
-    pub remaining : List D.Statement
-    pub progress : Option Progress
-
-  -- a statement that drew a ticket
-  pub record HistoryEntry : Type 0 where
-    pub ticket : ℕ
-    pub unit : ℕ
-    pub statement : D.Statement
-    pub answer : D.Answer
-
-  -- a state of the machine. The latch of an area is no part of it: it says which units hold the area
-  pub record State : Type 0 where
-    pub location : D.Cell → Location D.Value
-    pub history : List HistoryEntry
-    pub counter : ℕ
-    pub units : List UnitState
-
-  -- the sequential database with its units
-  pub record SequentialState : Type 0 where
-    pub database : D.Db
-    pub units : List D.Unit
-
-  unfoldable pub with_effect : SequentialState → ℕ → D.Statement → Option D.Unit → SequentialState
-  with_effect q u x None = q
-  with_effect q u x (Some unit) = record { database = (D.effect q.database unit x).database; units = with_unit_at q.units u (D.effect q.database unit x).unit }
-
-  -- after one statement, taken whole
-  unfoldable pub after_entry : SequentialState → HistoryEntry → SequentialState
-  after_entry q e = with_effect q e.unit e.statement (unit_at q.units e.unit)
-
-  -- after a history, in the order of its tickets
-  unfoldable pub replay : SequentialState → List HistoryEntry → SequentialState
-  replay q [] = q
-  replay q (e ∷ es) = replay (after_entry q e) es
-
-  -- each entry is a unit's, with the answer of the sequential database
-  unfoldable pub AnswersHold : SequentialState → List HistoryEntry → Type 0
-  AnswersHold q [] = Unit {0}
-  AnswersHold q (e ∷ es) = (unit : D.Unit) × (unit_at q.units e.unit ≡ Some unit) × ((D.effect q.database unit e.statement).answer ≡ e.answer) × AnswersHold (after_entry q e) es
-
-  -- the statements of unit u in the history
-  unfoldable pub statements_of : ℕ → List HistoryEntry → List D.Statement
-  statements_of u [] = []
-  statements_of u (e ∷ es) = cond (eqb e.unit u) (e.statement ∷ statements_of u es) (statements_of u es)
-
-  -- cell c is at another location
-  unfoldable pub relocated : (D.Cell → Location D.Value) → D.Cell → Location D.Value → D.Cell → Location D.Value
-  relocated location c p d = cond (D.same_name d c) p (location d)
-
-  -- all held cells are put back
-  unfoldable pub all_home : (D.Cell → Location D.Value) → List (HeldCell D.Cell D.Value) → D.Cell → Location D.Value
-  all_home location [] = location
-  all_home location (h ∷ hs) = all_home (relocated location h.name (Home h.value)) hs
-
-  -- a statement that has just begun
-  unfoldable pub begun : D.Statement → Progress
-  begun x = record { exclusive = D.is_exclusive x; areas = []; cells = []; turning_back = false; ticket = None; linked = 0 }
-
-  -- a statement that has its ticket is over when nothing is held any more
-  unfoldable pub unless_over : Progress → List ℕ → List (HeldCell D.Cell D.Value) → Option Progress
-  unless_over w [] [] = None
-  unless_over w areas cells = Some w
-
-  -- what a unit holds
-  unfoldable pub held_cells : Option Progress → List (HeldCell D.Cell D.Value)
-  held_cells None = []
-  held_cells (Some w) = w.cells
-
-  unfoldable pub held_areas : Option Progress → List ℕ
-  held_areas None = []
-  held_areas (Some w) = w.areas
-
-  unfoldable pub holds_exclusively : Option Progress → Bool
-  holds_exclusively None = false
-  holds_exclusively (Some w) = w.exclusive
-
-  unfoldable pub ticket_of : Option Progress → Option ℕ
-  ticket_of None = None
-  ticket_of (Some w) = w.ticket
+-- The machine of events over any sequential database: its states, its steps, what holds of every state that is reached, what a run of
+-- moves gives; and the network database as one such database. The machine knows nothing of memory, tables or runners.
+-- May use: the definitions of dbtg_unit, in `Network` alone.
+-- Promises: `Headline` says what a run comes to, `Lawful` what holds of every state, `NeverStuck` why somebody can always go
+-- on.
+pub mod EventCount
+pub mod Headline
+pub mod Lawful
+pub mod Machine
+pub mod NeedOrder
+pub mod Network
+pub mod NeverStuck
+pub mod SequentialDatabase
+pub mod Step
+pub mod TurningBack

@@ -3,10 +3,10 @@ ghost use Rattle.std.specs.Prelude.{◌≡◌, ◌<◌, ◌-◌, ◌==◌, ◌&&
 ghost use Rattle.std.specs.Bool.{Decides, MatchBool};
 ghost use Rattle.dbtg_schema.specs.Sound.{IsSound};
 ghost use Rattle.dbtg_unit.specs.declared.unit.Entry.{Entry};
-ghost use Rattle.dbtg_unit.specs.Fits.{fits};
-ghost use Rattle.dbtg_unit.specs.Replay.{IsHistoryOf};
-ghost use Rattle.dbtg_step.specs.Audit.{GoesOn, HasJoined, IsAudited};
-ghost use Rattle.dbtg_step.specs.Whole.{state_now};
+ghost use Rattle.dbtg_unit.specs.Database.Statements.Fits.{fits};
+ghost use Rattle.dbtg_unit.specs.Database.Laws.Replay.{IsHistoryOf};
+ghost use Rattle.dbtg_step.specs.Core.Audit.{GoesOn, HasJoined, IsAudited};
+ghost use Rattle.dbtg_step.specs.Core.Whole.{state_now};
 
 use crate::comparing::same_answer;
 use crate::whole::WholeDatabase;

@@ -3,13 +3,15 @@ ghost use Rattle.std.specs.Prelude.{◌≡◌, ℕ, ◌≤◌, ◌<◌, ◌+◌,
 ghost use Rattle.std.specs.Vec.{vec_capacity};
 ghost use Rattle.dbtg_unit.specs.declared.held.Need.{Need};
 ghost use Rattle.dbtg_unit.specs.declared.statement.Statement.{Statement};
-ghost use Rattle.dbtg_unit.specs.Base.{Database};
+ghost use Rattle.dbtg_unit.specs.Database.State.Base.{Database};
 ghost use Rattle.dbtg_cells.specs.Names.{name_eq};
-ghost use Rattle.dbtg_unit.specs.Legal.{pairwise};
-ghost use Rattle.dbtg_unit.specs.Local.{Agrees};
-ghost use Rattle.dbtg_unit.specs.Making.{MayPrepare, ShowsTheSame};
+ghost use Rattle.dbtg_unit.specs.Database.State.Legal.{pairwise};
+ghost use Rattle.dbtg_unit.specs.Hands.Local.{Agrees};
+ghost use Rattle.dbtg_unit.specs.Hands.Making.{MayPrepare, ShowsTheSame};
 ghost use Rattle.dbtg_step.specs.declared.parts.Runner.{Runner};
-ghost use Rattle.dbtg_step.specs.Events.{IsDrawn, IsMadeOn, IsStepped, IsUnmade, IsWell, NeedsNext, StandsNeeding};
+ghost use Rattle.dbtg_step.specs.Core.Stands.{StandsNeeding};
+ghost use Rattle.dbtg_step.specs.Core.Leaves.{IsDrawn, IsMadeOn, IsUnmade};
+ghost use Rattle.dbtg_step.specs.Core.Events.{IsStepped, IsWell, NeedsNext};
 
 use crate::parts::{Parts, Runner, Stage};
 use crate::runner::{close, pass, statement_of};
@@ -45,6 +47,7 @@ pub fn make_room(history: &mut Vec<Entry>) -> Result<(), AllocError>
     ensures few { OnOk result (length history.new.items + 1 < 2 ^ 64) }
 {
     history.reserve(1)?;
+    // The capacity fits a usize, and so does the number of entries with one more.
     let _capacity = history.capacity();
     Ok(())
 }

@@ -2,10 +2,10 @@
 ghost use Rattle.std.specs.Prelude.{◌≡◌, ◌++◌, [], IfOk, OnOk, Some, length, map, option_and_then, option_copied, option_map, slice_get, unwrap_or};
 ghost use Rattle.std.specs.List.{flat_map, range_with_len};
 ghost use Rattle.dbtg_schema.specs.Structure.{set_numbers};
-ghost use Rattle.dbtg_unit.specs.Hands.{cell_of};
-ghost use Rattle.dbtg_unit.specs.InHand.{numbers_of, users_of};
-ghost use Rattle.dbtg_step.specs.SequentialDatabase.{unit_at};
-ghost use Rattle.dbtg_step.specs.Imaging.{cell_in, found_cell, found_in, generations_in, image_from, list_of, lists_of, next_in, occurrence_at, record_of, records_of, stored_at, version_of, versions_of};
+ghost use Rattle.dbtg_unit.specs.Hands.Hands.{cell_of};
+ghost use Rattle.dbtg_unit.specs.Hands.InHand.{numbers_of, users_of};
+ghost use Rattle.dbtg_step.specs.Machine.SequentialDatabase.{unit_at};
+ghost use Rattle.dbtg_step.specs.Core.Imaging.{cell_in, found_cell, found_in, generations_in, image_from, list_of, lists_of, next_in, occurrence_at, record_of, records_of, stored_at, version_of, versions_of};
 
 use crate::parts::{Parts, Place, Runner};
 use dbtg_cells::{

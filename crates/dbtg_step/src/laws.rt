@@ -2,9 +2,9 @@
 ghost use Rattle.std.specs.Prelude.{ℕ};
 ghost use Rattle.dbtg_schema.specs.Lists.{Lists};
 ghost use Rattle.dbtg_schema.specs.Sound.{IsSound};
-ghost use Rattle.dbtg_step.specs.Core.{EveryCoreIsSequential};
+ghost use Rattle.dbtg_step.specs.Core.Core.{EveryCoreIsSequential};
 ghost use Rattle.dbtg_step.specs.Laws.{EachEventKeepsLawful, EveryRunIsLawful, EveryImageIsOfItsHistory, MachineIsOpening, NoRunIsStuck, StatementsHaveTheirEvents, EveryRunExtendsHistory, EveryRunIsSequential, EverySerialRunIsARun, NeedsAreInOrder, NeededCellsExist};
-ghost use Rattle.dbtg_step.specs.TurningBack.{NeedsComeToAnEnd};
+ghost use Rattle.dbtg_step.specs.Machine.TurningBack.{NeedsComeToAnEnd};
 
 /// Each event, of a step or a quit, leads from a lawful state to a lawful state: its history replays on the sequential
 /// database, whose cells are those at home and those that are held, and whose units are the units.

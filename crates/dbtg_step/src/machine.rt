@@ -1,19 +1,19 @@
 //! The core: a database and its run-units, stepped event by event.
 ghost use Rattle.std.specs.Prelude.{◌≡◌, ◌≤◌, true, length, map, option_map, IfOk, OnOk};
-ghost use Rattle.dbtg_unit.specs.Image.{image_of};
-ghost use Rattle.dbtg_unit.specs.Replay.{opening_state, replay};
-ghost use Rattle.dbtg_step.specs.SequentialDatabase.{unit_at};
-ghost use Rattle.dbtg_step.specs.Core.{IsCore};
-ghost use Rattle.dbtg_step.specs.CoreSteps.{IsNeverStuck, IsQuitStep, IsStep};
+ghost use Rattle.dbtg_unit.specs.Database.State.Image.{image_of};
+ghost use Rattle.dbtg_unit.specs.Database.Laws.Replay.{opening_state, replay};
+ghost use Rattle.dbtg_step.specs.Machine.SequentialDatabase.{unit_at};
+ghost use Rattle.dbtg_step.specs.Core.Core.{IsCore};
+ghost use Rattle.dbtg_step.specs.Core.CoreSteps.{IsNeverStuck, IsQuitStep, IsStep};
 ghost use Rattle.dbtg_schema.specs.Sound.{IsSound};
-ghost use Rattle.dbtg_step.specs.Headline.{machine_of, opening_of};
+ghost use Rattle.dbtg_step.specs.Machine.Headline.{machine_of, opening_of};
 ghost use Rattle.dbtg_step.specs.Laws.{scripts_fit};
-ghost use Rattle.dbtg_step.specs.Network.{network};
-ghost use Rattle.dbtg_step.specs.Events.{IsWell};
-ghost use Rattle.dbtg_step.specs.Parts.{core_of, machine};
-ghost use Rattle.dbtg_step.specs.Positions.{position_at};
-ghost use Rattle.dbtg_step.specs.Runs.{IsHandedOut};
-ghost use Rattle.dbtg_step.specs.Turns.{AllBetween, HaveTurned};
+ghost use Rattle.dbtg_step.specs.Machine.Network.{network};
+ghost use Rattle.dbtg_step.specs.Core.Events.{IsWell};
+ghost use Rattle.dbtg_step.specs.Core.Parts.{core_of, machine};
+ghost use Rattle.dbtg_step.specs.Core.Positions.{position_at};
+ghost use Rattle.dbtg_step.specs.Core.Runs.{IsHandedOut};
+ghost use Rattle.dbtg_step.specs.Core.Turns.{AllBetween, HaveTurned};
 
 use crate::imaging::{CellSource, read_image};
 use crate::opening_parts::{opening_runners, opening_table};
@@ -39,8 +39,8 @@ pub struct Core {
 }
 
 impl Model for Core {
-    ghost use Rattle.dbtg_step.specs.Parts.{CoreParts};
-    ghost use Rattle.dbtg_step.specs.Events.{IsWell};
+    ghost use Rattle.dbtg_step.specs.Core.Parts.{CoreParts};
+    ghost use Rattle.dbtg_step.specs.Core.Events.{IsWell};
 
     ghost Value = { CoreParts };
 
@@ -173,6 +173,7 @@ impl Core {
     pub fn is_core(&self)
         ensures { IsCore self.now }
     {
+        // The invariant says it.
         let _ = &self.parts;
     }
 

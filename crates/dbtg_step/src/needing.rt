@@ -5,10 +5,12 @@ ghost use Rattle.dbtg_cells.specs.Names.{name_eq};
 ghost use Rattle.dbtg_schema.specs.Lists.{Lists};
 ghost use Rattle.dbtg_unit.specs.declared.held.Need.{Need};
 ghost use Rattle.dbtg_unit.specs.declared.statement.Statement.{Statement};
-ghost use Rattle.dbtg_unit.specs.Guesses.{with_owners};
+ghost use Rattle.dbtg_unit.specs.Hands.Guesses.{with_owners};
 ghost use Rattle.dbtg_step.specs.declared.parts.Runner.{Runner};
-ghost use Rattle.dbtg_step.specs.NeedOrder.{HasItsAreas};
-ghost use Rattle.dbtg_step.specs.Events.{holds_against, IsStepped, IsTaken, IsWell, NeedsNext, StandsNeeding};
+ghost use Rattle.dbtg_step.specs.Machine.NeedOrder.{HasItsAreas};
+ghost use Rattle.dbtg_step.specs.Core.Stands.{holds_against, StandsNeeding};
+ghost use Rattle.dbtg_step.specs.Core.Leaves.{IsTaken};
+ghost use Rattle.dbtg_step.specs.Core.Events.{IsStepped, IsWell, NeedsNext};
 
 use crate::drawing::draws;
 use crate::parts::{Parts, Place, Runner, Stage};
@@ -36,6 +38,7 @@ fn need_now(
     ensures need { IfOk result (λ n. NeedsNext schema.now capacity parts.now unit stage n) }
     ensures refused { OnErr result ((r : Runner) (x : Statement) → slice_get parts.now.runners.items (unit - 1) ≡ Some r → slice_get r.script r.next ≡ Some x → HasItsAreas schema.now r.unit r.held x) }
 {
+    // Only the contract names the stage.
     let _ = stage.linked;
     let runner = &parts.runners[unit as usize - 1];
     next_need(
@@ -138,6 +141,7 @@ fn takes_cell(
     requires needs { NeedsNext schema.now capacity parts.old unit stage (Need.Take name) }
     ensures { IsStepped schema.now capacity unit result parts.old parts.new }
 {
+    // Only the contract names the stage.
     let _ = stage.linked;
     match cell_number(schema, capacity, &name) {
         Some(number) => {
@@ -176,6 +180,7 @@ fn notes_owners(
     requires needs { NeedsNext schema.now capacity parts.old unit stage (Need.Stale owners) }
     ensures { IsStepped schema.now capacity unit result parts.old parts.new }
 {
+    // Only the contract names the schema and the capacity.
     let _ = schema.is_well_formed();
     let _ = capacity;
     let runner = &mut parts.runners[unit as usize - 1];

@@ -5,11 +5,11 @@ ghost use Rattle.dbtg_schema.specs.Structure.{set_numbers};
 ghost use Rattle.dbtg_cells.specs.Cells.{shown};
 ghost use Rattle.dbtg_cells.specs.Shown.{RingValue};
 ghost use Rattle.dbtg_cells.specs.CellNumbers.{cells_in_order, rings_of, slots_of};
-ghost use Rattle.dbtg_unit.specs.Base.{opening};
-ghost use Rattle.dbtg_unit.specs.Cells.{cell};
-ghost use Rattle.dbtg_unit.specs.Units.{opening_unit};
-ghost use Rattle.dbtg_step.specs.Openings.{homes_of, homes_shown, locations_of, opening_runner, runners_from};
-ghost use Rattle.dbtg_step.specs.Whole.{HasTaken};
+ghost use Rattle.dbtg_unit.specs.Database.State.Base.{opening};
+ghost use Rattle.dbtg_unit.specs.Database.State.Cells.{cell};
+ghost use Rattle.dbtg_unit.specs.Database.State.Units.{opening_unit};
+ghost use Rattle.dbtg_step.specs.Core.Openings.{homes_of, homes_shown, locations_of, opening_runner, runners_from};
+ghost use Rattle.dbtg_step.specs.Core.Whole.{HasTaken};
 
 use crate::parts::{Place, Runner};
 use dbtg_cells::{Cell, CellName, Extent, Owner, Ring, Slot, Usage};

@@ -1,8 +1,8 @@
 //! What the events change of a run-unit.
 ghost use Rattle.std.specs.Prelude.{◌≡◌, ℕ, ◌<◌, ◌+◌, ◌∷◌, [], ◌++◌, OnOk, OnErr, Some, None, true, false, length, map, nat_lt, slice_get, IfOk};
-ghost use Rattle.dbtg_step.specs.Network.{is_delete};
-ghost use Rattle.dbtg_step.specs.Parts.{stage_while_held};
-ghost use Rattle.dbtg_step.specs.Events.{HasStatement, IsStanding};
+ghost use Rattle.dbtg_step.specs.Machine.Network.{is_delete};
+ghost use Rattle.dbtg_step.specs.Core.Parts.{stage_while_held};
+ghost use Rattle.dbtg_step.specs.Core.Stands.{HasStatement, IsStanding};
 ghost use Rattle.dbtg_unit.specs.declared.statement.Statement.{Statement};
 
 use crate::parts::{Runner, Stage};
@@ -84,6 +84,7 @@ pub fn link(runner: &mut Runner, stage: Stage)
     requires { stage.linked < length runner.old.held.cells }
     ensures { runner.new ≡ record runner.old { stage = Some (record stage { linked = stage.linked + 1 }) } }
 {
+    // The number of cells fits a usize, and so does one link more.
     let _ = runner.held.cell_count();
     runner.stage = Some(Stage {
         exclusive: stage.exclusive,
@@ -98,6 +99,7 @@ pub fn pass(runner: &mut Runner)
     requires { runner.old.next < length runner.old.script }
     ensures { runner.new ≡ record runner.old { next = runner.old.next + 1 } }
 {
+    // The number of statements fits a usize, and so does the next place.
     let _count = runner.script.len();
     runner.next += 1;
 }

@@ -2,14 +2,14 @@
 ghost use Rattle.std.specs.Prelude.{◌≡◌, ◌≤◌, ◌<◌, true, length, map, IfOk, OnOk};
 ghost use Rattle.std.specs.List.{list_all};
 ghost use Rattle.dbtg_schema.specs.Sound.{IsSound};
-ghost use Rattle.dbtg_unit.specs.Fits.{fits};
-ghost use Rattle.dbtg_step.specs.CoreSteps.{after_move, result_of_move};
-ghost use Rattle.dbtg_step.specs.Headline.{RunIs};
+ghost use Rattle.dbtg_unit.specs.Database.Statements.Fits.{fits};
+ghost use Rattle.dbtg_step.specs.Core.CoreSteps.{after_move, result_of_move};
+ghost use Rattle.dbtg_step.specs.Machine.Headline.{RunIs};
 ghost use Rattle.dbtg_step.specs.Laws.{scripts_fit};
-ghost use Rattle.dbtg_step.specs.Parts.{CoreParts, machine};
-ghost use Rattle.dbtg_step.specs.Runs.{IsHandedOut, after_moves, results_of_moves};
-ghost use Rattle.dbtg_step.specs.Serial.{SerialRunIs, in_turn_from};
-ghost use Rattle.dbtg_step.specs.Whole.{HasMadeAll};
+ghost use Rattle.dbtg_step.specs.Core.Parts.{CoreParts, machine};
+ghost use Rattle.dbtg_step.specs.Core.Runs.{IsHandedOut, after_moves, results_of_moves};
+ghost use Rattle.dbtg_step.specs.Core.Serial.{SerialRunIs, in_turn_from};
+ghost use Rattle.dbtg_step.specs.Core.Whole.{HasMadeAll};
 
 use crate::machine::Core;
 use crate::results::Run;

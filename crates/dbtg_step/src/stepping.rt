@@ -2,7 +2,8 @@
 ghost use Rattle.std.specs.Prelude.{◌≡◌, ℕ, ◌≤◌, ◌<◌, ◌-◌, length, slice_get, [], Some};
 ghost use Rattle.dbtg_schema.specs.Lists.{Lists};
 ghost use Rattle.dbtg_step.specs.declared.parts.Runner.{Runner};
-ghost use Rattle.dbtg_step.specs.Events.{IsStepped, IsWell, StandsBetween, StandsTicketed, StandsTurning};
+ghost use Rattle.dbtg_step.specs.Core.Stands.{StandsBetween, StandsTicketed, StandsTurning};
+ghost use Rattle.dbtg_step.specs.Core.Events.{IsStepped, IsWell};
 
 use crate::needing::follows;
 use crate::parts::{Parts, Stage};
@@ -51,6 +52,7 @@ pub fn gives_cell(
     requires cells { (r : Runner) → slice_get parts.old.runners.items (unit - 1) ≡ Some r → 0 < length r.held.cells }
     ensures { IsStepped schema.now capacity unit result parts.old parts.new }
 {
+    // Only the contract names the stage.
     let _ = stage.linked;
     let runner = &mut parts.runners[unit as usize - 1];
     give_cell(schema, capacity, &mut parts.table, &mut runner.held);
@@ -66,6 +68,7 @@ pub fn leaves_area(parts: &mut Parts, unit: u8, stage: Stage) -> Stepped
     requires cells { (r : Runner) → slice_get parts.old.runners.items (unit - 1) ≡ Some r → length r.held.cells ≡ 0 }
     ensures { (schema : Lists) (capacity : ℕ) → IsWell schema capacity parts.old → IsStepped schema capacity unit result parts.old parts.new }
 {
+    // Only the contract names the stage.
     let _ = stage.linked;
     let runner = &mut parts.runners[unit as usize - 1];
     let _ = runner.held.pop_area();

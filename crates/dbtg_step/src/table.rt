@@ -1,7 +1,8 @@
 //! The table of cells, by their numbers.
 ghost use Rattle.std.specs.Prelude.{◌≡◌, ◌<◌, length};
-ghost use Rattle.dbtg_step.specs.Parts.{written_home};
-ghost use Rattle.dbtg_step.specs.Events.{HasPlace, HavePlaces, IsCellGiven};
+ghost use Rattle.dbtg_step.specs.Core.Parts.{written_home};
+ghost use Rattle.dbtg_step.specs.Core.Stands.{HasPlace, HavePlaces};
+ghost use Rattle.dbtg_step.specs.Core.Leaves.{IsCellGiven};
 
 use crate::parts::Place;
 use dbtg_cells::{Cell, CellName, cell_number};

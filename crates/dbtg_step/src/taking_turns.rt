@@ -6,12 +6,12 @@ ghost use Rattle.dbtg_schema.specs.Sound.{IsSound};
 ghost use Rattle.dbtg_unit.specs.declared.moves.Move.{Move};
 ghost use Rattle.dbtg_step.specs.declared.parts.Runner.{Runner};
 ghost use Rattle.dbtg_step.specs.declared.taking_turns.Noted.{Noted};
-ghost use Rattle.dbtg_step.specs.Runs.{IsHandedOut};
+ghost use Rattle.dbtg_step.specs.Core.Runs.{IsHandedOut};
 ghost use Rattle.dbtg_step.specs.Laws.{scripts_fit};
-ghost use Rattle.dbtg_step.specs.Network.{network};
-ghost use Rattle.dbtg_step.specs.Parts.{CoreParts, core_of, machine, state_of, unit_state_of};
-ghost use Rattle.dbtg_step.specs.Events.{IsWell};
-ghost use Rattle.dbtg_step.specs.Turns.{AllBetween, AreGiven, HaveTurned, IsDone, IsNoted, NotesMore, TurnedIs};
+ghost use Rattle.dbtg_step.specs.Machine.Network.{network};
+ghost use Rattle.dbtg_step.specs.Core.Parts.{CoreParts, core_of, machine, state_of, unit_state_of};
+ghost use Rattle.dbtg_step.specs.Core.Events.{IsWell};
+ghost use Rattle.dbtg_step.specs.Core.Turns.{AllBetween, AreGiven, HaveTurned, IsDone, IsNoted, NotesMore, TurnedIs};
 
 use crate::machine::Core;
 use crate::parts::{Parts, Runner};

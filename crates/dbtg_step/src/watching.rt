@@ -1,9 +1,9 @@
 //! Where a unit is, as one sees it from outside: what it has made, and how much it holds in mid-statement.
 ghost use Rattle.std.specs.Prelude.{◌≡◌, ℕ};
 ghost use Rattle.dbtg_schema.specs.Lists.{Lists};
-ghost use Rattle.dbtg_step.specs.Network.{network};
-ghost use Rattle.dbtg_step.specs.Parts.{unit_state_of};
-ghost use Rattle.dbtg_step.specs.Positions.{position_of};
+ghost use Rattle.dbtg_step.specs.Machine.Network.{network};
+ghost use Rattle.dbtg_step.specs.Core.Parts.{unit_state_of};
+ghost use Rattle.dbtg_step.specs.Core.Positions.{position_of};
 
 use crate::parts::Runner;
 

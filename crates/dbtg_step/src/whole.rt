@@ -2,16 +2,16 @@
 ghost use Rattle.std.specs.Prelude.{◌≡◌, ℕ, ◌≤◌, ◌<◌, ◌++◌, [], true, length, map, IfOk, OnOk, OnErr};
 ghost use Rattle.std.specs.List.{range_with_len};
 ghost use Rattle.dbtg_schema.specs.Sound.{IsSound};
-ghost use Rattle.dbtg_unit.specs.Base.{Database, opening};
-ghost use Rattle.dbtg_unit.specs.Belongs.{IsUnitOf, IsWithin};
-ghost use Rattle.dbtg_unit.specs.Fits.{fits};
-ghost use Rattle.dbtg_unit.specs.Image.{image_of};
-ghost use Rattle.dbtg_unit.specs.Local.{Agrees, AllAgree};
-ghost use Rattle.dbtg_unit.specs.Making.{HaveNextVersions};
-ghost use Rattle.dbtg_unit.specs.Prepared.{values_of};
-ghost use Rattle.dbtg_unit.specs.Replay.{IsHistoryOf};
-ghost use Rattle.dbtg_unit.specs.Units.{opening_unit};
-ghost use Rattle.dbtg_step.specs.Whole.{HasMade, HoldsAll, IsEffect, IsGuessed, IsMadeRun, IsWhole, state_now};
+ghost use Rattle.dbtg_unit.specs.Database.State.Base.{Database, opening};
+ghost use Rattle.dbtg_unit.specs.Database.State.Belongs.{IsUnitOf, IsWithin};
+ghost use Rattle.dbtg_unit.specs.Database.Statements.Fits.{fits};
+ghost use Rattle.dbtg_unit.specs.Database.State.Image.{image_of};
+ghost use Rattle.dbtg_unit.specs.Hands.Local.{Agrees, AllAgree};
+ghost use Rattle.dbtg_unit.specs.Hands.Making.{HaveNextVersions};
+ghost use Rattle.dbtg_unit.specs.Hands.Prepared.{values_of};
+ghost use Rattle.dbtg_unit.specs.Database.Laws.Replay.{IsHistoryOf};
+ghost use Rattle.dbtg_unit.specs.Database.State.Units.{opening_unit};
+ghost use Rattle.dbtg_step.specs.Core.Whole.{HasMade, HoldsAll, IsEffect, IsGuessed, IsMadeRun, IsWhole, goes_by_guesses, state_now};
 
 use crate::drawing::{make, make_room};
 use crate::imaging::{CellSource, read_image};
@@ -55,6 +55,13 @@ fn opening_units(alloc: Global, schema: &Schema, count: u8) -> Result<Vec<Unit>,
     Ok(units)
 }
 
+// Does the statement go by owners that a unit guesses? All others find theirs among the currents.
+fn goes_by_guesses(statement: &Statement) -> bool
+    ensures { result ≡ goes_by_guesses statement.now }
+{
+    matches!(statement, Statement::Remove(_) | Statement::Modify { .. })
+}
+
 // Guesses that the statement needs are the true owners; there are no others. With all areas and cells in hand it then needs
 // nothing more.
 fn guess_owners(
@@ -75,6 +82,9 @@ fn guess_owners(
     ensures areas { held.new.areas ≡ held.old.areas }
 {
     held.set_guesses(Owners::none(schema.sets().len()));
+    if !goes_by_guesses(statement) {
+        return Ok(());
+    }
     if let Need::Stale(owners) = next_need(alloc, schema, capacity, unit, statement, held)? {
         held.set_guesses(owners);
     }
@@ -119,7 +129,7 @@ pub struct WholeDatabase<'a> {
 
 impl<'a> Model for WholeDatabase<'a> {
     ghost use Rattle.std.specs.Prelude.{length};
-    ghost use Rattle.dbtg_step.specs.Whole.{IsWhole, Making};
+    ghost use Rattle.dbtg_step.specs.Core.Whole.{IsWhole, Making};
 
     ghost Value = { Making };
 

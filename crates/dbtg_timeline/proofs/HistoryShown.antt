@@ -2,8 +2,8 @@
 use Rattle.std.proofs.Common.{◌≡◌, ℕ, List, [], ◌∷◌, map, refl, ap}
 use Rattle.dbtg_schema.specs.Lists.{Lists}
 use Rattle.dbtg_unit.specs.declared.unit.Entry.{Entry}
-use Rattle.dbtg_step.specs.Headline.{entry_of}
-use Rattle.dbtg_step.specs.Parts.{CoreParts, machine, note_of, state_from}
+use Rattle.dbtg_step.specs.Machine.Headline.{entry_of}
+use Rattle.dbtg_step.specs.Core.Parts.{CoreParts, machine, note_of, state_from}
 
 same_entries : (schema : Lists) (capacity : ℕ) (history : List Entry) → history ≡ map (entry_of {schema = schema} {capacity = capacity}) (map (note_of {schema = schema} {capacity = capacity}) history)
 same_entries schema capacity [] = refl

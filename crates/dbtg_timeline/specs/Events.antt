@@ -1,6 +1,6 @@
 -- The events that moves make of the machine, as a picture shows them.
 use Rattle.std.specs.Prelude.{ℕ, ◌-◌, ◌&&◌, nat_lt, List, [], ◌∷◌, Option, Some, None, is_some, if◌then◌else◌, length, map, option_and_then, option_map, slice_get, unwrap_or}
-use Rattle.dbtg_unit.specs.Codes.{status_code}
+use Rattle.dbtg_unit.specs.Database.Statements.Codes.{status_code}
 use Rattle.dbtg_unit.specs.declared.moves.Move.{Move}
 use Rattle.dbtg_unit.specs.declared.moves.Move.TheVariants.{Step, Quit as Quits}
 use Rattle.dbtg_unit.specs.declared.moves.Stepped.{Stepped}
@@ -8,36 +8,41 @@ use Rattle.dbtg_unit.specs.declared.moves.Stepped.TheVariants.{Moved, Blocked as
 use Rattle.dbtg_unit.specs.declared.unit.Entry.{Entry}
 use Rattle.dbtg_step.specs.declared.watching.Position.{Position}
 use Rattle.dbtg_step.specs.declared.watching.Progress.{Progress}
-use Rattle.dbtg_step.specs.CoreSteps.{after_move, result_of_move}
-use Rattle.dbtg_step.specs.Headline.{entry_of}
-use Rattle.dbtg_step.specs.Network.{network}
-use Rattle.dbtg_step.specs.Parts.{CoreState}
-use Rattle.dbtg_step.specs.Positions.{position_at}
+use Rattle.dbtg_step.specs.Core.CoreSteps.{after_move, result_of_move}
+use Rattle.dbtg_step.specs.Machine.Headline.{entry_of}
+use Rattle.dbtg_step.specs.Machine.Network.{network}
+use Rattle.dbtg_step.specs.Core.Parts.{CoreState}
+use Rattle.dbtg_step.specs.Core.Positions.{position_at}
 use Rattle.dbtg_timeline.specs.declared.event.Event.{Event}
 use Rattle.dbtg_timeline.specs.declared.event.Mark.{Mark}
 use Rattle.dbtg_timeline.specs.declared.event.Mark.TheVariants.{Begin, TakeArea, TakeCell, TurnBack, Return, Ticket, Link, PutBack, LeaveArea, Quit, Blocked, Idle}
 
 -- ---- a unit that may not be there
 
+-- how many statements of it have their ticket
 abbrev pub made_in : Option Position → ℕ
 made_in p = unwrap_or (option_map (λ (it : Position). it.made) p) 0
 
+-- how far its statement is, where it is in mid-statement
 abbrev pub progress_in : Option Position → Option Progress
 progress_in p = option_and_then (λ (it : Position). it.progress) p
 
+-- how many areas it holds
 abbrev pub areas_in : Option Position → ℕ
 areas_in p = unwrap_or (option_map (λ (w : Progress). w.areas) (progress_in p)) 0
 
+-- how many cells it holds
 abbrev pub cells_in : Option Position → ℕ
 cells_in p = unwrap_or (option_map (λ (w : Progress). w.cells) (progress_in p)) 0
 
 -- ---- which event it was
 
--- the ticket is that of the newest entry of the history
+-- the mark of a ticket, by its entry
 abbrev pub entry_mark : Option Entry → Mark
 entry_mark None = Idle
 entry_mark (Some e) = Ticket e.ticket (status_code e.statement e.answer.status)
 
+-- the ticket is that of the newest entry of the history
 abbrev pub ticket_mark : List Entry → Mark
 ticket_mark history = entry_mark (slice_get history (length history - 1))
 
@@ -51,10 +56,12 @@ needed_mark before after history =
     if nat_lt (made_in before) (made_in after) then ticket_mark history else
     (if nat_lt (areas_in before) (areas_in after) then TakeArea else (if nat_lt (cells_in before) (cells_in after) then TakeCell else TurnBack))
 
+-- the mark of an event in mid-statement: with a ticket, in turning back, or as it takes what it needs
 abbrev pub in_statement_mark : Progress → Option Position → Option Position → List Entry → Mark
 in_statement_mark w before after history =
     if w.has_ticket then ended_mark w else (if w.turning_back && nat_lt 0 w.cells then Return else needed_mark before after history)
 
+-- the mark of an event, by the progress that the unit had before it
 abbrev pub moved_mark : Option Progress → Option Position → Option Position → List Entry → Mark
 moved_mark None before after history = Begin
 moved_mark (Some w) before after history = in_statement_mark w before after history
@@ -69,18 +76,21 @@ mark_of m NoMemory before after history = Idle
 
 -- ---- a move as it is shown
 
+-- the unit of a move
 abbrev pub unit_in : Move → ℕ
 unit_in (Step u) = u
 unit_in (Quits u) = u
 
--- a statement that has its ticket is the last one made, and otherwise the next one
+-- 1 for a statement that has its ticket, and else 0
 abbrev pub has_ticket : Option Progress → ℕ
 has_ticket None = 0
 has_ticket (Some w) = if w.has_ticket then 1 else 0
 
+-- the place of the statement in the script: with a ticket the last one made, and otherwise the next one
 abbrev pub place_of : Option Position → ℕ
 place_of p = made_in p - has_ticket (progress_in p)
 
+-- the event of a move: its unit, its mark, its statement, and whether the unit is in mid-statement after it
 abbrev pub shown : Move → Stepped → Option Position → Option Position → List Entry → Event
 shown m stepped before after history = record { unit = unit_in m; mark = mark_of m stepped before after history; place = place_of before; midway = is_some (progress_in after) }
 

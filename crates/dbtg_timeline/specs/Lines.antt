@@ -19,9 +19,11 @@ last_of l = unwrap_or (slice_get l.more (length l.more - 1)) l.head
 abbrev pub goes_on : Line → Event → Bool
 goes_on l e = nat_lt (length l.more) 31 && joins (last_of l) e
 
+-- a line of one event, with the number of its move
 abbrev pub begun : ℕ → Event → Line
 begun first e = record { first = first; head = e; more = [] }
 
+-- the line with one event more
 abbrev pub longer : Line → Event → Line
 longer l e = record { first = l.first; head = l.head; more = l.more ++ e ∷ [] }
 
@@ -44,6 +46,7 @@ abbrev pub drawn_by : Mark → Option Drawn
 drawn_by (Ticket ticket status) = Some (record { ticket = ticket; status = status })
 drawn_by _ = None
 
+-- the first, or the later one where there is none
 abbrev pub or_later : Option Drawn → Option Drawn → Option Drawn
 or_later None later = later
 or_later (Some d) later = Some d
@@ -53,21 +56,24 @@ abbrev pub drawn_in : List Event → Option Drawn
 drawn_in [] = None
 drawn_in (e ∷ es) = or_later (drawn_by e.mark) (drawn_in es)
 
+-- what a line draws
 abbrev pub drawn : Line → Option Drawn
 drawn l = drawn_in (l.head ∷ l.more)
 
--- which units are in mid-statement, by their numbers from 1
+-- the units in mid-statement, by their numbers from 1, where this one is or is not
 abbrev pub with_lane : List Bool → ℕ → Bool → List Bool
 with_lane lanes zero midway = lanes
 with_lane lanes (suc i) midway = slice_set lanes i midway
 
+-- which units are in mid-statement after a line
 abbrev pub after_line : List Bool → Line → List Bool
 after_line lanes l = with_lane lanes l.head.unit (last_of l).midway
 
--- the text of a statement by its unit and its place in the script; a dash where there is none
+-- the text of the statement at a place of a script, a dash where there is none
 abbrev pub label_in : List (List ℕ) → ℕ → List ℕ
 label_in script place = unwrap_or (slice_get script place) (45 ∷ [])
 
+-- the text of a statement by its unit and its place in the script; a dash where there is none
 abbrev pub label : List (List (List ℕ)) → ℕ → ℕ → List ℕ
 label scripts zero place = 45 ∷ []
 label scripts (suc i) place = label_in (unwrap_or (slice_get scripts i) []) place

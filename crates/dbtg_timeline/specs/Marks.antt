@@ -18,10 +18,12 @@ letter Quit = 81
 letter Blocked = 66
 letter Idle = 73
 
+-- a statement begins
 abbrev pub is_begin : Mark → Bool
 is_begin Begin = true
 is_begin _ = false
 
+-- the unit is idle
 abbrev pub is_idle : Mark → Bool
 is_idle Idle = true
 is_idle _ = false

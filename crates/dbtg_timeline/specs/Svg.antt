@@ -25,23 +25,29 @@ words_text kind x y words = codes "<text class='" ++ kind ++ codes "'" ++ place_
 
 -- ---- where things stand: a lane is 16 pixels wide, a letter 9, a line 18 high
 
+-- the left edge of the letters, behind the lanes
 abbrev pub letters_left : ℕ → ℕ
 letters_left units = 120 + 16 * units
 
+-- the width of the picture
 abbrev pub picture_width : ℕ → ℕ
 picture_width units = letters_left units + 776
 
+-- the height of the picture
 abbrev pub picture_height : ℕ → ℕ
 picture_height lines = 18 * lines + 84
 
 -- ---- the head
 
+-- the opening tag up to the width
 unfoldable pub open_text : List ℕ
 open_text = codes "<svg xmlns='http://www.w3.org/2000/svg' width='"
 
+-- the end of the opening tag, and the title
 unfoldable pub title_text : List ℕ
 title_text = codes "'><title>TIMELINE</title>\n"
 
+-- the opening tag with the size, and the title
 unfoldable pub size_text : ℕ → ℕ → List ℕ
 size_text width height = open_text ++ decimal width ++ codes "' height='" ++ decimal height ++ title_text
 
@@ -49,6 +55,7 @@ size_text width height = open_text ++ decimal width ++ codes "' height='" ++ dec
 unfoldable pub style_text : List ℕ
 style_text = codes "<style>svg{background:#fff}text{font:13px monospace}.head,.T{font-weight:bold}.number{text-anchor:end}.own{fill:#4a7ebb}.open{fill:#b8cce4}"
 
+-- the colours of the letters
 unfoldable pub colours_text : List ℕ
 colours_text = codes ".T{fill:#080}.B{fill:#c00;font-weight:bold}.R,.r{fill:#c60}.Q{fill:#a0a;font-weight:bold}.I{fill:#999}</style>\n"
 
@@ -62,6 +69,7 @@ unfoldable pub front_heads : ℕ → List ℕ
 front_heads left =
     words_text (codes "head number") 64 24 (codes "MOVE") ++ words_text (codes "head number") 104 24 (codes "UNIT") ++ words_text (codes "head") left 24 (codes "EVENTS")
 
+-- the heads of ticket, status and statement
 unfoldable pub back_heads : ℕ → List ℕ
 back_heads left =
     words_text (codes "head number") (left + 344) 24 (codes "TICKET") ++ words_text (codes "head") (left + 360) 24 (codes "STATUS")
@@ -69,13 +77,15 @@ back_heads left =
 
 -- ---- the lines
 
--- the unit of the line, a little lower where its statement begins
+-- the lane of the unit of the line
 unfoldable pub own_lane : ℕ → ℕ → List ℕ
 own_lane x y = codes "<rect class='own'" ++ place_text x y ++ codes " width='8' height='18'/>\n"
 
+-- the same, a little lower, where its statement begins
 unfoldable pub begun_lane : ℕ → ℕ → List ℕ
 begun_lane x y = codes "<rect class='own'" ++ place_text x (y + 3) ++ codes " width='8' height='15'/>\n"
 
+-- the one or the other, by whether its statement begins
 abbrev pub line_lane : Bool → ℕ → ℕ → List ℕ
 line_lane true x y = begun_lane x y
 line_lane false x y = own_lane x y
@@ -84,6 +94,7 @@ line_lane false x y = own_lane x y
 unfoldable pub open_lane : ℕ → ℕ → List ℕ
 open_lane x y = codes "<rect class='open'" ++ place_text x y ++ codes " width='8' height='18'/>\n"
 
+-- a lane: of the unit of the line, of another in mid-statement, or of one between statements
 abbrev pub lane_text : Event → Bool → Bool → ℕ → ℕ → List ℕ
 lane_text head true midway x y = line_lane (is_begin head.mark) x y
 lane_text head false true x y = open_lane x y
@@ -99,13 +110,16 @@ abbrev pub letters_text : ℕ → ℕ → List ℕ → List ℕ
 letters_text x y [] = []
 letters_text x y (c ∷ cs) = words_text (c ∷ []) x y (c ∷ []) ++ letters_text (x + 9) y cs
 
+-- ticket and status, where one is drawn
 unfoldable pub drawn_text : ℕ → ℕ → Option Drawn → List ℕ
 drawn_text left y None = []
 drawn_text left y (Some d) = words_text (codes "number") (left + 344) y (decimal d.ticket) ++ words_text (codes "T") (left + 360) y (right 48 4 (decimal d.status))
 
+-- the number of the first move, and the unit
 unfoldable pub front_text : ℕ → Line → List ℕ
 front_text y l = words_text (codes "number") 64 y (decimal l.first) ++ words_text (codes "number") 104 y (decimal l.head.unit)
 
+-- a line: lanes, move and unit, letters, ticket and status, and the beginning of the text of the statement
 unfoldable pub line_text : List (List (List ℕ)) → List Bool → ℕ → Line → List ℕ
 line_text scripts lanes top l =
     lanes_text l.head top 1 lanes ++ front_text (top + 13) l ++ letters_text (letters_left (length scripts)) (top + 13) (letters l)
@@ -119,9 +133,11 @@ lines_text scripts lanes top (l ∷ ls) = line_text scripts lanes top l ++ lines
 
 -- ---- the whole
 
+-- what the letters mean, below the lines, and the end of the picture
 unfoldable pub end_text : ℕ → List ℕ
 end_text top = words_text (codes "legend") 16 (top + 22) legend ++ words_text (codes "legend") 16 (top + 40) second_legend ++ codes "</svg>\n"
 
+-- the picture of these lines
 unfoldable pub drawn_lines : List (List (List ℕ)) → List Line → List ℕ
 drawn_lines scripts lines =
     size_text (picture_width (length scripts)) (picture_height (length lines)) ++ style_text ++ colours_text ++ front_heads (letters_left (length scripts)) ++ back_heads (letters_left (length scripts)) ++ lane_heads 1 scripts

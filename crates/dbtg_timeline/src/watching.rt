@@ -1,9 +1,9 @@
 //! The events of a run: the core is stepped move by move, and where its units are is looked at before and after each.
 ghost use Rattle.std.specs.Prelude.{◌≡◌, ◌≤◌, true, length, IfOk, OnOk};
 ghost use Rattle.dbtg_schema.specs.Sound.{IsSound};
-ghost use Rattle.dbtg_step.specs.CoreSteps.{after_move};
+ghost use Rattle.dbtg_step.specs.Core.CoreSteps.{after_move};
 ghost use Rattle.dbtg_step.specs.Laws.{scripts_fit};
-ghost use Rattle.dbtg_step.specs.Parts.{machine};
+ghost use Rattle.dbtg_step.specs.Core.Parts.{machine};
 ghost use Rattle.dbtg_timeline.specs.Events.{areas_in, cells_in, ended_mark, event_of_move, events_of, in_statement_mark, made_in, mark_of, moved_mark, needed_mark, place_of, progress_in, shown, ticket_mark, unit_in};
 ghost use Rattle.dbtg_timeline.specs.Watching.{events_of_run};
 

@@ -1,17 +1,21 @@
--- What a statement has in hand.
-use Rattle.std.specs.Prelude.{ℕ, List, [], ◌∷◌, Option, Some, None, cond}
-use Rattle.dbtg_cells.specs.declared.name.CellName.{CellName}
-use Rattle.dbtg_cells.specs.declared.cell.Cell.{Cell}
-use Rattle.dbtg_cells.specs.declared.key.Owner.{Owner}
-use Rattle.dbtg_cells.specs.Names.{name_eq}
-
--- the areas and cells that a statement holds, and by set the owner of the current of run-unit as the unit last saw it
-pub record Hands : Type 0 where
-  pub areas : List ℕ
-  pub cells : List (CellName × Cell)
-  pub guesses : List (Option Owner)
-
--- the held cell of this name
-abbrev pub cell_of : CellName → List (CellName × Cell) → Option Cell
-cell_of c [] = None
-cell_of c (e ∷ es) = cond (name_eq c e.0) (Some e.1) (cell_of c es)
+-- The second half of this crate: what a statement has in hand, what it needs next, what it has prepared, and how that is made.
+-- It stands on the first half, `Database`, which does not cite it. `Needs` and `Prepared` are what the crates of the statements are
+-- held to; `Local` says what binds hands and databases together.
+-- May use: the first half, and the cells of dbtg_cells.
+-- Promises: what is read off cells in hand (`InHand`) is so in each database that agrees with them, and edits (`Edits`) are
+-- all that changes cells.
+pub mod CanEdit
+pub mod Edits
+pub mod EditsOf
+pub mod Erasing
+pub mod Guesses
+pub mod Hands
+pub mod HeldNames
+pub mod InHand
+pub mod Lends
+pub mod Local
+pub mod Locality
+pub mod Making
+pub mod Needs
+pub mod Prepared
+pub mod Reserving

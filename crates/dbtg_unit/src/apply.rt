@@ -1,8 +1,8 @@
 //! Making the edits of cells. Nothing here takes memory.
 ghost use Rattle.std.specs.Prelude.{◌≡◌, IsTrue};
 ghost use Rattle.dbtg_cells.specs.Cells.{shown};
-ghost use Rattle.dbtg_unit.specs.CanEdit.{CanEdit, CanPlace};
-ghost use Rattle.dbtg_unit.specs.Edits.{edited, member_spot};
+ghost use Rattle.dbtg_unit.specs.Hands.CanEdit.{CanEdit, CanPlace};
+ghost use Rattle.dbtg_unit.specs.Hands.Edits.{edited, member_spot};
 ghost use Rattle.dbtg_cells.specs.Placed.{placed};
 ghost use Rattle.dbtg_cells.specs.Members.{has_room, keys_in, with_members, without_key};
 ghost use Rattle.dbtg_cells.specs.Keys.{is_member};

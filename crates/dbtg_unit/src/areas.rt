@@ -5,8 +5,8 @@ ghost use Rattle.std.specs.List.{list_any, range_with_len};
 ghost use Rattle.dbtg_schema.specs.Erasing.{marked};
 ghost use Rattle.dbtg_schema.specs.Lookups.{some_and};
 ghost use Rattle.dbtg_schema.specs.Structure.{area_of, automatic_sets, erase_areas, home, is_automatic, member_clause, rekeyed_sets, set_member_types, set_numbers};
-ghost use Rattle.dbtg_unit.specs.Areas.{asks};
-ghost use Rattle.dbtg_unit.specs.Checks.{area_of_current, areas_of, find_areas, is_update};
+ghost use Rattle.dbtg_unit.specs.Database.Statements.Areas.{asks};
+ghost use Rattle.dbtg_unit.specs.Database.Statements.Checks.{area_of_current, areas_of, find_areas, is_update};
 
 use crate::changes::is_rekeyed_in;
 use crate::counts::{area_count, set_count, type_count};
@@ -62,7 +62,7 @@ pub fn is_automatic_in(schema: &Schema, set: SetNo, rtype: RecordNo) -> bool
 }
 
 // Of the homes of the sets in which STORE connects a record of this type.
-#[tactic(auto, using(crate::proofs::NumberLemmas::numbers_next, crate::proofs::NumberLemmas::numbers_end))]
+#[tactic(auto, using(crate::proofs::Lists::FromZeroUp::numbers_next, crate::proofs::Lists::FromZeroUp::numbers_end))]
 fn ask_of_automatic(schema: &Schema, unit: &Unit, question: &Question, rtype: RecordNo) -> bool
     ensures { result ≡ list_any (asks unit.now.modes question.now) (map (home schema.now) (automatic_sets schema.now rtype)) }
 {
@@ -76,7 +76,7 @@ fn ask_of_automatic(schema: &Schema, unit: &Unit, question: &Question, rtype: Re
 }
 
 // Of the homes of the sets in which a MODIFY with these changes moves a record of this type.
-#[tactic(auto, using(crate::proofs::NumberLemmas::numbers_next, crate::proofs::NumberLemmas::numbers_end))]
+#[tactic(auto, using(crate::proofs::Lists::FromZeroUp::numbers_next, crate::proofs::Lists::FromZeroUp::numbers_end))]
 fn ask_of_rekeyed(
     schema: &Schema,
     unit: &Unit,
@@ -96,7 +96,7 @@ fn ask_of_rekeyed(
 }
 
 // Of the areas of the set's member types.
-#[tactic(auto, using(crate::proofs::NumberLemmas::numbers_next, crate::proofs::NumberLemmas::numbers_end))]
+#[tactic(auto, using(crate::proofs::Lists::FromZeroUp::numbers_next, crate::proofs::Lists::FromZeroUp::numbers_end))]
 fn ask_of_members(schema: &Schema, unit: &Unit, question: &Question, set: SetNo) -> bool
     ensures { result ≡ list_any (asks unit.now.modes question.now) (map (area_of schema.now) (set_member_types schema.now set)) }
 {

@@ -3,7 +3,7 @@ ghost use Rattle.std.specs.Prelude.{◌≡◌, ◌==◌, map};
 ghost use Rattle.std.specs.List.{list_any};
 ghost use Rattle.dbtg_schema.specs.Lookups.{some_and};
 ghost use Rattle.dbtg_schema.specs.Structure.{calc_of, member_clause};
-ghost use Rattle.dbtg_unit.specs.Effect.{names_calc};
+ghost use Rattle.dbtg_unit.specs.Database.Statements.Effect.{names_calc};
 
 use crate::statement::Change;
 use dbtg_schema::{ItemNo, RecordNo, Schema, SetNo};

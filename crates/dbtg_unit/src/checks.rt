@@ -3,9 +3,9 @@ ghost use Rattle.std.specs.Prelude.{◌≡◌, ◌&&◌, not, is_none, option_ma
 ghost use Rattle.std.specs.List.{list_any};
 ghost use Rattle.dbtg_schema.specs.Lookups.{some_and};
 ghost use Rattle.dbtg_schema.specs.Structure.{automatic_sets};
-ghost use Rattle.dbtg_unit.specs.Checks.{accepts_type, changes_records, class_in, current_type, find_lacks_current, frees_what_is_not_kept, is_beyond, is_inserting_mandatory_automatic, is_open_statement, is_opening_again, is_removing_mandatory, lacks_current, needs_current, refused_at_once};
-ghost use Rattle.dbtg_unit.specs.Found.{needs_position};
-ghost use Rattle.dbtg_unit.specs.Units.{place_in};
+ghost use Rattle.dbtg_unit.specs.Database.Statements.Checks.{accepts_type, changes_records, class_in, current_type, find_lacks_current, frees_what_is_not_kept, is_beyond, is_inserting_mandatory_automatic, is_open_statement, is_opening_again, is_removing_mandatory, lacks_current, needs_current, refused_at_once};
+ghost use Rattle.dbtg_unit.specs.Database.Statements.Found.{needs_position};
+ghost use Rattle.dbtg_unit.specs.Database.State.Units.{place_in};
 
 use crate::areas::{Question, ask_of_areas, is_automatic_in};
 use crate::counts::set_count;
@@ -139,7 +139,7 @@ fn has_null(schema: &Schema, unit: &Unit, set: SetNo) -> bool
 }
 
 // Is the current of a set null in which STORE would connect a record of this type?
-#[tactic(auto, using(crate::proofs::NumberLemmas::numbers_next, crate::proofs::NumberLemmas::numbers_end))]
+#[tactic(auto, using(crate::proofs::Lists::FromZeroUp::numbers_next, crate::proofs::Lists::FromZeroUp::numbers_end))]
 fn store_wants_null(schema: &Schema, unit: &Unit, rtype: RecordNo) -> bool
     ensures { result ≡ list_any (λ s. is_none (place_in schema.now unit.now s)) (automatic_sets schema.now rtype) }
 {

@@ -1,6 +1,6 @@
 //! The numbers of statements and causes, of which a printed status is made. It needs nothing but the types.
 ghost use Rattle.std.specs.Prelude.{◌≡◌};
-ghost use Rattle.dbtg_unit.specs.Codes.{cause_code, statement_code, status_code};
+ghost use Rattle.dbtg_unit.specs.Database.Statements.Codes.{cause_code, statement_code, status_code};
 
 use crate::statement::Statement;
 use crate::unit::{Cause, Status};

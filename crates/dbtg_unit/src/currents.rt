@@ -1,10 +1,10 @@
 //! What the statements change of a run-unit beside what a FIND or STORE sees: its modes, the current of one set, its
 //! current of run-unit, its kept list. Nothing here takes memory.
 ghost use Rattle.std.specs.Prelude.{◌≡◌, [], Some, None, slice_set};
-ghost use Rattle.dbtg_unit.specs.Base.{Database};
-ghost use Rattle.dbtg_unit.specs.Effect.{moved, renoted, version_of};
-ghost use Rattle.dbtg_unit.specs.Kept.{noted_again};
-ghost use Rattle.dbtg_unit.specs.Units.{forgotten, kept_version};
+ghost use Rattle.dbtg_unit.specs.Database.State.Base.{Database};
+ghost use Rattle.dbtg_unit.specs.Database.Statements.Effect.{moved, renoted, version_of};
+ghost use Rattle.dbtg_unit.specs.Database.State.Kept.{noted_again};
+ghost use Rattle.dbtg_unit.specs.Database.State.Units.{forgotten, kept_version};
 ghost use Rattle.dbtg_cells.specs.Keys.{key_eq};
 
 use crate::entries::set_entry;

@@ -1,6 +1,6 @@
 //! The changes of single cells by which a statement does its work, and the change of its unit.
 ghost use Rattle.std.specs.Prelude.{◌≡◌, [], ◌∷◌, ◌++◌, OnOk};
-ghost use Rattle.dbtg_unit.specs.EditsOf.{ring_edits};
+ghost use Rattle.dbtg_unit.specs.Hands.EditsOf.{ring_edits};
 
 use crate::in_hand::ring_name;
 use crate::kept::Kept;

@@ -3,7 +3,7 @@ ghost use Rattle.std.specs.Prelude.{◌≡◌, ◌&&◌, ◌==◌, not, length, 
 ghost use Rattle.std.specs.List.{list_all, list_any};
 ghost use Rattle.dbtg_schema.specs.Lookups.{some_and};
 ghost use Rattle.dbtg_schema.specs.Structure.{area_of, calc_of, member_clause, picture_of, pictures};
-ghost use Rattle.dbtg_unit.specs.Fits.{change_fits, member_key_fits, pictures_at, if_named, distinct_items, fits, form_fits, is_area, is_set, is_text_byte, is_type, key_fits, suppress_fits, value_fits, values_fit, which_fits};
+ghost use Rattle.dbtg_unit.specs.Database.Statements.Fits.{change_fits, member_key_fits, pictures_at, if_named, distinct_items, fits, form_fits, is_area, is_set, is_text_byte, is_type, key_fits, suppress_fits, value_fits, values_fit, which_fits};
 
 use crate::changes::names_item;
 use crate::statement::{Change, Form, Statement, Suppress, Which};
@@ -51,7 +51,7 @@ fn is_of_picture(value: &Value, picture: Picture) -> bool
 }
 
 // As many values as items, each of its item's picture?
-#[tactic(auto, using(crate::proofs::FitLemmas::drop_some, crate::proofs::FitLemmas::drop_none))]
+#[tactic(auto, using(crate::proofs::Lists::SideBySide::drop_some, crate::proofs::Lists::SideBySide::drop_none))]
 fn are_of_items(values: &[Value], items: &[Item]) -> bool
     ensures { result ≡ values_fit (map (λ i. i.picture) items.now) values.now }
 {
@@ -79,7 +79,7 @@ fn picture_or_none(schema: &Schema, rtype: RecordNo, item: ItemNo) -> Picture
 }
 
 // As many values as these items of a record type, each of its item's picture?
-#[tactic(auto, using(crate::proofs::FitLemmas::drop_some, crate::proofs::FitLemmas::drop_none))]
+#[tactic(auto, using(crate::proofs::Lists::SideBySide::drop_some, crate::proofs::Lists::SideBySide::drop_none))]
 fn are_of_numbers(schema: &Schema, rtype: RecordNo, items: &[ItemNo], values: &[Value]) -> bool
     ensures { result ≡ values_fit (pictures_at schema.now rtype items.now) values.now }
 {

@@ -6,8 +6,8 @@ ghost use Rattle.std.specs.List.{list_any};
 ghost use Rattle.std.specs.Option.{option_copied_mut, option_to_list};
 ghost use Rattle.dbtg_schema.specs.Lookups.{at};
 ghost use Rattle.dbtg_cells.specs.Names.{name_eq};
-ghost use Rattle.dbtg_unit.specs.Hands.{cell_of};
-ghost use Rattle.dbtg_unit.specs.Lends.{LendsCell};
+ghost use Rattle.dbtg_unit.specs.Hands.Hands.{cell_of};
+ghost use Rattle.dbtg_unit.specs.Hands.Lends.{LendsCell};
 
 use crate::entries::entry_at;
 use crate::names::{NameKey, enter, find_place, leave};
@@ -46,8 +46,8 @@ impl Model for Held {
     ghost use Rattle.std.specs.Prelude.{◌≡◌, length};
     ghost use Rattle.std.specs.List.{zip};
     ghost use Rattle.indexmap.specs.IndexMap.{get};
-    ghost use Rattle.dbtg_unit.specs.Hands.{Hands};
-    ghost use Rattle.dbtg_unit.specs.HeldNames.{key_eq, IsIndexOf};
+    ghost use Rattle.dbtg_unit.specs.Hands.Hands.{Hands};
+    ghost use Rattle.dbtg_unit.specs.Hands.HeldNames.{key_eq, IsIndexOf};
 
     ghost Value = { Hands };
 
@@ -186,6 +186,7 @@ impl Held {
     pub fn cell_count(&self) -> usize
         ensures { result ≡ length self.now.cells }
     {
+        // The invariant: there are as many names as cells.
         let _ = &self.cells;
         self.names.len()
     }

@@ -16,7 +16,7 @@ pub struct Image {
 }
 
 impl Model for Image {
-    ghost use Rattle.dbtg_unit.specs.Image.{Image as ImageOfDatabase};
+    ghost use Rattle.dbtg_unit.specs.Database.State.Image.{Image as ImageOfDatabase};
 
     ghost Value = { ImageOfDatabase };
 

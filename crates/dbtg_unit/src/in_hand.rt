@@ -1,9 +1,9 @@
 //! What is read off the cells in hand. Nothing here takes memory.
 ghost use Rattle.std.specs.Prelude.{◌≡◌, [], is_some, option_and_then, option_copied, option_map, unwrap_or};
 ghost use Rattle.dbtg_schema.specs.Lookups.{first_cause};
-ghost use Rattle.dbtg_unit.specs.Checks.{own_checks};
-ghost use Rattle.dbtg_unit.specs.CellNames.{place_of};
-ghost use Rattle.dbtg_unit.specs.InHand.{extent_in, in_hand, numbers_in, occurrence_in, owner_in, stored_in, usage_in, users_in};
+ghost use Rattle.dbtg_unit.specs.Database.Statements.Checks.{own_checks};
+ghost use Rattle.dbtg_unit.specs.Database.State.CellNames.{place_of};
+ghost use Rattle.dbtg_unit.specs.Hands.InHand.{extent_in, in_hand, numbers_in, occurrence_in, owner_in, stored_in, usage_in, users_in};
 
 use crate::held::Held;
 use crate::unit::{Cause, Unit};

@@ -1,4 +1,4 @@
-ghost use Rattle.dbtg_unit.specs.StaysLegal.{EffectKeepsLegal, OpeningIsLegal, ReplayKeepsLegal, UnitsNeverConflict};
+ghost use Rattle.dbtg_unit.specs.Database.Laws.StaysLegal.{EffectKeepsLegal, OpeningIsLegal, ReplayKeepsLegal, UnitsNeverConflict};
 
 /// The effect of every statement that fits keeps a legal database legal with all its units: every law of the database,
 /// every unit a unit of the schema, and each unit's modes its entries in the usage lists, for the unit that makes the

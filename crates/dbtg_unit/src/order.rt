@@ -1,8 +1,8 @@
 //! The order in which a statement takes its areas: ascending. Nothing here takes memory.
 ghost use Rattle.std.specs.Prelude.{◌≡◌, ◌==◌, not};
 ghost use Rattle.std.specs.List.{find, list_any};
-ghost use Rattle.dbtg_unit.specs.Checks.{areas_of};
-ghost use Rattle.dbtg_unit.specs.Needs.{areas_in_order};
+ghost use Rattle.dbtg_unit.specs.Database.Statements.Checks.{areas_of};
+ghost use Rattle.dbtg_unit.specs.Hands.Needs.{areas_in_order};
 
 use crate::areas::{Question, ask_of_areas};
 use crate::counts::area_count;
@@ -19,7 +19,7 @@ pub fn has_area(schema: &Schema, unit: &Unit, statement: &Statement, area: AreaN
 }
 
 /// The first of a statement's areas, ascending, that is not in hand.
-#[tactic(auto, using(crate::proofs::NumberLemmas::numbers_next, crate::proofs::NumberLemmas::numbers_end))]
+#[tactic(auto, using(crate::proofs::Lists::FromZeroUp::numbers_next, crate::proofs::Lists::FromZeroUp::numbers_end))]
 pub fn next_area(schema: &Schema, unit: &Unit, statement: &Statement, held: &Held) -> Option<AreaNo>
     ensures { result ≡ find (λ a. not (list_any (λ b. b == a) held.now.areas)) (areas_in_order schema.now unit.now statement.now) }
 {

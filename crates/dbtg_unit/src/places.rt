@@ -1,6 +1,6 @@
 //! Where a run-unit stands in a set, and which record that is.
 ghost use Rattle.std.specs.Prelude.{◌≡◌, option_and_then};
-ghost use Rattle.dbtg_unit.specs.Units.{key_of_owner, key_of_place, place_in};
+ghost use Rattle.dbtg_unit.specs.Database.State.Units.{key_of_owner, key_of_place, place_in};
 
 use crate::entries::entry_at;
 use crate::unit::{Place, Unit};

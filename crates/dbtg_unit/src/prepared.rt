@@ -1,8 +1,8 @@
 //! What a statement has prepared, and how it is done: without memory and without a refusal.
 ghost use Rattle.std.specs.Prelude.{◌≡◌, slice_set, IsTrue};
 ghost use Rattle.std.specs.List.{list_all};
-ghost use Rattle.dbtg_unit.specs.Making.{CanEditHeld, CanMake, HaveNextVersions, IsMade, has_next_version};
-ghost use Rattle.dbtg_unit.specs.Prepared.{edited_values, guesses_edited, renoted_at, unit_after, unit_edited, values_of};
+ghost use Rattle.dbtg_unit.specs.Hands.Making.{CanEditHeld, CanMake, HaveNextVersions, IsMade, has_next_version};
+ghost use Rattle.dbtg_unit.specs.Hands.Prepared.{edited_values, guesses_edited, renoted_at, unit_after, unit_edited, values_of};
 
 use crate::apply::edit_cell;
 use crate::edit::{CellEdit, UnitEdit};
@@ -23,7 +23,7 @@ pub struct Prepared {
 }
 
 impl Model for Prepared {
-    ghost use Rattle.dbtg_unit.specs.Prepared.{Plan};
+    ghost use Rattle.dbtg_unit.specs.Hands.Prepared.{Plan};
 
     ghost Value = { Plan };
 

@@ -2,8 +2,8 @@
 //! room that was made before.
 ghost use Rattle.std.specs.Prelude.{◌≡◌, IsOk, OnOk};
 ghost use Rattle.dbtg_cells.specs.Cells.{shown};
-ghost use Rattle.dbtg_unit.specs.Making.{ShowsTheSame};
-ghost use Rattle.dbtg_unit.specs.Reserving.{CanTakeMember, CanTakeUser, KeepRoom, KeepsOthers, KeepsRoom, OfHeld};
+ghost use Rattle.dbtg_unit.specs.Hands.Making.{ShowsTheSame};
+ghost use Rattle.dbtg_unit.specs.Hands.Reserving.{CanTakeMember, CanTakeUser, KeepRoom, KeepsOthers, KeepsRoom, OfHeld};
 
 use crate::held::Held;
 use dbtg_cells::{Cell, CellName, DbKey};

@@ -1,8 +1,8 @@
 //! What a run-unit sees by a FIND or STORE of a record. It takes no memory, and is told the record's owners.
 ghost use Rattle.std.specs.Prelude.{◌≡◌, slice_set, if◌then◌else◌, Some};
 ghost use Rattle.dbtg_schema.specs.Structure.{area_of, owns};
-ghost use Rattle.dbtg_unit.specs.Seen.{seen_in_set, seen_in_sets};
-ghost use Rattle.dbtg_unit.specs.Units.{seen_place, seen_with, suppresses};
+ghost use Rattle.dbtg_unit.specs.Database.State.Seen.{seen_in_set, seen_in_sets};
+ghost use Rattle.dbtg_unit.specs.Database.State.Units.{seen_place, seen_with, suppresses};
 
 use crate::entries::{entry_at, set_entry};
 use crate::statement::Suppress;

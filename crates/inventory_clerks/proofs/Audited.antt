@@ -2,11 +2,11 @@
 use Rattle.std.proofs.Common.{◌≡◌, ℕ, List, Option, Some, None, ◌∙◌, subst}
 use Rattle.std.specs.Prelude.{IfNone, IfOk, IfSome, MatchOption, Result, Ok, Err}
 use Rattle.dbtg_schema.specs.Lists.{Lists}
-use Rattle.dbtg_unit.specs.Replay.{IsHistoryOf}
+use Rattle.dbtg_unit.specs.Database.Laws.Replay.{IsHistoryOf}
 use Rattle.dbtg_unit.specs.declared.unit.Entry.{Entry}
 use Rattle.dbtg_unit.specs.declared.unit.Unit.{Unit}
-use Rattle.dbtg_unit.specs.Image.{Image}
-use Rattle.dbtg_step.specs.Audit.{IsAudited}
+use Rattle.dbtg_unit.specs.Database.State.Image.{Image}
+use Rattle.dbtg_step.specs.Core.Audit.{IsAudited}
 use Rattle.inventory_clerks.specs.Auditing.{IsTextOf, text_of}
 
 pub found_is_left : {V : Type 0} (items : V → List ℕ) (schema : Lists) (capacity units : ℕ) (history : List Entry) (found : Option V) (text left : List ℕ)

@@ -3,9 +3,9 @@ use Rattle.std.specs.Prelude.{ℕ, ◌≡◌, List, ◌++◌}
 use Rattle.dbtg_schema.specs.Lists.{Lists}
 use Rattle.dbtg_unit.specs.declared.unit.Entry.{Entry}
 use Rattle.dbtg_unit.specs.declared.unit.Unit.{Unit}
-use Rattle.dbtg_unit.specs.Image.{Image}
-use Rattle.dbtg_step.specs.Audit.{LeadsTo}
-use Rattle.dbtg_script.specs.Texts.{image_text, units_text}
+use Rattle.dbtg_unit.specs.Database.State.Image.{Image}
+use Rattle.dbtg_step.specs.Core.Audit.{LeadsTo}
+use Rattle.dbtg_script.specs.Printing.Texts.{image_text, units_text}
 
 -- records, lists and usage, and behind them the units
 abbrev pub text_of : Lists → Image → List Unit → List ℕ

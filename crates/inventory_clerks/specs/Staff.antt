@@ -1,6 +1,6 @@
 -- Who works in a warehouse, and what they have done at the end of the day.
 use Rattle.std.specs.Prelude.{ℕ, ◌≢◌, List, All}
-use Rattle.dbtg_unit.specs.Replay.{entries_of}
+use Rattle.dbtg_unit.specs.Database.Laws.Replay.{entries_of}
 use Rattle.dbtg_run.specs.declared.settled.Settled.{Settled}
 use Rattle.dbtg_run.specs.UnitView.{BelongsTo}
 use Rattle.inventory_clerks.specs.declared.order.Order.{Order}

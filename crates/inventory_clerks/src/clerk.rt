@@ -1,6 +1,6 @@
 //! A clerk: a run-unit on a thread of its own, which fills orders.
 ghost use Rattle.std.specs.Prelude.{◌≡◌, ◌≢◌, ◌↔◌, ◌≤◌, true, length, All, IfOk, OnErr, OnOk};
-ghost use Rattle.dbtg_unit.specs.Fits.{fits};
+ghost use Rattle.dbtg_unit.specs.Database.Statements.Fits.{fits};
 ghost use Rattle.dbtg_unit.specs.declared.unit.Status.TheVariants.{Done};
 ghost use Rattle.dbtg_run.specs.Drawn.{IsDone};
 ghost use Rattle.dbtg_run.specs.Outcomes.{IfDone, IfNotDone};

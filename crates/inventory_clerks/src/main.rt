@@ -3,7 +3,7 @@
 
 ghost use Rattle.std.specs.Prelude.{◌≡◌, IfNone, IfOk, IfSome, MatchOption, None, true};
 ghost use Rattle.dbtg_schema.specs.Sound.{IsSound};
-ghost use Rattle.dbtg_unit.specs.Replay.{IsHistoryOf};
+ghost use Rattle.dbtg_unit.specs.Database.Laws.Replay.{IsHistoryOf};
 ghost use Rattle.inventory_clerks.specs.Auditing.{IsTextOf, text_of};
 ghost use Rattle.inventory_clerks.specs.Orders.{rounds_of};
 ghost use Rattle.inventory_clerks.specs.Staff.{HaveFilled, IsStaffed};

@@ -29,6 +29,7 @@ fn two_of(db: &Database, units: Vec<RunUnit>) -> (RunUnit, RunUnit)
     requires two { length units.items ≡ 2 }
     ensures { BelongsTo db.now result.0 × BelongsTo db.now result.1 }
 {
+    // Only the contract names the database.
     let _about = &db.about;
     let mut units = units;
     let second = units.pop().unwrap();
@@ -98,7 +99,7 @@ pub fn open_house<R: Wait>(
         mut first,
         mut second,
     } = house;
-    match open_both(
+    let opened = open_both(
         rt,
         alloc,
         &db,
@@ -106,9 +107,14 @@ pub fn open_house<R: Wait>(
         first_text,
         &mut second,
         second_text,
-    ) {
-        Ok(()) => Ok(Warehouse { db, first, second }),
-        Err(stop) => Err(stop),
+    );
+    let house = Warehouse { db, first, second };
+    match opened {
+        Ok(()) => Ok(house),
+        Err(stop) => {
+            drop(house);
+            Err(stop)
+        }
     }
 }
 

@@ -1,7 +1,7 @@
 //! A schema's text with each word on a line of its own: then the line of a fault says its word.
 ghost use Rattle.std.specs.Prelude.{◌≡◌, ◌<◌, ◌≤◌, ◌++◌, IfOk, OnOk, false};
-ghost use Rattle.dbtg_schema.specs.Words.{is_gap};
-ghost use Rattle.dbtg_schema.specs.SchemaFaults.{refusal};
+ghost use Rattle.dbtg_schema.specs.Texts.Words.{is_gap};
+ghost use Rattle.dbtg_schema.specs.Texts.SchemaFaults.{refusal};
 ghost use Rattle.dbtg.specs.FaultyWord.{apart, is_of_entry, laid_out, line_at, line_in};
 
 use crate::explain::row::{behind, behind_all, in_front};
@@ -42,7 +42,10 @@ pub fn fault_line(alloc: Global, text: &[u8], number: u8) -> Result<u64, AllocEr
     ensures { IfOk result (λ line. line ≡ line_in number (refusal text.now)) }
 {
     match Schema::read(alloc, text) {
-        Ok(_) => Ok(0),
+        Ok(schema) => {
+            drop(schema);
+            Ok(0)
+        }
         Err(SchemaFault::Refused { line, cause }) => {
             Ok(if cause.number() == number { line } else { 0 })
         }

@@ -1,6 +1,6 @@
 //! The tables of texts: a row is a line, its fields stand between bars, and the first of them is a code.
 ghost use Rattle.std.specs.Prelude.{◌≡◌, IfSome};
-ghost use Rattle.dbtg_script.specs.Spelling.{behind, in_front};
+ghost use Rattle.dbtg_script.specs.Printing.Spelling.{behind, in_front};
 ghost use Rattle.dbtg.specs.Explaining.{code_in};
 ghost use Rattle.dbtg.specs.FaultyWord.{behind_all};
 

@@ -1,6 +1,6 @@
 //! The commands of the shell, and what each line comes to.
 ghost use Rattle.std.specs.Prelude.{◌≡◌, ◌≤◌, ◌<◌, IfNone, IfOk, IfSome, ⊤};
-ghost use Rattle.dbtg_script.specs.Spelling.{in_front};
+ghost use Rattle.dbtg_script.specs.Printing.Spelling.{in_front};
 ghost use Rattle.dbtg.specs.Asking.{asked_of, behind_spaces, turn_after, turn_behind, turn_given};
 ghost use Rattle.dbtg.specs.Sessions.{IsLastAnswer, IsNoUnit, IsTold, TakesAsked, TakesLine};
 ghost use Rattle.dbtg.specs.declared.shell.asked.Asked.{Asked as AskedOf};

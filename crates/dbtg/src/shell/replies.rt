@@ -1,8 +1,8 @@
 //! What the shell replies to a line: texts of answers, faults and currents.
 ghost use Rattle.std.specs.Prelude.{◌≡◌, ◌-◌, ◌%◌, ◌≤◌, ◌<◌, IfOk, IfSome, Some, option_map, slice_get};
-ghost use Rattle.dbtg_script.specs.Texts.{image_text, unit_text, units_text};
-ghost use Rattle.dbtg_step.specs.Whole.{state_now};
-ghost use Rattle.dbtg_unit.specs.Image.{image_of};
+ghost use Rattle.dbtg_script.specs.Printing.Texts.{image_text, unit_text, units_text};
+ghost use Rattle.dbtg_step.specs.Core.Whole.{state_now};
+ghost use Rattle.dbtg_unit.specs.Database.State.Image.{image_of};
 ghost use Rattle.dbtg.specs.Sessions.{IsAnswerReply, IsCauseName};
 
 use crate::explain::{CAUSES, Kind, field, line_of, meaning_of, row_with, said_of_word};

@@ -1,9 +1,9 @@
 //! A session of the shell: a database in memory, and the script of each unit as it was typed so far.
 ghost use Rattle.std.specs.Prelude.{◌≡◌, ◌++◌, ◌∷◌, ◌+◌, ◌-◌, ◌≤◌, ◌<◌, [], IfErr, IfOk, OnErr, OnOk, length, map, option_map, replicate, slice_get, take, true};
 ghost use Rattle.dbtg_schema.specs.Sound.{IsSound};
-ghost use Rattle.dbtg_unit.specs.Fits.{fits};
-ghost use Rattle.dbtg_unit.specs.Image.{image_of};
-ghost use Rattle.dbtg_step.specs.Whole.{HasMade, state_now};
+ghost use Rattle.dbtg_unit.specs.Database.Statements.Fits.{fits};
+ghost use Rattle.dbtg_unit.specs.Database.State.Image.{image_of};
+ghost use Rattle.dbtg_step.specs.Core.Whole.{HasMade, state_now};
 ghost use Rattle.dbtg.specs.Refusals.{is_count};
 ghost use Rattle.dbtg.specs.Sessions.{AreTurnsOf, HasEntered, HasNoRoom, IsAsBefore, MakesLine, RefusesBehind, RefusesLine, Takes};
 ghost use Rattle.dbtg.specs.declared.shell.session.Refusal.TheVariants.{Fault, Memory};

@@ -3,9 +3,9 @@ ghost use Rattle.std.specs.Prelude.{◌≡◌, ◌≢◌, ◌<◌, ◌+◌, ◌^
 ghost use Rattle.std.specs.List.{range_with_len};
 ghost use Rattle.dbtg_schema.specs.Lookups.{at, final, first, nth};
 ghost use Rattle.dbtg_cells.specs.declared.name.CellName.TheVariants.{Extent};
-ghost use Rattle.dbtg_unit.specs.Belongs.{IsWithin};
-ghost use Rattle.dbtg_unit.specs.Fits.{which_fits};
-ghost use Rattle.dbtg_unit.specs.Found.{chosen_by_key, found_unless};
+ghost use Rattle.dbtg_unit.specs.Database.State.Belongs.{IsWithin};
+ghost use Rattle.dbtg_unit.specs.Database.Statements.Fits.{which_fits};
+ghost use Rattle.dbtg_unit.specs.Database.Statements.Found.{chosen_by_key, found_unless};
 ghost use Rattle.dbtg_unit.specs.declared.statement.Which.TheVariants.{Next, Prior};
 ghost use Rattle.dbtg_unit.specs.declared.unit.Cause.TheVariants.{End};
 ghost use Rattle.dbtg_plan.specs.Missing.{first_missing};
@@ -218,7 +218,7 @@ fn nth_key(
 }
 
 // The next key behind the area's current.
-#[tactic(auto, using(crate::proofs::ChosenKeys::next_chosen, crate::proofs::ChosenKeys::no_next))]
+#[tactic(auto, using(crate::proofs::Find::ChosenKeys::next_chosen, crate::proofs::Find::ChosenKeys::no_next))]
 fn next_key(
     schema: &Schema,
     held: &Held,
@@ -235,7 +235,7 @@ fn next_key(
 }
 
 // The last key before the area's current.
-#[tactic(auto, using(crate::proofs::ChosenKeys::prior_chosen, crate::proofs::ChosenKeys::no_prior))]
+#[tactic(auto, using(crate::proofs::Find::ChosenKeys::prior_chosen, crate::proofs::Find::ChosenKeys::no_prior))]
 fn prior_key(
     schema: &Schema,
     held: &Held,
@@ -296,7 +296,7 @@ pub(crate) fn find_in_area(
 }
 
 /// The first extent of the area's record types that is not in hand.
-#[tactic(auto, using(dbtg_unit::proofs::NumberLemmas::numbers_next, dbtg_unit::proofs::NumberLemmas::numbers_end))]
+#[tactic(auto, using(dbtg_unit::proofs::Public::numbers_next, dbtg_unit::proofs::Public::numbers_end))]
 pub(crate) fn missing_extent(
     schema: &Schema,
     held: &Held,

@@ -1,8 +1,8 @@
 //! FIND by a key or a current: the record is there, or it is gone.
 ghost use Rattle.std.specs.Prelude.{◌≡◌, option_and_then};
 ghost use Rattle.dbtg_schema.specs.Lookups.{at};
-ghost use Rattle.dbtg_unit.specs.Found.{with_current};
-ghost use Rattle.dbtg_unit.specs.Units.{key_of_owner, place_in};
+ghost use Rattle.dbtg_unit.specs.Database.Statements.Found.{with_current};
+ghost use Rattle.dbtg_unit.specs.Database.State.Units.{key_of_owner, place_in};
 ghost use Rattle.dbtg_unit.specs.declared.unit.Cause.TheVariants.{Deleted};
 ghost use Rattle.dbtg_plan.specs.Finding.{stored_or};
 

@@ -1,10 +1,10 @@
 //! FIND in a set: the members of the current occurrence, read off its ring.
 ghost use Rattle.std.specs.Prelude.{◌≡◌, true, false, ◌&&◌};
 ghost use Rattle.dbtg_cells.specs.Members.{keys_in};
-ghost use Rattle.dbtg_unit.specs.Fits.{which_fits};
-ghost use Rattle.dbtg_unit.specs.Found.{chosen, has_type, is_lost, needs_position, with_current};
-ghost use Rattle.dbtg_unit.specs.InHand.{occurrence_in};
-ghost use Rattle.dbtg_unit.specs.Units.{place_in};
+ghost use Rattle.dbtg_unit.specs.Database.Statements.Fits.{which_fits};
+ghost use Rattle.dbtg_unit.specs.Database.Statements.Found.{chosen, has_type, is_lost, needs_position, with_current};
+ghost use Rattle.dbtg_unit.specs.Hands.InHand.{occurrence_in};
+ghost use Rattle.dbtg_unit.specs.Database.State.Units.{place_in};
 ghost use Rattle.dbtg_unit.specs.declared.statement.Which.TheVariants.{Next, Prior};
 ghost use Rattle.dbtg_plan.specs.Finding.{member_found, sorted_found};
 

@@ -8,11 +8,11 @@ use Rattle.dbtg_unit.specs.declared.statement.Form.TheVariants.{Key}
 use Rattle.dbtg_unit.specs.declared.statement.Statement.TheVariants.{OpenArea, Get, Insert, Remove, Delete, Keep, Free}
 use Rattle.dbtg_unit.specs.declared.statement.Statement.{Statement}
 use Rattle.dbtg_unit.specs.declared.unit.Cause.TheVariants.{ChangedByAnother, Deleted, NoSuchCurrent, NotKept}
-use Rattle.dbtg_unit.specs.Effect.{effect}
-use Rattle.dbtg_unit.specs.Image.{image_of}
+use Rattle.dbtg_unit.specs.Database.Statements.Effect.{effect}
+use Rattle.dbtg_unit.specs.Database.State.Image.{image_of}
 use Rattle.dbtg_unit.proofs.Rows.Words.{find, store, modify, by, owner_itself, member, done, found, got, no, run, unit, key}
-use Rattle.dbtg_unit.proofs.OwnSchemas.{wood, roots, branches, leaves, bears, sheds, tree}
-use Rattle.dbtg_unit.specs.Replay.{opening_state, state_after}
+use Rattle.dbtg_unit.proofs.Rows.Defined.OwnSchemas.{wood, roots, branches, leaves, bears, sheds, tree}
+use Rattle.dbtg_unit.specs.Database.Laws.Replay.{opening_state, state_after}
 
 -- own changes are noted in what is kept, by INSERT, REMOVE and MODIFY, also where the value stays; of another unit they are found out,
 -- before not a member, already member, and owner has members, but after deleted

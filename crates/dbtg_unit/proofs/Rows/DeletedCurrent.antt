@@ -8,9 +8,9 @@ use Rattle.dbtg_unit.specs.declared.statement.Form.TheVariants.{Key}
 use Rattle.dbtg_unit.specs.declared.statement.Statement.TheVariants.{OpenArea, Get, Delete}
 use Rattle.dbtg_unit.specs.declared.statement.Which.TheVariants.{Next}
 use Rattle.dbtg_unit.specs.declared.unit.Cause.TheVariants.{Deleted}
-use Rattle.dbtg_unit.specs.Effect.{effect}
-use Rattle.dbtg_unit.specs.Image.{image_of}
-use Rattle.dbtg_unit.proofs.Schemas.{shop, main, side, customers}
+use Rattle.dbtg_unit.specs.Database.Statements.Effect.{effect}
+use Rattle.dbtg_unit.specs.Database.State.Image.{image_of}
+use Rattle.dbtg_unit.proofs.Rows.Defined.Schemas.{shop, main, side, customers}
 use Rattle.dbtg_unit.proofs.Rows.Words.{find, find_in_area, store, by, customer_key, owner_itself, done, found, no, run, unit, text}
 
 -- GET finds it out; NEXT goes on from its key

@@ -9,10 +9,10 @@ use Rattle.dbtg_unit.specs.declared.statement.Statement.TheVariants.{OpenArea, I
 use Rattle.dbtg_unit.specs.declared.statement.Statement.{Statement}
 use Rattle.dbtg_unit.specs.declared.statement.Which.TheVariants.{First, Last, Next, Prior, Nth}
 use Rattle.dbtg_unit.specs.declared.unit.Cause.TheVariants.{DuplicatesNotAllowed, End, NoneSatisfies, PositionLost}
-use Rattle.dbtg_unit.specs.Effect.{effect}
-use Rattle.dbtg_unit.specs.Image.{image_of}
+use Rattle.dbtg_unit.specs.Database.Statements.Effect.{effect}
+use Rattle.dbtg_unit.specs.Database.State.Image.{image_of}
 use Rattle.dbtg_unit.proofs.Rows.Words.{find, find_in_set, find_in_area, store, modify, by, done, found, no, run, text, key}
-use Rattle.dbtg_unit.proofs.OwnSchemas.{yard, bins, reds, blues, content, mixed, room, desks, notes, by_word, desk}
+use Rattle.dbtg_unit.proofs.Rows.Defined.OwnSchemas.{yard, bins, reds, blues, content, mixed, room, desks, notes, by_word, desk}
 
 -- a list of two record types: RED:1 BLUE:1 RED:2 BLUE:2 RED:3
 abbrev pub reds_and_blues : List (ℕ × Statement)

@@ -8,9 +8,9 @@ use Rattle.dbtg_unit.specs.declared.statement.Form.TheVariants.{OwnerOf}
 use Rattle.dbtg_unit.specs.declared.statement.Statement.TheVariants.{OpenArea, Get, Insert, Delete}
 use Rattle.dbtg_unit.specs.declared.statement.Which.TheVariants.{First}
 use Rattle.dbtg_unit.specs.declared.unit.Cause.TheVariants.{NoCurrentOfRunUnit, OwnerHasMembers}
-use Rattle.dbtg_unit.specs.Effect.{effect}
-use Rattle.dbtg_unit.specs.Image.{image_of}
-use Rattle.dbtg_unit.proofs.Schemas.{shop, main, side, customers, orders, items, lines, watch}
+use Rattle.dbtg_unit.specs.Database.Statements.Effect.{effect}
+use Rattle.dbtg_unit.specs.Database.State.Image.{image_of}
+use Rattle.dbtg_unit.proofs.Rows.Defined.Schemas.{shop, main, side, customers, orders, items, lines, watch}
 use Rattle.dbtg_unit.proofs.Rows.Words.{find, find_in_set, store, by, customer_key, ordr_key, item_key, owner_itself, member, member_of_system, done, found, no, run, unit, text}
 
 -- an order with two lines, one of which another set has as well

@@ -10,9 +10,9 @@ use Rattle.dbtg_unit.specs.declared.statement.Statement.{Statement}
 use Rattle.dbtg_unit.specs.declared.unit.Answer.{Answer}
 use Rattle.dbtg_unit.specs.declared.statement.Which.TheVariants.{First, Next}
 use Rattle.dbtg_unit.specs.declared.unit.Cause.TheVariants.{End, NoRoom, NoneSatisfies}
-use Rattle.dbtg_unit.specs.Effect.{effect}
-use Rattle.dbtg_unit.specs.Image.{image_of}
-use Rattle.dbtg_unit.proofs.Schemas.{card, shop, main, side, customers, orders, items, lines}
+use Rattle.dbtg_unit.specs.Database.Statements.Effect.{effect}
+use Rattle.dbtg_unit.specs.Database.State.Image.{image_of}
+use Rattle.dbtg_unit.proofs.Rows.Defined.Schemas.{card, shop, main, side, customers, orders, items, lines}
 use Rattle.dbtg_unit.proofs.Rows.Words.{find, find_in_set, find_in_area, store, by, customer_key, ordr_key, item_key, member, done, found, no, run, unit, text}
 
 -- the least free number, in its second generation

@@ -5,9 +5,9 @@ use Rattle.dbtg_cells.specs.declared.key.Value.TheVariants.{Num}
 use Rattle.dbtg_cells.specs.declared.usage.Mode.TheVariants.{Update}
 use Rattle.dbtg_unit.specs.declared.statement.Statement.TheVariants.{OpenArea, Insert, Remove}
 use Rattle.dbtg_unit.specs.declared.unit.Cause.TheVariants.{Mandatory, MandatoryAutomatic, NotMember, OtherRecordType}
-use Rattle.dbtg_unit.specs.Effect.{effect}
-use Rattle.dbtg_unit.specs.Image.{image_of}
-use Rattle.dbtg_unit.proofs.Schemas.{shop, main, side, customers, orders, items, has, lines}
+use Rattle.dbtg_unit.specs.Database.Statements.Effect.{effect}
+use Rattle.dbtg_unit.specs.Database.State.Image.{image_of}
+use Rattle.dbtg_unit.proofs.Rows.Defined.Schemas.{shop, main, side, customers, orders, items, has, lines}
 use Rattle.dbtg_unit.proofs.Rows.Words.{store, by, customer_key, ordr_key, item_key, member, done, found, no, run, unit, text}
 
 -- mandatory, automatic and optional members; not a member; no member type

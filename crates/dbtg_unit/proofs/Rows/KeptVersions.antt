@@ -5,9 +5,9 @@ use Rattle.dbtg_cells.specs.declared.usage.Mode.TheVariants.{Update}
 use Rattle.dbtg_unit.specs.declared.statement.Form.TheVariants.{Key}
 use Rattle.dbtg_unit.specs.declared.statement.Statement.TheVariants.{OpenArea, Get, Keep, Free}
 use Rattle.dbtg_unit.specs.declared.unit.Cause.TheVariants.{ChangedByAnother, NotKept}
-use Rattle.dbtg_unit.specs.Effect.{effect}
-use Rattle.dbtg_unit.specs.Image.{image_of}
-use Rattle.dbtg_unit.proofs.Schemas.{card, main, customers}
+use Rattle.dbtg_unit.specs.Database.Statements.Effect.{effect}
+use Rattle.dbtg_unit.specs.Database.State.Image.{image_of}
+use Rattle.dbtg_unit.proofs.Rows.Defined.Schemas.{card, main, customers}
 use Rattle.dbtg_unit.proofs.Rows.Words.{find, store, modify, by, customer_key, done, found, got, no, run, unit, text}
 
 -- a kept record that another unit changed meanwhile

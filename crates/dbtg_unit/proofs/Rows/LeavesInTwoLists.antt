@@ -9,11 +9,11 @@ use Rattle.dbtg_unit.specs.declared.statement.Form.TheVariants.{Key}
 use Rattle.dbtg_unit.specs.declared.statement.Statement.TheVariants.{OpenArea, Insert, Remove, Delete, Keep}
 use Rattle.dbtg_unit.specs.declared.statement.Statement.{Statement}
 use Rattle.dbtg_unit.specs.declared.unit.Cause.TheVariants.{Mandatory, OwnerHasMembers}
-use Rattle.dbtg_unit.specs.Effect.{effect}
-use Rattle.dbtg_unit.specs.Image.{image_of}
+use Rattle.dbtg_unit.specs.Database.Statements.Effect.{effect}
+use Rattle.dbtg_unit.specs.Database.State.Image.{image_of}
 use Rattle.dbtg_unit.proofs.Rows.Words.{find, store, by, owner_itself, done, found, no, run, unit, key}
-use Rattle.dbtg_unit.proofs.OwnSchemas.{wood, roots, branches, leaves, bears, sheds, binds, tree}
-use Rattle.dbtg_unit.specs.Replay.{opening_state, state_after}
+use Rattle.dbtg_unit.proofs.Rows.Defined.OwnSchemas.{wood, roots, branches, leaves, bears, sheds, binds, tree}
+use Rattle.dbtg_unit.specs.Database.Laws.Replay.{opening_state, state_after}
 
 -- LEAF:1 is in one list, LEAF:2 in two by optional classes, LEAF:3 in one as optional and in one as mandatory, LEAF:4 in one; all
 -- owners are below ROOT:1, which is current of run-unit. All but LEAF:3 are kept

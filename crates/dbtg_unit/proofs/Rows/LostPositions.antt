@@ -7,9 +7,9 @@ use Rattle.dbtg_unit.specs.declared.statement.Form.TheVariants.{Key}
 use Rattle.dbtg_unit.specs.declared.statement.Statement.TheVariants.{OpenArea, Insert, Remove}
 use Rattle.dbtg_unit.specs.declared.statement.Which.TheVariants.{First, Prior}
 use Rattle.dbtg_unit.specs.declared.unit.Cause.TheVariants.{AlreadyMember, End, PositionLost}
-use Rattle.dbtg_unit.specs.Effect.{effect}
-use Rattle.dbtg_unit.specs.Image.{image_of}
-use Rattle.dbtg_unit.proofs.Schemas.{shop, main, side, customers, orders, items, watch}
+use Rattle.dbtg_unit.specs.Database.Statements.Effect.{effect}
+use Rattle.dbtg_unit.specs.Database.State.Image.{image_of}
+use Rattle.dbtg_unit.proofs.Rows.Defined.Schemas.{shop, main, side, customers, orders, items, watch}
 use Rattle.dbtg_unit.proofs.Rows.Words.{find, find_in_set, store, by, customer_key, ordr_key, item_key, member, member_of_system, done, found, no, run, unit, text}
 
 -- the first member

@@ -5,9 +5,9 @@ use Rattle.dbtg_cells.specs.declared.usage.Mode.TheVariants.{Retrieval, Update}
 use Rattle.dbtg_unit.specs.declared.statement.Form.TheVariants.{Key, Calc}
 use Rattle.dbtg_unit.specs.declared.statement.Statement.TheVariants.{OpenArea, CloseArea, Get}
 use Rattle.dbtg_unit.specs.declared.unit.Cause.TheVariants.{AreaNotOpen, DuplicatesNotAllowed, NoneSatisfies, UpdateModeNeeded}
-use Rattle.dbtg_unit.specs.Effect.{effect}
-use Rattle.dbtg_unit.specs.Image.{image_of}
-use Rattle.dbtg_unit.proofs.Schemas.{card, main, customers}
+use Rattle.dbtg_unit.specs.Database.Statements.Effect.{effect}
+use Rattle.dbtg_unit.specs.Database.State.Image.{image_of}
+use Rattle.dbtg_unit.proofs.Rows.Defined.Schemas.{card, main, customers}
 use Rattle.dbtg_unit.proofs.Rows.Words.{find, store, by, customer_key, done, found, got, no, run, unit, text}
 
 -- a record is found by its CALC item, and its items come back

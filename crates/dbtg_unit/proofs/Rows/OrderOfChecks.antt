@@ -9,11 +9,11 @@ use Rattle.dbtg_unit.specs.declared.statement.Statement.TheVariants.{OpenArea, C
 use Rattle.dbtg_unit.specs.declared.statement.Statement.{Statement}
 use Rattle.dbtg_unit.specs.declared.statement.Which.TheVariants.{First, Last, Next, Prior, Nth}
 use Rattle.dbtg_unit.specs.declared.unit.Cause.TheVariants.{AlreadyMember, AreaAlreadyOpen, AreaNotOpen, Deleted, DuplicatesNotAllowed, End, Mandatory, MandatoryAutomatic, NoCurrentOfRunUnit, NoRoom, NoSuchCurrent, NoneSatisfies, NotKept, OtherRecordType, PositionLost, UpdateModeNeeded}
-use Rattle.dbtg_unit.specs.Effect.{effect}
-use Rattle.dbtg_unit.specs.Image.{image_of}
-use Rattle.dbtg_unit.proofs.Schemas.{shop, main, side, customers, orders, items, has, lines, watch}
+use Rattle.dbtg_unit.specs.Database.Statements.Effect.{effect}
+use Rattle.dbtg_unit.specs.Database.State.Image.{image_of}
+use Rattle.dbtg_unit.proofs.Rows.Defined.Schemas.{shop, main, side, customers, orders, items, has, lines, watch}
 use Rattle.dbtg_unit.proofs.Rows.Words.{find, find_in_set, find_in_area, store, modify, by, customer_key, ordr_key, item_key, owner_itself, member, member_of_system, done, found, no, run, unit, text, key, again}
-use Rattle.dbtg_unit.proofs.OwnSchemas.{room, desks, tags, by_hue, shows, desk}
+use Rattle.dbtg_unit.proofs.Rows.Defined.OwnSchemas.{room, desks, tags, by_hue, shows, desk}
 
 -- no current of run-unit comes first; no such current before area not open; area already open before usage conflict; area not open
 -- before update mode needed and before a key above the capacity

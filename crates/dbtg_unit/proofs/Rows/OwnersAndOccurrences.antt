@@ -7,9 +7,9 @@ use Rattle.dbtg_unit.specs.declared.statement.Form.TheVariants.{OwnerOf}
 use Rattle.dbtg_unit.specs.declared.statement.Statement.TheVariants.{OpenArea}
 use Rattle.dbtg_unit.specs.declared.statement.Which.TheVariants.{First}
 use Rattle.dbtg_unit.specs.declared.unit.Cause.TheVariants.{End, NoSuchCurrent}
-use Rattle.dbtg_unit.specs.Effect.{effect}
-use Rattle.dbtg_unit.specs.Image.{image_of}
-use Rattle.dbtg_unit.proofs.Schemas.{shop, main, side, customers, orders, lines}
+use Rattle.dbtg_unit.specs.Database.Statements.Effect.{effect}
+use Rattle.dbtg_unit.specs.Database.State.Image.{image_of}
+use Rattle.dbtg_unit.proofs.Rows.Defined.Schemas.{shop, main, side, customers, orders, lines}
 use Rattle.dbtg_unit.proofs.Rows.Words.{find, find_in_set, store, by, customer_key, ordr_key, owner_itself, member, done, found, no, run, unit, text}
 
 -- an automatic member wants a current owner

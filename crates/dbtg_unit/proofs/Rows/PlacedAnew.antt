@@ -6,9 +6,9 @@ use Rattle.dbtg_cells.specs.declared.usage.Mode.TheVariants.{Update}
 use Rattle.dbtg_unit.specs.declared.statement.Form.TheVariants.{Key}
 use Rattle.dbtg_unit.specs.declared.statement.Statement.TheVariants.{OpenArea, Get}
 use Rattle.dbtg_unit.specs.declared.statement.Which.TheVariants.{Next}
-use Rattle.dbtg_unit.specs.Effect.{effect}
-use Rattle.dbtg_unit.specs.Image.{image_of}
-use Rattle.dbtg_unit.proofs.Schemas.{shop, main, side, customers, orders, items, lines}
+use Rattle.dbtg_unit.specs.Database.Statements.Effect.{effect}
+use Rattle.dbtg_unit.specs.Database.State.Image.{image_of}
+use Rattle.dbtg_unit.proofs.Rows.Defined.Schemas.{shop, main, side, customers, orders, items, lines}
 use Rattle.dbtg_unit.proofs.Rows.Words.{find, find_in_set, store, modify, by, customer_key, ordr_key, item_key, member, done, found, got, run, unit, text}
 
 -- behind its equal, where duplicates are LAST; the position goes on from the new place

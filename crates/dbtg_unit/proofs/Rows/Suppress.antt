@@ -7,9 +7,9 @@ use Rattle.dbtg_cells.specs.declared.usage.Mode.TheVariants.{Update}
 use Rattle.dbtg_unit.specs.declared.statement.Form.TheVariants.{Key, OwnerOf}
 use Rattle.dbtg_unit.specs.declared.statement.Statement.TheVariants.{OpenArea, Find, Store, Insert}
 use Rattle.dbtg_unit.specs.declared.statement.Statement.{Statement}
-use Rattle.dbtg_unit.specs.Effect.{effect}
-use Rattle.dbtg_unit.specs.Image.{image_of}
-use Rattle.dbtg_unit.proofs.Schemas.{shop, main, side, customers, orders, items, lines, watch}
+use Rattle.dbtg_unit.specs.Database.Statements.Effect.{effect}
+use Rattle.dbtg_unit.specs.Database.State.Image.{image_of}
+use Rattle.dbtg_unit.proofs.Rows.Defined.Schemas.{shop, main, side, customers, orders, items, lines, watch}
 use Rattle.dbtg_unit.proofs.Rows.Words.{find, store, by, customer_key, ordr_key, item_key, owner_itself, member, member_of_system, done, found, run, unit, text}
 
 -- two items in two sets; an INSERT makes the member current of its set alone

@@ -7,9 +7,9 @@ use Rattle.dbtg_unit.specs.declared.statement.Form.TheVariants.{Calc, NextDuplic
 use Rattle.dbtg_unit.specs.declared.statement.Statement.TheVariants.{OpenArea}
 use Rattle.dbtg_unit.specs.declared.statement.Which.TheVariants.{First, Last, Next, Prior, Nth}
 use Rattle.dbtg_unit.specs.declared.unit.Cause.TheVariants.{End, NoneSatisfies}
-use Rattle.dbtg_unit.specs.Effect.{effect}
-use Rattle.dbtg_unit.specs.Image.{image_of}
-use Rattle.dbtg_unit.proofs.Schemas.{shop, main, side, customers, orders, items, lines}
+use Rattle.dbtg_unit.specs.Database.Statements.Effect.{effect}
+use Rattle.dbtg_unit.specs.Database.State.Image.{image_of}
+use Rattle.dbtg_unit.proofs.Rows.Defined.Schemas.{shop, main, side, customers, orders, items, lines}
 use Rattle.dbtg_unit.proofs.Rows.Words.{find, find_in_set, store, by, customer_key, ordr_key, item_key, member, done, found, no, run, unit, text}
 
 -- members with equal sort keys stand in the order of storing

@@ -4,9 +4,9 @@ use Rattle.dbtg_cells.specs.declared.key.Owner.TheVariants.{System}
 use Rattle.dbtg_cells.specs.declared.usage.Mode.TheVariants.{Retrieval, Update, ProtectedRetrieval, ProtectedUpdate, ExclusiveRetrieval}
 use Rattle.dbtg_unit.specs.declared.statement.Statement.TheVariants.{OpenArea}
 use Rattle.dbtg_unit.specs.declared.unit.Cause.TheVariants.{AreaAlreadyOpen, UsageConflict}
-use Rattle.dbtg_unit.specs.Effect.{effect}
-use Rattle.dbtg_unit.specs.Image.{image_of}
-use Rattle.dbtg_unit.proofs.Schemas.{shop, main}
+use Rattle.dbtg_unit.specs.Database.Statements.Effect.{effect}
+use Rattle.dbtg_unit.specs.Database.State.Image.{image_of}
+use Rattle.dbtg_unit.proofs.Rows.Defined.Schemas.{shop, main}
 use Rattle.dbtg_unit.proofs.Rows.Words.{by, done, no, run, unit}
 
 -- an update mode is there: nothing protected or exclusive comes in; no area is opened twice

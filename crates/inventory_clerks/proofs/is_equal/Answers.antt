@@ -1,6 +1,6 @@
 use Rattle.std.proofs.Common.{◌≡◌, List, ap, ◌∙◌, subst}
 use Rattle.std.specs.Prelude.{MatchOption}
-use Rattle.dbtg_unit.specs.Replay.{IsHistoryOf}
+use Rattle.dbtg_unit.specs.Database.Laws.Replay.{IsHistoryOf}
 use Rattle.dbtg_unit.specs.declared.unit.Entry.{Entry}
 use Rattle.inventory_clerks.specs.declared.TheConstants.{CAPACITY, UNITS}
 use Rattle.inventory_clerks.specs.Auditing.{IsTextOf, text_of}

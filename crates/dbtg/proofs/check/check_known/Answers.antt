@@ -1,5 +1,5 @@
 use Rattle.std.proofs.Common.{ℕ, List, ◌++◌, ap, ◌∙◌}
-use Rattle.dbtg_script.specs.Texts.{schema_line}
+use Rattle.dbtg_script.specs.Printing.Texts.{schema_line}
 use Rattle.dbtg.specs.Checking.{script_lines}
 use Rattle.dbtg.proofs.TextsRead.{checks}
 use Rattle.dbtg.proofs.check.check_known.Goals as goal

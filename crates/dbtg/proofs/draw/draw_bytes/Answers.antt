@@ -1,6 +1,6 @@
 use Rattle.std.proofs.Common.{◌≡◌, ℕ, List, [], subst}
 use Rattle.std.proofs.lemmas.Result.{IfErr-weaker, IfOk-weaker}
-use Rattle.dbtg_schema.specs.SchemaFaults.{refusal as schema_refusal}
+use Rattle.dbtg_schema.specs.Texts.SchemaFaults.{refusal as schema_refusal}
 use Rattle.dbtg.specs.declared.order.Order.TheVariants.{Serial}
 use Rattle.dbtg.specs.Drawing.{DrawsHeld, IsDrawing}
 use Rattle.dbtg.specs.Refusals.{RefusesSchema}

@@ -1,6 +1,6 @@
 use Rattle.std.proofs.Common.{ℕ, List, refl, subst}
 use Rattle.std.proofs.lemmas.Result.{IfOk-weaker}
-use Rattle.dbtg_step.specs.Turns.{AreGiven, IsRunByTurns}
+use Rattle.dbtg_step.specs.Core.Turns.{AreGiven, IsRunByTurns}
 use Rattle.dbtg.proofs.Listings.{result_told}
 use Rattle.dbtg.proofs.outcomes.push_result.Goals as goal
 

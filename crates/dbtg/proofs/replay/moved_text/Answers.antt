@@ -1,8 +1,8 @@
 use Rattle.std.proofs.Common.{◌≡◌, ◌++◌}
 use Rattle.std.specs.Prelude.{option_map}
 use Rattle.std.proofs.lemmas.Result.{IfOk-weaker}
-use Rattle.dbtg_script.specs.Texts.{moves_text}
-use Rattle.dbtg_step.specs.Headline.{RunIs}
+use Rattle.dbtg_script.specs.Printing.Texts.{moves_text}
+use Rattle.dbtg_step.specs.Machine.Headline.{RunIs}
 use Rattle.dbtg.specs.Replaying.{IsPrinted, shown_text}
 use Rattle.dbtg.proofs.replay.moved_text.Goals as goal
 

@@ -1,7 +1,7 @@
 use Rattle.std.proofs.Common.{◌≡◌}
 use Rattle.std.specs.Prelude.{option_map}
 use Rattle.std.proofs.lemmas.Result.{IfOk-weaker}
-use Rattle.dbtg_step.specs.Serial.{SerialRunIs}
+use Rattle.dbtg_step.specs.Core.Serial.{SerialRunIs}
 use Rattle.dbtg.specs.Replaying.{IsPrinted, shown_text}
 use Rattle.dbtg.proofs.replay.serial_text.Goals as goal
 

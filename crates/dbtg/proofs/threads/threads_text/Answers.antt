@@ -1,6 +1,6 @@
 use Rattle.std.proofs.Common.{◌≡◌, ◌∙◌, ◌++◌, ap, map}
-use Rattle.dbtg_script.specs.Texts.{run_text}
-use Rattle.dbtg_script.specs.WordTexts.{turns_text}
+use Rattle.dbtg_script.specs.Printing.Texts.{run_text}
+use Rattle.dbtg_script.specs.Printing.WordTexts.{turns_text}
 use Rattle.dbtg_unit.specs.declared.unit.Entry.{Entry}
 use Rattle.dbtg.specs.Threading.{IsPrintedOnThreads, audit_line}
 use Rattle.dbtg.proofs.OnThreads.{both_ok}

@@ -1,5 +1,5 @@
 use Rattle.std.proofs.Common.{subst}
-use Rattle.dbtg_step.specs.Turns.{AreGiven}
+use Rattle.dbtg_step.specs.Core.Turns.{AreGiven}
 use Rattle.dbtg.proofs.Pictures.{stands_for}
 use Rattle.dbtg.proofs.timeline.moves_of_turns.Goals as goal
 

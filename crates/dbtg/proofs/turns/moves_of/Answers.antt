@@ -1,6 +1,6 @@
 use Rattle.std.proofs.Common.{ap, ◌∙◌, subst}
-use Rattle.dbtg_script.specs.WordTexts.{moves_words_text}
-use Rattle.dbtg_step.specs.Turns.{AreGiven}
+use Rattle.dbtg_script.specs.Printing.WordTexts.{moves_words_text}
+use Rattle.dbtg_step.specs.Core.Turns.{AreGiven}
 use Rattle.dbtg.proofs.MovesOfTurns.{moves_said}
 use Rattle.dbtg.proofs.turns.moves_of.Goals as goal
 

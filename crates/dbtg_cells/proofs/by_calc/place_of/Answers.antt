@@ -1,8 +1,8 @@
 use Rattle.std.proofs.Common.{rules, not}
 use Rattle.std.proofs.lemmas.List.Sorted.{IsPartitionPoint-from_clause}
 use Rattle.dbtg_cells.specs.ByCalc.{is_behind, stands_before}
-use Rattle.dbtg_cells.proofs.Rising.{parted, point-place}
-use Rattle.dbtg_cells.proofs.ByCalcLemmas.{behind-up}
+use Rattle.dbtg_cells.proofs.Rising.{parted, point_place}
+use Rattle.dbtg_cells.proofs.CalcOrder.{behind_up}
 use Rattle.dbtg_cells.proofs.by_calc.place_of.Goals as goal
 
 pub returns-clause-at : goal.returns-clause-at
@@ -10,6 +10,6 @@ returns-clause-at c =
     let numbers = c.args.numbers.now in
     let listed = c.args.listed.now in
     let test = is_behind numbers (c.args.values.now, c.args.number) in
-    let cut = parted (stands_before numbers) test (behind-up numbers (c.args.values.now, c.args.number)) listed c.requires in
+    let cut = parted (stands_before numbers) test (behind_up numbers (c.args.values.now, c.args.number)) listed c.requires in
     let point = IsPartitionPoint-from_clause (λ y. not (test y)) _ _ c.partition_point.ensures.partitioned cut (λ a r q k. search rules) in
-    point-place test listed c.partition_point.result c.partition_point.ensures.bound point.0 point.1
+    point_place test listed c.partition_point.result c.partition_point.ensures.bound point.0 point.1

@@ -3,7 +3,7 @@ use Rattle.std.specs.Option.{option_copied}
 use Rattle.dbtg_schema.specs.Lookups.{first}
 use Rattle.dbtg_cells.specs.Keys.{has_type}
 use Rattle.dbtg_cells.specs.Chain.{slot, follow}
-use Rattle.dbtg_cells.proofs.RingReads.{read-next, first-later}
+use Rattle.dbtg_cells.proofs.RingReads.{read_next, first_later}
 use Rattle.dbtg_cells.proofs.ring.first_along.Goals as goal
 
 pub loop-turn-preserved : goal.loop-turn-preserved
@@ -13,5 +13,5 @@ loop-turn-preserved c =
     let less = c.args.limit - (c.loop-turn.turn + 1) in
     let e : c.args.limit - c.loop-turn.turn ≡ suc less = omega (arith, c.loop-turn-test.true) in
     let there : slot slots c.in-Some.i ≡ Some node = sym c.get.ensures ∙ ap option_copied c.in-Some-get.is in
-    let cut = read-next _ less slots c.loop-turn.at c.in-Some.i node e c.in-Some.is there in
-    sym (first-later (has_type c.args.rtype.now) node.member (follow less slots node.next) (sym c.if-is_of_type.ensures)) ∙ ap (λ l. first (filter (has_type c.args.rtype.now) (map (λ e. e.0) l))) (sym cut) ∙ c.loop-turn.invariant
+    let cut = read_next _ less slots c.loop-turn.at c.in-Some.i node e c.in-Some.is there in
+    sym (first_later (has_type c.args.rtype.now) node.member (follow less slots node.next) (sym c.if-is_of_type.ensures)) ∙ ap (λ l. first (filter (has_type c.args.rtype.now) (map (λ e. e.0) l))) (sym cut) ∙ c.loop-turn.invariant

@@ -1,16 +1,16 @@
 use Rattle.std.proofs.Common.{◌≡◌, ◌-◌, ◌+◌, ◌++◌, ◌∷◌, [], suc, sym, ap, ◌∙◌, arith, Some, map}
 use Rattle.std.specs.Option.{option_copied}
 use Rattle.dbtg_cells.specs.Chain.{slot, follow_back}
-use Rattle.dbtg_cells.proofs.RingReads.{read-prior, read_back-none, read_back-vacant, keys-later, keys-end}
+use Rattle.dbtg_cells.proofs.RingReads.{read_prior, read_back_none, read_back_vacant, keys_later, keys_end}
 use Rattle.dbtg_cells.proofs.ring.keys_along_back.Goals as goal
 
 pub returns-in-None : goal.returns-in-None
 returns-in-None c =
-    keys-end _ _ _ c.loop-turn.invariant (read_back-none _ _ _ c.in-None.is)
+    keys_end _ _ _ c.loop-turn.invariant (read_back_none _ _ _ c.in-None.is)
 
 pub returns-in-None-get : goal.returns-in-None-get
 returns-in-None-get c =
-    keys-end _ _ _ c.loop-turn.invariant (read_back-vacant _ _ _ c.in-Some.i c.in-Some.is (sym c.get.ensures ∙ ap option_copied c.in-None-get.is))
+    keys_end _ _ _ c.loop-turn.invariant (read_back_vacant _ _ _ c.in-Some.i c.in-Some.is (sym c.get.ensures ∙ ap option_copied c.in-None-get.is))
 
 pub loop-turn-preserved : goal.loop-turn-preserved
 loop-turn-preserved c =
@@ -19,6 +19,6 @@ loop-turn-preserved c =
     let less = c.args.limit - (c.loop-turn.turn + 1) in
     let e : c.args.limit - c.loop-turn.turn ≡ suc less = omega (arith, c.loop-turn-test.true) in
     let there : slot slots c.in-Some.i ≡ Some node = sym c.get.ensures ∙ ap option_copied c.in-Some-get.is in
-    let cut = read-prior _ less slots c.loop-turn.at c.in-Some.i node e c.in-Some.is there in
+    let cut = read_prior _ less slots c.loop-turn.at c.in-Some.i node e c.in-Some.is there in
     let it : c.push.new.self.items ≡ c.loop-turn.keys.items ++ node.member.0 ∷ [] = c.in_ok-push-in-Some-get.ensures.items in
-    ap (λ ks. ks ++ map (λ e. e.0) (follow_back less slots node.prior)) it ∙ keys-later c.loop-turn.keys.items node.member (follow_back less slots node.prior) ∙ ap (λ l. c.loop-turn.keys.items ++ map (λ e. e.0) l) (sym cut) ∙ c.loop-turn.invariant
+    ap (λ ks. ks ++ map (λ e. e.0) (follow_back less slots node.prior)) it ∙ keys_later c.loop-turn.keys.items node.member (follow_back less slots node.prior) ∙ ap (λ l. c.loop-turn.keys.items ++ map (λ e. e.0) l) (sym cut) ∙ c.loop-turn.invariant

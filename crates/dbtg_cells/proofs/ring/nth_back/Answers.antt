@@ -2,7 +2,7 @@ use Rattle.std.proofs.Common.{◌≡◌, subst, ◌-◌, ◌+◌, ◌<◌, ◌�
 use Rattle.std.specs.Option.{option_copied}
 use Rattle.dbtg_cells.specs.Keys.{has_type}
 use Rattle.dbtg_cells.specs.Chain.{slot, follow_back}
-use Rattle.dbtg_cells.proofs.RingReads.{read-prior, nth-here, nth-later}
+use Rattle.dbtg_cells.proofs.RingReads.{read_prior, nth_here, nth_later}
 use Rattle.dbtg_cells.proofs.ring.nth_back.Goals as goal
 
 pub returns-then-left-counted : goal.returns-then-left-counted
@@ -12,8 +12,8 @@ returns-then-left-counted c =
     let less = c.args.limit - (c.loop-turn.turn + 1) in
     let e : c.args.limit - c.loop-turn.turn ≡ suc less = omega (arith, c.loop-turn-test.true) in
     let there : slot slots c.in-Some.i ≡ Some node = sym c.get.ensures ∙ ap option_copied c.in-Some-get.is in
-    let cut = read-prior _ less slots c.loop-turn.at c.in-Some.i node e c.in-Some.is there in
-    nth-here (has_type c.args.rtype.now) node.member (follow_back less slots node.prior) c.loop-turn.left (subst (λ m. c.loop-turn.left < m) c.count_of-counted.ensures c.if-left-counted.true) ∙ ap (λ l. slice_get (filter (has_type c.args.rtype.now) (map (λ e. e.0) l)) c.loop-turn.left) (sym cut) ∙ c.loop-turn.invariant
+    let cut = read_prior _ less slots c.loop-turn.at c.in-Some.i node e c.in-Some.is there in
+    nth_here (has_type c.args.rtype.now) node.member (follow_back less slots node.prior) c.loop-turn.left (subst (λ m. c.loop-turn.left < m) c.count_of-counted.ensures c.if-left-counted.true) ∙ ap (λ l. slice_get (filter (has_type c.args.rtype.now) (map (λ e. e.0) l)) c.loop-turn.left) (sym cut) ∙ c.loop-turn.invariant
 
 pub loop-turn-preserved : goal.loop-turn-preserved
 loop-turn-preserved c =
@@ -22,10 +22,10 @@ loop-turn-preserved c =
     let less = c.args.limit - (c.loop-turn.turn + 1) in
     let e : c.args.limit - c.loop-turn.turn ≡ suc less = omega (arith, c.loop-turn-test.true) in
     let there : slot slots c.in-Some.i ≡ Some node = sym c.get.ensures ∙ ap option_copied c.in-Some-get.is in
-    let cut = read-prior _ less slots c.loop-turn.at c.in-Some.i node e c.in-Some.is there in
+    let cut = read_prior _ less slots c.loop-turn.at c.in-Some.i node e c.in-Some.is there in
     let t = has_type c.args.rtype.now in
     let rest = follow_back less slots node.prior in
     let enough : cond (t node.member.0) 1 0 ≤ c.loop-turn.left = omega (arith, c.if-left-counted.false, c.count_of-counted.ensures) in
     ap (λ m. slice_get (filter t (map (λ e. e.0) rest)) (c.loop-turn.left - m)) c.count_of-counted.ensures
-    ∙ sym (nth-later t node.member rest c.loop-turn.left enough)
+    ∙ sym (nth_later t node.member rest c.loop-turn.left enough)
     ∙ ap (λ l. slice_get (filter t (map (λ e. e.0) l)) c.loop-turn.left) (sym cut) ∙ c.loop-turn.invariant

@@ -1,8 +1,8 @@
 use Rattle.std.proofs.Common.{sym, ◌∙◌, arith, length, ◌≤◌}
-use Rattle.dbtg_cells.proofs.ValueLemmas.{bytes_lt-ended}
+use Rattle.dbtg_cells.proofs.ValuesCompared.{bytes_lt_ended}
 use Rattle.dbtg_cells.proofs.value.bytes_below.Goals as goal
 
 pub returns-in-None : goal.returns-in-None
 returns-in-None c =
     let ended : length c.args.a.now ≤ c.loop-i.i = grind (arith, c.in-None.ensures.lookup.0) in
-    sym (bytes_lt-ended c.loop-i.i c.args.a.now c.args.b.now ended (omega arith)) ∙ c.loop-i.invariant
+    sym (bytes_lt_ended c.loop-i.i c.args.a.now c.args.b.now ended (omega arith)) ∙ c.loop-i.invariant

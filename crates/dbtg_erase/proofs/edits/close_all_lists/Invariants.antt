@@ -1,6 +1,6 @@
 use Rattle.std.proofs.Common.{◌≡◌, ◌++◌, drop}
 use Rattle.std.specs.List.{flat_map}
-use Rattle.dbtg_unit.specs.EditsOf.{closing_edits}
+use Rattle.dbtg_unit.specs.Hands.EditsOf.{closing_edits}
 use Rattle.dbtg_erase.proofs.edits.close_all_lists.Given as goal
 
 abbrev pub invariant-loop-key : goal.invariant-loop-key

@@ -1,7 +1,7 @@
 use Rattle.std.proofs.Common.{◌≡◌, ◌++◌, drop}
 use Rattle.std.specs.Prelude.{filter, map}
 use Rattle.dbtg_schema.specs.Structure.{owns, set_numbers}
-use Rattle.dbtg_unit.specs.EditsOf.{closing_edits}
+use Rattle.dbtg_unit.specs.Hands.EditsOf.{closing_edits}
 use Rattle.dbtg_erase.specs.ErasePlan.{close_ring}
 use Rattle.dbtg_erase.proofs.edits.close_lists.Given as goal
 

@@ -1,7 +1,7 @@
 use Rattle.std.proofs.Common.{◌≡◌, ◌++◌, drop}
 use Rattle.std.specs.List.{flat_map}
-use Rattle.dbtg_unit.specs.EditsOf.{leaving_edits}
-use Rattle.dbtg_unit.specs.InHand.{owner_in}
+use Rattle.dbtg_unit.specs.Hands.EditsOf.{leaving_edits}
+use Rattle.dbtg_unit.specs.Hands.InHand.{owner_in}
 use Rattle.dbtg_erase.proofs.edits.leave_all_lists.Given as goal
 
 abbrev pub invariant-loop-key : goal.invariant-loop-key

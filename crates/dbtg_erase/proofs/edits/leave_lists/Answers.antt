@@ -1,8 +1,8 @@
 use Rattle.std.proofs.Common.{refl, [], ◌∷◌, ◌≤◌, arith, length}
 use Rattle.std.specs.List.{flat_map}
 use Rattle.dbtg_unit.specs.declared.edit.Edit.TheVariants.{TakeOut}
-use Rattle.dbtg_unit.specs.EditsOf.{ring_edits, staying_owner}
-use Rattle.dbtg_unit.specs.InHand.{owner_in}
+use Rattle.dbtg_unit.specs.Hands.EditsOf.{ring_edits, staying_owner}
+use Rattle.dbtg_unit.specs.Hands.InHand.{owner_in}
 use Rattle.dbtg_erase.proofs.EditLists.{edits_of_end}
 use Rattle.dbtg_erase.proofs.edits.leave_lists.Goals as goal
 

@@ -2,8 +2,8 @@ use Rattle.std.proofs.Common.{◌≡◌, ◌++◌, [], ◌∷◌, drop}
 use Rattle.std.specs.List.{flat_map}
 use Rattle.dbtg_schema.specs.Structure.{set_numbers}
 use Rattle.dbtg_unit.specs.declared.edit.Edit.TheVariants.{TakeOut}
-use Rattle.dbtg_unit.specs.EditsOf.{leaving_edits, ring_edits, staying_owner}
-use Rattle.dbtg_unit.specs.InHand.{owner_in}
+use Rattle.dbtg_unit.specs.Hands.EditsOf.{leaving_edits, ring_edits, staying_owner}
+use Rattle.dbtg_unit.specs.Hands.InHand.{owner_in}
 use Rattle.dbtg_erase.proofs.edits.leave_lists.Given as goal
 
 abbrev pub invariant-loop-s : goal.invariant-loop-s

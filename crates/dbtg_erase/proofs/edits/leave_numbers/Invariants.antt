@@ -1,6 +1,6 @@
 use Rattle.std.proofs.Common.{◌≡◌, ◌++◌, drop}
 use Rattle.std.specs.Prelude.{map}
-use Rattle.dbtg_unit.specs.EditsOf.{leave_number}
+use Rattle.dbtg_unit.specs.Hands.EditsOf.{leave_number}
 use Rattle.dbtg_erase.proofs.edits.leave_numbers.Given as goal
 
 abbrev pub invariant-loop-key : goal.invariant-loop-key

@@ -1,7 +1,7 @@
 use Rattle.std.proofs.Common.{◌≡◌, ◌++◌, drop}
 use Rattle.std.specs.List.{flat_map}
-use Rattle.dbtg_unit.specs.EditsOf.{losing_edits}
-use Rattle.dbtg_unit.specs.InHand.{owner_in}
+use Rattle.dbtg_unit.specs.Hands.EditsOf.{losing_edits}
+use Rattle.dbtg_unit.specs.Hands.InHand.{owner_in}
 use Rattle.dbtg_erase.proofs.edits.lose_all.Given as goal
 
 abbrev pub invariant-loop-key : goal.invariant-loop-key

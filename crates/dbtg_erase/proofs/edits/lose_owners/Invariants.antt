@@ -2,9 +2,9 @@ use Rattle.std.proofs.Common.{◌≡◌, ◌++◌, drop}
 use Rattle.std.specs.Prelude.{filter, map}
 use Rattle.dbtg_schema.specs.Lookups.{some_and}
 use Rattle.dbtg_schema.specs.Structure.{set_numbers}
-use Rattle.dbtg_unit.specs.EditsOf.{lost_sets}
-use Rattle.dbtg_unit.specs.Effect.{is_gone}
-use Rattle.dbtg_unit.specs.InHand.{owner_in}
+use Rattle.dbtg_unit.specs.Hands.EditsOf.{lost_sets}
+use Rattle.dbtg_unit.specs.Database.Statements.Effect.{is_gone}
+use Rattle.dbtg_unit.specs.Hands.InHand.{owner_in}
 use Rattle.dbtg_erase.specs.ErasePlan.{lose_owner}
 use Rattle.dbtg_erase.proofs.edits.lose_owners.Given as goal
 

@@ -1,7 +1,7 @@
 use Rattle.std.proofs.Common.{◌≡◌, ◌++◌, drop}
 use Rattle.std.specs.Prelude.{map}
 use Rattle.dbtg_unit.specs.declared.edit.Edit.TheVariants.{Vacate}
-use Rattle.dbtg_unit.specs.EditsOf.{slot_edit}
+use Rattle.dbtg_unit.specs.Hands.EditsOf.{slot_edit}
 use Rattle.dbtg_erase.proofs.edits.vacate_slots.Given as goal
 
 abbrev pub invariant-loop-key : goal.invariant-loop-key

@@ -1,7 +1,7 @@
 use Rattle.std.proofs.Common.{◌≡◌, drop, not}
 use Rattle.std.specs.Prelude.{filter}
 use Rattle.dbtg_cells.specs.Keys.{is_member}
-use Rattle.dbtg_unit.specs.Erasing.{with_those}
+use Rattle.dbtg_unit.specs.Hands.Erasing.{with_those}
 use Rattle.dbtg_erase.proofs.left.leave_list.Given as goal
 
 abbrev pub invariant-loop-member : goal.invariant-loop-member

@@ -2,7 +2,7 @@ use Rattle.std.proofs.Common.{refl, sym, ◌∙◌, subst, ◌<◌, ◌≤◌, a
 use Rattle.std.specs.Prelude.{filter, map}
 use Rattle.std.specs.List.{flat_map}
 use Rattle.dbtg_schema.specs.Structure.{owns}
-use Rattle.dbtg_unit.specs.CellNames.{slot_name}
+use Rattle.dbtg_unit.specs.Database.State.CellNames.{slot_name}
 use Rattle.dbtg_erase.specs.NextCell.{is_missing}
 use Rattle.dbtg_erase.specs.WorkList.{list_in}
 use Rattle.dbtg_erase.proofs.FirstNames.{first_end, first_found, first_further, splits_flat}

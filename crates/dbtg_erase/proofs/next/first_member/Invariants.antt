@@ -2,7 +2,7 @@ use Rattle.std.proofs.Common.{◌≡◌, drop}
 use Rattle.std.specs.Prelude.{filter, map}
 use Rattle.std.specs.List.{flat_map}
 use Rattle.dbtg_schema.specs.Structure.{owns, set_numbers}
-use Rattle.dbtg_unit.specs.CellNames.{slot_name}
+use Rattle.dbtg_unit.specs.Database.State.CellNames.{slot_name}
 use Rattle.dbtg_erase.specs.NextCell.{first_missing}
 use Rattle.dbtg_erase.specs.WorkList.{list_in, members_in_hand}
 use Rattle.dbtg_erase.proofs.next.first_member.Given as goal

@@ -1,7 +1,7 @@
 use Rattle.std.proofs.Common.{◌≡◌, drop}
 use Rattle.std.specs.Prelude.{filter, map}
 use Rattle.dbtg_schema.specs.Structure.{owns, set_numbers}
-use Rattle.dbtg_unit.specs.Erasing.{own_rings}
+use Rattle.dbtg_unit.specs.Hands.Erasing.{own_rings}
 use Rattle.dbtg_erase.specs.NextCell.{first_missing, ring_of}
 use Rattle.dbtg_erase.proofs.next.first_ring.Given as goal
 

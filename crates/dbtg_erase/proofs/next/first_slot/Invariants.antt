@@ -1,6 +1,6 @@
 use Rattle.std.proofs.Common.{◌≡◌, drop}
 use Rattle.std.specs.Prelude.{map}
-use Rattle.dbtg_unit.specs.CellNames.{slot_name}
+use Rattle.dbtg_unit.specs.Database.State.CellNames.{slot_name}
 use Rattle.dbtg_erase.specs.NextCell.{first_missing}
 use Rattle.dbtg_erase.proofs.next.first_slot.Given as goal
 

@@ -2,8 +2,8 @@ use Rattle.std.proofs.Common.{refl}
 use Rattle.std.specs.List.{flat_map}
 use Rattle.dbtg_schema.specs.Structure.{set_numbers}
 use Rattle.dbtg_cells.specs.declared.name.CellName.TheVariants.{Extent}
-use Rattle.dbtg_unit.specs.InHand.{owner_in}
-use Rattle.dbtg_unit.specs.Needs.{ring_names}
+use Rattle.dbtg_unit.specs.Hands.InHand.{owner_in}
+use Rattle.dbtg_unit.specs.Hands.Needs.{ring_names}
 use Rattle.dbtg_erase.specs.NextCell.{is_missing, outer_names}
 use Rattle.dbtg_erase.proofs.LeastName.{least_further}
 use Rattle.dbtg_erase.proofs.next.nearest_of_all.Goals as goal

@@ -2,8 +2,8 @@ use Rattle.std.proofs.Common.{◌≡◌, drop}
 use Rattle.std.specs.Prelude.{filter}
 use Rattle.std.specs.List.{flat_map}
 use Rattle.dbtg_schema.specs.Structure.{set_numbers}
-use Rattle.dbtg_unit.specs.InHand.{owner_in}
-use Rattle.dbtg_unit.specs.Needs.{ring_names}
+use Rattle.dbtg_unit.specs.Hands.InHand.{owner_in}
+use Rattle.dbtg_unit.specs.Hands.Needs.{ring_names}
 use Rattle.dbtg_erase.specs.NextCell.{is_missing, least_name}
 use Rattle.dbtg_erase.proofs.next.nearest_rings.Given as goal
 

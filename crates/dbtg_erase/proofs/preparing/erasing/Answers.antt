@@ -1,6 +1,6 @@
 use Rattle.std.proofs.Common.{◌∙◌, ap, ◌+◌}
 use Rattle.std.specs.Prelude.{map}
-use Rattle.dbtg_unit.specs.InHand.{version_in}
+use Rattle.dbtg_unit.specs.Hands.InHand.{version_in}
 use Rattle.dbtg_erase.specs.WorkList.{gone_in}
 use Rattle.dbtg_erase.proofs.ErasePlan.{plan_from}
 use Rattle.dbtg_erase.proofs.preparing.erasing.Goals as goal

@@ -1,6 +1,6 @@
 use Rattle.std.proofs.Common.{◌≡◌, ◌+◌, ◌++◌, drop}
 use Rattle.std.specs.Prelude.{map}
-use Rattle.dbtg_unit.specs.InHand.{version_in}
+use Rattle.dbtg_unit.specs.Hands.InHand.{version_in}
 use Rattle.dbtg_erase.proofs.preparing.next_versions.Given as goal
 
 abbrev pub invariant-loop-key : goal.invariant-loop-key

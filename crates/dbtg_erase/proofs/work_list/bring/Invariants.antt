@@ -2,7 +2,7 @@ use Rattle.std.proofs.Common.{◌≡◌, drop}
 use Rattle.std.specs.Prelude.{filter}
 use Rattle.std.specs.List.{flat_map}
 use Rattle.dbtg_schema.specs.Structure.{owns, set_numbers}
-use Rattle.dbtg_unit.specs.Erasing.{with_those}
+use Rattle.dbtg_unit.specs.Hands.Erasing.{with_those}
 use Rattle.dbtg_erase.specs.WorkList.{taken_in, taken_of_set}
 use Rattle.dbtg_erase.proofs.work_list.bring.Given as goal
 

@@ -1,8 +1,8 @@
 use Rattle.std.proofs.Common.{◌≡◌, drop}
 use Rattle.std.specs.Prelude.{filter}
 use Rattle.dbtg_cells.specs.declared.key.Owner.TheVariants.{Rec}
-use Rattle.dbtg_unit.specs.Doomed.{takes_member}
-use Rattle.dbtg_unit.specs.Erasing.{with_those}
+use Rattle.dbtg_unit.specs.Database.Statements.Doomed.{takes_member}
+use Rattle.dbtg_unit.specs.Hands.Erasing.{with_those}
 use Rattle.dbtg_erase.specs.WorkList.{elsewhere_in, taken_of_set}
 use Rattle.dbtg_erase.proofs.work_list.bring_of_set.Given as goal
 

@@ -1,6 +1,6 @@
 use Rattle.std.proofs.Common.{◌≡◌, sym, ◌∙◌, ap, subst, ◌+◌, ◌-◌, ◌*◌, ◌<◌, Some}
 use Rattle.std.specs.Prelude.{slice_get}
-use Rattle.dbtg_unit.specs.Erasing.{brought, with_those}
+use Rattle.dbtg_unit.specs.Hands.Erasing.{brought, with_those}
 use Rattle.dbtg_erase.specs.WorkList.{most_gone, taken_in}
 use Rattle.dbtg_erase.proofs.KeyLists.{brought_ended, brought_next}
 use Rattle.dbtg_erase.proofs.work_list.gone.Goals as goal

@@ -1,5 +1,5 @@
 use Rattle.std.proofs.Common.{◌≡◌, ◌-◌}
-use Rattle.dbtg_unit.specs.Erasing.{brought}
+use Rattle.dbtg_unit.specs.Hands.Erasing.{brought}
 use Rattle.dbtg_erase.specs.WorkList.{gone_in, most_gone, taken_in}
 use Rattle.dbtg_erase.proofs.work_list.gone.Given as goal
 

@@ -5,7 +5,7 @@ use Rattle.dbtg_schema.specs.Lookups.{some_and}
 use Rattle.dbtg_schema.specs.Structure.{set_numbers}
 use Rattle.dbtg_cells.specs.declared.key.Owner.TheVariants.{Rec}
 use Rattle.dbtg_cells.specs.Keys.{owner_eq}
-use Rattle.dbtg_unit.specs.InHand.{owner_in}
+use Rattle.dbtg_unit.specs.Hands.InHand.{owner_in}
 use Rattle.dbtg_erase.specs.WorkList.{elsewhere_in}
 use Rattle.dbtg_erase.proofs.work_list.is_elsewhere.Given as goal
 

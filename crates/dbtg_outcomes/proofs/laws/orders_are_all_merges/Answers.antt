@@ -1,5 +1,5 @@
-use Rattle.dbtg_outcomes.proofs.Merges.{all-merges}
+use Rattle.dbtg_outcomes.proofs.Orders.Merges.{all_merges}
 use Rattle.dbtg_outcomes.proofs.laws.orders_are_all_merges.Goals as goal
 
 pub returns : goal.returns
-returns c = all-merges
+returns c = all_merges

@@ -1,6 +1,6 @@
 use Rattle.std.proofs.Common.{rules, length}
-use Rattle.dbtg_unit.specs.Replay.{entries_of}
-use Rattle.dbtg_outcomes.proofs.Ranges.{map_more_range}
+use Rattle.dbtg_unit.specs.Database.Laws.Replay.{entries_of}
+use Rattle.dbtg_outcomes.proofs.Lists.Ranges.{map_more_range}
 use Rattle.dbtg_outcomes.proofs.meeting.made_by_each.Goals as goal
 
 pub loop-before-preserved : goal.loop-before-preserved

@@ -3,11 +3,11 @@ use Rattle.std.proofs.lemmas.List.{take_all}
 use Rattle.std.proofs.lemmas.Result.{IfOk-weaker}
 use Rattle.dbtg_outcomes.specs.declared.groups.Group.{Group}
 use Rattle.dbtg_outcomes.specs.Steps.{HasHistory, HoldAll}
-use Rattle.dbtg_outcomes.proofs.Results.{by-result, holds-next, holds-nothing}
+use Rattle.dbtg_outcomes.proofs.States.Results.{grouped_by_result, holds_next, holds_nothing}
 use Rattle.dbtg_outcomes.proofs.outcomes.by_result.Goals as goal
 
 pub loop-group-init : goal.loop-group-init
-loop-group-init c = subst (λ (l : List (List ℕ × Group)). HoldAll c.args.meeting.now [] l) (sym c.none-results.ensures) (holds-nothing c.args.meeting.now)
+loop-group-init c = subst (λ (l : List (List ℕ × Group)). HoldAll c.args.meeting.now [] l) (sym c.none-results.ensures) (holds_nothing c.args.meeting.now)
 
 pub join_result-requires-clause-history : goal.join_result-requires-clause-history
 join_result-requires-clause-history c =
@@ -15,10 +15,10 @@ join_result-requires-clause-history c =
 
 pub loop-group-preserved : goal.loop-group-preserved
 loop-group-preserved c =
-    holds-next c.args.meeting.now c.args.last.now c.loop-group.group-index c.group-item.result c.loop-group.results c.join_result.new.results (omega (arith, c.loop-group-test.true)) c.group-item.is c.loop-group.invariant c.in_ok-join_result.ensures
+    holds_next c.args.meeting.now c.args.last.now c.loop-group.group-index c.group-item.result c.loop-group.results c.join_result.new.results (omega (arith, c.loop-group-test.true)) c.group-item.is c.loop-group.invariant c.in_ok-join_result.ensures
 
 pub returns : goal.returns
 returns c =
     let whole : take c.loop-group.group-index c.args.last.now ≡ c.args.last.now = take_all c.loop-group.group-index c.args.last.now (omega (arith, c.loop-group-test.false)) in
     let all = subst (λ (gs : List Group). HoldAll c.args.meeting.now gs c.loop-group.results) whole c.loop-group.invariant in
-    IfOk-weaker c.into_groups.result _ _ (λ groups is. by-result c.args.meeting.now c.args.last.now c.loop-group.results groups.items all is) c.into_groups.ensures
+    IfOk-weaker c.into_groups.result _ _ (λ groups is. grouped_by_result c.args.meeting.now c.args.last.now c.loop-group.results groups.items all is) c.into_groups.ensures

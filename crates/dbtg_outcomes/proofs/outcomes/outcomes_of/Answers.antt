@@ -8,15 +8,15 @@ use Rattle.dbtg_outcomes.specs.Orders.{count_statements}
 use Rattle.dbtg_outcomes.specs.Search.{layer}
 use Rattle.dbtg_outcomes.specs.Statuses.{AreAllAnswered}
 use Rattle.dbtg_outcomes.specs.Steps.{HasHistory}
-use Rattle.dbtg_outcomes.proofs.Results.{are-outcomes}
-use Rattle.dbtg_outcomes.proofs.Searched.{held-histories}
+use Rattle.dbtg_outcomes.proofs.States.Results.{are_outcomes}
+use Rattle.dbtg_outcomes.proofs.States.Searched.{held_histories}
 use Rattle.dbtg_outcomes.proofs.outcomes.outcomes_of.Goals as goal
 
 pub by_result-requires-clause-histories : goal.by_result-requires-clause-histories
 by_result-requires-clause-histories c =
     let m = c.args.meeting.now in
     All-from_recursion (HasHistory m) c.as_slice.result.now
-    (subst (λ (gs : List Group). AllByRecursion (HasHistory m) gs) (sym c.as_slice.ensures.value) (held-histories m c.args.search.now.layer.items (layer m (count_statements m.scripts)) c.requires.at.held))
+    (subst (λ (gs : List Group). AllByRecursion (HasHistory m) gs) (sym c.as_slice.ensures.value) (held_histories m c.args.search.now.layer.items (layer m (count_statements m.scripts)) c.requires.at.held))
 
 pub answered_by-requires : goal.answered_by-requires
 answered_by-requires c = subst (λ (l : List (List Statement)). length l ≤ 255) (sym c.requires.scripts) c.requires.meeting.few
@@ -24,7 +24,7 @@ answered_by-requires c = subst (λ (l : List (List Statement)). length l ≤ 255
 pub returns : goal.returns
 returns c =
     let m = c.args.meeting.now in
-    are-outcomes m c.requires.meeting c.args.search.now c.as_slice.result.now c.in_ok-groups.groups.items c.as_slice-3.result.now _ c.requires.at c.as_slice.ensures.value c.as_slice-3.ensures.value c.in_ok-groups.ensures
+    are_outcomes m c.requires.meeting c.args.search.now c.as_slice.result.now c.in_ok-groups.groups.items c.as_slice-3.result.now _ c.requires.at c.as_slice.ensures.value c.as_slice-3.ensures.value c.in_ok-groups.ensures
     (c.orders_of.ensures ∙ ap (λ (gs : List Group). all_orders (Some 0) gs) c.as_slice-4.ensures.value)
     (c.in_ok-results.ensures ∙ ap (λ (gs : List Group). map one_result gs) c.as_slice-2.ensures.value)
     (subst (λ (l : List (List Statement)). AreAllAnswered c.as_slice-3.result.now l c.in_ok-answered.answered.items) c.requires.scripts c.in_ok-answered.ensures)

@@ -2,7 +2,7 @@ use Rattle.std.proofs.Common.{◌≡◌, ◌+◌, ◌∙◌, ℕ, ap, subst, ari
 use Rattle.std.proofs.lemmas.Result.{err_from_is_err_and}
 use Rattle.dbtg_outcomes.specs.Orders.{count_statements}
 use Rattle.dbtg_outcomes.specs.Search.{IsAt}
-use Rattle.dbtg_outcomes.proofs.Searched.{over-all, over-first}
+use Rattle.dbtg_outcomes.proofs.States.Searched.{over_all, over_first}
 use Rattle.dbtg_outcomes.proofs.outcomes.search_all.Goals as goal
 
 pub pass-requires-clause-at : goal.pass-requires-clause-at
@@ -11,12 +11,12 @@ pass-requires-clause-at c = record { made = 0; at = c.in_ok-search.ensures.at }
 pub returns-in_err-search-clause-stopped : goal.returns-in_err-search-clause-stopped
 returns-in_err-search-clause-stopped c =
     let told = err_from_is_err_and c.from_residual.result c.from_residual.ensures.1 in
-    rw (told.1, told.2) (λ e. over-first c.args.meeting.now c.args.limit (c.in_err-search.ensures.stopped e))
+    rw (told.1, told.2) (λ e. over_first c.args.meeting.now c.args.limit (c.in_err-search.ensures.stopped e))
 
 pub returns-in_err-pass-clause-stopped : goal.returns-in_err-pass-clause-stopped
 returns-in_err-pass-clause-stopped c =
     let told = err_from_is_err_and c.from_residual-in_err-pass.result c.from_residual-in_err-pass.ensures.1 in
-    rw (told.1, told.2) (λ e. over-all c.args.meeting.now c.args.scripts.now c.in_ok-search.search c.args.limit c.requires.scripts c.in_ok-search.ensures.limit c.in_ok-search.ensures.at (c.in_err-pass.ensures.stopped e))
+    rw (told.1, told.2) (λ e. over_all c.args.meeting.now c.args.scripts.now c.in_ok-search.search c.args.limit c.requires.scripts c.in_ok-search.ensures.limit c.in_ok-search.ensures.at (c.in_err-pass.ensures.stopped e))
 
 pub returns-clause-at : goal.returns-clause-at
 returns-clause-at c =

@@ -2,9 +2,9 @@ use Rattle.std.proofs.Common.{subst}
 use Rattle.std.specs.Result.{OnOk}
 use Rattle.std.proofs.lemmas.Result.{on_ok_weaker}
 use Rattle.std.proofs.Common.{◌≡◌, ◌++◌}
-use Rattle.dbtg_unit.specs.Image.{Image}
+use Rattle.dbtg_unit.specs.Database.State.Image.{Image}
 use Rattle.dbtg_outcomes.specs.Spelling.{stored_numbers}
-use Rattle.dbtg_outcomes.proofs.Behind.{three_behind}
+use Rattle.dbtg_outcomes.proofs.Lists.Behind.{three_behind}
 use Rattle.dbtg_outcomes.proofs.parts.spell_stored.Goals as goal
 
 pub returns : goal.returns

@@ -3,8 +3,8 @@ use Rattle.std.specs.List.{list_any}
 use Rattle.dbtg_schema.specs.Lookups.{some_and}
 use Rattle.dbtg_cells.specs.declared.extent.Number.{Number}
 use Rattle.dbtg_cells.specs.Numbers.{entry_of, has_values, is_number_left_out, numbers_from}
-use Rattle.dbtg_unit.specs.Base.{picked}
-use Rattle.dbtg_plan.proofs.NumberSteps.{any_next}
+use Rattle.dbtg_unit.specs.Database.State.Base.{picked}
+use Rattle.dbtg_plan.proofs.Store.NumberSteps.{any_next}
 use Rattle.dbtg_plan.proofs.calc.any_has_items.Goals as goal
 
 pub returns-then-has_items-is_other : goal.returns-then-has_items-is_other

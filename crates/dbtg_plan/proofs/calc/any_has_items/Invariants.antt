@@ -1,7 +1,7 @@
 use Rattle.std.proofs.Common.{◌≡◌, not, suc, drop}
 use Rattle.std.specs.List.{list_any}
 use Rattle.dbtg_cells.specs.Numbers.{has_values, is_number_left_out, numbers_from, numbers_where}
-use Rattle.dbtg_unit.specs.Base.{picked}
+use Rattle.dbtg_unit.specs.Database.State.Base.{picked}
 use Rattle.dbtg_plan.proofs.calc.any_has_items.Given as goal
 
 abbrev pub invariant-loop-i : goal.invariant-loop-i

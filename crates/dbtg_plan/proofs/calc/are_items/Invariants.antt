@@ -1,6 +1,6 @@
 use Rattle.std.proofs.Common.{◌≡◌, drop}
 use Rattle.dbtg_cells.specs.Keys.{values_eq}
-use Rattle.dbtg_unit.specs.Base.{picked}
+use Rattle.dbtg_unit.specs.Database.State.Base.{picked}
 use Rattle.dbtg_plan.proofs.calc.are_items.Given as goal
 
 abbrev pub invariant-loop-i : goal.invariant-loop-i

@@ -1,5 +1,5 @@
 use Rattle.std.proofs.Common.{◌≡◌, take}
-use Rattle.dbtg_unit.specs.Base.{picked}
+use Rattle.dbtg_unit.specs.Database.State.Base.{picked}
 use Rattle.dbtg_plan.proofs.calc.copy_picked.Given as goal
 
 abbrev pub invariant-loop-number : goal.invariant-loop-number

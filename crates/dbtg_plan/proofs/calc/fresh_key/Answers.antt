@@ -1,6 +1,6 @@
 use Rattle.std.proofs.Common.{◌<◌, sym, ◌∙◌, arith}
 use Rattle.dbtg_cells.specs.Numbers.{last_of}
-use Rattle.dbtg_plan.proofs.NumberSteps.{free_is_unspent}
+use Rattle.dbtg_plan.proofs.Store.NumberSteps.{free_is_unspent}
 use Rattle.dbtg_plan.proofs.calc.fresh_key.Goals as goal
 
 pub overflow_add-result : goal.overflow_add-result

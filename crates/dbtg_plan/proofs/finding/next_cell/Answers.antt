@@ -1,6 +1,6 @@
 use Rattle.std.proofs.Common.{◌∙◌}
 use Rattle.std.specs.Prelude.{Ok, Err}
-use Rattle.dbtg_plan.proofs.FindPlans.{next_first, next_slot}
+use Rattle.dbtg_plan.proofs.Find.FindPlans.{next_first, next_slot}
 use Rattle.dbtg_plan.proofs.finding.next_cell.Goals as goal
 
 pub returns-in-Some : goal.returns-in-Some

@@ -1,5 +1,5 @@
 use Rattle.std.proofs.Common.{◌∙◌}
-use Rattle.dbtg_plan.proofs.FindPlans.{next_cell_is}
+use Rattle.dbtg_plan.proofs.Find.FindPlans.{next_cell_is}
 use Rattle.dbtg_plan.proofs.finding.next_cell_of_find.Goals as goal
 
 pub returns : goal.returns

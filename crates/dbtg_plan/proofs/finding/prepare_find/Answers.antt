@@ -1,11 +1,11 @@
 use Rattle.std.proofs.Common.{◌∙◌, ap, subst, sym}
 use Rattle.std.proofs.lemmas.Bool.{and_parts}
 use Rattle.dbtg_unit.specs.declared.statement.Statement.TheVariants.{Find}
-use Rattle.dbtg_unit.specs.Making.{CanFinish}
-use Rattle.dbtg_unit.specs.Prepared.{Plan}
-use Rattle.dbtg_unit.proofs.OnePlan.{may_plan}
+use Rattle.dbtg_unit.specs.Hands.Making.{CanFinish}
+use Rattle.dbtg_unit.specs.Hands.Prepared.{Plan}
+use Rattle.dbtg_unit.proofs.Public.{may_plan}
 use Rattle.dbtg_plan.specs.Finding.{plan_of_found}
-use Rattle.dbtg_plan.proofs.FindPlans.{find_can_finish}
+use Rattle.dbtg_plan.proofs.Find.FindPlans.{find_can_finish}
 use Rattle.dbtg_plan.proofs.finding.prepare_find.Goals as goal
 
 pub find_key-found-requires : goal.find_key-found-requires

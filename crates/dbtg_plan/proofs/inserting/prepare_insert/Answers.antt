@@ -1,14 +1,14 @@
 use Rattle.std.proofs.Common.{◌≡◌, sym, ◌∙◌, ap, subst, Option, Some, None}
 use Rattle.dbtg_schema.specs.Lookups.{first_cause}
 use Rattle.dbtg_cells.specs.declared.key.DbKey.{DbKey}
-use Rattle.dbtg_unit.specs.InHand.{in_hand}
-use Rattle.dbtg_unit.specs.Checks.{insert_checks}
+use Rattle.dbtg_unit.specs.Hands.InHand.{in_hand}
+use Rattle.dbtg_unit.specs.Database.Statements.Checks.{insert_checks}
 use Rattle.dbtg_unit.specs.declared.statement.Statement.TheVariants.{Insert}
 use Rattle.dbtg_unit.specs.declared.unit.Cause.{Cause}
-use Rattle.dbtg_unit.specs.Making.{CanFinish}
+use Rattle.dbtg_unit.specs.Hands.Making.{CanFinish}
 use Rattle.dbtg_plan.specs.Plans.{on_current_plan, refusal, unless_refusal}
 use Rattle.dbtg_plan.specs.Inserting.{insert_plan, inserting}
-use Rattle.dbtg_plan.proofs.InsertingLemmas.{insert-can_finish, refused_insert-can_finish}
+use Rattle.dbtg_plan.proofs.Connect.InsertIsEffect.{insert_can_finish, refused_insert_can_finish}
 use Rattle.dbtg_plan.proofs.inserting.prepare_insert.Goals as goal
 
 pub returns-in-Some-refusal-clause-prepared : goal.returns-in-Some-refusal-clause-prepared
@@ -21,7 +21,7 @@ returns-in-Some-refusal-clause-prepared c =
     ap (λ (r : Option DbKey). on_current_plan r (insert_checks schema (in_hand hands) unit c.args.set) (inserting schema unit hands c.args.set)) current
     ∙ ap (λ (x : Option Cause). unless_refusal x (inserting schema unit hands c.args.set c.in-Some.key)) (sym c.in-Some-refusal.ensures) in
     subst (CanFinish schema c.args.capacity unit hands (Insert c.args.set)) (sym c.refused-in-Some-refusal.ensures)
-    (refused_insert-can_finish schema c.args.capacity unit hands c.args.set c.requires.may c.requires.passes c.in-Some-refusal.cause is)
+    (refused_insert_can_finish schema c.args.capacity unit hands c.args.set c.requires.may c.requires.passes c.in-Some-refusal.cause is)
 
 pub returns-clause-prepared : goal.returns-clause-prepared
 returns-clause-prepared c =
@@ -31,4 +31,4 @@ returns-clause-prepared c =
     let current : unit.currency.run_unit ≡ Some c.in-Some.key = cc in
     let free : first_cause (insert_checks schema (in_hand hands) unit c.args.set c.in-Some.key) ≡ None = sym c.in_default-refusal.ensures in
     subst (CanFinish schema c.args.capacity unit c.make_room.new.held (Insert c.args.set)) (sym c.in_ok-plan.ensures)
-    (insert-can_finish schema c.args.capacity unit hands c.make_room.new.held c.args.set c.requires.may c.requires.passes c.in_ok-make_room.ensures.same c.in-Some.key current free c.in_ok-make_room.ensures.room)
+    (insert_can_finish schema c.args.capacity unit hands c.make_room.new.held c.args.set c.requires.may c.requires.passes c.in_ok-make_room.ensures.same c.in-Some.key current free c.in_ok-make_room.ensures.room)

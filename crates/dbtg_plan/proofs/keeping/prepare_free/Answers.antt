@@ -1,8 +1,8 @@
 use Rattle.std.proofs.Common.{sym, subst}
 use Rattle.dbtg_unit.specs.declared.statement.Statement.TheVariants.{Free}
-use Rattle.dbtg_unit.specs.Making.{CanFinish}
-use Rattle.dbtg_unit.specs.Prepared.{Plan}
-use Rattle.dbtg_plan.proofs.KeepingLemmas.{free_finishes}
+use Rattle.dbtg_unit.specs.Hands.Making.{CanFinish}
+use Rattle.dbtg_unit.specs.Hands.Prepared.{Plan}
+use Rattle.dbtg_plan.proofs.Plans.GetKeepFree.{free_finishes}
 use Rattle.dbtg_plan.proofs.keeping.prepare_free.Goals as goal
 
 pub returns : goal.returns

@@ -1,5 +1,5 @@
 use Rattle.std.proofs.Common.{◌≡◌, drop}
-use Rattle.dbtg_unit.specs.Effect.{changed_items}
+use Rattle.dbtg_unit.specs.Database.Statements.Effect.{changed_items}
 use Rattle.dbtg_plan.proofs.modifying.copy_changed.Given as goal
 
 abbrev pub invariant-loop-change : goal.invariant-loop-change

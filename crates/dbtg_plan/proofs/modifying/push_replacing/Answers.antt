@@ -2,7 +2,7 @@ use Rattle.std.proofs.Common.{◌∙◌, sym, ap, ℕ, ◌+◌, List, ◌++◌, 
 use Rattle.std.specs.List.{flat_map, range_with_len}
 use Rattle.dbtg_unit.specs.declared.edit.CellEdit.{CellEdit}
 use Rattle.dbtg_plan.specs.Modifying.{replacing_edits_in}
-use Rattle.dbtg_plan.proofs.SetSteps.{flat_end, flat_step}
+use Rattle.dbtg_plan.proofs.Store.SetSteps.{flat_end, flat_step}
 use Rattle.dbtg_plan.proofs.modifying.push_replacing.Goals as goal
 
 pub loop-s-preserved : goal.loop-s-preserved

@@ -1,6 +1,6 @@
 use Rattle.std.proofs.Common.{sym, ◌∙◌, ap, cond, Some, None}
 use Rattle.dbtg_unit.specs.declared.unit.Cause.TheVariants.{DuplicatesNotAllowed}
-use Rattle.dbtg_plan.proofs.ModifyReading.{key_cause}
+use Rattle.dbtg_plan.proofs.Modify.ModifyReading.{key_cause}
 use Rattle.dbtg_plan.proofs.modifying.refusal.Goals as goal
 
 pub returns-then-branch : goal.returns-then-branch

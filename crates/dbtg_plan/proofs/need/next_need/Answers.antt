@@ -1,5 +1,5 @@
 use Rattle.std.proofs.Common.{sym, ◌∙◌}
-use Rattle.dbtg_plan.proofs.StaleLemmas.{area_needed, cell_needed, guesses_needed, refused_needs}
+use Rattle.dbtg_plan.proofs.Needs.WrongGuesses.{area_needed, cell_needed, guesses_needed, refused_needs}
 use Rattle.dbtg_plan.proofs.need.next_need.Goals as goal
 
 pub returns-in-Some : goal.returns-in-Some

@@ -1,11 +1,11 @@
 use Rattle.std.proofs.Common.{◌≡◌, sym, subst}
 use Rattle.std.proofs.lemmas.Result.{IfOk-weaker}
 use Rattle.dbtg_unit.specs.declared.statement.Statement.TheVariants.{CloseArea}
-use Rattle.dbtg_unit.specs.Making.{CanFinish}
-use Rattle.dbtg_unit.specs.Prepared.{Plan}
-use Rattle.dbtg_unit.proofs.OnePlan.{may_plan}
+use Rattle.dbtg_unit.specs.Hands.Making.{CanFinish}
+use Rattle.dbtg_unit.specs.Hands.Prepared.{Plan}
+use Rattle.dbtg_unit.proofs.Public.{may_plan}
 use Rattle.dbtg_plan.specs.Opening.{close_plan}
-use Rattle.dbtg_plan.proofs.OpeningLemmas.{close_finishes}
+use Rattle.dbtg_plan.proofs.Plans.OpenClose.{close_finishes}
 use Rattle.dbtg_plan.proofs.opening.prepare_close.Goals as goal
 
 pub returns : goal.returns

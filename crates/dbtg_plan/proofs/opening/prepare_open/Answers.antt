@@ -1,11 +1,11 @@
 use Rattle.std.proofs.Common.{◌≡◌, sym, subst, ◌∙◌}
 use Rattle.std.proofs.lemmas.Result.{IfOk-weaker}
 use Rattle.dbtg_unit.specs.declared.statement.Statement.TheVariants.{OpenArea}
-use Rattle.dbtg_unit.specs.Making.{CanFinish}
-use Rattle.dbtg_unit.specs.Prepared.{Plan}
-use Rattle.dbtg_unit.proofs.OnePlan.{may_plan}
+use Rattle.dbtg_unit.specs.Hands.Making.{CanFinish}
+use Rattle.dbtg_unit.specs.Hands.Prepared.{Plan}
+use Rattle.dbtg_unit.proofs.Public.{may_plan}
 use Rattle.dbtg_plan.specs.Opening.{open_plan}
-use Rattle.dbtg_plan.proofs.OpeningLemmas.{open_finishes, open_refused}
+use Rattle.dbtg_plan.proofs.Plans.OpenClose.{open_finishes, open_refused}
 use Rattle.dbtg_plan.proofs.opening.prepare_open.Goals as goal
 
 pub returns-then-conflicts-clause-prepared : goal.returns-then-conflicts-clause-prepared

@@ -1,6 +1,6 @@
 use Rattle.std.proofs.Common.{◌∙◌, map}
 use Rattle.dbtg_unit.specs.declared.statement.Change.{Change}
-use Rattle.dbtg_plan.proofs.StaleLemmas.{rekeyed_is}
+use Rattle.dbtg_plan.proofs.Needs.WrongGuesses.{rekeyed_is}
 use Rattle.dbtg_plan.proofs.stale.is_moved_in.Goals as goal
 
 pub returns : goal.returns

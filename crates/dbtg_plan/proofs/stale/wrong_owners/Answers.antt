@@ -3,10 +3,10 @@ use Rattle.std.specs.List.{enumerate_from}
 use Rattle.std.proofs.lemmas.List.{length-replicate, length-set}
 use Rattle.std.proofs.lemmas.Option.{slice_get-get_or}
 use Rattle.dbtg_cells.specs.declared.key.Owner.{Owner}
-use Rattle.dbtg_unit.specs.Needs.{guessed_sets}
-use Rattle.dbtg_unit.proofs.Numbered.{rewritten, rewritten-all, rewritten-next}
+use Rattle.dbtg_unit.specs.Hands.Needs.{guessed_sets}
+use Rattle.dbtg_unit.proofs.Public.{rewritten, rewritten_all, rewritten_next}
 use Rattle.dbtg_plan.specs.Stale.{wrong_owner_in}
-use Rattle.dbtg_plan.proofs.StoreSteps.{owners_before}
+use Rattle.dbtg_plan.proofs.Store.StoreSteps.{owners_before}
 use Rattle.dbtg_plan.proofs.stale.wrong_owners.Goals as goal
 
 pub loop-s-init : goal.loop-s-init
@@ -27,7 +27,7 @@ loop-s-preserved c =
     record {
       finishes =
           ap (rewritten f 0 (c.loop-s.s + 1)) written
-          ∙ rewritten-next f c.loop-s.s c.loop-s.owners (get_or c.loop-s.owners c.loop-s.s None) (slice_get-get_or c.loop-s.owners c.loop-s.s None below) ∙ c.loop-s.invariant.finishes;
+          ∙ rewritten_next f c.loop-s.s c.loop-s.owners (get_or c.loop-s.owners c.loop-s.s None) (slice_get-get_or c.loop-s.owners c.loop-s.s None below) ∙ c.loop-s.invariant.finishes;
       as_long = ap length c.set.ensures ∙ length-set c.loop-s.owners c.loop-s.s c.wrong_owner-owner.result ∙ c.loop-s.invariant.as_long;
     }
 
@@ -35,4 +35,4 @@ pub returns : goal.returns
 returns c =
     let f = λ (e : ℕ × Option Owner). wrong_owner_in c.args.held.now (guessed_sets c.args.schema.now c.args.unit.now c.args.statement.now) c.args.key.now e.0 in
     let end : length c.loop-s.owners ≡ c.loop-s.s = omega (arith, c.loop-s-test.false, c.loop-s.auto.s-end, c.set_count-s-end.ensures, c.loop-s.invariant.as_long) in
-    sym (rewritten-all f 0 c.loop-s.owners) ∙ ap (λ i. rewritten f 0 i c.loop-s.owners) end ∙ c.loop-s.invariant.finishes
+    sym (rewritten_all f 0 c.loop-s.owners) ∙ ap (λ i. rewritten f 0 i c.loop-s.owners) end ∙ c.loop-s.invariant.finishes

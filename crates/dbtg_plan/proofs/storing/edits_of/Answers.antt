@@ -5,9 +5,9 @@ use Rattle.dbtg_cells.specs.declared.key.Value.{Value}
 use Rattle.dbtg_cells.specs.declared.name.CellName.TheVariants.{Extent}
 use Rattle.dbtg_unit.specs.declared.edit.CellEdit.{CellEdit}
 use Rattle.dbtg_unit.specs.declared.edit.Edit.TheVariants.{EnterNumber}
-use Rattle.dbtg_unit.specs.Base.{calc_items, key_item}
-use Rattle.dbtg_unit.specs.EditsOf.{joining_edits}
-use Rattle.dbtg_plan.proofs.StoreSteps.{edits_pushed}
+use Rattle.dbtg_unit.specs.Database.State.Base.{calc_items, key_item}
+use Rattle.dbtg_unit.specs.Hands.EditsOf.{joining_edits}
+use Rattle.dbtg_plan.proofs.Store.StoreSteps.{edits_pushed}
 use Rattle.dbtg_plan.proofs.storing.edits_of.Goals as goal
 
 pub returns : goal.returns

@@ -4,9 +4,10 @@ use Rattle.std.specs.List.{enumerate_from}
 use Rattle.std.proofs.lemmas.List.{length-replicate, length-set}
 use Rattle.dbtg_schema.specs.declared.shape.SetType.{SetType}
 use Rattle.dbtg_cells.specs.declared.key.Owner.{Owner}
-use Rattle.dbtg_unit.proofs.Numbered.{rewritten, rewritten-all, rewritten-next}
+use Rattle.dbtg_cells.proofs.Public.{there_is}
+use Rattle.dbtg_unit.proofs.Public.{rewritten, rewritten_all, rewritten_next}
 use Rattle.dbtg_plan.specs.Store.{first_owner}
-use Rattle.dbtg_plan.proofs.StoreSteps.{entry_there, owners_before}
+use Rattle.dbtg_plan.proofs.Store.StoreSteps.{owners_before}
 use Rattle.dbtg_plan.proofs.storing.first_owners.Goals as goal
 
 pub loop-s-init : goal.loop-s-init
@@ -23,10 +24,10 @@ loop-s-preserved c =
     let f : ℕ × Option Owner → Option Owner = λ e. first_owner c.args.schema.now c.args.unit.now c.args.rtype e.0 in
     let owners = c.loop-s.owners in
     let i = c.loop-s.s in
-    let there = entry_there owners i (omega (arith, c.set_count-s-end.ensures, c.loop-s.invariant.as_long)) in
+    let there = there_is owners i (omega (arith, c.set_count-s-end.ensures, c.loop-s.invariant.as_long)) in
     let written : c.set.new.self ≡ slice_set owners i (f (i, there.0)) = c.set.ensures ∙ ap (slice_set owners i) (c.first_owner-owner.ensures ∙ ap (λ (s : ℕ). f (s, there.0)) c.new.ensures) in
     record {
-      finishes = ap (rewritten f 0 (i + 1)) written ∙ rewritten-next f i owners there.0 there.1 ∙ c.loop-s.invariant.finishes;
+      finishes = ap (rewritten f 0 (i + 1)) written ∙ rewritten_next f i owners there.0 there.1 ∙ c.loop-s.invariant.finishes;
       as_long = ap length c.set.ensures ∙ length-set owners i c.first_owner-owner.result ∙ c.loop-s.invariant.as_long;
     }
 
@@ -34,4 +35,4 @@ pub returns : goal.returns
 returns c =
     let f : ℕ × Option Owner → Option Owner = λ e. first_owner c.args.schema.now c.args.unit.now c.args.rtype e.0 in
     let end : length c.loop-s.owners ≡ c.loop-s.s = omega (arith, c.set_count-s-end.ensures, c.loop-s.invariant.as_long) in
-    sym (rewritten-all f 0 c.loop-s.owners) ∙ ap (λ (i : ℕ). rewritten f 0 i c.loop-s.owners) end ∙ c.loop-s.invariant.finishes
+    sym (rewritten_all f 0 c.loop-s.owners) ∙ ap (λ (i : ℕ). rewritten f 0 i c.loop-s.owners) end ∙ c.loop-s.invariant.finishes

@@ -1,6 +1,6 @@
 use Rattle.std.proofs.Common.{◌≡◌, length}
-use Rattle.dbtg_unit.specs.EditsOf.{first_owners}
-use Rattle.dbtg_unit.proofs.Numbered.{rewritten}
+use Rattle.dbtg_unit.specs.Hands.EditsOf.{first_owners}
+use Rattle.dbtg_unit.proofs.Public.{rewritten}
 use Rattle.dbtg_plan.specs.Store.{first_owner}
 use Rattle.dbtg_plan.proofs.storing.first_owners.Given as goal
 

@@ -1,5 +1,5 @@
 use Rattle.std.proofs.Common.{arith}
-use Rattle.dbtg_plan.proofs.StoreSteps.{rooms_all}
+use Rattle.dbtg_plan.proofs.Store.StoreSteps.{rooms_all}
 use Rattle.dbtg_plan.proofs.storing.make_places.Goals as goal
 
 pub returns-clause-rooms : goal.returns-clause-rooms

@@ -1,5 +1,5 @@
-use Rattle.dbtg_unit.specs.Making.{ShowsTheSame}
-use Rattle.dbtg_plan.proofs.StoreSteps.{RoomsBelow}
+use Rattle.dbtg_unit.specs.Hands.Making.{ShowsTheSame}
+use Rattle.dbtg_plan.proofs.Store.StoreSteps.{RoomsBelow}
 use Rattle.dbtg_plan.proofs.storing.make_places.Given as goal
 
 abbrev pub invariant-loop-s : goal.invariant-loop-s

@@ -1,10 +1,10 @@
 use Rattle.std.proofs.Common.{◌≡◌, sym, ◌∙◌, ap, ℕ, List, length, arith}
 use Rattle.std.specs.Prelude.{is_some}
 use Rattle.std.specs.List.{flat_map}
-use Rattle.dbtg_unit.proofs.NumberLemmas.{numbers_end}
+use Rattle.dbtg_unit.proofs.Public.{numbers_end}
 use Rattle.dbtg_plan.specs.Missing.{first_missing}
 use Rattle.dbtg_plan.specs.Store.{store_rings_in}
-use Rattle.dbtg_plan.proofs.StoreSteps.{missing_found, missing_passed}
+use Rattle.dbtg_plan.proofs.Store.StoreSteps.{missing_found, missing_passed}
 use Rattle.dbtg_plan.proofs.storing.missing_in_sets.Goals as goal
 
 pub returns-then-is_some : goal.returns-then-is_some

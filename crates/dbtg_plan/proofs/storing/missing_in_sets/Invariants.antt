@@ -1,7 +1,7 @@
 use Rattle.std.proofs.Common.{◌≡◌, drop}
 use Rattle.std.specs.List.{flat_map}
 use Rattle.dbtg_schema.specs.Structure.{set_numbers}
-use Rattle.dbtg_unit.specs.Needs.{store_rings}
+use Rattle.dbtg_unit.specs.Hands.Needs.{store_rings}
 use Rattle.dbtg_plan.specs.Missing.{first_missing}
 use Rattle.dbtg_plan.specs.Store.{store_rings_in}
 use Rattle.dbtg_plan.proofs.storing.missing_in_sets.Given as goal

@@ -1,8 +1,8 @@
 use Rattle.std.proofs.Common.{sym, ◌∙◌, ap, ◌∷◌, []}
 use Rattle.std.specs.Prelude.{is_some}
-use Rattle.dbtg_unit.specs.CellNames.{slot_name}
-use Rattle.dbtg_unit.specs.Needs.{store_rings}
-use Rattle.dbtg_plan.proofs.StoreSteps.{missing_behind, missing_here}
+use Rattle.dbtg_unit.specs.Database.State.CellNames.{slot_name}
+use Rattle.dbtg_unit.specs.Hands.Needs.{store_rings}
+use Rattle.dbtg_plan.proofs.Store.StoreSteps.{missing_behind, missing_here}
 use Rattle.dbtg_plan.proofs.storing.missing_of_key.Goals as goal
 
 pub returns-then-is_some : goal.returns-then-is_some

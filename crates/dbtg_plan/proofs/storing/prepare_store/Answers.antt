@@ -1,4 +1,4 @@
-use Rattle.dbtg_plan.proofs.StoreFinish.{finishes_if_ok}
+use Rattle.dbtg_plan.proofs.Store.StoreFinish.{finishes_if_ok}
 use Rattle.dbtg_plan.proofs.storing.prepare_store.Goals as goal
 
 pub returns-clause-prepared : goal.returns-clause-prepared

@@ -1,9 +1,9 @@
 use Rattle.std.proofs.Common.{◌≡◌, ◌++◌, sym, ◌∙◌, ap, ℕ, List, length, arith}
 use Rattle.dbtg_unit.specs.declared.edit.CellEdit.{CellEdit}
-use Rattle.dbtg_unit.specs.Base.{key_item}
-use Rattle.dbtg_unit.specs.EditsOf.{joining_edits}
+use Rattle.dbtg_unit.specs.Database.State.Base.{key_item}
+use Rattle.dbtg_unit.specs.Hands.EditsOf.{joining_edits}
 use Rattle.dbtg_plan.specs.Store.{joins_of}
-use Rattle.dbtg_plan.proofs.StoreSteps.{over_sets, pushed_all, pushed_next}
+use Rattle.dbtg_plan.proofs.Store.StoreSteps.{over_sets, pushed_all, pushed_next}
 use Rattle.dbtg_plan.proofs.storing.push_joins.Goals as goal
 
 pub loop-s-preserved : goal.loop-s-preserved

@@ -1,6 +1,6 @@
 use Rattle.std.proofs.Common.{◌≡◌, ◌++◌, sym, ◌∙◌, ap, ℕ, length, arith}
 use Rattle.dbtg_plan.specs.Store.{openings_of}
-use Rattle.dbtg_plan.proofs.StoreSteps.{pushed_all, pushed_next}
+use Rattle.dbtg_plan.proofs.Store.StoreSteps.{pushed_all, pushed_next}
 use Rattle.dbtg_plan.proofs.storing.push_openings.Goals as goal
 
 pub loop-s-preserved : goal.loop-s-preserved

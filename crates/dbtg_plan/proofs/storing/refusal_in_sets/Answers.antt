@@ -2,12 +2,12 @@ use Rattle.std.proofs.Common.{◌≡◌, sym, ◌∙◌, ap, ℕ, List, length, 
 use Rattle.std.specs.Prelude.{is_some}
 use Rattle.std.specs.List.{flat_map}
 use Rattle.dbtg_schema.specs.Lookups.{first_cause}
-use Rattle.dbtg_unit.specs.InHand.{in_hand}
-use Rattle.dbtg_unit.specs.Checks.{place_checks}
-use Rattle.dbtg_unit.specs.Base.{key_item}
-use Rattle.dbtg_unit.proofs.NumberLemmas.{numbers_end}
+use Rattle.dbtg_unit.specs.Hands.InHand.{in_hand}
+use Rattle.dbtg_unit.specs.Database.Statements.Checks.{place_checks}
+use Rattle.dbtg_unit.specs.Database.State.Base.{key_item}
+use Rattle.dbtg_unit.proofs.Public.{numbers_end}
 use Rattle.dbtg_plan.specs.Store.{join_checks}
-use Rattle.dbtg_plan.proofs.StoreSteps.{cause_found, cause_passed, over_sets}
+use Rattle.dbtg_plan.proofs.Store.StoreSteps.{cause_found, cause_passed, over_sets}
 use Rattle.dbtg_plan.proofs.storing.refusal_in_sets.Goals as goal
 
 pub returns-then-is_some : goal.returns-then-is_some

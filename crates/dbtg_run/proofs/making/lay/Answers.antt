@@ -1,5 +1,5 @@
 use Rattle.std.proofs.Common.{◌+◌, length, ◌∙◌}
-use Rattle.dbtg_run.proofs.Made.{table_opens}
+use Rattle.dbtg_run.proofs.Units.Made.{table_opens}
 use Rattle.dbtg_run.proofs.making.lay.Goals as goal
 
 pub new-requires : goal.new-requires

@@ -1,11 +1,16 @@
-use Rattle.std.proofs.Common.{◌∙◌, ap, sym, subst}
+use Rattle.std.proofs.Common.{◌≡◌, ℕ, List, length, Option, None, ◌∙◌, ap, sym, subst}
+use Rattle.std.specs.Prelude.{replicate}
 use Rattle.dbtg_schema.specs.Lists.{Lists}
 use Rattle.dbtg_schema.specs.Sound.{IsSound}
-use Rattle.dbtg_unit.specs.Units.{opening_unit}
+use Rattle.dbtg_cells.specs.declared.key.Owner.{Owner}
+use Rattle.dbtg_unit.specs.Hands.Hands.{Hands}
+use Rattle.dbtg_unit.specs.Database.State.Units.{opening_unit}
+use Rattle.dbtg_step.specs.Core.Events.{HaveRings}
+use Rattle.dbtg_step.proofs.Public.{none_guessed}
 use Rattle.dbtg_run.specs.declared.view.About.{About}
 use Rattle.dbtg_run.specs.Posed.{IsOurs}
 use Rattle.dbtg_run.specs.Kept.{IsReal}
-use Rattle.dbtg_run.proofs.Made.{at_work_as}
+use Rattle.dbtg_run.proofs.Units.Made.{at_work_as}
 use Rattle.dbtg_run.proofs.making.newcomer.Goals as goal
 
 pub of-requires-clause-work : goal.of-requires-clause-work
@@ -14,7 +19,9 @@ of-requires-clause-work c =
     let unit = c.in_ok-unit.unit in let journal = c.new.result.items in let hands = c.new-2.result in
     let opens = c.in_ok-unit.ensures ∙ ap (λ (s : Lists). opening_unit s c.args.number) (sym c.requires.same) in
     let facts = at_work_as about c.args.number unit journal c.none-guesses.result hands (subst IsSound (sym c.requires.same) c.requires.sound) c.requires.number opens c.new.ensures.items c.new-2.ensures in
+    let guesses : hands.guesses ≡ replicate (length c.args.schema.now.sets) None = ap (λ (h : Hands). h.guesses) c.new-2.ensures ∙ c.none-guesses.ensures ∙ ap (λ (n : ℕ). replicate n None) (ap length c.sets.ensures.sets) in
     record {
       ours = subst (λ (a : About). IsOurs a unit) (sym c.told.ensures) facts.0;
       real = subst (λ (a : About). IsReal a unit journal hands) (sym c.told.ensures) facts.1;
+      rings = subst (λ (t : About × List (Option Owner)). HaveRings t.0.schema.value t.0.capacity t.1) (λ j. (sym c.told.ensures j, sym guesses j)) (none_guessed about.schema.value about.capacity (length c.args.schema.now.sets));
     }

@@ -1,7 +1,7 @@
 use Rattle.std.proofs.Common.{◌≡◌, ◌+◌, ◌<◌, refl, ap, ◌∙◌, arith}
 use Rattle.atomic_table.specs.Seated.{TableId}
 use Rattle.dbtg_run.specs.UnitView.{opening_view}
-use Rattle.dbtg_run.proofs.Made.{may_cut, cut_left, cut_one, one_left, views_more}
+use Rattle.dbtg_run.proofs.Units.Made.{may_cut, cut_left, cut_one, one_left, views_more}
 use Rattle.dbtg_run.proofs.making.seat_units.Goals as goal
 
 pub cut_off-seat-requires-clause-some : goal.cut_off-seat-requires-clause-some

@@ -1,6 +1,6 @@
 use Rattle.std.proofs.Common.{◌≡◌, ◌+◌, ◌≤◌, [], vec_len, vec_capacity}
 use Rattle.dbtg_run.specs.UnitView.{opening_views}
-use Rattle.dbtg_run.proofs.Made.{waiting}
+use Rattle.dbtg_run.proofs.Units.Made.{waiting}
 use Rattle.dbtg_run.proofs.making.seat_units.Given as goal
 
 -- the units of the lower places are made, and the first seat has the others

@@ -1,4 +1,4 @@
-use Rattle.dbtg_run.proofs.Runs.{ran_more, ran_next, ran_none}
+use Rattle.dbtg_run.proofs.Units.Runs.{ran_more, ran_next, ran_none}
 use Rattle.std.proofs.Common.{◌+◌, drop}
 use Rattle.dbtg_run.proofs.running.run_script.Goals as goal
 

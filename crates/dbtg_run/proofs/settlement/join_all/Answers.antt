@@ -1,6 +1,6 @@
 use Rattle.std.proofs.Common.{[], ◌∷◌, arith, ◌∙◌}
 use Rattle.dbtg_run.specs.UnitView.{BelongsTo}
-use Rattle.dbtg_run.proofs.Joined.{all_less, first_joins, live_seat, lone_seat, next_joins, one_more}
+use Rattle.dbtg_run.proofs.Together.Joined.{all_less, first_joins, live_seat, lone_seat, next_joins, one_more}
 use Rattle.dbtg_run.proofs.settlement.join_all.Goals as goal
 
 pub units-init : goal.units-init

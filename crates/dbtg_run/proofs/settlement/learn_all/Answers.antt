@@ -1,4 +1,4 @@
-use Rattle.dbtg_run.proofs.Joined.{are_all}
+use Rattle.dbtg_run.proofs.Together.Joined.{are_all}
 use Rattle.dbtg_run.proofs.settlement.learn_all.Goals as goal
 
 pub returns : goal.returns

@@ -3,12 +3,12 @@ use Rattle.std.proofs.Crossing.{crosses}
 use Rattle.std.proofs.lemmas.Result.{IfOk-at_ok, IfOk-weaker}
 use denote.Param.Send.{sendable}
 use Rattle.dbtg_unit.specs.declared.statement.Statement.{Statement}
-use Rattle.dbtg_unit.specs.Fits.{fits}
+use Rattle.dbtg_unit.specs.Database.Statements.Fits.{fits}
 use Rattle.dbtg_run.specs.Running.{HaveMade, IsWhole, Ran}
 use Rattle.dbtg_run.specs.UnitView.{BelongsTo}
-use Rattle.dbtg_run.proofs.Abreast.{all_back, all_belong, last_place, script_at}
+use Rattle.dbtg_run.proofs.Units.Abreast.{all_back, all_belong, last_place, script_at}
 use Rattle.dbtg_run.proofs.Crosses.{database_sync, statement_sync, unit_send}
-use Rattle.dbtg_run.proofs.Joined.{all_less}
+use Rattle.dbtg_run.proofs.Together.Joined.{all_less}
 use Rattle.dbtg_run.proofs.threads.+fn-run_all-join+arg3+run_all.Goals as goal
 
 pub join-one-requires-send-F : goal.join-one-requires-send-F

@@ -3,7 +3,7 @@ use Rattle.std.proofs.lemmas.Result.{IfErr-weaker, IfOk-weaker}
 use Rattle.dbtg_run.specs.declared.settled.Fault.TheVariants.{Missing}
 use Rattle.dbtg_run.specs.Running.{HaveMade, HaveRun, IsRun}
 use Rattle.dbtg_run.specs.Settling.{IsSettled}
-use Rattle.dbtg_run.proofs.Abreast.{have_not_run, where_ok}
+use Rattle.dbtg_run.proofs.Units.Abreast.{have_not_run, where_ok}
 use Rattle.dbtg_run.proofs.threads.run_units.Goals as goal
 
 pub returns-then-as_slice-db-clause-err : goal.returns-then-as_slice-db-clause-err

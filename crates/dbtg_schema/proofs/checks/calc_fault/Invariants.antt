@@ -1,10 +1,10 @@
 use Rattle.std.proofs.Common.{◌≡◌, [], drop, take}
 use Rattle.std.specs.Prelude.{filter}
 use Rattle.dbtg_schema.specs.Lookups.{first}
-use Rattle.dbtg_schema.specs.Labels.{is, named}
-use Rattle.dbtg_schema.specs.SchemaFaults.{calc_faults}
+use Rattle.dbtg_schema.specs.Texts.Labels.{is, named}
+use Rattle.dbtg_schema.specs.Texts.SchemaFaults.{calc_faults}
 use Rattle.dbtg_schema.specs.declared.role.Role.TheVariants as role
-use Rattle.dbtg_schema.specs.Views.{views}
+use Rattle.dbtg_schema.specs.Texts.Views.{views}
 use Rattle.dbtg_schema.proofs.checks.calc_fault.Given as goal
 
 abbrev pub invariant-loop-i : goal.invariant-loop-i

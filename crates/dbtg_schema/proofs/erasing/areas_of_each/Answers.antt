@@ -1,6 +1,6 @@
 use Rattle.std.proofs.Common.{Bool, List, [], ◌∷◌, ◌∙◌, ap, sym, subst, length, length-append, arith}
 use Rattle.dbtg_schema.specs.Erasing.{AreErased, AreErasedOfEach}
-use Rattle.dbtg_schema.proofs.Erasings.{none_of_each, one_of_each}
+use Rattle.dbtg_schema.proofs.Known.Erasings.{none_of_each, one_of_each}
 use Rattle.dbtg_schema.proofs.erasing.areas_of_each.Goals as goal
 
 pub loop-t-init : goal.loop-t-init

@@ -1,5 +1,5 @@
 use Rattle.std.proofs.Common.{◌∙◌, arith}
-use Rattle.dbtg_schema.proofs.Erasings.{touched}
+use Rattle.dbtg_schema.proofs.Known.Erasings.{touched}
 use Rattle.dbtg_schema.proofs.erasing.areas_reached.Goals as goal
 
 pub returns : goal.returns

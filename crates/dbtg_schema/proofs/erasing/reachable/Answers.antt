@@ -1,5 +1,5 @@
 use Rattle.std.proofs.Common.{false, [], ◌∷◌, refl, arith, add-one}
-use Rattle.dbtg_schema.proofs.Erasings.{next_round, none_marked, off, all_rounds}
+use Rattle.dbtg_schema.proofs.Known.Erasings.{next_round, none_marked, off, all_rounds}
 use Rattle.dbtg_schema.proofs.erasing.reachable.Goals as goal
 
 pub loop-round-init : goal.loop-round-init

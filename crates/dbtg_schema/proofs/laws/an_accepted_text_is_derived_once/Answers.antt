@@ -1,4 +1,4 @@
-use Rattle.dbtg_schema.proofs.OneReading.{accepted_once}
+use Rattle.dbtg_schema.proofs.Forms.OneReading.{accepted_once}
 use Rattle.dbtg_schema.proofs.laws.an_accepted_text_is_derived_once.Goals as goal
 
 pub returns : goal.returns

@@ -1,5 +1,5 @@
-use Rattle.dbtg_schema.specs.SchemaGrammar.{fits}
-use Rattle.dbtg_schema.proofs.Wanted.{no_way_on}
+use Rattle.dbtg_schema.specs.Texts.SchemaGrammar.{fits}
+use Rattle.dbtg_schema.proofs.Forms.Wanted.{no_way_on}
 use Rattle.dbtg_schema.proofs.laws.an_unwanted_word_begins_nothing.Goals as goal
 
 pub returns : goal.returns

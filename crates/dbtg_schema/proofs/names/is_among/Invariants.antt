@@ -1,5 +1,5 @@
 use Rattle.std.proofs.Common.{◌≡◌, map, drop}
-use Rattle.dbtg_schema.specs.Spelling.{among}
+use Rattle.dbtg_schema.specs.Texts.Spelling.{among}
 use Rattle.dbtg_schema.proofs.names.is_among.Given as goal
 
 abbrev pub invariant-loop-other : goal.invariant-loop-other

@@ -1,5 +1,5 @@
 use Rattle.std.proofs.Common.{◌≡◌, ◌+◌, ◌≤◌, drop}
-use Rattle.dbtg_schema.specs.Words.{last_line}
+use Rattle.dbtg_schema.specs.Texts.Words.{last_line}
 use Rattle.dbtg_schema.proofs.reader.last_line.Given as goal
 
 abbrev pub invariant-loop-i : goal.invariant-loop-i

@@ -1,25 +1,25 @@
 use Rattle.std.proofs.Common.{◌≡◌, List, [], ◌++◌, sym, ap, subst, ◌∙◌, arith}
 use Rattle.std.proofs.lemmas.Result.{err_from_is_err_and}
 use Rattle.std.specs.Prelude.{None}
-use Rattle.dbtg_schema.specs.Words.{last_line, text_words}
-use Rattle.dbtg_schema.specs.SchemaGrammar.{schema}
-use Rattle.dbtg_schema.specs.Words.{view}
-use Rattle.dbtg_schema.specs.Automaton.{rest_of}
-use Rattle.dbtg_schema.specs.Views.{views}
+use Rattle.dbtg_schema.specs.Texts.Words.{last_line, text_words}
+use Rattle.dbtg_schema.specs.Texts.SchemaGrammar.{schema}
+use Rattle.dbtg_schema.specs.Texts.Words.{view}
+use Rattle.dbtg_schema.specs.Texts.Automaton.{rest_of}
+use Rattle.dbtg_schema.specs.Texts.Views.{views}
 use Rattle.std.proofs.lemmas.List.{append-nil}
-use Rattle.dbtg_schema.specs.Forms.{labels, Derives}
-use Rattle.dbtg_schema.specs.Words.{Word}
-use Rattle.dbtg_schema.specs.SchemaGrammar.{fits, Labelled}
-use Rattle.dbtg_schema.specs.SchemaLists.{schema_of}
+use Rattle.dbtg_schema.specs.Texts.Forms.{labels, Derives}
+use Rattle.dbtg_schema.specs.Texts.Words.{Word}
+use Rattle.dbtg_schema.specs.Texts.SchemaGrammar.{fits, Labelled}
+use Rattle.dbtg_schema.specs.Texts.SchemaLists.{schema_of}
 use Rattle.dbtg_schema.specs.WellFormed.{IsSchema}
 use Rattle.dbtg_schema.specs.Sound.{IsSound}
-use Rattle.dbtg_schema.proofs.Soundness.{accepted_is_sound}
-use Rattle.dbtg_schema.proofs.Keeps.{accepted_is_schema}
-use Rattle.dbtg_schema.specs.Reading.{verdict, WithinLimits}
-use Rattle.dbtg_schema.proofs.Walks.{clean}
-use Rattle.dbtg_schema.proofs.Limits.{within_limits}
-use Rattle.dbtg_schema.proofs.Accepted.{derived}
-use Rattle.dbtg_schema.proofs.Seen.{seen, seen_word, seen_end, short_text, at_the_end}
+use Rattle.dbtg_schema.proofs.Sound.Soundness.{accepted_is_sound}
+use Rattle.dbtg_schema.proofs.Sound.Keeps.{accepted_is_schema}
+use Rattle.dbtg_schema.specs.Texts.Reading.{verdict, WithinLimits}
+use Rattle.dbtg_schema.proofs.Forms.Walks.{clean}
+use Rattle.dbtg_schema.proofs.Sound.Limits.{within_limits}
+use Rattle.dbtg_schema.proofs.Forms.Accepted.{derived}
+use Rattle.dbtg_schema.proofs.Forms.Seen.{seen, seen_word, seen_end, short_text, at_the_end}
 use Rattle.dbtg_schema.proofs.reader.read.Goals as goal
 
 pub returns-in_err-state-clause-refused : goal.returns-in_err-state-clause-refused

@@ -1,11 +1,11 @@
 use Rattle.std.proofs.Common.{◌≡◌, ◌++◌, [], length}
-use Rattle.dbtg_schema.specs.Words.{last_line, text_words}
-use Rattle.dbtg_schema.specs.Forms.{labels}
-use Rattle.dbtg_schema.specs.SchemaGrammar.{fits, schema}
-use Rattle.dbtg_schema.specs.Automaton.{rest_of}
-use Rattle.dbtg_schema.specs.Views.{views}
-use Rattle.dbtg_schema.specs.Reading.{verdict}
-use Rattle.dbtg_schema.proofs.Seen.{seen}
+use Rattle.dbtg_schema.specs.Texts.Words.{last_line, text_words}
+use Rattle.dbtg_schema.specs.Texts.Forms.{labels}
+use Rattle.dbtg_schema.specs.Texts.SchemaGrammar.{fits, schema}
+use Rattle.dbtg_schema.specs.Texts.Automaton.{rest_of}
+use Rattle.dbtg_schema.specs.Texts.Views.{views}
+use Rattle.dbtg_schema.specs.Texts.Reading.{verdict}
+use Rattle.dbtg_schema.proofs.Forms.Seen.{seen}
 use Rattle.dbtg_schema.proofs.reader.read.Given as goal
 
 abbrev pub invariant-loop-word : goal.invariant-loop-word

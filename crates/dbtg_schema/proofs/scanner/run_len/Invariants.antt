@@ -1,5 +1,5 @@
 use Rattle.std.proofs.Common.{◌≡◌, ℕ, ◌<◌, ◌≤◌, ◌-◌, true, length, get_or}
-use Rattle.dbtg_schema.specs.Words.{is_letter}
+use Rattle.dbtg_schema.specs.Texts.Words.{is_letter}
 use Rattle.dbtg_schema.proofs.scanner.run_len.Given as goal
 
 abbrev pub invariant-loop-n : goal.invariant-loop-n

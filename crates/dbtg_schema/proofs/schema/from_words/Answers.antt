@@ -2,26 +2,26 @@ use Rattle.std.proofs.Common.{◌≡◌, ◌≤◌, List, length, map, sym, ap, 
 use Rattle.std.specs.List.{All}
 use Rattle.dbtg_schema.specs.declared.role.Role.TheVariants as role
 use Rattle.dbtg_schema.specs.declared.shape.RecordType.{RecordType}
-use Rattle.dbtg_schema.specs.SchemaGrammar.{Labelled}
-use Rattle.dbtg_schema.specs.Labels.{until, entries}
-use Rattle.dbtg_schema.specs.SchemaLists.{area_from, record_type_from, schema_of}
+use Rattle.dbtg_schema.specs.Texts.SchemaGrammar.{Labelled}
+use Rattle.dbtg_schema.specs.Texts.Labels.{until, entries}
+use Rattle.dbtg_schema.specs.Texts.SchemaLists.{area_from, record_type_from, schema_of}
 use Rattle.dbtg_schema.specs.Lists.{Lists}
 use Rattle.dbtg_schema.specs.WellFormed.{IsSchema}
-use Rattle.dbtg_schema.specs.Views.{views}
-use Rattle.dbtg_schema.proofs.Places.{length-mapped}
-use Rattle.dbtg_schema.proofs.Fit.{items_fit}
+use Rattle.dbtg_schema.specs.Texts.Views.{views}
+use Rattle.dbtg_schema.proofs.Known.Places.{length_mapped}
+use Rattle.dbtg_schema.proofs.Sound.Fit.{items_fit}
 use Rattle.dbtg_schema.proofs.schema.from_words.Goals as goal
 
 pub types-requires-clause-areas_fit : goal.types-requires-clause-areas_fit
 types-requires-clause-areas_fit c =
-    let same = ap length c.deref.ensures.value ∙ ap length c.in_ok-areas.ensures ∙ length-mapped area_from role.AreaEntry (views c.args.words.now) in
+    let same = ap length c.deref.ensures.value ∙ ap length c.in_ok-areas.ensures ∙ length_mapped area_from role.AreaEntry (views c.args.words.now) in
     let h = c.requires.limits.areas in
     omega (arith, same, h)
 
 pub sets-requires-clause-types_fit : goal.sets-requires-clause-types_fit
 sets-requires-clause-types_fit c =
     let types_same = c.deref-2.ensures.value ∙ c.in_ok-types.ensures ∙ ap (λ (ws : List Labelled). map (record_type_from c.deref.result.now) (entries role.RecordEntry ws)) c.front.ensures in
-    let same = ap length types_same ∙ length-mapped (record_type_from c.deref.result.now) role.RecordEntry (until role.SetEntry (views c.args.words.now)) in
+    let same = ap length types_same ∙ length_mapped (record_type_from c.deref.result.now) role.RecordEntry (until role.SetEntry (views c.args.words.now)) in
     let h = c.requires.limits.types in
     omega (arith, same, h)
 

@@ -1,5 +1,5 @@
 use Rattle.std.proofs.Common.{◌≡◌, map, drop}
-use Rattle.dbtg_schema.specs.Forms.{start_with, starts}
+use Rattle.dbtg_schema.specs.Texts.Forms.{start_with, starts}
 use Rattle.dbtg_script.specs.Tokens.{view}
 use Rattle.dbtg_script.specs.StatementGrammar.{fits}
 use Rattle.dbtg_script.specs.Automaton.{rest_of, view_start}

@@ -1,5 +1,5 @@
 use Rattle.std.proofs.Common.{◌≡◌, drop, map}
-use Rattle.dbtg_script.specs.Echo.{widened}
+use Rattle.dbtg_script.specs.Printing.Echo.{widened}
 use Rattle.dbtg_script.proofs.echo.column.Given as goal
 
 abbrev pub invariant-loop-line : goal.invariant-loop-line

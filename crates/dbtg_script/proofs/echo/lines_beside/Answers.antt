@@ -1,9 +1,9 @@
 use Rattle.std.proofs.Common.{◌≡◌, ◌∙◌, ◌++◌, ◌+◌, length-set, ℕ, [], List, length, map, take, drop, sym, ap, arith}
 use Rattle.std.specs.Prelude.{slice_get, unwrap_or}
-use Rattle.dbtg_unit.specs.Replay.{entries_of}
+use Rattle.dbtg_unit.specs.Database.Laws.Replay.{entries_of}
 use Rattle.dbtg_unit.specs.declared.unit.Entry.{Entry}
-use Rattle.dbtg_script.specs.Echo.{lines_beside, lines_for}
-use Rattle.dbtg_script.proofs.Beside.{counted, few_more, next_beside, pushed, taken_more}
+use Rattle.dbtg_script.specs.Printing.Echo.{lines_beside, lines_for}
+use Rattle.dbtg_script.proofs.Printing.Beside.{counted, few_more, next_beside, pushed, taken_more}
 use Rattle.dbtg_script.proofs.echo.lines_beside.Goals as goal
 
 pub loop-entry-init : goal.loop-entry-init

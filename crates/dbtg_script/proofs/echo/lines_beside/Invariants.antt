@@ -1,6 +1,6 @@
 use Rattle.std.proofs.Common.{◌≡◌, ℕ, ◌<◌, ◌≤◌, ◌++◌, [], length, get_or, map, take, drop}
-use Rattle.dbtg_unit.specs.Replay.{entries_of}
-use Rattle.dbtg_script.specs.Echo.{lines_beside}
+use Rattle.dbtg_unit.specs.Database.Laws.Replay.{entries_of}
+use Rattle.dbtg_script.specs.Printing.Echo.{lines_beside}
 use Rattle.dbtg_script.proofs.echo.lines_beside.Given as goal
 
 abbrev pub invariant-loop-entry : goal.invariant-loop-entry

@@ -1,5 +1,5 @@
 use Rattle.std.proofs.Common.{drop, map, length, arith}
-use Rattle.dbtg_script.proofs.Beside.{rows_done}
+use Rattle.dbtg_script.proofs.Printing.Beside.{rows_done}
 use Rattle.dbtg_script.proofs.echo.push_rows.Goals as goal
 
 pub returns-then-i-history : goal.returns-then-i-history

@@ -1,5 +1,5 @@
 use Rattle.std.proofs.Common.{◌≡◌, ◌++◌, drop, map}
-use Rattle.dbtg_script.specs.Echo.{rows_text}
+use Rattle.dbtg_script.specs.Printing.Echo.{rows_text}
 use Rattle.dbtg_script.proofs.echo.push_rows.Given as goal
 
 abbrev pub invariant-loop-i : goal.invariant-loop-i

@@ -1,5 +1,5 @@
 use Rattle.std.proofs.Common.{◌≡◌, ◌++◌, drop}
-use Rattle.dbtg_script.specs.Texts.{areas_text}
+use Rattle.dbtg_script.specs.Printing.Texts.{areas_text}
 use Rattle.dbtg_script.proofs.image.push_areas.Given as goal
 
 abbrev pub invariant-loop-i : goal.invariant-loop-i

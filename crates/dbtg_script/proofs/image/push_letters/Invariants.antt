@@ -1,5 +1,5 @@
 use Rattle.std.proofs.Common.{◌≡◌, ◌++◌, take, map}
-use Rattle.dbtg_script.specs.Texts.{letter}
+use Rattle.dbtg_script.specs.Printing.Texts.{letter}
 use Rattle.dbtg_script.proofs.image.push_letters.Given as goal
 
 abbrev pub invariant-loop-step : goal.invariant-loop-step

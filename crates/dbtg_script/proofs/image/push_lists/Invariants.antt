@@ -1,5 +1,5 @@
 use Rattle.std.proofs.Common.{◌≡◌, ◌++◌, drop}
-use Rattle.dbtg_script.specs.Texts.{lists_text}
+use Rattle.dbtg_script.specs.Printing.Texts.{lists_text}
 use Rattle.dbtg_script.proofs.image.push_lists.Given as goal
 
 abbrev pub invariant-loop-i : goal.invariant-loop-i

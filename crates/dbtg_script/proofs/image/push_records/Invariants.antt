@@ -1,5 +1,5 @@
 use Rattle.std.proofs.Common.{◌≡◌, ◌++◌, take}
-use Rattle.dbtg_script.specs.Texts.{records_text}
+use Rattle.dbtg_script.specs.Printing.Texts.{records_text}
 use Rattle.dbtg_script.proofs.image.push_records.Given as goal
 
 abbrev pub invariant-loop-entry : goal.invariant-loop-entry

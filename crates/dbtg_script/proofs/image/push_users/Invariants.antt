@@ -1,6 +1,6 @@
 use Rattle.std.proofs.Common.{◌≡◌, ◌++◌, take}
 use Rattle.std.specs.List.{flat_map}
-use Rattle.dbtg_script.specs.Texts.{opened_text}
+use Rattle.dbtg_script.specs.Printing.Texts.{opened_text}
 use Rattle.dbtg_script.proofs.image.push_users.Given as goal
 
 abbrev pub invariant-loop-user : goal.invariant-loop-user

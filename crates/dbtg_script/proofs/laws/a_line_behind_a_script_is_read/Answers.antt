@@ -1,4 +1,4 @@
-use Rattle.dbtg_script.proofs.LineBehind.{is_read_behind}
+use Rattle.dbtg_script.proofs.Reading.LineBehind.{is_read_behind}
 use Rattle.dbtg_script.proofs.laws.a_line_behind_a_script_is_read.Goals as goal
 
 pub returns : goal.returns

@@ -1,4 +1,4 @@
-use Rattle.dbtg_script.proofs.KeyText.{printed_key}
+use Rattle.dbtg_script.proofs.Printing.KeyText.{printed_key}
 use Rattle.dbtg_script.proofs.laws.a_printed_key_is_read_back.Goals as goal
 
 pub returns : goal.returns

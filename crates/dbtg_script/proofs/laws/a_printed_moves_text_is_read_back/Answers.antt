@@ -1,5 +1,5 @@
-use Rattle.dbtg_script.proofs.ReadBack.{moves_back}
+use Rattle.dbtg_script.proofs.Printing.ReadBack.{moves_read_back}
 use Rattle.dbtg_script.proofs.laws.a_printed_moves_text_is_read_back.Goals as goal
 
 pub returns : goal.returns
-returns c = moves_back
+returns c = moves_read_back

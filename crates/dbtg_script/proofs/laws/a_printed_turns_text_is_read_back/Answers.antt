@@ -1,5 +1,5 @@
-use Rattle.dbtg_script.proofs.ReadBack.{turns_back}
+use Rattle.dbtg_script.proofs.Printing.ReadBack.{turns_read_back}
 use Rattle.dbtg_script.proofs.laws.a_printed_turns_text_is_read_back.Goals as goal
 
 pub returns : goal.returns
-returns c = turns_back
+returns c = turns_read_back

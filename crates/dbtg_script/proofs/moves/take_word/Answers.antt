@@ -1,6 +1,6 @@
 use Rattle.std.proofs.Common.{◌+◌, length, ap, ◌∙◌, sym, arith}
 use Rattle.dbtg_script.specs.Moves.{refused_word}
-use Rattle.dbtg_script.proofs.MoveSteps.{no_move, too_many, moves_on}
+use Rattle.dbtg_script.proofs.Reading.MoveSteps.{no_move, too_many, moves_on}
 use Rattle.dbtg_script.proofs.moves.take_word.Goals as goal
 
 pub returns-in-None-clause-refused : goal.returns-in-None-clause-refused

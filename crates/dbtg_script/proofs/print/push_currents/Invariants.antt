@@ -1,6 +1,6 @@
 use Rattle.std.proofs.Common.{◌≡◌, ◌++◌, take}
 use Rattle.std.specs.List.{flat_map}
-use Rattle.dbtg_script.specs.Texts.{current_text}
+use Rattle.dbtg_script.specs.Printing.Texts.{current_text}
 use Rattle.dbtg_script.proofs.print.push_currents.Given as goal
 
 abbrev pub invariant-loop-current : goal.invariant-loop-current

@@ -1,5 +1,5 @@
 use Rattle.std.proofs.Common.{◌≡◌, ◌++◌, drop}
-use Rattle.dbtg_script.specs.Texts.{items_text}
+use Rattle.dbtg_script.specs.Printing.Texts.{items_text}
 use Rattle.dbtg_script.proofs.print.push_items.Given as goal
 
 abbrev pub invariant-loop-i : goal.invariant-loop-i

@@ -1,6 +1,6 @@
 use Rattle.std.proofs.Common.{◌≡◌, ◌++◌, take}
 use Rattle.std.specs.List.{flat_map}
-use Rattle.dbtg_script.specs.Texts.{kept_entry}
+use Rattle.dbtg_script.specs.Printing.Texts.{kept_entry}
 use Rattle.dbtg_script.proofs.print.push_kept_entries.Given as goal
 
 abbrev pub invariant-loop-entry : goal.invariant-loop-entry

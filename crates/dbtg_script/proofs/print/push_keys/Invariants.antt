@@ -1,6 +1,6 @@
 use Rattle.std.proofs.Common.{◌≡◌, ◌++◌, take}
 use Rattle.std.specs.List.{flat_map}
-use Rattle.dbtg_script.specs.Texts.{spaced_key}
+use Rattle.dbtg_script.specs.Printing.Texts.{spaced_key}
 use Rattle.dbtg_script.proofs.print.push_keys.Given as goal
 
 abbrev pub invariant-loop-key : goal.invariant-loop-key

@@ -1,6 +1,6 @@
 use Rattle.std.proofs.Common.{◌≡◌, ◌++◌, take}
 use Rattle.std.specs.List.{flat_map}
-use Rattle.dbtg_script.specs.Texts.{place_text}
+use Rattle.dbtg_script.specs.Printing.Texts.{place_text}
 use Rattle.dbtg_script.proofs.print.push_places.Given as goal
 
 abbrev pub invariant-loop-place : goal.invariant-loop-place

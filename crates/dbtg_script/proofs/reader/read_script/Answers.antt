@@ -1,14 +1,14 @@
 use Rattle.std.proofs.Common.{◌≡◌, ◌∙◌, ◌+◌, ◌++◌, refl, sym, ap, subst, List, ℕ, Option, arith, length}
 use Rattle.std.specs.List.{list_all}
 use Rattle.std.proofs.lemmas.List.{append-nil}
-use Rattle.dbtg_unit.specs.Fits.{fits as statement_fits}
+use Rattle.dbtg_unit.specs.Database.Statements.Fits.{fits as statement_fits}
 use Rattle.dbtg_unit.specs.declared.statement.Statement.{Statement}
 use Rattle.dbtg_script.specs.declared.fault.Fault.{Fault}
 use Rattle.dbtg_script.specs.Lines.{lines, trimmed}
 use Rattle.dbtg_script.specs.Reading.{lines_verdict, RefusesScript, at_line}
 use Rattle.dbtg_script.specs.Statements.{line_statement, script, statements_of}
-use Rattle.dbtg_script.proofs.FittingStatements.{script_fits}
-use Rattle.dbtg_script.proofs.ScriptSteps.{line_passes, line_refused, counted, one_more, short_script, no_lines}
+use Rattle.dbtg_script.proofs.Fitting.FittingStatements.{script_fits}
+use Rattle.dbtg_script.proofs.Reading.ScriptSteps.{line_passes, line_refused, counted, one_more, short_script, no_lines}
 use Rattle.dbtg_script.proofs.reader.read_script.Goals as goal
 
 pub returns-in-Err-clause-refused : goal.returns-in-Err-clause-refused

@@ -1,4 +1,4 @@
-use Rattle.dbtg_script.proofs.FittingStatements.{line_read_fits}
+use Rattle.dbtg_script.proofs.Fitting.FittingStatements.{line_read_fits}
 use Rattle.dbtg_script.proofs.reader.read_script_line.Goals as goal
 
 pub returns-clause-fitting : goal.returns-clause-fitting

@@ -1,6 +1,6 @@
 use Rattle.std.proofs.Common.{◌∙◌, sym, subst}
 use Rattle.dbtg_script.specs.Reading.{Refuses}
-use Rattle.dbtg_script.proofs.ScriptSteps.{closed_line}
+use Rattle.dbtg_script.proofs.Reading.ScriptSteps.{closed_line}
 use Rattle.dbtg_script.proofs.reader.read_statement.Goals as goal
 
 pub returns-in-Err-clause-refused : goal.returns-in-Err-clause-refused

@@ -1,5 +1,5 @@
 use Rattle.std.proofs.Common.{◌≡◌, ◌++◌, [], false, length}
-use Rattle.dbtg_schema.specs.Forms.{labels}
+use Rattle.dbtg_schema.specs.Texts.Forms.{labels}
 use Rattle.dbtg_script.specs.StatementGrammar.{fits, statement}
 use Rattle.dbtg_script.specs.Tokens.{tokens}
 use Rattle.dbtg_script.specs.Automaton.{rest_of}

@@ -1,5 +1,5 @@
 use Rattle.std.proofs.Common.{arith}
-use Rattle.dbtg_script.proofs.KnownLines.{at_index, says_again}
+use Rattle.dbtg_script.proofs.Reading.KnownLines.{at_index, says_again}
 use Rattle.dbtg_script.proofs.reader.said_again.Goals as goal
 
 pub returns-in_ok-copy-in-Some-get : goal.returns-in_ok-copy-in-Some-get

@@ -3,7 +3,7 @@ use Rattle.std.proofs.lemmas.List.{map_push}
 use Rattle.dbtg_script.specs.Tokens.{view}
 use Rattle.dbtg_script.specs.Automaton.{rest_of, view_start}
 use Rattle.dbtg_script.specs.Views.{views}
-use Rattle.dbtg_script.proofs.Steps.{goes_on, stops_at, stops_other, labels_go_on}
+use Rattle.dbtg_script.proofs.Reading.Steps.{goes_on, stops_at, stops_other, labels_go_on}
 use Rattle.dbtg_script.proofs.reader.take.Goals as goal
 
 pub returns-in-Some-said-clause-reached : goal.returns-in-Some-said-clause-reached

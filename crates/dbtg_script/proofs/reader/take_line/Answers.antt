@@ -1,5 +1,5 @@
 use Rattle.std.proofs.Common.{◌∙◌}
-use Rattle.dbtg_script.proofs.KnownLines.{still_known, said_behind}
+use Rattle.dbtg_script.proofs.Reading.KnownLines.{still_known, said_behind}
 use Rattle.dbtg_script.proofs.reader.take_line.Goals as goal
 
 pub returns-in_ok-push-in-Some-clause-known : goal.returns-in_ok-push-in-Some-clause-known

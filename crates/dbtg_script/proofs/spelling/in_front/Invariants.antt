@@ -1,5 +1,5 @@
 use Rattle.std.proofs.Common.{◌≡◌, ◌++◌, take, drop}
-use Rattle.dbtg_script.specs.Spelling.{in_front}
+use Rattle.dbtg_script.specs.Printing.Spelling.{in_front}
 use Rattle.dbtg_script.proofs.spelling.in_front.Given as goal
 
 abbrev pub invariant-loop-i : goal.invariant-loop-i

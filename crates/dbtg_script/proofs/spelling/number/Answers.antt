@@ -1,7 +1,7 @@
 use Rattle.std.proofs.Common.{◌≡◌, ◌∙◌, ◌<◌, length, ◌^◌, ◌+◌, ◌*◌, ◌-◌, ◌∷◌, ℕ, List, drop, sym, ap, get_or, arith, add-one, drop-cons}
 use Rattle.std.specs.Prelude.{min}
-use Rattle.dbtg_script.specs.Spelling.{number_after}
-use Rattle.dbtg_script.proofs.Numbers.{capped_again}
+use Rattle.dbtg_script.specs.Printing.Spelling.{number_after}
+use Rattle.dbtg_script.proofs.Reading.Numbers.{capped_again}
 use Rattle.dbtg_script.proofs.spelling.number.Goals as goal
 
 pub loop-digit-preserved : goal.loop-digit-preserved

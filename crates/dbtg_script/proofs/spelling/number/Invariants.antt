@@ -1,6 +1,6 @@
 use Rattle.std.proofs.Common.{◌≡◌, ◌≤◌, ◌^◌, drop}
 use Rattle.std.specs.Prelude.{min}
-use Rattle.dbtg_script.specs.Spelling.{number, number_after}
+use Rattle.dbtg_script.specs.Printing.Spelling.{number, number_after}
 use Rattle.dbtg_script.proofs.spelling.number.Given as goal
 
 abbrev pub invariant-loop-digit : goal.invariant-loop-digit

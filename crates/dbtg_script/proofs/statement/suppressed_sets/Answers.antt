@@ -1,6 +1,6 @@
 use Rattle.std.proofs.Common.{sym}
 use Rattle.dbtg_script.specs.Views.{views}
-use Rattle.dbtg_script.proofs.Suppressed.{none_suppressed}
+use Rattle.dbtg_script.proofs.Reading.Suppressed.{none_suppressed}
 use Rattle.dbtg_script.proofs.statement.suppressed_sets.Goals as goal
 
 pub returns-else-has : goal.returns-else-has

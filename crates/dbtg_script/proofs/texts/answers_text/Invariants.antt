@@ -1,5 +1,5 @@
 use Rattle.std.proofs.Common.{◌≡◌, take}
-use Rattle.dbtg_script.specs.Texts.{answers_text}
+use Rattle.dbtg_script.specs.Printing.Texts.{answers_text}
 use Rattle.dbtg_script.proofs.texts.answers_text.Given as goal
 
 abbrev pub invariant-loop-entry : goal.invariant-loop-entry

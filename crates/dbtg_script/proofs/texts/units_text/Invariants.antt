@@ -1,5 +1,5 @@
 use Rattle.std.proofs.Common.{◌≡◌, take}
-use Rattle.dbtg_script.specs.Texts.{units_text}
+use Rattle.dbtg_script.specs.Printing.Texts.{units_text}
 use Rattle.dbtg_script.proofs.texts.units_text.Given as goal
 
 abbrev pub invariant-loop-unit : goal.invariant-loop-unit

@@ -1,6 +1,6 @@
 use Rattle.std.proofs.Common.{sym, ap, ◌∙◌, length, map}
 use Rattle.dbtg_script.specs.Moves.{spelled_turn, words}
-use Rattle.dbtg_script.proofs.MoveSteps.{no_words}
+use Rattle.dbtg_script.proofs.Reading.MoveSteps.{no_words}
 use Rattle.dbtg_script.proofs.turns.read_turns.Goals as goal
 
 pub returns-clause-accepted : goal.returns-clause-accepted

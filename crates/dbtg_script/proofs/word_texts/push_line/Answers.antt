@@ -1,8 +1,8 @@
 use Rattle.std.proofs.Common.{◌≡◌, ◌+◌, ◌++◌, ◌<◌, ◌∷◌, List, ℕ, [], length, get_or, drop, sym, ap, ◌∙◌, arith, append_assoc, add-one, drop-cons, refl}
 use Rattle.dbtg_unit.specs.declared.moves.Move.{Move}
 use Rattle.dbtg_unit.specs.declared.moves.Move.TheVariants.{Step}
-use Rattle.dbtg_script.specs.WordTexts.{move_word}
-use Rattle.dbtg_script.proofs.WordRuns.{line_from, line_grown, line_begun}
+use Rattle.dbtg_script.specs.Printing.WordTexts.{move_word}
+use Rattle.dbtg_script.proofs.Printing.WordRuns.{line_from, line_grown, line_begun}
 use Rattle.dbtg_script.proofs.word_texts.push_line.Goals as goal
 use Rattle.dbtg_script.proofs.word_texts.push_line.Goals.{then-in_one_word, else-in_one_word+in_ok-push_word+in_ok-push}
 

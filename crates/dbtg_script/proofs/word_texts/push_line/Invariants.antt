@@ -1,6 +1,6 @@
 use Rattle.std.proofs.Common.{◌≡◌, ◌+◌, ◌++◌, ◌≤◌, drop}
-use Rattle.dbtg_script.specs.WordTexts.{line_of, run_words, onto_run, runs}
-use Rattle.dbtg_script.proofs.WordRuns.{line_from}
+use Rattle.dbtg_script.specs.Printing.WordTexts.{line_of, run_words, onto_run, runs}
+use Rattle.dbtg_script.proofs.Printing.WordRuns.{line_from}
 use Rattle.dbtg_script.proofs.word_texts.push_line.Given as goal
 
 abbrev pub invariant-loop-next : goal.invariant-loop-next

@@ -1,7 +1,7 @@
 use Rattle.std.proofs.Common.{subst}
 use Rattle.std.specs.Prelude.{IfOk}
-use Rattle.dbtg_step.specs.Audit.{IsAudited}
-use Rattle.dbtg_step.specs.Whole.{Making}
+use Rattle.dbtg_step.specs.Core.Audit.{IsAudited}
+use Rattle.dbtg_step.specs.Core.Whole.{Making}
 use Rattle.dbtg_step.proofs.auditing.audit.Goals as goal
 
 pub returns-in-Ok : goal.returns-in-Ok

@@ -1,5 +1,5 @@
 use Rattle.std.proofs.Common.{refl}
-use Rattle.dbtg_step.proofs.Audits.{led}
+use Rattle.dbtg_step.proofs.MadeWhole.Audits.{led}
 use Rattle.dbtg_step.proofs.auditing.outcome_of.Goals as goal
 
 pub returns-in-Ok : goal.returns-in-Ok

@@ -2,9 +2,9 @@ use Rattle.std.proofs.Common.{◌∙◌, ap, sym, subst, ◌&&◌, length}
 use Rattle.std.specs.Prelude.{nat_lt, nat_le, ◌==◌}
 use Rattle.dbtg_schema.specs.Lists.{Lists}
 use Rattle.dbtg_unit.specs.declared.statement.Statement.{Statement}
-use Rattle.dbtg_unit.specs.Fits.{fits}
-use Rattle.dbtg_step.specs.Whole.{HasMade}
-use Rattle.dbtg_step.proofs.Audits.{decided, history_made, made_entry, may_follow, newest_of, refused}
+use Rattle.dbtg_unit.specs.Database.Statements.Fits.{fits}
+use Rattle.dbtg_step.specs.Core.Whole.{HasMade}
+use Rattle.dbtg_step.proofs.MadeWhole.Audits.{decided, history_made, made_entry, may_follow, newest_of, refused}
 use Rattle.dbtg_step.proofs.auditing.takes.Goals as goal
 
 pub returns-then-not-may_follow : goal.returns-then-not-may_follow

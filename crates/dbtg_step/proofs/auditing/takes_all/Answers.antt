@@ -1,9 +1,9 @@
 use Rattle.std.proofs.Common.{◌≡◌, ◌<◌, ◌≤◌, ◌+◌, ◌∙◌, sym, ap, subst, take, drop, List, [], ◌++◌, ◌∷◌, length, suc, arith, drop-cons}
 use Rattle.std.proofs.lemmas.List.{take-append-drop, take_all, take_more}
 use Rattle.dbtg_unit.specs.declared.unit.Entry.{Entry}
-use Rattle.dbtg_step.specs.Audit.{GoesOn}
-use Rattle.dbtg_step.specs.Whole.{Making}
-use Rattle.dbtg_step.proofs.Audits.{joined_at, joins, not_led, refused_at, stands}
+use Rattle.dbtg_step.specs.Core.Audit.{GoesOn}
+use Rattle.dbtg_step.specs.Core.Whole.{Making}
+use Rattle.dbtg_step.proofs.MadeWhole.Audits.{joins, not_led, refused_at, stands, match_true}
 use Rattle.dbtg_step.proofs.auditing.takes_all.Goals as goal
 
 pub takes-requires : goal.takes-requires
@@ -40,5 +40,5 @@ loop-entry-preserved c =
     let entry = c.entry-item.result in
     let below : index < length history = omega arith in
     let more : take index history ++ entry ∷ [] ≡ take (index + 1) history = ap (λ (x : Entry). take index history ++ x ∷ []) c.entry-item.is ∙ sym (take_more history index entry below) in
-    joins old.schema old.capacity old.units c.loop-entry.database c.takes.new.database (take index history) entry c.loop-entry.invariant (joined_at c.in_ok-takes.field-0 _ _ c.if-not-branch.false c.in_ok-takes.ensures)
+    joins old.schema old.capacity old.units c.loop-entry.database c.takes.new.database (take index history) entry c.loop-entry.invariant (match_true c.in_ok-takes.field-0 _ _ c.if-not-branch.false c.in_ok-takes.ensures)
     ∙ ap (stands old.schema old.capacity old.units) more

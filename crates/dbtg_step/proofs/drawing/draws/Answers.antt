@@ -1,7 +1,7 @@
 use Rattle.std.proofs.Common.{◌≡◌, Some, slice_get, length, refl, ◌-◌, arith}
 use Rattle.std.proofs.lemmas.Option.{slice_get_read}
-use Rattle.dbtg_step.proofs.NeedsShown.{agrees_now, database_now, once_now}
-use Rattle.dbtg_step.proofs.DrawnShown.{drawn_is, may_prepare, unmade_is}
+use Rattle.dbtg_step.proofs.TheCore.NeedsShown.{agrees_now, database_now, once_now}
+use Rattle.dbtg_step.proofs.TheCore.DrawnShown.{drawn_is, may_prepare, unmade_is}
 use Rattle.dbtg_step.proofs.drawing.draws.Goals as goal
 
 pub draw-requires-clause-may : goal.draw-requires-clause-may

@@ -1,4 +1,4 @@
-use Rattle.dbtg_step.proofs.Makings.{agrees_also, made_on}
+use Rattle.dbtg_step.proofs.TheCore.Makings.{agrees_also, made_on}
 use Rattle.dbtg_step.proofs.drawing.make.Goals as goal
 
 pub finish-requires : goal.finish-requires

@@ -1,7 +1,7 @@
 use Rattle.std.proofs.Common.{◌+◌, ◌++◌, ◌∙◌, ap, arith}
 use Rattle.dbtg_cells.specs.declared.name.CellName.TheVariants.{Slot}
-use Rattle.dbtg_step.specs.Imaging.{found_in, stored_at, version_of}
-use Rattle.dbtg_step.proofs.RangePushes.{flat_pushed}
+use Rattle.dbtg_step.specs.Core.Imaging.{found_in, stored_at, version_of}
+use Rattle.dbtg_step.proofs.TheCore.RangePushes.{flat_pushed}
 use Rattle.dbtg_step.proofs.imaging.add_versions.Goals as goal
 
 pub loop-turn-preserved : goal.loop-turn-preserved

@@ -1,6 +1,6 @@
 use Rattle.std.proofs.Common.{[], ◌++◌, ◌∙◌, ap, arith}
-use Rattle.dbtg_step.specs.Imaging.{found_in, versions_of}
-use Rattle.dbtg_step.proofs.RangePushes.{flat_pushed}
+use Rattle.dbtg_step.specs.Core.Imaging.{found_in, versions_of}
+use Rattle.dbtg_step.proofs.TheCore.RangePushes.{flat_pushed}
 use Rattle.dbtg_step.proofs.imaging.all_versions.Goals as goal
 
 pub loop-rtype-preserved : goal.loop-rtype-preserved

@@ -1,6 +1,6 @@
 use Rattle.std.proofs.Common.{◌+◌, arith}
 use Rattle.dbtg_cells.specs.Numbers.{last_of}
-use Rattle.dbtg_step.proofs.RangePushes.{map_pushed}
+use Rattle.dbtg_step.proofs.TheCore.RangePushes.{map_pushed}
 use Rattle.dbtg_step.proofs.imaging.generations.Goals as goal
 
 pub loop-turn-preserved : goal.loop-turn-preserved

@@ -1,5 +1,5 @@
 use Rattle.std.proofs.Common.{sym, ◌∙◌, arith}
-use Rattle.dbtg_step.proofs.CellsFound.{unit_before, unit_none}
+use Rattle.dbtg_step.proofs.TheCore.CellsFound.{unit_before, unit_none}
 use Rattle.dbtg_step.proofs.imaging.holder.Goals as goal
 
 pub returns-then-unit-eq0 : goal.returns-then-unit-eq0

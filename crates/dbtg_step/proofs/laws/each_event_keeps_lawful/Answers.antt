@@ -1,6 +1,6 @@
-use Rattle.dbtg_step.specs.Network.{network}
-use Rattle.dbtg_step.proofs.Keeps.{event_keeps}
-use Rattle.dbtg_step.proofs.NetworkFacts.{network_is_sequential}
+use Rattle.dbtg_step.specs.Machine.Network.{network}
+use Rattle.dbtg_step.proofs.EachEvent.Keeps.{event_keeps}
+use Rattle.dbtg_step.proofs.Network.NetworkFacts.{network_is_sequential}
 use Rattle.dbtg_step.proofs.laws.each_event_keeps_lawful.Goals as goal
 
 pub returns : goal.returns

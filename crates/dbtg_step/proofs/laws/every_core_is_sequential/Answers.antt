@@ -1,4 +1,4 @@
-use Rattle.dbtg_step.proofs.CoreShown.{core_sequential}
+use Rattle.dbtg_step.proofs.TheCore.CoreShown.{core_sequential}
 use Rattle.dbtg_step.proofs.laws.every_core_is_sequential.Goals as goal
 
 pub returns : goal.returns

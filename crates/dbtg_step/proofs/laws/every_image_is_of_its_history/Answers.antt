@@ -1,5 +1,5 @@
-use Rattle.dbtg_step.specs.Network.{network}
-use Rattle.dbtg_step.proofs.Images.{image_is, database_shown}
+use Rattle.dbtg_step.specs.Machine.Network.{network}
+use Rattle.dbtg_step.proofs.EachEvent.Images.{image_is, database_shown}
 use Rattle.dbtg_step.proofs.laws.every_image_is_of_its_history.Goals as goal
 
 pub returns : goal.returns

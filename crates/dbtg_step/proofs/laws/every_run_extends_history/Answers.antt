@@ -1,5 +1,5 @@
-use Rattle.dbtg_step.specs.Network.{network}
-use Rattle.dbtg_step.proofs.Histories.{run_extends}
+use Rattle.dbtg_step.specs.Machine.Network.{network}
+use Rattle.dbtg_step.proofs.Runs.Histories.{run_extends}
 use Rattle.dbtg_step.proofs.laws.every_run_extends_history.Goals as goal
 
 pub returns : goal.returns

@@ -1,7 +1,7 @@
-use Rattle.dbtg_step.specs.Network.{network}
-use Rattle.dbtg_step.proofs.Keeps.{run_keeps}
-use Rattle.dbtg_step.proofs.NetworkFacts.{network_is_sequential}
-use Rattle.dbtg_step.proofs.Opening.{opening_is_lawful}
+use Rattle.dbtg_step.specs.Machine.Network.{network}
+use Rattle.dbtg_step.proofs.EachEvent.Keeps.{run_keeps}
+use Rattle.dbtg_step.proofs.Network.NetworkFacts.{network_is_sequential}
+use Rattle.dbtg_step.proofs.Runs.Opening.{opening_is_lawful}
 use Rattle.dbtg_step.proofs.laws.every_run_is_lawful.Goals as goal
 
 pub returns : goal.returns

@@ -1,7 +1,7 @@
 use Rattle.std.proofs.Common.{length}
-use Rattle.dbtg_unit.proofs.LegalHistory.{opening_is_legal}
-use Rattle.dbtg_step.proofs.Headlines.{run_is_sequential}
-use Rattle.dbtg_step.proofs.NetworkFacts.{network_is_sequential}
+use Rattle.dbtg_unit.proofs.Public.{opening_is_legal}
+use Rattle.dbtg_step.proofs.Runs.Headlines.{run_is_sequential}
+use Rattle.dbtg_step.proofs.Network.NetworkFacts.{network_is_sequential}
 use Rattle.dbtg_step.proofs.laws.every_run_is_sequential.Goals as goal
 
 pub returns : goal.returns

@@ -1,4 +1,4 @@
-use Rattle.dbtg_step.proofs.SerialLaw.{comes_to}
+use Rattle.dbtg_step.proofs.MadeWhole.SerialLaw.{comes_to}
 use Rattle.dbtg_step.proofs.laws.every_serial_run_is_a_run.Goals as goal
 
 pub returns : goal.returns

@@ -1,6 +1,6 @@
 use Rattle.std.proofs.Common.{length}
-use Rattle.dbtg_unit.proofs.LegalHistory.{opening_is_legal}
-use Rattle.dbtg_step.proofs.Headlines as headlines
+use Rattle.dbtg_unit.proofs.Public.{opening_is_legal}
+use Rattle.dbtg_step.proofs.Runs.Headlines as headlines
 use Rattle.dbtg_step.proofs.laws.machine_is_opening.Goals as goal
 
 pub returns : goal.returns

@@ -1,4 +1,4 @@
-use Rattle.dbtg_step.proofs.NeededCellsExist as needed
+use Rattle.dbtg_step.proofs.Network.NeededCellsExist as needed
 use Rattle.dbtg_step.proofs.laws.needed_cells_exist.Goals as goal
 
 pub returns : goal.returns

@@ -1,4 +1,4 @@
-use Rattle.dbtg_step.proofs.NetworkFacts as facts
+use Rattle.dbtg_step.proofs.Network.NetworkFacts as facts
 use Rattle.dbtg_step.proofs.laws.needs_are_in_order.Goals as goal
 
 pub returns : goal.returns

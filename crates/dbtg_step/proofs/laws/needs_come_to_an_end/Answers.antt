@@ -1,4 +1,4 @@
-use Rattle.dbtg_step.proofs.TurnsBack as turns
+use Rattle.dbtg_step.proofs.Network.TurnsBack as turns
 use Rattle.dbtg_step.proofs.laws.needs_come_to_an_end.Goals as goal
 
 pub returns : goal.returns

@@ -1,8 +1,8 @@
-use Rattle.dbtg_step.specs.Network.{network}
+use Rattle.dbtg_step.specs.Machine.Network.{network}
 use Rattle.dbtg_cells.specs.Names.{name_lt}
-use Rattle.dbtg_step.proofs.EveryRun.{every_run_never_stuck}
-use Rattle.dbtg_step.proofs.NameOrder.{names_are_ordered}
-use Rattle.dbtg_step.proofs.NetworkFacts.{needs_in_order, network_is_sequential}
+use Rattle.dbtg_step.proofs.Runs.EveryRun.{every_run_never_stuck}
+use Rattle.dbtg_step.proofs.Network.NameOrder.{names_are_ordered}
+use Rattle.dbtg_step.proofs.Network.NetworkFacts.{needs_in_order, network_is_sequential}
 use Rattle.dbtg_step.proofs.laws.no_run_is_stuck.Goals as goal
 
 pub returns : goal.returns

@@ -1,6 +1,6 @@
-use Rattle.dbtg_step.specs.Network.{network}
-use Rattle.dbtg_step.proofs.EventCounts.{events_are_counted}
-use Rattle.dbtg_step.proofs.NetworkNeeds.{network_names_cells}
+use Rattle.dbtg_step.specs.Machine.Network.{network}
+use Rattle.dbtg_step.proofs.EachEvent.EventCounts.{events_are_counted}
+use Rattle.dbtg_step.proofs.Network.NetworkNeeds.{network_names_cells}
 use Rattle.dbtg_step.proofs.laws.statements_have_their_events.Goals as goal
 
 pub returns : goal.returns

@@ -1,5 +1,5 @@
 use Rattle.dbtg_step.specs.declared.parts.Parts.{Parts}
-use Rattle.dbtg_step.proofs.OpeningShown.{opens_core, opens_well}
+use Rattle.dbtg_step.proofs.TheCore.OpeningShown.{opens_core, opens_well}
 use Rattle.dbtg_step.proofs.machine.opening_parts.Goals as goal
 
 pub returns-in-Ok-clause-well : goal.returns-in-Ok-clause-well

@@ -1,6 +1,6 @@
 use Rattle.std.proofs.Common.{◌-◌, arith}
-use Rattle.dbtg_step.proofs.EventsShown.{there_is}
-use Rattle.dbtg_step.proofs.NeedsRefused.{need_refused}
+use Rattle.dbtg_cells.proofs.Public.{there_is}
+use Rattle.dbtg_step.proofs.TheCore.NeedsRefused.{need_refused}
 use Rattle.dbtg_step.proofs.needing.follows.Goals as goal
 
 pub returns-in-Err : goal.returns-in-Err

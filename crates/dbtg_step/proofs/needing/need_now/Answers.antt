@@ -1,7 +1,7 @@
 use Rattle.std.proofs.Common.{◌≡◌, Some, slice_get, length, refl, ◌-◌, arith}
 use Rattle.std.proofs.lemmas.Option.{slice_get_read}
-use Rattle.dbtg_step.proofs.NeedsRefused.{err_also, has_its_areas}
-use Rattle.dbtg_step.proofs.NeedsShown.{ok_also, needs_next, statement_fits, unit_in}
+use Rattle.dbtg_step.proofs.TheCore.NeedsRefused.{err_also, has_its_areas}
+use Rattle.dbtg_step.proofs.TheCore.NeedsShown.{ok_also, needs_next, statement_fits, unit_in}
 use Rattle.dbtg_step.proofs.needing.need_now.Goals as goal
 
 pub next_need-requires-clause-fits : goal.next_need-requires-clause-fits

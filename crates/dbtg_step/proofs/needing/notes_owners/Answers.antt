@@ -1,6 +1,6 @@
 use Rattle.std.proofs.Common.{◌≡◌, Some, slice_get, length, refl, ap, ◌∙◌, ◌-◌, arith}
 use Rattle.std.proofs.lemmas.Option.{slice_get_read}
-use Rattle.dbtg_step.proofs.FollowsShown.{owners_count, owners_noted}
+use Rattle.dbtg_step.proofs.TheCore.FollowsShown.{owners_count, owners_noted}
 use Rattle.dbtg_step.proofs.needing.notes_owners.Goals as goal
 
 pub with_true_owners-guesses-requires : goal.with_true_owners-guesses-requires

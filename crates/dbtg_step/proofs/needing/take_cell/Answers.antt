@@ -1,7 +1,7 @@
 use Rattle.std.proofs.Common.{◌≡◌, Some, slice_get, slice_set, length, refl, sym, ap, ◌∙◌}
 use Rattle.std.proofs.lemmas.Option.{slice_get_read}
 use Rattle.dbtg_step.specs.declared.parts.Place.TheVariants.{Home, HeldBy}
-use Rattle.dbtg_step.proofs.FollowsShown.{set_back}
+use Rattle.dbtg_step.proofs.TheCore.FollowsShown.{set_back}
 use Rattle.dbtg_step.proofs.needing.take_cell.Goals as goal
 
 pub returns-in-HeldBy : goal.returns-in-HeldBy

@@ -1,9 +1,9 @@
 use Rattle.std.proofs.Common.{◌≡◌, ◌||◌, true, false, Some, slice_get, length, take, drop, refl, sym, ◌∙◌, ◌-◌, arith}
 use Rattle.std.specs.List.{list_any}
 use Rattle.std.proofs.lemmas.Option.{slice_get_read}
-use Rattle.dbtg_step.specs.Events.{holds_against}
-use Rattle.dbtg_step.proofs.EventsShown.{there_is}
-use Rattle.dbtg_step.proofs.FollowsShown.{area_blocked, area_refused, area_taken}
+use Rattle.dbtg_cells.proofs.Public.{there_is}
+use Rattle.dbtg_step.specs.Core.Stands.{holds_against}
+use Rattle.dbtg_step.proofs.TheCore.FollowsShown.{area_blocked, area_refused, area_taken}
 use Rattle.dbtg_step.proofs.needing.takes_area.Goals as goal
 
 pub returns-then-other_holds_against : goal.returns-then-other_holds_against

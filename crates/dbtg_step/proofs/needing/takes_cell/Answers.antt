@@ -1,8 +1,8 @@
 use Rattle.std.proofs.Common.{◌≡◌, Some, slice_get, length, refl, sym, ◌∙◌, ◌-◌, arith}
 use Rattle.std.proofs.lemmas.Option.{slice_get_read}
-use Rattle.dbtg_step.proofs.EventsShown.{there_is}
-use Rattle.dbtg_step.proofs.FollowsShown.{cell_followed}
-use Rattle.dbtg_step.proofs.NeedsRefused.{needed_has_number, needed_is_free}
+use Rattle.dbtg_cells.proofs.Public.{there_is}
+use Rattle.dbtg_step.proofs.TheCore.FollowsShown.{cell_followed}
+use Rattle.dbtg_step.proofs.TheCore.NeedsRefused.{needed_has_number, needed_is_free}
 use Rattle.dbtg_step.proofs.needing.takes_cell.Goals as goal
 
 pub returns : goal.returns

@@ -1,8 +1,8 @@
 use Rattle.std.proofs.Common.{◌≡◌, ◌++◌, ◌<◌, ◌+◌, suc, Some, slice_get, slice_set, length, take, drop, arith, refl, sym, ap, ◌∙◌}
 use Rattle.std.proofs.lemmas.Option.{slice_get_read}
-use Rattle.dbtg_unit.specs.Guesses.{with_owners}
-use Rattle.dbtg_step.proofs.FollowsShown.{merged_more}
-use Rattle.dbtg_step.proofs.PlacesOfCells.{length_written}
+use Rattle.std.proofs.lemmas.List.{length-set}
+use Rattle.dbtg_unit.specs.Hands.Guesses.{with_owners}
+use Rattle.dbtg_step.proofs.TheCore.FollowsShown.{merged_more}
 use Rattle.dbtg_step.proofs.needing.with_true_owners.Goals as goal
 
 pub loop-set-preserved : goal.loop-set-preserved
@@ -18,7 +18,7 @@ loop-set-preserved c =
     let next : suc i ≡ i + 1 = omega arith in
     let owner = c.or-owner.ensures in
     record {
-      count = ap length c.set.ensures ∙ length_written c.loop-set.owners i c.or-owner.result ∙ count;
+      count = ap length c.set.ensures ∙ length-set c.loop-set.owners i c.or-owner.result ∙ count;
       is = c.set.ensures ∙ (λ k. slice_set (c.loop-set.invariant.is k) i (owner k)) ∙ merged_more i gs os c.index-guesses-set.result c.index-as_slice-set.result c.requires g o
           ∙ ap (λ n. with_owners (take n gs) (take n os) ++ drop n os) next;
     }

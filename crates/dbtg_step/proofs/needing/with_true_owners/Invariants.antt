@@ -1,5 +1,5 @@
 use Rattle.std.proofs.Common.{◌≡◌, ◌++◌, length, take, drop}
-use Rattle.dbtg_unit.specs.Guesses.{with_owners}
+use Rattle.dbtg_unit.specs.Hands.Guesses.{with_owners}
 use Rattle.dbtg_step.proofs.needing.with_true_owners.Given as goal
 
 abbrev pub invariant-loop-set : goal.invariant-loop-set

@@ -1,6 +1,6 @@
 use Rattle.std.proofs.Common.{◌+◌, arith, refl, Some}
 use Rattle.dbtg_cells.specs.declared.name.CellName.TheVariants.{Ring}
-use Rattle.dbtg_step.proofs.RangePushes.{map_pushed_behind}
+use Rattle.dbtg_step.proofs.TheCore.RangePushes.{map_pushed_behind}
 use Rattle.dbtg_step.proofs.opening_parts.add_owned_rings.Goals as goal
 
 pub loop-lower-preserved : goal.loop-lower-preserved

@@ -1,6 +1,6 @@
 use Rattle.std.proofs.Common.{arith}
 use Rattle.dbtg_cells.specs.CellNumbers.{rings_of}
-use Rattle.dbtg_step.proofs.RangePushes.{flat_pushed}
+use Rattle.dbtg_step.proofs.TheCore.RangePushes.{flat_pushed}
 use Rattle.dbtg_step.proofs.opening_parts.add_rings.Goals as goal
 
 pub loop-set-preserved : goal.loop-set-preserved

@@ -1,6 +1,6 @@
 use Rattle.std.proofs.Common.{arith}
 use Rattle.dbtg_cells.specs.CellNumbers.{slots_of}
-use Rattle.dbtg_step.proofs.RangePushes.{flat_pushed}
+use Rattle.dbtg_step.proofs.TheCore.RangePushes.{flat_pushed}
 use Rattle.dbtg_step.proofs.opening_parts.add_slots.Goals as goal
 
 pub loop-rtype-preserved : goal.loop-rtype-preserved

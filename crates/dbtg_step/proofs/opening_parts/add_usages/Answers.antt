@@ -1,6 +1,6 @@
 use Rattle.std.proofs.Common.{arith, refl}
 use Rattle.dbtg_cells.specs.declared.name.CellName.TheVariants.{Usage}
-use Rattle.dbtg_step.proofs.RangePushes.{map_pushed_behind}
+use Rattle.dbtg_step.proofs.TheCore.RangePushes.{map_pushed_behind}
 use Rattle.dbtg_step.proofs.opening_parts.add_usages.Goals as goal
 
 pub loop-area-preserved : goal.loop-area-preserved

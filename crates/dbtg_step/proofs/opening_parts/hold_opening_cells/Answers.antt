@@ -4,10 +4,10 @@ use Rattle.std.proofs.lemmas.List.{map-append}
 use Rattle.dbtg_cells.specs.declared.cell.Cell.{Cell}
 use Rattle.dbtg_cells.specs.declared.name.CellName.{CellName}
 use Rattle.dbtg_cells.specs.CellNumbers.{cells_in_order}
-use Rattle.dbtg_unit.specs.Base.{opening}
-use Rattle.dbtg_unit.specs.Hands.{Hands}
-use Rattle.dbtg_unit.specs.Local.{AllAgree, names_of}
-use Rattle.dbtg_step.proofs.OpeningShown.{agree_more, not_yet}
+use Rattle.dbtg_unit.specs.Database.State.Base.{opening}
+use Rattle.dbtg_unit.specs.Hands.Hands.{Hands}
+use Rattle.dbtg_unit.specs.Hands.Local.{AllAgree, names_of}
+use Rattle.dbtg_step.proofs.TheCore.OpeningShown.{agree_more, not_yet}
 use Rattle.dbtg_step.proofs.opening_parts.hold_opening_cells.Goals as goal
 
 pub loop-name-preserved : goal.loop-name-preserved

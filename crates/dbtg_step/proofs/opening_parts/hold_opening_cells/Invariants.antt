@@ -1,8 +1,8 @@
 use Rattle.std.proofs.Common.{◌≡◌, ◌++◌}
 use Rattle.std.specs.Vec.Iter.{into_iter_items}
 use Rattle.dbtg_cells.specs.CellNumbers.{cells_in_order}
-use Rattle.dbtg_unit.specs.Base.{opening}
-use Rattle.dbtg_unit.specs.Local.{AllAgree, names_of}
+use Rattle.dbtg_unit.specs.Database.State.Base.{opening}
+use Rattle.dbtg_unit.specs.Hands.Local.{AllAgree, names_of}
 use Rattle.dbtg_step.proofs.opening_parts.hold_opening_cells.Given as goal
 
 -- the names in hand and those that are left are all names

@@ -1,6 +1,6 @@
 use Rattle.std.proofs.Common.{ap, ◌∙◌}
 use Rattle.dbtg_cells.specs.Shown.{ExtentValue, SlotValue, UsageValue}
-use Rattle.dbtg_step.proofs.OpeningShown.{extent_opens, slot_opens, usage_opens}
+use Rattle.dbtg_step.proofs.TheCore.OpeningShown.{extent_opens, slot_opens, usage_opens}
 use Rattle.dbtg_step.proofs.opening_parts.opening_cell.Goals as goal
 
 pub returns-in-Usage : goal.returns-in-Usage

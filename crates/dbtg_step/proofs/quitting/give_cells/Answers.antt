@@ -1,10 +1,10 @@
 use Rattle.std.proofs.Common.{sym, ap, ◌∙◌, subst}
-use Rattle.dbtg_unit.specs.Hands.{Hands}
+use Rattle.dbtg_unit.specs.Hands.Hands.{Hands}
 use Rattle.dbtg_cells.specs.declared.cell.Cell.{Cell}
 use Rattle.dbtg_cells.specs.declared.name.CellName.{CellName}
-use Rattle.dbtg_step.specs.SequentialDatabase.{In}
-use Rattle.dbtg_step.proofs.NeedsShown.{in_back}
-use Rattle.dbtg_step.proofs.QuitShown.{homes_step, places_left}
+use Rattle.dbtg_step.specs.Machine.SequentialDatabase.{In}
+use Rattle.dbtg_step.proofs.TheCore.NeedsShown.{in_back}
+use Rattle.dbtg_step.proofs.TheCore.QuitShown.{homes_step, places_left}
 use Rattle.dbtg_step.proofs.quitting.give_cells.Goals as goal
 
 pub put_home-requires : goal.put_home-requires

@@ -1,7 +1,7 @@
 use Rattle.std.proofs.Common.{◌≡◌, Some, slice_get, length, refl, ◌-◌, arith}
 use Rattle.std.proofs.lemmas.Option.{slice_get_read}
-use Rattle.dbtg_step.proofs.NeedsShown.{have_places}
-use Rattle.dbtg_step.proofs.QuitShown.{quits_is}
+use Rattle.dbtg_step.proofs.TheCore.NeedsShown.{have_places}
+use Rattle.dbtg_step.proofs.TheCore.QuitShown.{quits_is}
 use Rattle.dbtg_step.proofs.quitting.gives_back.Goals as goal
 
 pub returns : goal.returns

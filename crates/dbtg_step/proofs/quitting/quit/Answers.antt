@@ -1,8 +1,9 @@
 use Rattle.std.proofs.Common.{◌≡◌, Some, slice_get, length, refl, sym, subst, inl, inr, ◌∙◌, ◌-◌, arith}
 use Rattle.std.proofs.lemmas.Option.{same_Some, slice_get_read}
+use Rattle.dbtg_schema.proofs.Public.{none_is, some_is}
 use Rattle.dbtg_step.specs.declared.parts.Runner.{Runner}
-use Rattle.dbtg_step.specs.Events.{StandsUnticketed}
-use Rattle.dbtg_step.proofs.QuitShown.{between_quits, no_unit_quits, none_of, some_of, ticketed_quits}
+use Rattle.dbtg_step.specs.Core.Stands.{StandsUnticketed}
+use Rattle.dbtg_step.proofs.TheCore.QuitShown.{between_quits, no_unit_quits, ticketed_quits}
 use Rattle.dbtg_step.proofs.quitting.quit.Goals as goal
 use Rattle.dbtg_step.proofs.quitting.quit.Goals.{then-unit-eq0-via-then-unit-eq0, then-unit-eq0-via-else-unit-eq0+then-len-unit}
 
@@ -16,7 +17,7 @@ gives_back-requires-clause-stands c r is =
     let items = c.args.parts.now.runners.items in
     let at : slice_get items (c.args.unit - 1) ≡ Some c.index.result.now = slice_get_read items (length items) (c.args.unit - 1) c.index.result.now refl (omega arith) c.index.ensures in
     let same : c.index.result.now ≡ r = same_Some _ r (sym at ∙ is) in
-    subst (λ (x : Runner). StandsUnticketed x) same (record { w = c.in-Some.stage; stage = c.in-Some.is; ticket = none_of c.in-Some.stage.ticket (sym c.is_some.ensures ∙ c.if-is_some.false) })
+    subst (λ (x : Runner). StandsUnticketed x) same (record { w = c.in-Some.stage; stage = c.in-Some.is; ticket = none_is c.in-Some.stage.ticket (sym c.is_some.ensures ∙ c.if-is_some.false) })
 
 pub returns-in-None : goal.returns-in-None
 returns-in-None c =
@@ -28,5 +29,5 @@ pub returns-then-is_some : goal.returns-then-is_some
 returns-then-is_some c =
     let items = c.args.parts.now.runners.items in
     let at : slice_get items (c.args.unit - 1) ≡ Some c.index.result.now = slice_get_read items (length items) (c.args.unit - 1) c.index.result.now refl (omega arith) c.index.ensures in
-    let ticket = some_of c.in-Some.stage.ticket (sym c.is_some.ensures ∙ c.if-is_some.true) in
+    let ticket = some_is c.in-Some.stage.ticket (sym c.is_some.ensures ∙ c.if-is_some.true) in
     ticketed_quits c.args.schema.now c.args.capacity c.args.unit c.args.parts.now c.requires.well c.index.result.now (omega arith) at c.in-Some.stage ticket.0 c.in-Some.is ticket.1

@@ -1,7 +1,7 @@
 use Rattle.std.proofs.Common.{◌∙◌, ap, sym}
-use Rattle.dbtg_step.specs.Parts.{machine}
-use Rattle.dbtg_step.specs.CoreSteps.{after_move, result_of_move}
-use Rattle.dbtg_step.proofs.RunsShown.{quit_made, step_made}
+use Rattle.dbtg_step.specs.Core.Parts.{machine}
+use Rattle.dbtg_step.specs.Core.CoreSteps.{after_move, result_of_move}
+use Rattle.dbtg_step.proofs.TheCore.RunsShown.{quit_made, step_made}
 use Rattle.dbtg_step.proofs.running.make_move.Goals as goal
 use Rattle.dbtg_step.proofs.running.make_move.Goals.{in-Step, in-Quit}
 

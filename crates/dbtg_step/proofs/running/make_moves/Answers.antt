@@ -1,6 +1,6 @@
 use Rattle.std.proofs.Common.{arith}
-use Rattle.dbtg_step.specs.Parts.{machine}
-use Rattle.dbtg_step.proofs.RunsShown.{arrives_at, goes_on_at}
+use Rattle.dbtg_step.specs.Core.Parts.{machine}
+use Rattle.dbtg_step.proofs.TheCore.RunsShown.{arrives_at, goes_on_at}
 use Rattle.dbtg_step.proofs.running.make_moves.Goals as goal
 
 pub loop-one-preserved : goal.loop-one-preserved

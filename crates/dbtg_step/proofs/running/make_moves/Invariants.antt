@@ -1,6 +1,6 @@
 use Rattle.std.proofs.Common.{drop}
-use Rattle.dbtg_step.specs.Parts.{machine}
-use Rattle.dbtg_step.proofs.RunsShown.{IsUnderWay}
+use Rattle.dbtg_step.specs.Core.Parts.{machine}
+use Rattle.dbtg_step.proofs.TheCore.RunsShown.{IsUnderWay}
 use Rattle.dbtg_step.proofs.running.make_moves.Given as goal
 
 -- what is left is made from where the core stands

@@ -1,8 +1,8 @@
 use Rattle.std.proofs.Common.{◌≡◌, ◌++◌, map, true}
 use Rattle.std.specs.List.{list_all}
 use Rattle.std.specs.Vec.Iter.{into_iter_items}
-use Rattle.dbtg_unit.specs.Fits.{fits}
-use Rattle.dbtg_unit.specs.Replaying.{statements_of}
+use Rattle.dbtg_unit.specs.Database.Statements.Fits.{fits}
+use Rattle.dbtg_unit.specs.Database.Laws.Replaying.{statements_of}
 use Rattle.dbtg_step.proofs.running.make_script.Given as goal
 
 -- the statements that are made and those that are left are the script

@@ -1,8 +1,8 @@
 use Rattle.std.proofs.Common.{◌≡◌, ◌+◌, ◌++◌, length, true}
 use Rattle.std.specs.Vec.Iter.{into_iter_items}
-use Rattle.dbtg_unit.specs.Replaying.{statements_of}
+use Rattle.dbtg_unit.specs.Database.Laws.Replaying.{statements_of}
 use Rattle.dbtg_step.specs.Laws.{scripts_fit}
-use Rattle.dbtg_step.specs.Serial.{in_turn_from}
+use Rattle.dbtg_step.specs.Core.Serial.{in_turn_from}
 use Rattle.dbtg_step.proofs.running.make_scripts.Given as goal
 
 -- the scripts that are made and those that are left are all scripts

@@ -1,8 +1,8 @@
 use Rattle.std.proofs.Common.{refl}
 use Rattle.std.proofs.lemmas.Result.{IfOk-weaker}
-use Rattle.dbtg_step.specs.Parts.{machine}
-use Rattle.dbtg_step.specs.Runs.{results_of_moves}
-use Rattle.dbtg_step.proofs.RunsShown.{run_handed}
+use Rattle.dbtg_step.specs.Core.Parts.{machine}
+use Rattle.dbtg_step.specs.Core.Runs.{results_of_moves}
+use Rattle.dbtg_step.proofs.TheCore.RunsShown.{run_handed}
 use Rattle.dbtg_step.proofs.running.run.Goals as goal
 
 pub returns-in-Ok : goal.returns-in-Ok

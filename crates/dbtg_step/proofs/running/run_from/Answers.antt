@@ -1,6 +1,6 @@
 use Rattle.std.proofs.Common.{subst}
 use Rattle.std.proofs.lemmas.Result.{IfOk-weaker}
-use Rattle.dbtg_step.specs.Runs.{IsHandedOut}
+use Rattle.dbtg_step.specs.Core.Runs.{IsHandedOut}
 use Rattle.dbtg_step.proofs.running.run_from.Goals as goal
 
 pub returns-in-Ok : goal.returns-in-Ok

@@ -1,9 +1,9 @@
 use Rattle.std.proofs.Common.{◌∙◌, [], ap, subst}
 use Rattle.std.proofs.lemmas.Result.{IfOk-weaker}
-use Rattle.dbtg_step.specs.Serial.{in_turn_from}
-use Rattle.dbtg_step.specs.Whole.{HasMadeAll, Making}
-use Rattle.dbtg_step.proofs.SerialShown.{serial_made}
-use Rattle.dbtg_step.proofs.Wholes.{making}
+use Rattle.dbtg_step.specs.Core.Serial.{in_turn_from}
+use Rattle.dbtg_step.specs.Core.Whole.{HasMadeAll, Making}
+use Rattle.dbtg_step.proofs.MadeWhole.SerialShown.{serial_made}
+use Rattle.dbtg_step.proofs.MadeWhole.Wholes.{making}
 use Rattle.dbtg_step.proofs.running.run_serial.Goals as goal
 
 pub returns-in-Ok : goal.returns-in-Ok

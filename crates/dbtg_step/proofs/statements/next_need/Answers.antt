@@ -1,8 +1,8 @@
 use Rattle.std.proofs.Common.{refl, sym, subst}
 use Rattle.dbtg_unit.specs.declared.statement.Statement.TheVariants.{Delete}
-use Rattle.dbtg_step.specs.NeedOrder.{HasItsAreas}
-use Rattle.dbtg_step.proofs.NeedsOrdered.{above_hands, above_of, in_area_of, in_held_area, needed_of}
-use Rattle.dbtg_step.proofs.NeedsRefused.{err_also}
+use Rattle.dbtg_step.specs.Machine.NeedOrder.{HasItsAreas}
+use Rattle.dbtg_step.proofs.TheCore.NeedsOrdered.{above_hands, above_of, in_area_of, in_held_area, needed_of}
+use Rattle.dbtg_step.proofs.TheCore.NeedsRefused.{err_also}
 use Rattle.dbtg_step.proofs.statements.next_need.Goals as goal
 
 pub returns-in-Some-clause-above : goal.returns-in-Some-clause-above

@@ -1,6 +1,6 @@
 use Rattle.std.proofs.Common.{◌≡◌, Some, slice_get, length, refl, ◌-◌, arith}
 use Rattle.std.proofs.lemmas.Option.{slice_get_read}
-use Rattle.dbtg_step.proofs.EventsShown.{begins_is}
+use Rattle.dbtg_step.proofs.TheCore.EventsShown.{begins_is}
 use Rattle.dbtg_step.proofs.stepping.begins.Goals as goal
 
 pub returns : goal.returns

@@ -1,6 +1,6 @@
 use Rattle.std.proofs.Common.{◌≡◌, Some, slice_get, length, refl, ◌-◌, arith}
 use Rattle.std.proofs.lemmas.Option.{slice_get_read}
-use Rattle.dbtg_step.proofs.EventsShown.{links_is}
+use Rattle.dbtg_step.proofs.TheCore.EventsShown.{links_is}
 use Rattle.dbtg_step.proofs.stepping.links.Goals as goal
 
 pub returns : goal.returns

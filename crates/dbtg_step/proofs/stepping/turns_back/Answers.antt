@@ -1,7 +1,7 @@
 use Rattle.std.proofs.Common.{◌≡◌, Some, slice_get, length, refl, ◌-◌, arith}
 use Rattle.std.proofs.lemmas.Option.{slice_get_read}
-use Rattle.dbtg_step.proofs.EventsShown.{turns_back_is}
-use Rattle.dbtg_step.proofs.NeedsShown.{have_places}
+use Rattle.dbtg_step.proofs.TheCore.EventsShown.{turns_back_is}
+use Rattle.dbtg_step.proofs.TheCore.NeedsShown.{have_places}
 use Rattle.dbtg_step.proofs.stepping.turns_back.Goals as goal
 
 pub returns : goal.returns

@@ -1,8 +1,8 @@
 use Rattle.std.proofs.Common.{sym, subst}
 use Rattle.dbtg_cells.specs.declared.cell.Cell.{Cell}
 use Rattle.dbtg_cells.specs.declared.name.CellName.{CellName}
-use Rattle.dbtg_step.specs.SequentialDatabase.{In}
-use Rattle.dbtg_step.proofs.NeedsShown.{in_back}
+use Rattle.dbtg_step.specs.Machine.SequentialDatabase.{In}
+use Rattle.dbtg_step.proofs.TheCore.NeedsShown.{in_back}
 use Rattle.dbtg_step.proofs.table.give_cell.Goals as goal
 
 pub put_home-requires : goal.put_home-requires

@@ -1,5 +1,5 @@
 use Rattle.std.proofs.Common.{◌∙◌, [], subst}
-use Rattle.dbtg_step.specs.Turns.{AreGiven}
+use Rattle.dbtg_step.specs.Core.Turns.{AreGiven}
 use Rattle.dbtg_step.proofs.taking_turns.moves_of_turns.Goals as goal
 
 pub returns : goal.returns

@@ -1,6 +1,6 @@
 use Rattle.std.proofs.Common.{sym, subst}
 use Rattle.std.proofs.lemmas.Result.{IfOk-weaker}
-use Rattle.dbtg_step.specs.Turns.{AreGiven}
+use Rattle.dbtg_step.specs.Core.Turns.{AreGiven}
 use Rattle.dbtg_step.proofs.taking_turns.run_from.Goals as goal
 
 pub returns-in-Ok : goal.returns-in-Ok

@@ -1,10 +1,10 @@
 use Rattle.std.proofs.Common.{[], subst}
 use Rattle.std.proofs.lemmas.Result.{IfOk-weaker}
 use Rattle.dbtg_step.specs.declared.taking_turns.Noted.{Noted}
-use Rattle.dbtg_step.specs.Parts.{CoreParts, CoreState, machine}
-use Rattle.dbtg_step.specs.Runs.{IsHandedOut}
-use Rattle.dbtg_step.specs.Turns.{AreGiven, HaveTurned}
-use Rattle.dbtg_step.proofs.TurnsTaken.{opened, opens_between, turns_handed}
+use Rattle.dbtg_step.specs.Core.Parts.{CoreParts, CoreState, machine}
+use Rattle.dbtg_step.specs.Core.Runs.{IsHandedOut}
+use Rattle.dbtg_step.specs.Core.Turns.{AreGiven, HaveTurned}
+use Rattle.dbtg_step.proofs.MadeWhole.TurnsTaken.{opened, opens_between, turns_handed}
 use Rattle.dbtg_step.proofs.taking_turns.run_turns.Goals as goal
 
 pub run_from-requires : goal.run_from-requires

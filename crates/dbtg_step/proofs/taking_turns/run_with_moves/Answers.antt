@@ -1,5 +1,5 @@
 use Rattle.std.proofs.Common.{refl, subst}
-use Rattle.dbtg_step.specs.Runs.{IsHandedOut}
+use Rattle.dbtg_step.specs.Core.Runs.{IsHandedOut}
 use Rattle.dbtg_step.proofs.taking_turns.run_with_moves.Goals as goal
 
 pub returns-in-Ok : goal.returns-in-Ok

@@ -2,12 +2,12 @@ use Rattle.std.proofs.Common.{◌≡◌, ◌-◌, Some, None, inl, inr, suc, sli
 use Rattle.std.proofs.lemmas.Bool.{false≢true}
 use Rattle.std.proofs.lemmas.Option.{slice_get_read}
 use Rattle.dbtg_unit.specs.declared.moves.Stepped.TheVariants.{Moved, NoMemory}
-use Rattle.dbtg_step.specs.SequentialDatabase.{unit_at}
-use Rattle.dbtg_step.specs.Events.{IsStepped}
-use Rattle.dbtg_step.proofs.EventsShown.{no_unit}
-use Rattle.dbtg_step.proofs.QuitShown.{stepped_well}
-use Rattle.dbtg_step.proofs.TurnsTaken.{arrives, at_its_end, goes_on, not_there, sets_out, stays}
-use Rattle.dbtg_step.proofs.Work.{not_blocked, not_idle, parts_less}
+use Rattle.dbtg_step.specs.Machine.SequentialDatabase.{unit_at}
+use Rattle.dbtg_step.specs.Core.Events.{IsStepped}
+use Rattle.dbtg_step.proofs.TheCore.EventsShown.{no_unit}
+use Rattle.dbtg_step.proofs.TheCore.QuitShown.{stepped_well}
+use Rattle.dbtg_step.proofs.MadeWhole.TurnsTaken.{arrives, at_its_end, goes_on, not_there, sets_out, stays}
+use Rattle.dbtg_step.proofs.TheCore.Work.{not_blocked, not_idle, parts_less}
 use Rattle.dbtg_step.proofs.taking_turns.take_turn.Goals as goal
 use Rattle.dbtg_step.proofs.taking_turns.take_turn.Goals.{then-unit-eq0-via-then-unit-eq0, then-unit-eq0-via-else-unit-eq0+then-len-unit}
 

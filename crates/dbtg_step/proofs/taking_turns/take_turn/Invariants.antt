@@ -1,6 +1,6 @@
 use Rattle.std.proofs.Common.{◌-◌}
-use Rattle.dbtg_step.proofs.TurnsTaken.{OnTheWay}
-use Rattle.dbtg_step.proofs.Work.{parts_left}
+use Rattle.dbtg_step.proofs.MadeWhole.TurnsTaken.{OnTheWay}
+use Rattle.dbtg_step.proofs.TheCore.Work.{parts_left}
 use Rattle.dbtg_step.proofs.taking_turns.take_turn.Given as goal
 
 abbrev pub invariant-loop-alloc : goal.invariant-loop-alloc

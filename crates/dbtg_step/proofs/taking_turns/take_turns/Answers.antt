@@ -1,6 +1,6 @@
 use Rattle.std.proofs.Common.{take, arith}
-use Rattle.dbtg_step.specs.Parts.{core_of}
-use Rattle.dbtg_step.proofs.TurnsTaken.{before_turns, between_after, turned_next}
+use Rattle.dbtg_step.specs.Core.Parts.{core_of}
+use Rattle.dbtg_step.proofs.MadeWhole.TurnsTaken.{before_turns, between_after, turned_next}
 use Rattle.dbtg_step.proofs.taking_turns.take_turns.Goals as goal
 
 pub loop-unit-init : goal.loop-unit-init

@@ -1,11 +1,20 @@
 use Rattle.std.proofs.Common.{◌≡◌, ◌∙◌, ap, sym, subst, length, None, replicate}
-use Rattle.dbtg_unit.specs.Base.{Database}
-use Rattle.dbtg_unit.specs.Hands.{Hands}
-use Rattle.dbtg_unit.specs.Local.{Agrees}
-use Rattle.dbtg_unit.specs.Needs.{need}
-use Rattle.dbtg_step.specs.Whole.{IsGuessed}
-use Rattle.dbtg_step.proofs.Wholes.{guessed_nothing, guessed_owners}
+use Rattle.dbtg_unit.specs.Database.State.Base.{Database}
+use Rattle.dbtg_unit.specs.Hands.Hands.{Hands}
+use Rattle.dbtg_unit.specs.Hands.Local.{Agrees}
+use Rattle.dbtg_unit.specs.Hands.Needs.{need}
+use Rattle.dbtg_step.specs.Core.Whole.{IsGuessed}
+use Rattle.dbtg_step.proofs.MadeWhole.Wholes.{guessed_nothing, guessed_owners, guessed_without}
 use Rattle.dbtg_step.proofs.whole.guess_owners.Goals as goal
+
+pub returns-then-not-goes_by_guesses-clause-guessed : goal.returns-then-not-goes_by_guesses-clause-guessed
+returns-then-not-goes_by_guesses-clause-guessed c =
+    let schema = c.args.schema.now in
+    let old = c.args.held.now in
+    let none = c.none.ensures ∙ ap (λ n. replicate n None) (ap length c.sets.ensures.sets) in
+    let blank : c.set_guesses.new.self ≡ record { areas = old.areas; cells = old.cells; guesses = replicate (length schema.sets) None } = c.set_guesses.ensures ∙ (λ i. record { areas = old.areas; cells = old.cells; guesses = none i }) in
+    subst (IsGuessed schema c.args.capacity c.args.unit.now c.args.statement.now old) (sym blank)
+    (guessed_without schema c.args.capacity c.requires.sound c.args.unit.now c.args.statement.now old c.requires.all c.requires.fitting c.requires.of_schema c.requires.within (sym c.goes_by_guesses.ensures ∙ c.if-not-goes_by_guesses.true))
 
 pub returns-in-Stale-clause-guessed : goal.returns-in-Stale-clause-guessed
 returns-in-Stale-clause-guessed c =

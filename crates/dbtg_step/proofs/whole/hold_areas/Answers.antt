@@ -1,5 +1,5 @@
 use Rattle.std.proofs.Common.{refl}
-use Rattle.dbtg_step.proofs.Wholes.{area_more}
+use Rattle.dbtg_step.proofs.MadeWhole.Wholes.{area_more}
 use Rattle.dbtg_step.proofs.whole.hold_areas.Goals as goal
 
 pub loop-area-preserved : goal.loop-area-preserved

@@ -3,8 +3,8 @@ use Rattle.std.proofs.lemmas.Result.{IfOk-weaker}
 use Rattle.dbtg_cells.specs.declared.cell.Cell.{Cell}
 use Rattle.dbtg_cells.specs.declared.name.CellName.{CellName}
 use Rattle.dbtg_cells.specs.Names.{name_eq}
-use Rattle.dbtg_unit.specs.Legal.{pairwise}
-use Rattle.dbtg_step.proofs.Wholes.{also_guessed, held_once, made_effect, still_all}
+use Rattle.dbtg_unit.specs.Database.State.Legal.{pairwise}
+use Rattle.dbtg_step.proofs.MadeWhole.Wholes.{also_guessed, held_once, made_effect, still_all}
 use Rattle.dbtg_step.proofs.whole.make_effect.Goals as goal
 
 pub make-requires-clause-once : goal.make-requires-clause-once

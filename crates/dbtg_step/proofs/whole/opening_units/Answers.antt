@@ -1,6 +1,6 @@
 use Rattle.std.proofs.Common.{◌+◌, arith}
-use Rattle.dbtg_unit.specs.Units.{opening_unit}
-use Rattle.dbtg_step.proofs.RangePushes.{map_pushed}
+use Rattle.dbtg_unit.specs.Database.State.Units.{opening_unit}
+use Rattle.dbtg_step.proofs.TheCore.RangePushes.{map_pushed}
 use Rattle.dbtg_step.proofs.whole.opening_units.Goals as goal
 
 pub loop-before-preserved : goal.loop-before-preserved

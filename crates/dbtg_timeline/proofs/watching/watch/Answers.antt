@@ -1,6 +1,6 @@
 use Rattle.std.proofs.Common.{◌≡◌, subst}
 use Rattle.std.specs.Prelude.{IfOk}
-use Rattle.dbtg_step.specs.Parts.{CoreState}
+use Rattle.dbtg_step.specs.Core.Parts.{CoreState}
 use Rattle.dbtg_timeline.specs.Events.{events_of}
 use Rattle.dbtg_timeline.proofs.watching.watch.Goals as goal
 

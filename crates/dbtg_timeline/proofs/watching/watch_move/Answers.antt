@@ -1,7 +1,7 @@
 use Rattle.std.proofs.Common.{◌≡◌, map, ap, ◌∙◌}
-use Rattle.dbtg_step.specs.CoreSteps.{after_move, result_of_move}
-use Rattle.dbtg_step.specs.Headline.{entry_of}
-use Rattle.dbtg_step.specs.Parts.{CoreState, machine}
+use Rattle.dbtg_step.specs.Core.CoreSteps.{after_move, result_of_move}
+use Rattle.dbtg_step.specs.Machine.Headline.{entry_of}
+use Rattle.dbtg_step.specs.Core.Parts.{CoreState, machine}
 use Rattle.dbtg_timeline.specs.Events.{place_in, shown, unit_in}
 use Rattle.dbtg_timeline.proofs.HistoryShown.{history_shown}
 use Rattle.dbtg_timeline.proofs.watching.watch_move.Goals as goal

@@ -1,5 +1,5 @@
 use Rattle.std.proofs.Common.{◌≡◌, ◌++◌, drop}
-use Rattle.dbtg_step.specs.Parts.{machine}
+use Rattle.dbtg_step.specs.Core.Parts.{machine}
 use Rattle.dbtg_timeline.specs.Events.{events_of}
 use Rattle.dbtg_timeline.proofs.watching.watch_moves.Given as goal
 

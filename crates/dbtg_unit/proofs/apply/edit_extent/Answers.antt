@@ -1,8 +1,8 @@
 use Rattle.std.proofs.Common.{◌∙◌, ap, refl, ◌+◌, Some, None}
 use Rattle.dbtg_cells.specs.Numbers.{is_free, is_used}
 use Rattle.dbtg_cells.specs.Shown.{ExtentValue}
-use Rattle.dbtg_unit.specs.Edits.{entered, vacated, revalued}
-use Rattle.dbtg_unit.proofs.EntryLemmas.{entry_is}
+use Rattle.dbtg_unit.specs.Hands.Edits.{entered, vacated, revalued}
+use Rattle.dbtg_unit.proofs.Hands.Changes.OneEntry.{entry_is}
 use Rattle.dbtg_unit.proofs.apply.edit_extent.Goals as goal
 
 pub returns-in-EnterNumber : goal.returns-in-EnterNumber

@@ -1,5 +1,5 @@
 use Rattle.std.proofs.Common.{◌∙◌}
-use Rattle.dbtg_unit.proofs.SortedPlaces.{sorted-placed}
+use Rattle.dbtg_unit.proofs.Hands.Changes.SortedPlaces.{sorted_placed}
 use Rattle.dbtg_unit.proofs.apply.place.Goals as goal
 
 pub returns-in-First : goal.returns-in-First
@@ -17,4 +17,4 @@ returns-in-Prior c = rw c.in-Prior.is c.place_prior.ensures
 pub returns-in-Sorted : goal.returns-in-Sorted
 returns-in-Sorted c =
     let placing = rw c.in-Sorted.is at c.requires.place in
-    rw c.in-Sorted.is (c.place_sorted.ensures ∙ sorted-placed c.in-Sorted.ascending c.in-Sorted.duplicates c.args.sort_key (c.args.key, c.args.sort_key) c.args.ring.now.occurrence placing.1)
+    rw c.in-Sorted.is (c.place_sorted.ensures ∙ sorted_placed c.in-Sorted.ascending c.in-Sorted.duplicates c.args.sort_key (c.args.key, c.args.sort_key) c.args.ring.now.occurrence placing.1)

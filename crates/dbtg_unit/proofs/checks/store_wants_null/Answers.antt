@@ -2,8 +2,8 @@ use Rattle.std.proofs.Common.{◌≡◌, ◌∙◌, sym, ap, ◌&&◌, ℕ, fals
 use Rattle.std.specs.Prelude.{is_none}
 use Rattle.dbtg_schema.specs.Lookups.{some_and}
 use Rattle.dbtg_schema.specs.Structure.{is_automatic, member_clause}
-use Rattle.dbtg_unit.specs.Units.{place_in}
-use Rattle.dbtg_unit.proofs.SkipLemmas.{skipped}
+use Rattle.dbtg_unit.specs.Database.State.Units.{place_in}
+use Rattle.dbtg_unit.proofs.Lists.NoAnswer.{skipped}
 use Rattle.dbtg_unit.proofs.checks.store_wants_null.Goals as goal
 
 pub loop-s-preserved : goal.loop-s-preserved

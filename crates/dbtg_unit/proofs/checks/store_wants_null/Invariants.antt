@@ -3,7 +3,7 @@ use Rattle.std.specs.Prelude.{filter, is_none}
 use Rattle.std.specs.List.{list_any}
 use Rattle.dbtg_schema.specs.Lookups.{some_and}
 use Rattle.dbtg_schema.specs.Structure.{automatic_sets, is_automatic, member_clause, set_numbers}
-use Rattle.dbtg_unit.specs.Units.{place_in}
+use Rattle.dbtg_unit.specs.Database.State.Units.{place_in}
 use Rattle.dbtg_unit.proofs.checks.store_wants_null.Given as goal
 
 abbrev pub invariant-loop-s : goal.invariant-loop-s

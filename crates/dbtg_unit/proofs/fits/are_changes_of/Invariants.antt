@@ -1,6 +1,6 @@
 use Rattle.std.proofs.Common.{◌≡◌, drop}
 use Rattle.std.specs.List.{list_all}
-use Rattle.dbtg_unit.specs.Fits.{change_fits}
+use Rattle.dbtg_unit.specs.Database.Statements.Fits.{change_fits}
 use Rattle.dbtg_unit.proofs.fits.are_changes_of.Given as goal
 
 abbrev pub invariant-loop-change : goal.invariant-loop-change

@@ -1,5 +1,5 @@
 use Rattle.std.proofs.Common.{◌≡◌, drop}
-use Rattle.dbtg_unit.specs.Fits.{distinct_items}
+use Rattle.dbtg_unit.specs.Database.Statements.Fits.{distinct_items}
 use Rattle.dbtg_unit.proofs.fits.are_distinct.Given as goal
 
 abbrev pub invariant-loop-i : goal.invariant-loop-i

@@ -1,6 +1,6 @@
 use Rattle.std.proofs.Common.{◌≡◌, drop}
 use Rattle.std.specs.Prelude.{map}
-use Rattle.dbtg_unit.specs.Fits.{values_fit}
+use Rattle.dbtg_unit.specs.Database.Statements.Fits.{values_fit}
 use Rattle.dbtg_unit.proofs.fits.are_of_items.Given as goal
 
 abbrev pub invariant-loop-i : goal.invariant-loop-i

@@ -1,5 +1,5 @@
 use Rattle.std.proofs.Common.{◌≡◌, drop}
-use Rattle.dbtg_unit.specs.Fits.{values_fit, pictures_at}
+use Rattle.dbtg_unit.specs.Database.Statements.Fits.{values_fit, pictures_at}
 use Rattle.dbtg_unit.proofs.fits.are_of_numbers.Given as goal
 
 abbrev pub invariant-loop-i : goal.invariant-loop-i

@@ -1,6 +1,6 @@
 use Rattle.std.proofs.Common.{◌≡◌, drop}
 use Rattle.std.specs.List.{list_all}
-use Rattle.dbtg_unit.specs.Fits.{member_key_fits}
+use Rattle.dbtg_unit.specs.Database.Statements.Fits.{member_key_fits}
 use Rattle.dbtg_unit.proofs.fits.is_of_keys.Given as goal
 
 abbrev pub invariant-loop-member : goal.invariant-loop-member

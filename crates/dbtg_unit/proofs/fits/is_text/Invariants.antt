@@ -1,6 +1,6 @@
 use Rattle.std.proofs.Common.{◌≡◌, drop}
 use Rattle.std.specs.List.{list_all}
-use Rattle.dbtg_unit.specs.Fits.{is_text_byte}
+use Rattle.dbtg_unit.specs.Database.Statements.Fits.{is_text_byte}
 use Rattle.dbtg_unit.proofs.fits.is_text.Given as goal
 
 abbrev pub invariant-loop-byte : goal.invariant-loop-byte

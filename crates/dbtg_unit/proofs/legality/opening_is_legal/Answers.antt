@@ -1,4 +1,4 @@
-use Rattle.dbtg_unit.proofs.LegalHistory.{opening_is_legal}
+use Rattle.dbtg_unit.proofs.Database.Legal.LegalHistory.{opening_is_legal}
 use Rattle.dbtg_unit.proofs.legality.opening_is_legal.Goals as goal
 
 pub returns : goal.returns

@@ -1,4 +1,4 @@
-use Rattle.dbtg_unit.proofs.LegalUnits.{units_never_conflict}
+use Rattle.dbtg_unit.proofs.Database.Legal.LegalUnits.{units_never_conflict}
 use Rattle.dbtg_unit.proofs.legality.units_never_conflict.Goals as goal
 
 pub returns : goal.returns

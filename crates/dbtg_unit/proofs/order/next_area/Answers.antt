@@ -1,7 +1,7 @@
 use Rattle.std.proofs.Common.{◌≡◌, ◌∙◌, sym, ap, ◌&&◌, ℕ, not, Some, eqb, length, arith}
 use Rattle.std.specs.List.{list_any}
-use Rattle.dbtg_unit.specs.Checks.{areas_of}
-use Rattle.dbtg_unit.proofs.SkipLemmas.{find_here, find_skipped}
+use Rattle.dbtg_unit.specs.Database.Statements.Checks.{areas_of}
+use Rattle.dbtg_unit.proofs.Lists.NoAnswer.{find_here, find_skipped}
 use Rattle.dbtg_unit.proofs.order.next_area.Goals as goal
 
 pub returns-then-has_area-has : goal.returns-then-has_area-has

@@ -1,8 +1,8 @@
 use Rattle.std.proofs.Common.{◌≡◌, drop, eqb, not, length}
 use Rattle.std.specs.Prelude.{filter}
 use Rattle.std.specs.List.{find, list_any, range_with_len}
-use Rattle.dbtg_unit.specs.Checks.{areas_of}
-use Rattle.dbtg_unit.specs.Needs.{areas_in_order}
+use Rattle.dbtg_unit.specs.Database.Statements.Checks.{areas_of}
+use Rattle.dbtg_unit.specs.Hands.Needs.{areas_in_order}
 use Rattle.dbtg_unit.proofs.order.next_area.Given as goal
 
 abbrev pub invariant-loop-a : goal.invariant-loop-a

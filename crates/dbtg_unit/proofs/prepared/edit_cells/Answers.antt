@@ -1,8 +1,8 @@
 use Rattle.std.proofs.Common.{◌≡◌, ◌∷◌, sym, ap, subst, ◌∙◌, length, arith}
 use Rattle.std.specs.Vec.Iter.{into_iter_items}
-use Rattle.dbtg_unit.specs.Making.{CanMake}
-use Rattle.dbtg_unit.specs.Prepared.{edited_values, values_of}
-use Rattle.dbtg_unit.proofs.MakingLemmas.{made_first}
+use Rattle.dbtg_unit.specs.Hands.Making.{CanMake}
+use Rattle.dbtg_unit.specs.Hands.Prepared.{edited_values, values_of}
+use Rattle.dbtg_unit.proofs.Hands.Holding.WhileEditing.{made_first}
 use Rattle.dbtg_unit.proofs.prepared.edit_cells.Goals as goal
 
 pub loop-edit-preserved : goal.loop-edit-preserved

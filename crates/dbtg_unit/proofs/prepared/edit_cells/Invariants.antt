@@ -1,7 +1,7 @@
 use Rattle.std.proofs.Common.{◌≡◌, length}
 use Rattle.std.specs.Vec.Iter.{into_iter_items, into_iter_len}
-use Rattle.dbtg_unit.specs.Making.{CanMake}
-use Rattle.dbtg_unit.specs.Prepared.{edited_values, values_of}
+use Rattle.dbtg_unit.specs.Hands.Making.{CanMake}
+use Rattle.dbtg_unit.specs.Hands.Prepared.{edited_values, values_of}
 use Rattle.dbtg_unit.proofs.prepared.edit_cells.Given as goal
 
 -- the edits that are left can be made, and lead to what all lead to

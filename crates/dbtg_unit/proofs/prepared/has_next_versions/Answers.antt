@@ -1,7 +1,7 @@
 use Rattle.std.proofs.Common.{◌∙◌, sym, ap}
 use Rattle.std.specs.List.{list_all}
-use Rattle.dbtg_unit.specs.Making.{has_next_version}
-use Rattle.dbtg_unit.proofs.MakingLemmas.{all_in, next_versions}
+use Rattle.dbtg_unit.specs.Hands.Making.{has_next_version}
+use Rattle.dbtg_unit.proofs.Hands.Holding.WhileEditing.{all_in, next_versions}
 use Rattle.dbtg_unit.proofs.prepared.has_next_versions.Goals as goal
 
 pub returns : goal.returns

@@ -1,5 +1,5 @@
 use Rattle.std.proofs.Common.{◌≡◌, drop}
-use Rattle.dbtg_unit.specs.Prepared.{renoted_at}
+use Rattle.dbtg_unit.specs.Hands.Prepared.{renoted_at}
 use Rattle.dbtg_unit.proofs.prepared.note_versions.Given as goal
 
 abbrev pub invariant-loop-version : goal.invariant-loop-version

@@ -1,6 +1,6 @@
 use Rattle.std.proofs.Common.{◌≡◌, length}
-use Rattle.dbtg_unit.specs.Seen.{seen_in_set, seen_in_sets}
-use Rattle.dbtg_unit.proofs.Numbered.{rewritten}
+use Rattle.dbtg_unit.specs.Database.State.Seen.{seen_in_set, seen_in_sets}
+use Rattle.dbtg_unit.proofs.Lists.Numbered.{rewritten}
 use Rattle.dbtg_unit.proofs.see.see_sets.Given as goal
 
 abbrev pub invariant-loop-set : goal.invariant-loop-set

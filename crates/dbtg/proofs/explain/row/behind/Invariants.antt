@@ -1,5 +1,5 @@
 use Rattle.std.proofs.Common.{◌≡◌, drop}
-use Rattle.dbtg_script.specs.Spelling.{behind}
+use Rattle.dbtg_script.specs.Printing.Spelling.{behind}
 use Rattle.dbtg.proofs.explain.row.behind.Given as goal
 
 abbrev pub invariant-loop-i : goal.invariant-loop-i

@@ -1,7 +1,7 @@
 use Rattle.std.proofs.Common.{◌≡◌, ◌-◌, Some, slice_get, length, refl, sym, ap, ◌∙◌, arith}
 use Rattle.std.specs.Prelude.{option_map}
 use Rattle.std.proofs.lemmas.Option.{slice_get_read}
-use Rattle.dbtg_script.specs.Texts.{unit_text}
+use Rattle.dbtg_script.specs.Printing.Texts.{unit_text}
 use Rattle.dbtg.proofs.shell.replies.unit_reply.Goals as goal
 
 pub returns : goal.returns

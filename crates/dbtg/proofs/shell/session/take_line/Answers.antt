@@ -3,7 +3,7 @@ use Rattle.std.specs.Prelude.{⊤}
 use Rattle.std.proofs.lemmas.Option.{MatchOption-at_some}
 use Rattle.dbtg_schema.specs.Lists.{Lists}
 use Rattle.dbtg_unit.specs.declared.statement.Statement.{Statement}
-use Rattle.dbtg_unit.specs.Fits.{fits}
+use Rattle.dbtg_unit.specs.Database.Statements.Fits.{fits}
 use Rattle.dbtg_script.specs.Lines.{trimmed}
 use Rattle.dbtg.proofs.ScriptLength.{room_for}
 use Rattle.dbtg.proofs.shell.session.take_line.Goals as goal

@@ -3,7 +3,7 @@ use Rattle.std.specs.Prelude.{IfSome, IfNone}
 use Rattle.dbtg_outcomes.specs.Grouped.{IsAt, keys_of}
 use Rattle.dbtg_outcomes.specs.Groups.{among}
 use Rattle.dbtg_outcomes.specs.declared.groups.Group.{Group}
-use Rattle.dbtg_outcomes.proofs.Entries.{absent_by, found_by}
+use Rattle.dbtg_outcomes.proofs.Lists.Entries.{absent_by, found_by}
 use Rattle.dbtg_outcomes.proofs.groups.Groups.find.Goals as goal
 
 pub returns-clause-found : goal.returns-clause-found

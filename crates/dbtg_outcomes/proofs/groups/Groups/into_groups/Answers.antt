@@ -1,5 +1,5 @@
 use Rattle.std.proofs.Common.{rules, ◌≡◌, ◌∙◌, ◌++◌, ap, sym, [], map, append-nil}
-use Rattle.dbtg_outcomes.proofs.Entries.{groups_alone}
+use Rattle.dbtg_outcomes.proofs.Lists.Entries.{groups_alone}
 use Rattle.dbtg_outcomes.proofs.groups.Groups.into_groups.Goals as goal
 
 pub returns : goal.returns

@@ -1,13 +1,13 @@
 use Rattle.std.proofs.Common.{◌≡◌, ◌∙◌, ◌≤◌, ap, sym, refl, subst, length, true}
 use Rattle.std.proofs.lemmas.Option.{slice_get_read}
-use Rattle.dbtg_unit.specs.Fits.{fits}
-use Rattle.dbtg_outcomes.proofs.Histories.{IsEntryOf, entry-of-history}
+use Rattle.dbtg_unit.specs.Database.Statements.Fits.{fits}
+use Rattle.dbtg_outcomes.proofs.States.Histories.{IsEntryOf, entry_of_history}
 use Rattle.dbtg_outcomes.proofs.meeting.Meeting.after.Goals as goal
 use Rattle.dbtg_outcomes.proofs.meeting.Meeting.after.Goals.{In_ok-copy}
 
 of : (c : In_ok-copy) → IsEntryOf c.args.self.now.schema (length c.args.self.now.scripts) c.entry-item.result
 of c =
-    entry-of-history c.args.self.now.schema c.args.self.now.capacity (length c.args.self.now.scripts) c.args.history.now c.loop-entry.entry-index c.entry-item.result c.requires.history
+    entry_of_history c.args.self.now.schema c.args.self.now.capacity (length c.args.self.now.scripts) c.args.history.now c.loop-entry.entry-index c.entry-item.result c.requires.history
     (slice_get_read c.args.history.now (length c.args.history.now) c.loop-entry.entry-index c.entry-item.result refl c.loop-entry-test.true c.entry-item.is)
 
 pub make-requires-clause-numbered : goal.make-requires-clause-numbered

@@ -1,5 +1,5 @@
 use Rattle.std.proofs.Common.{◌≡◌, take}
-use Rattle.dbtg_unit.specs.Replaying.{statements_of}
+use Rattle.dbtg_unit.specs.Database.Laws.Replaying.{statements_of}
 use Rattle.dbtg_outcomes.proofs.meeting.Meeting.after.Given as goal
 
 abbrev pub invariant-loop-entry : goal.invariant-loop-entry

@@ -1,18 +1,18 @@
 use Rattle.std.proofs.Common.{◌≡◌, ℕ, subst, length, arith}
 use Rattle.std.specs.List.{range_with_len}
 use Rattle.dbtg_outcomes.specs.Steps.{Extends}
-use Rattle.dbtg_outcomes.proofs.Extending.{extends-next, extends-none}
+use Rattle.dbtg_outcomes.proofs.Orders.Extending.{extends_next, extends_none}
 use Rattle.dbtg_outcomes.proofs.meeting.Meeting.extend.Goals as goal
 
 pub loop-before-init : goal.loop-before-init
-loop-before-init c = extends-none c.args.self.now c.args.group.now c.args.next.now c.args.notes.now.items
+loop-before-init c = extends_none c.args.self.now c.args.group.now c.args.next.now c.args.notes.now.items
 
 pub extend_by-requires-clause-within : goal.extend_by-requires-clause-within
 extend_by-requires-clause-within c = omega (arith, c.loop-before-test.true, c.units-before-end.ensures)
 
 pub loop-before-preserved : goal.loop-before-preserved
 loop-before-preserved c =
-    extends-next c.args.self.now c.args.group.now c.loop-before.before c.args.next.now c.loop-before.next c.extend_by.new.next c.args.notes.now.items c.loop-before.notes.items c.extend_by.new.notes.items c.loop-before.invariant c.in_ok-extend_by.ensures
+    extends_next c.args.self.now c.args.group.now c.loop-before.before c.args.next.now c.loop-before.next c.extend_by.new.next c.args.notes.now.items c.loop-before.notes.items c.extend_by.new.notes.items c.loop-before.invariant c.in_ok-extend_by.ensures
 
 pub returns : goal.returns
 returns c =

@@ -3,12 +3,12 @@ use Rattle.std.proofs.lemmas.List.{take_all}
 use Rattle.std.proofs.lemmas.Result.{err_from_is_err_and}
 use Rattle.dbtg_outcomes.specs.declared.groups.Group.{Group}
 use Rattle.dbtg_outcomes.specs.Steps.{ExtendsAll, HasHistory}
-use Rattle.dbtg_outcomes.proofs.Extending.{extends-group, extends-nothing, lead-to-more}
+use Rattle.dbtg_outcomes.proofs.Orders.Extending.{extends_group, extends_nothing, lead_to_more}
 use Rattle.dbtg_outcomes.proofs.meeting.Meeting.extend_all.Goals as goal
 
 pub loop-group-init : goal.loop-group-init
 loop-group-init c = record {
-  all = subst (λ (l : List (List ℕ × Group)). ExtendsAll c.args.self.now [] l c.args.notes.now.items c.args.notes.now.items) (sym c.none-next.ensures) (extends-nothing c.args.self.now c.args.notes.now.items);
+  all = subst (λ (l : List (List ℕ × Group)). ExtendsAll c.args.self.now [] l c.args.notes.now.items c.args.notes.now.items) (sym c.none-next.ensures) (extends_nothing c.args.self.now c.args.notes.now.items);
   few = subst (λ (l : List (List ℕ × Group)). length l ≤ c.args.most) (sym c.none-next.ensures) (omega arith);
 }
 
@@ -19,7 +19,7 @@ extend-requires-clause-history c =
 pub loop-group-preserved : goal.loop-group-preserved
 loop-group-preserved c = record {
   all =
-      extends-group c.args.self.now c.args.layer.now c.loop-group.group-index c.group-item.result c.loop-group.next c.extend.new.next c.args.notes.now.items c.loop-group.notes.items c.extend.new.notes.items
+      extends_group c.args.self.now c.args.layer.now c.loop-group.group-index c.group-item.result c.loop-group.next c.extend.new.next c.args.notes.now.items c.loop-group.notes.items c.extend.new.notes.items
       (omega (arith, c.loop-group-test.true)) c.group-item.is c.loop-group.invariant.all c.in_ok-extend.ensures;
   few = omega (arith, c.len.ensures);
 }
@@ -31,7 +31,7 @@ returns-in_err-extend-clause-stopped c =
 
 pub returns-then-most-len-clause-stopped : goal.returns-then-most-len-clause-stopped
 returns-then-most-len-clause-stopped c = λ e.
-    lead-to-more c.args.self.now c.args.layer.now c.loop-group.group-index c.group-item.result c.loop-group.next c.extend.new.next c.args.notes.now.items c.loop-group.notes.items c.extend.new.notes.items c.args.most
+    lead_to_more c.args.self.now c.args.layer.now c.loop-group.group-index c.group-item.result c.loop-group.next c.extend.new.next c.args.notes.now.items c.loop-group.notes.items c.extend.new.notes.items c.args.most
     (omega (arith, c.loop-group-test.true)) c.group-item.is c.loop-group.invariant.all c.in_ok-extend.ensures (omega (arith, c.len.ensures))
 
 pub returns-clause-all : goal.returns-clause-all

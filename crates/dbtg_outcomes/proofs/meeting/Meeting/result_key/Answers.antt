@@ -1,21 +1,21 @@
 use Rattle.std.proofs.Common.{◌≡◌, ◌≤◌, ◌∙◌, ap, sym, subst, length, map, [], ◌++◌}
 use Rattle.std.specs.Prelude.{flat_map}
 use Rattle.std.specs.List.{range_with_len}
-use Rattle.dbtg_script.specs.Texts.{run_text}
-use Rattle.dbtg_unit.specs.Replaying.{statements_of}
+use Rattle.dbtg_script.specs.Printing.Texts.{run_text}
+use Rattle.dbtg_unit.specs.Database.Laws.Replaying.{statements_of}
 use Rattle.dbtg_outcomes.specs.Results.{answers_told, by_unit}
-use Rattle.dbtg_outcomes.proofs.Runs.{units-of-run}
+use Rattle.dbtg_outcomes.proofs.States.Runs.{units_of_run}
 use Rattle.dbtg_outcomes.proofs.meeting.Meeting.result_key.Goals as goal
 
 pub result_text-requires : goal.result_text-requires
 result_text-requires c =
-    let count : length c.as_slice-3.result.now ≡ length c.args.self.now.scripts = ap length c.as_slice-3.ensures ∙ units-of-run c.args.self.now _ c.args.run c.requires.run in
+    let count : length c.as_slice-3.result.now ≡ length c.args.self.now.scripts = ap length c.as_slice-3.ensures ∙ units_of_run c.args.self.now _ c.args.run c.requires.run in
     subst (λ n. n ≤ 255) (sym count) c.requires.meeting.few
 
 pub returns-clause-key : goal.returns-clause-key
 returns-clause-key c =
     let answers = c.as_slice-2.ensures ∙ c.in_ok-answers.ensures ∙ ap (λ h. answers_told c.args.self.now (statements_of h)) c.as_slice.ensures in
-    let count = ap length c.as_slice-3.ensures ∙ units-of-run c.args.self.now _ c.args.run c.requires.run in
+    let count = ap length c.as_slice-3.ensures ∙ units_of_run c.args.self.now _ c.args.run c.requires.run in
     let image = c.requires.run.image_is in
     let units = c.as_slice-3.ensures ∙ c.requires.run.units_are in
     c.in_ok-key.ensures ∙ c.as_slice-4.ensures.value ∙ c.in_ok-text.ensures

@@ -1,7 +1,7 @@
 use Rattle.std.proofs.Common.{◌≡◌, length}
 use Rattle.std.specs.Prelude.{slice_get}
 use Rattle.dbtg_plan.specs.Finding.{area_keys_in, keys_wanted}
-use Rattle.dbtg_plan.proofs.KeysInTurn.{lists_from}
+use Rattle.dbtg_plan.proofs.Find.KeysInTurn.{lists_from}
 use Rattle.dbtg_plan.proofs.finding.area.key_at.Given as goal
 
 abbrev pub invariant-loop-t : goal.invariant-loop-t

@@ -1,8 +1,9 @@
 use Rattle.std.proofs.Common.{◌≡◌, arith, sym, ap, ◌∙◌}
 use Rattle.dbtg_schema.specs.Lists.{Lists}
-use Rattle.dbtg_unit.specs.Prepared.{unit_after}
+use Rattle.dbtg_unit.specs.Hands.Prepared.{unit_after}
 use Rattle.dbtg_run.specs.declared.view.About.{About}
-use Rattle.dbtg_run.proofs.Commits.{bared_after, draws_as, drew, inside_after, names_after}
+use Rattle.dbtg_run.proofs.Units.Commits.{bared_after, draws_as, drew, inside_after, names_after}
+use Rattle.dbtg_run.proofs.Units.Rings.{rings_after}
 use Rattle.dbtg_run.proofs.work.Work.commit.Goals as goal
 
 pub fetch_add-ticket-requires : goal.fetch_add-ticket-requires
@@ -43,7 +44,11 @@ returns-clause-work g c =
     c.requires.work.ours w.tied f.2.0 f.2.2 f.2.3 p.0 p.1
     (e.unit ∙ (ap (λ (s : Lists). unit_after s c.args.prepared w.unit) (sym (ap (λ (a : About). a.schema.value) c.requires.belongs.about ∙ db.same)) ∙ sym p.2))
     (p.3 ∙ bared_after c.args.prepared w.held.cells c.finish.new.held.cells e.cells) e.areas names c.push_reserved.ensures.items in
-    record { ours = d.ours; real = d.real }
+    record {
+      ours = d.ours;
+      real = d.real;
+      rings = rings_after w.about w.unit w.journal.items w.held c.args.statement c.requires.work.ours c.requires.work.real c.requires.fits c.requires.work.rings c.args.prepared c.finish.new.held.guesses c.requires.can e.guesses;
+    }
 
 pub returns-clause-done : goal.returns-clause-done
 returns-clause-done g c =

@@ -1,18 +1,18 @@
 use Rattle.std.proofs.Common.{◌≡◌, ◌≢◌, ◌⊎◌, ◌<◌, ◌-◌, ◌∙◌, ℕ, Bool, true, false, inl, inr, ap, arith, sym, subst}
 use Rattle.dbtg_schema.specs.Lists.{Lists}
-use Rattle.dbtg_unit.specs.Base.{Database}
+use Rattle.dbtg_unit.specs.Database.State.Base.{Database}
 use Rattle.dbtg_unit.specs.declared.held.Need.{Need}
 use Rattle.dbtg_unit.specs.declared.held.Need.TheVariants.{Ready}
 use Rattle.dbtg_unit.specs.declared.statement.Statement.{Statement}
-use Rattle.dbtg_unit.specs.Local.{Agrees}
-use Rattle.dbtg_unit.specs.Making.{IsReady}
-use Rattle.dbtg_unit.specs.Needs.{is_stale, need}
+use Rattle.dbtg_unit.specs.Hands.Local.{Agrees}
+use Rattle.dbtg_unit.specs.Hands.Making.{IsReady}
+use Rattle.dbtg_unit.specs.Hands.Needs.{is_stale, need}
 use Rattle.dbtg_run.specs.declared.view.About.{About}
 use Rattle.dbtg_run.specs.declared.work.Work.{Work}
 use Rattle.dbtg_run.specs.Kept.{database_after}
 use Rattle.dbtg_run.specs.Posed.{turns_left}
 use Rattle.dbtg_run.specs.Works.{IsAtWork, KnowsBetter}
-use Rattle.dbtg_run.proofs.Needing.{try_nearer}
+use Rattle.dbtg_run.proofs.Units.Needing.{try_nearer}
 use Rattle.dbtg_run.proofs.work.Work.gather.Goals as goal
 
 pub needs-smaller : goal.needs-smaller

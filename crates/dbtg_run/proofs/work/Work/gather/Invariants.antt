@@ -1,6 +1,6 @@
 use Rattle.std.proofs.Common.{◌≡◌, ◌⊎◌, ◌<◌, false}
-use Rattle.dbtg_unit.specs.Making.{IsReady}
-use Rattle.dbtg_unit.specs.Needs.{is_stale}
+use Rattle.dbtg_unit.specs.Hands.Making.{IsReady}
+use Rattle.dbtg_unit.specs.Hands.Needs.{is_stale}
 use Rattle.dbtg_run.specs.Kept.{database_after}
 use Rattle.dbtg_run.specs.Posed.{HoldsSo, turns_left}
 use Rattle.dbtg_run.specs.Works.{Belongs, IsAtWork, IsSameUnit}

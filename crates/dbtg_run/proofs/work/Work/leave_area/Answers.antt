@@ -6,7 +6,7 @@ use Rattle.std.proofs.lemmas.Bool.{ltb-true}
 use Rattle.dbtg_run.specs.declared.view.About.{About}
 use Rattle.dbtg_run.specs.Kept.{area_count}
 use Rattle.dbtg_run.specs.Posed.{posed}
-use Rattle.dbtg_run.proofs.Uses.{last_all, leaves_as}
+use Rattle.dbtg_run.proofs.Units.Uses.{last_all, leaves_as}
 use Rattle.dbtg_run.proofs.work.Work.leave_area.Goals as goal
 
 pub fetch_and-requires : goal.fetch_and-requires

@@ -1,4 +1,4 @@
-use Rattle.dbtg_unit.specs.Prepared.{unit_after}
+use Rattle.dbtg_unit.specs.Hands.Prepared.{unit_after}
 use Rattle.dbtg_run.specs.Drawn.{cells_after}
 use Rattle.dbtg_run.proofs.work.Work.make_in_hand.Given as goal
 

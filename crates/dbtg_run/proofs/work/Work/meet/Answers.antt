@@ -4,15 +4,16 @@ use Rattle.dbtg_cells.specs.CellNumbers.{cell_number}
 use Rattle.dbtg_cells.specs.declared.cell.Cell.{Cell}
 use Rattle.dbtg_cells.specs.declared.key.Owner.{Owner}
 use Rattle.dbtg_unit.specs.declared.held.Need.TheVariants.{Stale}
-use Rattle.dbtg_unit.specs.Base.{Database}
-use Rattle.dbtg_unit.specs.Guesses.{with_owners}
-use Rattle.dbtg_unit.specs.Hands.{Hands}
-use Rattle.dbtg_unit.specs.Needs.{is_stale}
-use Rattle.dbtg_step.proofs.NeedsShown.{need_owners, ok_also}
+use Rattle.dbtg_unit.specs.Database.State.Base.{Database}
+use Rattle.dbtg_unit.specs.Hands.Guesses.{with_owners}
+use Rattle.dbtg_unit.specs.Hands.Hands.{Hands}
+use Rattle.dbtg_unit.specs.Hands.Needs.{is_stale}
+use Rattle.dbtg_step.proofs.Public.{match_true, need_owners_fit, needed_not_in_hand, ok_also}
+use Rattle.dbtg_step.specs.Core.Events.{HaveRings}
 use Rattle.dbtg_run.specs.declared.view.About.{About}
 use Rattle.dbtg_run.specs.Posed.{turns_left}
-use Rattle.dbtg_step.proofs.NetworkNeeds.{cell_needed}
-use Rattle.dbtg_run.proofs.Needing.{area_needed, stale_needed, not_stale_then, area_nearer, cell_nearer, no_times, match_true}
+use Rattle.dbtg_run.proofs.Units.Needing.{area_needed, stale_needed, not_stale_then, area_nearer, cell_nearer, no_times}
+use Rattle.dbtg_run.proofs.Units.Rings.{needed_has_number, rings_turned}
 use Rattle.dbtg_run.proofs.work.Work.meet.Goals as goal
 
 pub take_area-requires-clause-area : goal.take_area-requires-clause-area
@@ -26,8 +27,22 @@ pub guess-requires-clause-count : goal.guess-requires-clause-count
 guess-requires-clause-count c =
     let w = c.args.self.now in
     let r = c.requires.work.real in
-    need_owners w.about.schema.value w.about.capacity r.db w.unit c.args.statement.now w.held (Stale c.in-Stale.owners) (sym c.in-Stale.is ∙ c.requires.needed r.db r.agrees)
+    need_owners_fit w.about.schema.value w.about.capacity r.db w.unit c.args.statement.now w.held (Stale c.in-Stale.owners) (sym c.in-Stale.is ∙ c.requires.needed r.db r.agrees)
     ∙ sym (ap (λ (a : About). length a.schema.value.sets) c.put_cells.ensures.same.about)
+
+pub guess-requires-clause-rings : goal.guess-requires-clause-rings
+guess-requires-clause-rings c =
+    let w = c.args.self.now in
+    let r = c.requires.work.real in
+    subst (λ (t : About × Hands). HaveRings t.0.schema.value t.0.capacity (with_owners t.1.guesses c.in-Stale.owners)) (λ j. (sym c.put_cells.ensures.same.about j, sym c.put_cells.ensures.held j))
+    (rings_turned w.about w.unit w.journal.items w.held c.args.statement.now c.requires.work.ours r c.requires.fits c.requires.work.rings c.in-Stale.owners (sym c.in-Stale.is ∙ c.requires.needed r.db r.agrees))
+
+pub unreachable-requires : goal.unreachable-requires
+unreachable-requires c =
+    let w = c.args.self.now in
+    let r = c.requires.work.real in
+    let number = ap (λ (a : About). cell_number a.schema.value a.capacity c.in-Take.name) c.requires.belongs.about ∙ ap (λ (s : Lists). cell_number s c.args.db.now.about.capacity c.in-Take.name) c.args.db.now.same ∙ sym c.cell_number.ensures ∙ c.in-None.is in
+    needed_has_number w.about w.unit w.journal.items w.held c.args.statement.now c.requires.work.ours r c.requires.fits c.requires.work.rings c.in-Take.name (sym c.in-Take.is ∙ c.requires.needed r.db r.agrees) number
 
 pub returns-in-Area-clause-nearer : goal.returns-in-Area-clause-nearer
 returns-in-Area-clause-nearer c =
@@ -45,7 +60,7 @@ returns-in-Some-clause-nearer c =
     let w = c.args.self.now in
     let r = c.requires.work.real in
     let named = ap (λ (a : About). cell_number a.schema.value a.capacity c.in-Take.name) c.requires.belongs.about ∙ ap (λ (s : Lists). cell_number s c.args.db.now.about.capacity c.in-Take.name) c.args.db.now.same ∙ sym c.cell_number.ensures ∙ c.in-Some.is in
-    let fresh = cell_needed w.about.schema.value w.about.capacity r.db w.unit w.held c.args.statement.now c.in-Take.name (sym c.in-Take.is ∙ c.requires.needed r.db r.agrees) in
+    let fresh = needed_not_in_hand w.about.schema.value w.about.capacity r.db w.unit w.held c.args.statement.now c.in-Take.name (sym c.in-Take.is ∙ c.requires.needed r.db r.agrees) in
     ok_also c.take_cell.result _ _
     (λ b t q tries. let held : (y : Cell) × (c.take_cell.new.self.held ≡ record w.held { cells = w.held.cells ++ (c.in-Take.name, y) ∷ [] }) = match_true b ((y : Cell) × (c.take_cell.new.self.held ≡ record w.held { cells = w.held.cells ++ (c.in-Take.name, y) ∷ [] })) (c.take_cell.new.self.held ≡ w.held) q t in
     subst (λ (a : About). turns_left a tries c.take_cell.new.self.held < turns_left w.about tries w.held) (sym c.take_cell.ensures.same.about)

@@ -1,8 +1,9 @@
 use Rattle.std.proofs.Common.{ℕ, IfOk, sym, ap, ◌∙◌, subst}
 use Rattle.dbtg_schema.specs.Lists.{Lists}
-use Rattle.dbtg_unit.specs.Making.{CanFinish, MayPrepare}
+use Rattle.dbtg_unit.specs.Hands.Making.{CanFinish, MayPrepare}
+use Rattle.dbtg_step.specs.Core.Events.{HaveRings}
 use Rattle.dbtg_run.specs.declared.view.About.{About}
-use Rattle.dbtg_run.proofs.Prepares.{inside_same, posed_same, ready_same, real_same}
+use Rattle.dbtg_run.proofs.Units.Prepares.{inside_same, posed_same, ready_same, real_same}
 use Rattle.dbtg_run.proofs.work.Work.prepare_in_hand.Goals as goal
 
 pub prepare-requires : goal.prepare-requires
@@ -33,7 +34,12 @@ invariant_of-self c =
 pub returns-clause-work : goal.returns-clause-work
 returns-clause-work c =
     let w = c.args.self.now in
-    record { ours = c.requires.work.ours; real = real_same w.about w.held c.prepare.new.held c.prepare.ensures.shows w.unit w.journal.items c.requires.work.real }
+    let s = c.prepare.ensures.shows in
+    record {
+      ours = c.requires.work.ours;
+      real = real_same w.about w.held c.prepare.new.held s w.unit w.journal.items c.requires.work.real;
+      rings = subst (HaveRings w.about.schema.value w.about.capacity) (sym s.guesses) c.requires.work.rings;
+    }
 
 pub returns-clause-ready : goal.returns-clause-ready
 returns-clause-ready c =

@@ -3,11 +3,14 @@ use Rattle.dbtg_schema.specs.Lists.{Lists}
 use Rattle.dbtg_cells.specs.declared.cell.Cell.{Cell}
 use Rattle.dbtg_cells.specs.declared.name.CellName.{CellName}
 use Rattle.dbtg_cells.specs.CellNumbers.{cell_count, cells_in_order}
-use Rattle.dbtg_step.proofs.PlacesOfCells.{number_within, stands_at}
+use Rattle.dbtg_cells.proofs.Public.{stands_at}
+use Rattle.dbtg_unit.specs.Hands.Hands.{Hands}
+use Rattle.dbtg_step.specs.Core.Events.{HaveRings}
+use Rattle.dbtg_step.proofs.Public.{number_within}
 use Rattle.dbtg_run.specs.declared.view.About.{About}
 use Rattle.dbtg_run.specs.Views.{lone, bared}
 use Rattle.dbtg_run.specs.Posed.{member_of, empty_slots}
-use Rattle.dbtg_run.proofs.Uses.{real_less, puts_as, pushed}
+use Rattle.dbtg_run.proofs.Units.Uses.{real_less, puts_as, pushed}
 use Rattle.dbtg_run.proofs.work.Work.put_cell.Goals as goal
 
 pub overflow_add-word-2 : goal.overflow_add-word-2
@@ -47,4 +50,8 @@ fetch_and-requires c =
 pub returns-clause-work : goal.returns-clause-work
 returns-clause-work c =
     let w = c.args.self.now in
-    record { ours = c.requires.work.ours; real = real_less w.about w.unit w.journal.items w.held c.pop_cell.new.self _ (c.pop_cell.ensures.cells) c.requires.work.real }
+    record {
+      ours = c.requires.work.ours;
+      real = real_less w.about w.unit w.journal.items w.held c.pop_cell.new.self _ (c.pop_cell.ensures.cells) c.requires.work.real;
+      rings = subst (λ (h : Hands). HaveRings w.about.schema.value w.about.capacity h.guesses) (sym c.pop_cell.ensures.rest) c.requires.work.rings;
+    }

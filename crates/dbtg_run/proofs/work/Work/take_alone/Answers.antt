@@ -3,7 +3,7 @@ use Rattle.dbtg_run.specs.declared.view.About.{About}
 use Rattle.dbtg_run.specs.Views.{lone}
 use Rattle.dbtg_run.specs.Kept.{area_count}
 use Rattle.dbtg_run.specs.Posed.{member_of, empty_slots}
-use Rattle.dbtg_run.proofs.Uses.{alone_as, free_as}
+use Rattle.dbtg_run.proofs.Units.Uses.{alone_as, free_as}
 use Rattle.dbtg_run.proofs.work.Work.take_alone.Goals as goal
 
 pub compare_exchange-found-requires : goal.compare_exchange-found-requires

@@ -5,19 +5,21 @@ use Rattle.dbtg_cells.specs.declared.cell.Cell.{Cell}
 use Rattle.dbtg_cells.specs.declared.name.CellName.{CellName}
 use Rattle.dbtg_cells.specs.CellNumbers.{cell_number, cells_in_order}
 use Rattle.dbtg_unit.specs.declared.held.Need.TheVariants.{Take}
-use Rattle.dbtg_unit.specs.Base.{Database}
-use Rattle.dbtg_unit.specs.Fits.{fits}
-use Rattle.dbtg_unit.specs.Local.{Agrees}
-use Rattle.dbtg_unit.specs.Needs.{need}
-use Rattle.dbtg_step.proofs.PlacesOfCells.{number_within, stands_at}
+use Rattle.dbtg_unit.specs.Database.State.Base.{Database}
+use Rattle.dbtg_unit.specs.Database.Statements.Fits.{fits}
+use Rattle.dbtg_unit.specs.Hands.Hands.{Hands}
+use Rattle.dbtg_unit.specs.Hands.Local.{Agrees}
+use Rattle.dbtg_unit.specs.Hands.Needs.{need}
+use Rattle.dbtg_step.specs.Core.Events.{HaveRings}
+use Rattle.dbtg_step.proofs.Public.{needed_not_in_hand, number_within}
 use Rattle.dbtg_run.specs.declared.view.About.{About}
 use Rattle.dbtg_cells.specs.Cells.{shown}
+use Rattle.dbtg_cells.proofs.Public.{stands_at}
 use Rattle.dbtg_run.specs.Views.{bare, bared, lone, with_cell}
 use Rattle.dbtg_run.specs.Kept.{area_count, cells_of_table, slot_name}
 use Rattle.dbtg_run.specs.Posed.{AreInside, empty_slots, member_of, posed}
-use Rattle.dbtg_run.proofs.Facts.{bared_more}
-use Rattle.dbtg_run.proofs.Uses.{again_as, all_more, cell_free_as, puts_as, real_taken, slot_asks, taken_as, takes_as, took_as, took_it}
-use Rattle.dbtg_step.proofs.NetworkNeeds.{cell_needed}
+use Rattle.dbtg_run.proofs.TheRule.Facts.{bared_more}
+use Rattle.dbtg_run.proofs.Units.Uses.{again_as, all_more, cell_free_as, puts_as, real_taken, slot_asks, taken_as, takes_as, took_as, took_it}
 use Rattle.dbtg_run.proofs.work.Work.take_cell.Goals as goal
 
 pub overflow_add-word-2 : goal.overflow_add-word-2
@@ -115,7 +117,12 @@ returns-in-Ok-clause-work c =
     let named = stands_at c.args.name (cells_in_order w.about.schema.value w.about.capacity) c.args.number c.requires.named in
     let told = e.2.0 c.if-compare_exchange-ne0.false in
     let t = took_it w.about c.args.number (1 + length c.areas.result.now + c.args.number) w.seat.me c.compare_exchange.new.seat.me w.unit w.journal.items w.exclusive w.held c.args.name c.exchange.result c.in-Some.cell w.tied word named told.0 x.2 c.in-Some.is in
-    record { ours = c.requires.work.ours; real = real_taken w.about c.compare_exchange.new.seat.me ((c.args.number, Some c.in-Some.cell) ∷ empty_slots w.about w.held.cells) w.unit w.journal.items w.exclusive w.held c.push_cell.new.self c.args.name c.in-Some.cell t told.1 c.in-Ok.ensures.ok }
+    let held = c.in-Ok.ensures.ok in
+    record {
+      ours = c.requires.work.ours;
+      real = real_taken w.about c.compare_exchange.new.seat.me ((c.args.number, Some c.in-Some.cell) ∷ empty_slots w.about w.held.cells) w.unit w.journal.items w.exclusive w.held c.push_cell.new.self c.args.name c.in-Some.cell t told.1 held;
+      rings = subst (λ (h : Hands). HaveRings w.about.schema.value w.about.capacity h.guesses) (sym held) c.requires.work.rings;
+    }
 
 pub returns-then-compare_exchange-ne0-clause-alone : goal.returns-then-compare_exchange-ne0-clause-alone
 returns-then-compare_exchange-ne0-clause-alone c one =
@@ -125,7 +132,7 @@ returns-then-compare_exchange-ne0-clause-alone c one =
     let r = c.requires.work.real in
     let named : cell_number db.about.schema.value db.about.capacity c.args.name ≡ Some c.args.number = subst (λ (a : About). cell_number a.schema.value a.capacity c.args.name ≡ Some c.args.number) b c.requires.named in
     let word : 1 + length c.areas.result.now + c.args.number ≡ 1 + area_count db.about + c.args.number = ap (λ (n : ℕ). 1 + n + c.args.number) (ap length c.areas.ensures.areas ∙ sym (ap (λ (s : Lists). length s.areas) db.same)) in
-    let fresh = cell_needed w.about.schema.value w.about.capacity r.db w.unit w.held c.args.statement.now c.args.name (c.requires.needed r.db r.agrees) in
+    let fresh = needed_not_in_hand w.about.schema.value w.about.capacity r.db w.unit w.held c.args.statement.now c.args.name (c.requires.needed r.db r.agrees) in
     let z = cell_free_as db.about c.args.number (1 + length c.areas.result.now + c.args.number) c.compare_exchange.result w.seat.me w.unit w.journal.items w.exclusive w.held c.args.name
     (subst (λ (a : About). w.seat.me ≡ posed a w.unit w.journal.items w.exclusive w.held) b w.tied) word (stands_at c.args.name (cells_in_order db.about.schema.value db.about.capacity) c.args.number named) e.2.2
     (sym (ap (λ (a : About). a.units) b) ∙ one) fresh in
@@ -135,4 +142,4 @@ pub push_cell-requires : goal.push_cell-requires
 push_cell-requires c =
     let w = c.args.self.now in
     let r = c.requires.work.real in
-    cell_needed w.about.schema.value w.about.capacity r.db w.unit w.held c.args.statement.now c.args.name (c.requires.needed r.db r.agrees)
+    needed_not_in_hand w.about.schema.value w.about.capacity r.db w.unit w.held c.args.statement.now c.args.name (c.requires.needed r.db r.agrees)

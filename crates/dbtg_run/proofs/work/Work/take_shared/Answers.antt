@@ -3,7 +3,7 @@ use Rattle.dbtg_run.specs.declared.view.About.{About}
 use Rattle.dbtg_run.specs.Views.{lone}
 use Rattle.dbtg_run.specs.Kept.{area_count}
 use Rattle.dbtg_run.specs.Posed.{member_of, empty_slots}
-use Rattle.dbtg_run.proofs.Uses.{looks_as, shared_as, free_as}
+use Rattle.dbtg_run.proofs.Units.Uses.{looks_as, shared_as, free_as}
 use Rattle.dbtg_run.proofs.work.Work.take_shared.Goals as goal
 
 pub load-seen-requires : goal.load-seen-requires

@@ -1,6 +1,6 @@
 use Rattle.std.proofs.Common.{sym, ◌∙◌, arith}
 use Rattle.std.proofs.lemmas.Bool.{ne_eqb}
-use Rattle.dbtg_schema.proofs.Runs.{gap_step, period_step, run_step, none_left}
+use Rattle.dbtg_schema.proofs.Forms.Runs.{gap_step, period_step, run_step, none_left}
 use Rattle.dbtg_schema.proofs.scanner.Scanner.scan.Goals as goal
 
 pub loop-first-preserved : goal.loop-first-preserved

@@ -1,5 +1,5 @@
 use Rattle.std.proofs.Common.{◌≡◌, ◌≤◌, length}
-use Rattle.dbtg_schema.specs.Words.{words}
+use Rattle.dbtg_schema.specs.Texts.Words.{words}
 use Rattle.dbtg_schema.proofs.scanner.Scanner.scan.Given as goal
 
 abbrev pub invariant-loop-first : goal.invariant-loop-first

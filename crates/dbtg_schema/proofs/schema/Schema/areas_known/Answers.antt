@@ -1,7 +1,7 @@
 use Rattle.std.proofs.Common.{◌≡◌, ℕ, Some, slice_get, subst, sym}
 use Rattle.dbtg_schema.specs.Lists.{Lists}
 use Rattle.dbtg_schema.specs.Erasing.{AreErased}
-use Rattle.dbtg_schema.proofs.Erasings.{of_one}
+use Rattle.dbtg_schema.proofs.Known.Erasings.{of_one}
 use Rattle.dbtg_schema.proofs.schema.Schema.areas_known.Goals as goal
 
 pub returns-in-Some : goal.returns-in-Some

@@ -1,11 +1,11 @@
 use Rattle.std.proofs.Common.{List, sym, ap, subst, ◌∙◌}
 use Rattle.dbtg_schema.specs.declared.queries.Labelled as code
-use Rattle.dbtg_schema.specs.Forms.{Derives}
-use Rattle.dbtg_schema.specs.SchemaGrammar.{fits, schema}
-use Rattle.dbtg_schema.specs.SchemaLists.{schema_of}
-use Rattle.dbtg_schema.specs.Views.{views}
+use Rattle.dbtg_schema.specs.Texts.Forms.{Derives}
+use Rattle.dbtg_schema.specs.Texts.SchemaGrammar.{fits, schema}
+use Rattle.dbtg_schema.specs.Texts.SchemaLists.{schema_of}
+use Rattle.dbtg_schema.specs.Texts.Views.{views}
 use Rattle.dbtg_schema.specs.Named.{IsNamed}
-use Rattle.dbtg_schema.proofs.NamesSpelled.{has_names}
+use Rattle.dbtg_schema.proofs.Sound.NamesSpelled.{has_names}
 use Rattle.dbtg_schema.proofs.schema.Schema.read.Goals as goal
 
 pub returns-clause-derived : goal.returns-clause-derived

@@ -1,4 +1,4 @@
-use Rattle.dbtg_script.proofs.KnownLines.{known_with}
+use Rattle.dbtg_script.proofs.Reading.KnownLines.{known_with}
 use Rattle.dbtg_script.proofs.known.Known.note.Goals as goal
 
 pub returns : goal.returns

@@ -1,6 +1,6 @@
 use Rattle.std.proofs.Common.{◌≡◌, length, arith}
 use Rattle.std.proofs.lemmas.Bool.Decides.{nat_tests}
-use Rattle.dbtg_script.proofs.LineSteps.{next_line, no_line}
+use Rattle.dbtg_script.proofs.Reading.LineSteps.{next_line, no_line}
 use Rattle.dbtg_script.proofs.line.Lines.next.Goals as goal
 
 pub returns-then-is_empty-clause-found : goal.returns-then-is_empty-clause-found

@@ -1,5 +1,5 @@
 use Rattle.std.proofs.Common.{sym, ◌∙◌, arith}
-use Rattle.dbtg_script.proofs.MoveSteps.{gap_step, word_step, none_left}
+use Rattle.dbtg_script.proofs.Reading.MoveSteps.{gap_step, word_step, none_left}
 use Rattle.dbtg_script.proofs.moves.Words.next.Goals as goal
 
 pub loop-first-preserved : goal.loop-first-preserved

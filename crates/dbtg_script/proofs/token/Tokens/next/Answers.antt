@@ -1,6 +1,6 @@
 use Rattle.std.proofs.Common.{sym, ◌∙◌, arith}
 use Rattle.std.proofs.lemmas.Bool.{ne_eqb}
-use Rattle.dbtg_script.proofs.TokenSteps.{space_step, equals_step, literal_step, plain_step, none_left}
+use Rattle.dbtg_script.proofs.Reading.TokenSteps.{space_step, equals_step, literal_step, plain_step, none_left}
 use Rattle.dbtg_script.proofs.token.Tokens.next.Goals as goal
 
 pub loop-first-preserved : goal.loop-first-preserved

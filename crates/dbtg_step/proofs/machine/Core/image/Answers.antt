@@ -1,10 +1,10 @@
 use Rattle.std.proofs.Common.{◌≡◌, ◌∙◌, subst, length}
 use Rattle.std.specs.Prelude.{IfOk}
-use Rattle.dbtg_unit.specs.Image.{image_of}
-use Rattle.dbtg_unit.specs.Replay.{opening_state, replay}
-use Rattle.dbtg_step.specs.Parts.{CoreParts}
-use Rattle.dbtg_step.proofs.CellsFound.{read_is}
-use Rattle.dbtg_step.proofs.NeedsShown.{ok_also}
+use Rattle.dbtg_unit.specs.Database.State.Image.{image_of}
+use Rattle.dbtg_unit.specs.Database.Laws.Replay.{opening_state, replay}
+use Rattle.dbtg_step.specs.Core.Parts.{CoreParts}
+use Rattle.dbtg_step.proofs.TheCore.CellsFound.{read_is}
+use Rattle.dbtg_step.proofs.TheCore.NeedsShown.{ok_also}
 use Rattle.dbtg_step.proofs.machine.Core.image.Goals as goal
 
 pub returns : goal.returns

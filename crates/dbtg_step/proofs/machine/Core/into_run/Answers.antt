@@ -1,10 +1,10 @@
 use Rattle.std.proofs.Common.{◌≡◌, ◌∙◌, length, sym, subst}
 use Rattle.std.specs.Prelude.{IfOk}
 use Rattle.std.proofs.lemmas.Result.{IfOk-weaker}
-use Rattle.dbtg_unit.specs.Image.{image_of}
-use Rattle.dbtg_unit.specs.Replay.{opening_state, replay}
-use Rattle.dbtg_step.specs.Parts.{CoreParts}
-use Rattle.dbtg_step.specs.Runs.{IsHandedOut}
+use Rattle.dbtg_unit.specs.Database.State.Image.{image_of}
+use Rattle.dbtg_unit.specs.Database.Laws.Replay.{opening_state, replay}
+use Rattle.dbtg_step.specs.Core.Parts.{CoreParts}
+use Rattle.dbtg_step.specs.Core.Runs.{IsHandedOut}
 use Rattle.dbtg_step.proofs.machine.Core.into_run.Goals as goal
 
 pub returns-in-Ok : goal.returns-in-Ok

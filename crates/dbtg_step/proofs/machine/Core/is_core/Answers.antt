@@ -1,6 +1,6 @@
 use Rattle.std.proofs.Common.{subst}
-use Rattle.dbtg_step.specs.Core.{IsCore}
-use Rattle.dbtg_step.proofs.CoreShown.{core_is}
+use Rattle.dbtg_step.specs.Core.Core.{IsCore}
+use Rattle.dbtg_step.proofs.TheCore.CoreShown.{core_is}
 use Rattle.dbtg_step.proofs.machine.Core.is_core.Goals as goal
 
 pub returns : goal.returns

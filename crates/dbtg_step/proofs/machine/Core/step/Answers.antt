@@ -1,7 +1,7 @@
 use Rattle.std.proofs.Common.{subst}
-use Rattle.dbtg_step.specs.CoreSteps.{IsStep}
-use Rattle.dbtg_step.specs.Parts.{CoreParts, core_of, machine}
-use Rattle.dbtg_step.proofs.QuitShown.{core_stepped, never_stuck_well, stepped_well}
+use Rattle.dbtg_step.specs.Core.CoreSteps.{IsStep}
+use Rattle.dbtg_step.specs.Core.Parts.{CoreParts, core_of, machine}
+use Rattle.dbtg_step.proofs.TheCore.QuitShown.{core_stepped, never_stuck_well, stepped_well}
 use Rattle.dbtg_step.proofs.machine.Core.step.Goals as goal
 
 pub invariant_of-self : goal.invariant_of-self

@@ -1,7 +1,7 @@
 use Rattle.std.proofs.Common.{sym, subst}
-use Rattle.dbtg_step.specs.Network.{network}
-use Rattle.dbtg_step.specs.Parts.{CoreParts, machine}
-use Rattle.dbtg_step.specs.Turns.{AllBetween}
+use Rattle.dbtg_step.specs.Machine.Network.{network}
+use Rattle.dbtg_step.specs.Core.Parts.{CoreParts, machine}
+use Rattle.dbtg_step.specs.Core.Turns.{AllBetween}
 use Rattle.dbtg_step.proofs.machine.Core.take_turns.Goals as goal
 
 pub take_turns-requires-clause-between : goal.take_turns-requires-clause-between

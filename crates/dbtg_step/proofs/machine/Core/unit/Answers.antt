@@ -3,12 +3,12 @@ use Rattle.std.specs.Prelude.{option_map}
 use Rattle.std.proofs.lemmas.Option.{slice_get_read}
 use Rattle.dbtg_unit.specs.declared.unit.Unit.{Unit}
 use Rattle.dbtg_step.specs.declared.parts.Runner.{Runner}
-use Rattle.dbtg_step.specs.SequentialDatabase.{unit_at}
-use Rattle.dbtg_step.specs.Machine.{UnitState}
-use Rattle.dbtg_step.specs.Network.{network}
-use Rattle.dbtg_step.specs.Parts.{CoreParts, machine}
-use Rattle.dbtg_step.proofs.EventsShown.{no_unit, unit_there}
-use Rattle.dbtg_step.proofs.QuitShown.{unit_shown}
+use Rattle.dbtg_step.specs.Machine.SequentialDatabase.{unit_at}
+use Rattle.dbtg_step.specs.Machine.Machine.{UnitState}
+use Rattle.dbtg_step.specs.Machine.Network.{network}
+use Rattle.dbtg_step.specs.Core.Parts.{CoreParts, machine}
+use Rattle.dbtg_step.proofs.TheCore.EventsShown.{no_unit, unit_there}
+use Rattle.dbtg_step.proofs.TheCore.QuitShown.{unit_shown}
 use Rattle.dbtg_step.proofs.machine.Core.unit.Goals as goal
 use Rattle.dbtg_step.proofs.machine.Core.unit.Goals.{then-number-eq0-via-then-number-eq0, then-number-eq0-via-else-number-eq0+then-len-number}
 

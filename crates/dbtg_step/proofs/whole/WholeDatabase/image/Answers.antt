@@ -1,9 +1,9 @@
 use Rattle.std.proofs.Common.{◌≡◌, ◌∙◌, subst}
 use Rattle.std.specs.Prelude.{IfOk}
 use Rattle.std.proofs.lemmas.Result.{IfOk-weaker}
-use Rattle.dbtg_unit.specs.Image.{image_of}
-use Rattle.dbtg_step.specs.Whole.{Making, state_now}
-use Rattle.dbtg_step.proofs.Wholes.{whole_image}
+use Rattle.dbtg_unit.specs.Database.State.Image.{image_of}
+use Rattle.dbtg_step.specs.Core.Whole.{Making, state_now}
+use Rattle.dbtg_step.proofs.MadeWhole.Wholes.{whole_image}
 use Rattle.dbtg_step.proofs.whole.WholeDatabase.image.Goals as goal
 
 pub returns : goal.returns

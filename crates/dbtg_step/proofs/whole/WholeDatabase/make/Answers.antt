@@ -1,9 +1,9 @@
 use Rattle.std.proofs.Common.{◌≡◌, ◌∙◌, ◌-◌, ◌++◌, ◌∷◌, [], List, Some, ap, sym, subst, refl, arith, length, slice_get, slice_set, true}
 use Rattle.std.proofs.lemmas.Option.{slice_get_read}
 use Rattle.dbtg_unit.specs.declared.unit.Entry.{Entry}
-use Rattle.dbtg_unit.specs.Fits.{fits}
-use Rattle.dbtg_step.specs.Whole.{HasMade, IsWhole, Making}
-use Rattle.dbtg_step.proofs.Wholes.{made_then, maker, maker_agrees, making, may_go_on, now, unmade_at, whole_then}
+use Rattle.dbtg_unit.specs.Database.Statements.Fits.{fits}
+use Rattle.dbtg_step.specs.Core.Whole.{HasMade, IsWhole, Making}
+use Rattle.dbtg_step.proofs.MadeWhole.Wholes.{made_then, maker, maker_agrees, making, may_go_on, now, unmade_at, whole_then}
 use Rattle.dbtg_step.proofs.whole.WholeDatabase.make.Goals as goal
 
 pub make_effect-requires-clause-of_schema : goal.make_effect-requires-clause-of_schema

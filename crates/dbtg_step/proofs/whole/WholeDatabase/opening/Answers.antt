@@ -1,6 +1,6 @@
 use Rattle.std.proofs.Common.{sym, subst}
-use Rattle.dbtg_step.specs.Whole.{IsWhole}
-use Rattle.dbtg_step.proofs.Wholes.{opens}
+use Rattle.dbtg_step.specs.Core.Whole.{IsWhole}
+use Rattle.dbtg_step.proofs.MadeWhole.Wholes.{opens}
 use Rattle.dbtg_step.proofs.whole.WholeDatabase.opening.Goals as goal
 
 pub invariant_of-result : goal.invariant_of-result

@@ -1,7 +1,7 @@
 use Rattle.std.proofs.Common.{◌≡◌, ◌∙◌, sym, subst}
-use Rattle.dbtg_unit.specs.Image.{image_of}
+use Rattle.dbtg_unit.specs.Database.State.Image.{image_of}
 use Rattle.dbtg_step.specs.declared.results.Run.{Run}
-use Rattle.dbtg_step.specs.Whole.{IsMadeRun, Making, state_now}
+use Rattle.dbtg_step.specs.Core.Whole.{IsMadeRun, Making, state_now}
 use Rattle.dbtg_step.proofs.whole.WholeDatabase.run_with.Goals as goal
 
 pub returns : goal.returns

@@ -2,8 +2,8 @@ use Rattle.std.proofs.Common.{◌≡◌, ◌∙◌, sym, ap, Some, None}
 use Rattle.std.specs.Prelude.{slice_get}
 use Rattle.std.specs.List.{position_from}
 use Rattle.dbtg_cells.specs.Names.{name_eq}
-use Rattle.dbtg_unit.specs.Hands.{cell_of}
-use Rattle.dbtg_unit.proofs.HeldLemmas.{found_cell, no_cell}
+use Rattle.dbtg_unit.specs.Hands.Hands.{cell_of}
+use Rattle.dbtg_unit.proofs.Hands.Holding.NamesAndCells.{found_cell, no_cell}
 use Rattle.dbtg_unit.proofs.held.Held.cell.Goals as goal
 
 pub returns-in-Some : goal.returns-in-Some

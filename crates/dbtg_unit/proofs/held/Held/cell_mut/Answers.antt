@@ -6,10 +6,10 @@ use borrow.Follows.Closed.{read_of}
 use mathlib.Core.Logic.{inr}
 use Rattle.dbtg_cells.specs.declared.cell.Cell.{Cell}
 use Rattle.dbtg_cells.specs.Names.{name_eq}
-use Rattle.dbtg_unit.specs.Hands.{cell_of}
-use Rattle.dbtg_unit.specs.Lends.{with_cell}
-use Rattle.dbtg_unit.proofs.HeldLemmas.{found_cell, written_cell, no_cell}
-use Rattle.dbtg_unit.proofs.LoanLemmas.{lent_item}
+use Rattle.dbtg_unit.specs.Hands.Hands.{cell_of}
+use Rattle.dbtg_unit.specs.Hands.Lends.{with_cell}
+use Rattle.dbtg_unit.proofs.Hands.Holding.NamesAndCells.{found_cell, written_cell, no_cell}
+use Rattle.dbtg_unit.proofs.Lists.LentElement.{lent_item}
 use Rattle.dbtg_unit.proofs.held.Held.cell_mut.Goals as goal
 
 pub returns-in-Some : goal.returns-in-Some

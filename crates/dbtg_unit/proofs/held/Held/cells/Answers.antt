@@ -1,5 +1,5 @@
 use Rattle.std.proofs.Common.{◌∙◌, sym, ap, map}
-use Rattle.dbtg_unit.proofs.HeldLemmas.{cells_beside}
+use Rattle.dbtg_unit.proofs.Hands.Holding.NamesAndCells.{cells_beside}
 use Rattle.dbtg_unit.proofs.held.Held.cells.Goals as goal
 
 pub returns : goal.returns

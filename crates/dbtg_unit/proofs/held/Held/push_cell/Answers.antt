@@ -2,9 +2,9 @@ use Rattle.std.proofs.Common.{◌∙◌, sym, ap, subst, ◌++◌, ◌∷◌, []
 use Rattle.std.proofs.lemmas.List.{length-append}
 use Rattle.indexmap.specs.IndexMap.{get}
 use Rattle.dbtg_unit.specs.declared.names.NameKey.{NameKey}
-use Rattle.dbtg_unit.specs.HeldNames.{IsIndexOf, entered, key_eq, name_key}
-use Rattle.dbtg_unit.proofs.HeldLemmas.{pushed}
-use Rattle.dbtg_unit.proofs.HeldNameLemmas.{pushed_index, when_ok}
+use Rattle.dbtg_unit.specs.Hands.HeldNames.{IsIndexOf, entered, key_eq, name_key}
+use Rattle.dbtg_unit.proofs.Hands.Holding.NamesAndCells.{pushed}
+use Rattle.dbtg_unit.proofs.Hands.Holding.IndexOfNames.{pushed_index, when_ok}
 use Rattle.dbtg_unit.proofs.held.Held.push_cell.Goals as goal
 
 pub returns-clause-ok : goal.returns-clause-ok

@@ -1,6 +1,6 @@
 use Rattle.std.proofs.Common.{◌≡◌, sym, ◌∙◌, ap, ◌%◌, false, nat_lt, arith, eqb}
 use Rattle.std.proofs.lemmas.Bool.Decides.{nat_tests}
-use Rattle.dbtg_unit.proofs.BitLemmas.{no_bit}
+use Rattle.dbtg_unit.proofs.Lists.BitsBelow16.{no_bit}
 use Rattle.dbtg_unit.proofs.statement.Suppress.has_set.Goals as goal
 
 pub returns-else-set-lt16 : goal.returns-else-set-lt16

@@ -3,7 +3,7 @@ use Rattle.std.specs.Prelude.{IfOk}
 use Rattle.std.proofs.lemmas.Result.{IfOk-weaker}
 use Rattle.dbtg_schema.specs.Lists.{Lists}
 use Rattle.dbtg_unit.specs.declared.unit.Entry.{Entry}
-use Rattle.dbtg_script.specs.WordTexts.{turns_text}
+use Rattle.dbtg_script.specs.Printing.WordTexts.{turns_text}
 use Rattle.dbtg.proofs.SessionTurns.{are_turns}
 use Rattle.dbtg.specs.Sessions.{AreTurnsOf, IsSession, Typed}
 use Rattle.dbtg.proofs.shell.session.Session.turns.Goals as goal

@@ -1,0 +1,10 @@
+-- Lists, their elements with weights, and groups of them by key: nothing of databases.
+-- May use: the standard library.
+-- Promises: `Weights`: lists that have the same groups, however they are laid out.
+pub mod Behind
+pub mod Entries
+pub mod Gathered
+pub mod Members
+pub mod Ranges
+pub mod Rising
+pub mod Weights

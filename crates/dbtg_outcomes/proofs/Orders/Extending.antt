@@ -1,0 +1,159 @@
+-- Groups that go on with the next statements of units.
+-- m is a meeting, g a group, u a unit, x a statement, w an order with a weight.
+use Rattle.std.proofs.Common.{◌≡◌, refl, sym, ◌∙◌, ap, subst, ℕ, ◌+◌, ◌<◌, ◌≤◌, List, [], ◌∷◌, ◌++◌, length, get_or, take, drop, Some, None, arith, append_assoc, append-nil}
+use Rattle.std.specs.List.{range_with_len}
+use Rattle.std.proofs.lemmas.List.{take-append-drop, take_more, map-append}
+use Rattle.std.proofs.lemmas.List.Concat.{flat_map-append}
+use Rattle.dbtg_unit.specs.declared.statement.Statement.{Statement}
+use Rattle.dbtg_unit.specs.declared.unit.Entry.{Entry}
+use Rattle.dbtg_unit.specs.Database.Laws.Replay.{entries_of}
+use Rattle.dbtg_unit.specs.Database.Laws.Replaying.{statements_of}
+use Rattle.dbtg_step.specs.declared.results.Run.{Run}
+use Rattle.dbtg_outcomes.specs.declared.groups.Group.{Group}
+use Rattle.dbtg_outcomes.specs.declared.notes.Note.{Note}
+use Rattle.dbtg_outcomes.specs.Gathered.{each_of, gathered}
+use Rattle.dbtg_outcomes.specs.Grouped.{IsAdded}
+use Rattle.dbtg_outcomes.specs.Orders.{extended, extended_by, next_of}
+use Rattle.dbtg_outcomes.specs.Outcomes.{HasStatus, IsRunOf}
+use Rattle.dbtg_outcomes.specs.Results.{Meeting, state_key, units_of}
+use Rattle.dbtg_outcomes.specs.Search.{AreHeld, AreNoted, Hold, IsHeld}
+use Rattle.dbtg_outcomes.specs.Statuses.{HasNoted}
+use Rattle.dbtg_outcomes.specs.Steps.{Extends, ExtendsAll, LeadToMore, next_orders, nexts, with_each}
+use Rattle.dbtg_outcomes.proofs.Lists.Gathered.{each_append, gathered_append, gathered_longer}
+use Rattle.dbtg_outcomes.proofs.States.Layers.{stand_length}
+use Rattle.dbtg_outcomes.proofs.Orders.Nexts.{hold_ended, hold_extended, noted_extended}
+use Rattle.dbtg_outcomes.proofs.States.Noted.{noted_append, noted_none, noted_nothing}
+use Rattle.dbtg_outcomes.proofs.Lists.Ranges.{next_range}
+
+module _ (m : Meeting) where
+  -- ONE GROUP, UNIT BY UNIT
+
+  pub extends_none : (g : Group) (gs : List (List ℕ × Group)) (notes : List Note) → Extends m g [] gs gs notes notes
+  extends_none g gs notes = record {
+    holds = λ seen w held hold. subst (λ (ws : List (List (ℕ × Statement) × ℕ)). Hold m (state_key m) gs ws) (sym (append-nil seen)) hold;
+    noted = noted_nothing m notes;
+  }
+
+  -- by the next statement of one unit
+  pub extends_one : (g : Group) (fs : List Entry) (u : ℕ) (x : Statement) (run : Run) (place status : ℕ) (old new : List (List ℕ × Group)) (before after : List Note) → fs ≡ g.history → next_of m.scripts (statements_of g.history) u ≡ Some x → IsRunOf m (statements_of fs ++ (u, x) ∷ []) run → HasStatus m (statements_of fs) u x status → place ≡ length (entries_of u fs) → IsAdded old (state_key m (statements_of run.history)) (record { history = run.history; orders = g.orders }) new → HasNoted before (record { unit = u; place = place; status = status }) after → Extends m g (u ∷ []) old new before after
+  extends_one g fs u x run place status old new before after same e of has p added noted =
+      let own : IsRunOf m (statements_of g.history ++ (u, x) ∷ []) run = subst (λ (es : List Entry). IsRunOf m (statements_of es ++ (u, x) ∷ []) run) same of in
+      record {
+        holds = λ seen w held hold.
+            subst (λ (os : List (List (ℕ × Statement))). Hold m (state_key m) new (seen ++ each_of w.1 os)) (sym (append-nil (extended_by m.scripts w.0 u)))
+            (hold_extended m g u x run (state_key m (statements_of run.history)) old new e own refl added seen w held hold);
+        noted = noted_extended m g.history fs u x place status before after same e has p noted;
+      }
+
+  -- a unit at the end of its script adds nothing
+  pub extends_ended : (g : Group) (fs : List Entry) (u : ℕ) (gs : List (List ℕ × Group)) (notes : List Note) → fs ≡ g.history → next_of m.scripts (statements_of fs) u ≡ None → Extends m g (u ∷ []) gs gs notes notes
+  extends_ended g fs u gs notes same e =
+      let none : next_of m.scripts (statements_of g.history) u ≡ None = ap (λ (es : List Entry). next_of m.scripts (statements_of es) u) (sym same) ∙ e in
+      record {
+        holds = λ seen w held hold.
+            subst (λ (os : List (List (ℕ × Statement))). Hold m (state_key m) gs (seen ++ each_of w.1 os)) (sym (append-nil (extended_by m.scripts w.0 u)))
+            (hold_ended m u g gs none seen w held hold);
+        noted = noted_none m (statements_of g.history) u notes none;
+      }
+
+  pub extends_more : (g : Group) (us vs : List ℕ) (a b c : List (List ℕ × Group)) (k l n : List Note) → Extends m g us a b k l → Extends m g vs b c l n → Extends m g (us ++ vs) a c k n
+  extends_more g us vs a b c k l n h r = record {
+    holds = λ seen w held hold.
+        let first = each_of w.1 (extended m.scripts w.0 us) in
+        let rest = each_of w.1 (extended m.scripts w.0 vs) in
+        let both : first ++ rest ≡ each_of w.1 (extended m.scripts w.0 (us ++ vs)) =
+        sym (ap (each_of w.1) (flat_map-append (extended_by m.scripts w.0) us vs) ∙ each_append w.1 (extended m.scripts w.0 us) (extended m.scripts w.0 vs)) in
+        subst (λ (ws : List (List (ℕ × Statement) × ℕ)). Hold m (state_key m) c ws) (append_assoc seen first rest ∙ ap (λ (ws : List (List (ℕ × Statement) × ℕ)). seen ++ ws) both)
+        (r.holds (seen ++ first) w held (h.holds seen w held hold));
+    noted =
+        subst (λ (ps : List (List (ℕ × Statement) × ℕ)). AreNoted m ps k n) (sym (map-append {B = List (ℕ × Statement) × ℕ} (λ u. (statements_of g.history, u)) us vs))
+        (noted_append m (with_each (statements_of g.history) us) (with_each (statements_of g.history) vs) k l n h.noted r.noted);
+  }
+
+  -- the next unit
+  pub extends_next : (g : Group) (before : ℕ) (a b c : List (List ℕ × Group)) (k l n : List Note) → Extends m g (range_with_len 1 before) a b k l → Extends m g ((before + 1) ∷ []) b c l n → Extends m g (range_with_len 1 (before + 1)) a c k n
+  extends_next g before a b c k l n h r =
+      subst (λ (us : List ℕ). Extends m g us a c k n) (sym (next_range before)) (extends_more g (range_with_len 1 before) ((before + 1) ∷ []) a b c k l n h r)
+
+  -- GROUP BY GROUP
+
+  -- what is held of groups behind one another
+  record AreSplit (gs hs : List Group) (ws : List (List (ℕ × Statement) × ℕ)) : Type 0 where
+    front : List (List (ℕ × Statement) × ℕ)
+    rest : List (List (ℕ × Statement) × ℕ)
+    is : front ++ rest ≡ ws
+    fronts : AreHeld m gs front
+    rests : AreHeld m hs rest
+
+  split : (gs hs : List Group) (ws : List (List (ℕ × Statement) × ℕ)) → AreHeld m (gs ++ hs) ws → AreSplit gs hs ws
+  split [] hs ws h = record { front = []; rest = ws; is = refl; fronts = tt; rests = h }
+  split (g ∷ gs) hs [] h = absurd h
+  split (g ∷ gs) hs (w ∷ ws) h =
+      let further = split gs hs ws h.1 in
+      record { front = w ∷ further.front; rest = further.rest; is = ap (λ (l : List (List (ℕ × Statement) × ℕ)). w ∷ l) further.is; fronts = (h.0, further.fronts); rests = further.rests }
+
+  one_held : (g : Group) (ws : List (List (ℕ × Statement) × ℕ)) → AreHeld m (g ∷ []) ws → (w : List (ℕ × Statement) × ℕ) × (ws ≡ w ∷ []) × IsHeld m g w
+  one_held g [] h = absurd h
+  one_held g (w ∷ []) h = (w, refl, h.0)
+  one_held g (w ∷ (v ∷ ws)) h = absurd h.1
+
+  -- and one more
+  pub record HasLast (gs : List Group) (g : Group) (ws : List (List (ℕ × Statement) × ℕ)) : Type 0 where
+    pub front : List (List (ℕ × Statement) × ℕ)
+    pub last : List (ℕ × Statement) × ℕ
+    pub is : front ++ last ∷ [] ≡ ws
+    pub fronts : AreHeld m gs front
+    pub held : IsHeld m g last
+
+  pub last_held : (gs : List Group) (g : Group) (ws : List (List (ℕ × Statement) × ℕ)) → AreHeld m (gs ++ g ∷ []) ws → HasLast gs g ws
+  last_held gs g ws h =
+      let parts = split gs (g ∷ []) ws h in
+      let one = one_held g parts.rest parts.rests in
+      record { front = parts.front; last = one.0; is = ap (λ (l : List (List (ℕ × Statement) × ℕ)). parts.front ++ l) (sym one.1) ∙ parts.is; fronts = parts.fronts; held = one.2 }
+
+  hold_nothing : (ws : List (List (ℕ × Statement) × ℕ)) → AreHeld m [] ws → Hold m (state_key m) [] (next_orders m ws)
+  hold_nothing [] h = tt
+  hold_nothing (w ∷ ws) h = absurd h
+
+  pub extends_nothing : (notes : List Note) → ExtendsAll m [] [] notes notes
+  extends_nothing notes = record { holds = hold_nothing; noted = noted_nothing m notes }
+
+  pub extends_last : (gs : List Group) (g : Group) (a b : List (List ℕ × Group)) (k l n : List Note) → ExtendsAll m gs a k l → Extends m g (units_of m) a b l n → ExtendsAll m (gs ++ g ∷ []) b k n
+  extends_last gs g a b k l n h r = record {
+    holds = λ ws held.
+        let at = last_held gs g ws held in
+        let of_last = each_of at.last.1 (extended m.scripts at.last.0 (units_of m)) in
+        let all : next_orders m at.front ++ of_last ≡ next_orders m ws =
+        ap (λ (l : List (List (ℕ × Statement) × ℕ)). next_orders m at.front ++ l) (sym (append-nil of_last))
+        ∙ sym (flat_map-append (λ (w : List (ℕ × Statement) × ℕ). each_of w.1 (extended m.scripts w.0 (units_of m))) at.front (at.last ∷ []))
+        ∙ ap (next_orders m) at.is in
+        subst (λ (l : List (List (ℕ × Statement) × ℕ)). Hold m (state_key m) b l) all (r.holds (next_orders m at.front) at.last at.held (h.holds at.front at.fronts));
+    noted =
+        let all : nexts m gs ++ with_each (statements_of g.history) (units_of m) ≡ nexts m (gs ++ g ∷ []) =
+        ap (λ (l : List (List (ℕ × Statement) × ℕ)). nexts m gs ++ l) (sym (append-nil (with_each (statements_of g.history) (units_of m))))
+        ∙ sym (flat_map-append (λ (f : Group). with_each (statements_of f.history) (units_of m)) gs (g ∷ [])) in
+        subst (λ (ps : List (List (ℕ × Statement) × ℕ)). AreNoted m ps k n) all (noted_append m (nexts m gs) (with_each (statements_of g.history) (units_of m)) k l n h.noted r.noted);
+  }
+
+  -- the next group of a layer
+  pub extends_group : (layer : List Group) (i : ℕ) (g : Group) (a b : List (List ℕ × Group)) (k l n : List Note) → i < length layer → g ≡ get_or layer i g → ExtendsAll m (take i layer) a k l → Extends m g (units_of m) a b l n → ExtendsAll m (take (i + 1) layer) b k n
+  extends_group layer i g a b k l n low is h r =
+      let next : take i layer ++ g ∷ [] ≡ take (i + 1) layer = ap (λ (f : Group). take i layer ++ f ∷ []) is ∙ sym (take_more layer i g low) in
+      subst (λ (gs : List Group). ExtendsAll m gs b k n) next (extends_last (take i layer) g a b k l n h r)
+
+  -- more states than so many from some of the groups are more from all of them
+  lead_on : (gs hs : List Group) (new : List (List ℕ × Group)) (k n : List Note) (most : ℕ) → ExtendsAll m gs new k n → most < length new → LeadToMore m (gs ++ hs) most
+  lead_on gs hs new k n most h many = λ ws held.
+      let parts = split gs hs ws held in
+      let long : length new ≡ length (gathered (state_key m) [] (next_orders m parts.front)) = stand_length m (state_key m) new (gathered (state_key m) [] (next_orders m parts.front)) (h.holds parts.front parts.fronts) in
+      let grown : length (gathered (state_key m) [] (next_orders m parts.front)) ≤ length (gathered (state_key m) (gathered (state_key m) [] (next_orders m parts.front)) (next_orders m parts.rest)) = gathered_longer (state_key m) (gathered (state_key m) [] (next_orders m parts.front)) (next_orders m parts.rest) in
+      let all : gathered (state_key m) (gathered (state_key m) [] (next_orders m parts.front)) (next_orders m parts.rest) ≡ gathered (state_key m) [] (next_orders m ws) =
+      sym (gathered_append (state_key m) [] (next_orders m parts.front) (next_orders m parts.rest))
+      ∙ ap (gathered (state_key m) []) (sym (flat_map-append (λ (w : List (ℕ × Statement) × ℕ). each_of w.1 (extended m.scripts w.0 (units_of m))) parts.front parts.rest) ∙ ap (next_orders m) parts.is) in
+      let count : length (gathered (state_key m) (gathered (state_key m) [] (next_orders m parts.front)) (next_orders m parts.rest)) ≡ length (gathered (state_key m) [] (next_orders m ws)) = ap (λ (l : List (List (ℕ × Statement) × ℕ)). length l) all in
+      omega arith
+
+  pub lead_to_more : (layer : List Group) (i : ℕ) (g : Group) (a b : List (List ℕ × Group)) (k l n : List Note) (most : ℕ) → i < length layer → g ≡ get_or layer i g → ExtendsAll m (take i layer) a k l → Extends m g (units_of m) a b l n → most < length b → LeadToMore m layer most
+  lead_to_more layer i g a b k l n most low is h r many =
+      subst (λ (gs : List Group). LeadToMore m gs most) (take-append-drop (i + 1) layer)
+      (lead_on (take (i + 1) layer) (drop (i + 1) layer) b k n most (extends_group layer i g a b k l n low is h r) many)

@@ -1,0 +1,107 @@
+-- Histories of the sequential database, beside the orders of their statements.
+-- es are entries, u is a unit, n is how many units there are.
+use Rattle.std.proofs.Common.{◌≡◌, refl, sym, ◌∙◌, ap, subst, ℕ, zero, suc, ◌+◌, ◌-◌, ◌<◌, ◌≤◌, true, false, List, [], ◌∷◌, ◌++◌, length, map, Option, Some, None, arith, slice_get, slice_set}
+use Rattle.std.specs.Prelude.{◌==◌, filter, option_map, option_to_list, if◌then◌else◌}
+use Rattle.std.proofs.lemmas.List.FromFn.{length-range_with_len}
+use Rattle.dbtg_schema.specs.Lists.{Lists}
+use Rattle.dbtg_script.specs.Printing.Texts.{answers_text}
+use Rattle.dbtg_unit.specs.declared.statement.Statement.{Statement}
+use Rattle.dbtg_unit.specs.declared.unit.Answer.{Answer}
+use Rattle.dbtg_unit.specs.declared.unit.Entry.{Entry}
+use Rattle.dbtg_unit.specs.declared.unit.Unit as unit
+use Rattle.dbtg_unit.specs.Database.Statements.Effect.{Outcome, effect}
+use Rattle.dbtg_unit.specs.Database.Statements.Fits.{fits}
+use Rattle.dbtg_unit.specs.Database.Laws.Replay.{AnswersHold, IsHistoryOf, State, after_entry, after_outcome, entries_of, opening_state, outcome_of}
+use Rattle.dbtg_unit.specs.Database.Laws.Replaying.{statements_of}
+use Rattle.dbtg_unit.proofs.Public.{all_at, element_at, opening_length}
+use Rattle.dbtg_outcomes.specs.Orders.{made}
+use Rattle.dbtg_outcomes.specs.Results.{Meeting, answers_told, entries_in, unit_answers, units_of, untimed}
+
+-- a unit has made as many statements as it has entries
+pub made_is : (u : ℕ) (es : List Entry) → length (entries_of u es) ≡ made u (statements_of es)
+made_is u [] = refl
+made_is u (e ∷ es) =
+    elim (e.unit == u) as (λ b. length (if b then e ∷ entries_of u es else entries_of u es) ≡ length (if b then (e.unit, e.statement) ∷ filter (λ (r : ℕ × Statement). r.0 == u) (statements_of es) else filter (λ (r : ℕ × Statement). r.0 == u) (statements_of es))) [
+      | true ↦ let rest = made_is u es in omega (arith, rest)
+      | false ↦ made_is u es
+    ]
+
+pub made_each : (es : List Entry) (us : List ℕ) → map (λ u. length (entries_of u es)) us ≡ map (λ u. made u (statements_of es)) us
+made_each es [] = refl
+made_each es (u ∷ us) = λ i. made_is u es i ∷ made_each es us i
+
+-- ANSWERS
+
+entries_untimed : (u : ℕ) (es : List Entry) → entries_of u (map untimed es) ≡ map untimed (entries_of u es)
+entries_untimed u [] = refl
+entries_untimed u (e ∷ es) =
+    elim (e.unit == u) as (λ b. (if b then untimed e ∷ entries_of u (map untimed es) else entries_of u (map untimed es)) ≡ map untimed (if b then e ∷ entries_of u es else entries_of u es)) [
+      | true ↦ ap (λ l. untimed e ∷ l) (entries_untimed u es)
+      | false ↦ entries_untimed u es
+    ]
+
+module _ (schema : Lists) (capacity : ℕ) where
+  entry_is : (e : Entry) (outcome : Option Outcome) → option_map (λ (o : Outcome). o.answer) outcome ≡ Some e.answer → option_to_list (option_map (λ (o : Outcome). record { ticket = 0; unit = e.unit; statement = e.statement; answer = o.answer }) outcome) ≡ untimed e ∷ []
+  entry_is e None h = absurd (cc)
+  entry_is e (Some o) h = let same : o.answer ≡ e.answer = cc in λ i. record { ticket = 0; unit = e.unit; statement = e.statement; answer = same i } ∷ []
+
+  pub entries_are : (state : State) (es : List Entry) → AnswersHold schema capacity state es → entries_in schema capacity state (statements_of es) ≡ map untimed es
+  unfolding AnswersHold
+  entries_are state [] h = refl
+  entries_are state (e ∷ es) h =
+      λ i. entry_is e (outcome_of schema capacity state e.unit e.statement) h.0 i ++ entries_are (after_entry schema capacity state e) es h.1 i
+
+  -- UNITS
+
+  set_length : {X : Type 0} (xs : List X) (n : ℕ) (x : X) → length (slice_set xs n x) ≡ length xs
+  set_length [] n x = refl
+  set_length (y ∷ ys) zero x = refl
+  set_length (y ∷ ys) (suc n) x = ap suc (set_length ys n x)
+
+  pub as_many : (state : State) (number : ℕ) (o : Option Outcome) → length (after_outcome state number o).units ≡ length state.units
+  as_many state number None = refl
+  as_many state number (Some o) = set_length state.units (number - 1) o.unit
+
+  unit_below : (f : unit.Unit → Outcome) (answer : Answer) (units : List unit.Unit) (n : ℕ) → option_map (λ (o : Outcome). o.answer) (option_map f (slice_get units n)) ≡ Some answer → suc n ≤ length units
+  unit_below f answer [] n h = absurd (cc)
+  unit_below f answer (u ∷ us) zero h = omega arith
+  unit_below f answer (u ∷ us) (suc n) h = let rest = unit_below f answer us n h in omega (arith, rest)
+
+  unit_there : (state : State) (u : ℕ) (x : Statement) (answer : Answer) → option_map (λ (o : Outcome). o.answer) (outcome_of schema capacity state u x) ≡ Some answer → (0 < u) × (u ≤ length state.units)
+  unit_there state zero x answer h = absurd (cc)
+  unit_there state (suc n) x answer h = (omega arith, unit_below (λ unit. effect schema capacity state.database unit x) answer state.units n h)
+
+  pub units_within : (state : State) (es : List Entry) (i : ℕ) (e : Entry) → AnswersHold schema capacity state es → slice_get es i ≡ Some e → (0 < e.unit) × (e.unit ≤ length state.units)
+  unfolding AnswersHold
+  units_within state [] i e h g = absurd (cc)
+  units_within state (f ∷ es) zero e h g =
+      let same : f ≡ e = cc in
+      subst (λ (d : Entry). (0 < d.unit) × (d.unit ≤ length state.units)) same (unit_there state f.unit f.statement f.answer h.0)
+  units_within state (f ∷ es) (suc i) e h g =
+      let rest = units_within (after_entry schema capacity state f) es i e h.1 g in
+      let many = as_many state f.unit (outcome_of schema capacity state f.unit f.statement) in
+      let high = rest.1 in
+      (rest.0, omega arith)
+
+-- an entry of a history is of one of its units, and its statement fits
+pub record IsEntryOf (schema : Lists) (n : ℕ) (e : Entry) : Type 0 where
+  pub numbered : 0 < e.unit
+  pub within : e.unit ≤ n
+  pub fitting : fits schema e.statement ≡ true
+
+pub entry_of_history : (schema : Lists) (capacity n : ℕ) (es : List Entry) (i : ℕ) (e : Entry) → IsHistoryOf schema capacity n es → slice_get es i ≡ Some e → IsEntryOf schema n e
+entry_of_history schema capacity n es i e h at =
+    let unit = units_within schema capacity (opening_state schema n) es i e h.answers_hold at in
+    let count : length (opening_state schema n).units ≡ n = opening_length schema n in
+    record { numbered = unit.0; within = subst (λ k. e.unit ≤ k) count unit.1; fitting = all_at (λ (e : Entry). fits schema e.statement) e es h.fitting (element_at es i e at) }
+
+module _ (m : Meeting) where
+  -- the answers of units as they are printed
+  pub map_units : (us : List ℕ) (es : List Entry) → AnswersHold m.schema m.capacity (opening_state m.schema (length m.scripts)) es → map (λ u. answers_text m.schema (map untimed (entries_of u es))) us ≡ map (unit_answers m (statements_of es)) us
+  map_units [] es h = refl
+  map_units (u ∷ us) es h =
+      let entries : entries_of u (entries_in m.schema m.capacity (opening_state m.schema (length m.scripts)) (statements_of es)) ≡ map untimed (entries_of u es) = ap (entries_of u) (entries_are m.schema m.capacity (opening_state m.schema (length m.scripts)) es h) ∙ entries_untimed u es in
+      λ i. answers_text m.schema (sym entries i) ∷ map_units us es h i
+
+  pub told_is : (es : List Entry) → m.tells ≡ true → IsHistoryOf m.schema m.capacity (length m.scripts) es → map (λ u. answers_text m.schema (map untimed (entries_of u es))) (units_of m) ≡ answers_told m (statements_of es)
+  told_is es t h = map_units (units_of m) es h.answers_hold ∙ sym (rw t refl)

@@ -1,0 +1,108 @@
+-- The groups of the same result, and all outcomes as they are given out.
+-- m is a meeting, g a group, w an order with a weight.
+use Rattle.std.proofs.Common.{◌≡◌, refl, sym, ◌∙◌, ap, subst, ℕ, ◌+◌, ◌-◌, ◌<◌, List, [], ◌∷◌, ◌++◌, length, get_or, take, map, Option, Some, arith}
+use Rattle.std.proofs.lemmas.List.{take_more}
+use Rattle.dbtg_unit.specs.declared.statement.Statement.{Statement}
+use Rattle.dbtg_unit.specs.declared.unit.Entry.{Entry}
+use Rattle.dbtg_unit.specs.Database.Laws.Replay.{IsHistoryOf}
+use Rattle.dbtg_unit.specs.Database.Laws.Replaying.{statements_of}
+use Rattle.dbtg_step.specs.declared.results.Run.{Run}
+use Rattle.dbtg_outcomes.specs.declared.groups.Group.{Group}
+use Rattle.dbtg_outcomes.specs.declared.notes.Note.{Note}
+use Rattle.dbtg_outcomes.specs.declared.outcomes.Outcomes as given
+use Rattle.dbtg_outcomes.specs.declared.search.Search.{Search}
+use Rattle.dbtg_outcomes.specs.Counted.{counted}
+use Rattle.dbtg_outcomes.specs.Gathered.{gathered}
+use Rattle.dbtg_outcomes.specs.Given.{all_orders, one_result}
+use Rattle.dbtg_outcomes.specs.Grouped.{IsAdded, sum_of}
+use Rattle.dbtg_outcomes.specs.Groups.{groups}
+use Rattle.dbtg_outcomes.specs.Orders.{count_statements, orders}
+use Rattle.dbtg_outcomes.specs.Outcomes.{AreOutcomes, IsMeeting, IsRunOf, result_of}
+use Rattle.dbtg_outcomes.specs.Results.{Meeting, result_text}
+use Rattle.dbtg_outcomes.specs.Search.{AreHeld, Hold, IsAt, IsHeld, layer}
+use Rattle.dbtg_outcomes.specs.Statuses.{AreAllAnswered, AreOfNotes}
+use Rattle.dbtg_outcomes.specs.Steps.{AreByResult, HoldAll, Joins}
+use Rattle.dbtg_outcomes.proofs.Orders.Extending.{last_held}
+use Rattle.dbtg_outcomes.proofs.Lists.Gathered.{gathered_is, total_groups}
+use Rattle.dbtg_outcomes.proofs.States.Layers.{stand_alone, sum_counted}
+use Rattle.dbtg_outcomes.proofs.Orders.Nexts.{hold_next}
+use Rattle.dbtg_outcomes.proofs.States.Searched.{all_statuses}
+use Rattle.dbtg_outcomes.proofs.States.States.{layer_last}
+use Rattle.dbtg_outcomes.proofs.Lists.Weights.{total}
+
+module _ (m : Meeting) where
+  -- GROUP INTO GROUP
+
+  pub joins_one : (g : Group) (fs : List Entry) (run : Run) (key : List ℕ) (history : List Entry) (old new : List (List ℕ × Group)) → fs ≡ g.history → IsRunOf m (statements_of fs) run → key ≡ result_text m (statements_of run.history) → history ≡ run.history → IsAdded old key (record { history = history; orders = g.orders }) new → Joins m g old new
+  joins_one g fs run key history old new same of k h added = record {
+    holds = λ seen w held hold.
+        let order : statements_of run.history ≡ w.0 = of.order_is ∙ ap statements_of same ∙ held.order_is in
+        let own : IsHeld m (record { history = history; orders = g.orders }) w = record {
+          order_is = ap statements_of h ∙ order;
+          history_of = subst (λ (es : List Entry). IsHistoryOf m.schema m.capacity (length m.scripts) es) (sym h) of.history_of;
+          orders_are = held.orders_are;
+        } in
+        hold_next m (result_text m) old new seen key (record { history = history; orders = g.orders }) w.0 w.1 hold (k ∙ ap (result_text m) order) own added;
+  }
+
+  hold_nothing : (ws : List (List (ℕ × Statement) × ℕ)) → AreHeld m [] ws → Hold m (result_text m) [] ws
+  hold_nothing [] h = tt
+  hold_nothing (w ∷ ws) h = absurd h
+
+  pub holds_nothing : HoldAll m [] []
+  holds_nothing = record { holds = hold_nothing }
+
+  -- the next of the last layer's groups
+  pub holds_next : (last : List Group) (i : ℕ) (g : Group) (old new : List (List ℕ × Group)) → i < length last → g ≡ get_or last i g → HoldAll m (take i last) old → Joins m g old new → HoldAll m (take (i + 1) last) new
+  holds_next last i g old new low is h joins =
+      let next : take i last ++ g ∷ [] ≡ take (i + 1) last = ap (λ (f : Group). take i last ++ f ∷ []) is ∙ sym (take_more last i g low) in
+      subst (λ (gs : List Group). HoldAll m gs new) next (record {
+        holds = λ ws held.
+            let at = last_held m (take i last) g ws held in
+            subst (λ (l : List (List (ℕ × Statement) × ℕ)). Hold m (result_text m) new l) at.is (joins.holds at.front at.last at.held (h.holds at.front at.fronts));
+      })
+
+  pub grouped_by_result : (last : List Group) (results : List (List ℕ × Group)) (new : List Group) → HoldAll m last results → new ≡ map (λ g. g.1) results → AreByResult m last new
+  grouped_by_result last results new h is = record {
+    held = λ ws held.
+        subst (λ (gs : List Group). AreHeld m gs (gathered (result_text m) [] ws)) (sym is)
+        (stand_alone m (result_text m) results (gathered (result_text m) [] ws) (h.holds ws held));
+  }
+
+  -- AS THEY ARE GIVEN OUT
+
+  units_alone : (es : List Entry) → map (λ (e : Entry). e.unit) es ≡ map (λ (s : ℕ × Statement). s.0) (statements_of es)
+  units_alone [] = refl
+  units_alone (e ∷ es) = ap (λ l. e.unit ∷ l) (units_alone es)
+
+  results_given : (gs : List Group) (ws : List (List (ℕ × Statement) × ℕ)) → AreHeld m gs ws → map one_result gs ≡ map result_of ws
+  results_given [] [] h = refl
+  results_given [] (w ∷ ws) h = absurd h
+  results_given (g ∷ gs) [] h = absurd h
+  results_given (g ∷ gs) (w ∷ ws) h =
+      let turns : map (λ (e : Entry). e.unit) g.history ≡ map (λ (s : ℕ × Statement). s.0) w.0 = units_alone g.history ∙ ap (map (λ (s : ℕ × Statement). s.0)) h.0.order_is in
+      let one : one_result g ≡ result_of w = λ i. record { turns = turns i; orders = h.0.orders_are i } in
+      λ i. one i ∷ results_given gs ws h.1 i
+
+  orders_given : (gs : List Group) (ws : List (List (ℕ × Statement) × ℕ)) (n : Option ℕ) (k : ℕ) → AreHeld m gs ws → n ≡ counted k → all_orders n gs ≡ counted (k + total ws)
+  orders_given [] [] n k h e = let none : k ≡ k + 0 = omega arith in e ∙ ap counted none
+  orders_given [] (w ∷ ws) n k h e = absurd h
+  orders_given (g ∷ gs) [] n k h e = absurd h
+  orders_given (g ∷ gs) (w ∷ ws) n k h e =
+      let both : k + w.1 + total ws ≡ k + (w.1 + total ws) = omega arith in
+      orders_given gs ws (sum_of n g.orders) (k + w.1) h.1 (sum_counted n g.orders k w.1 e h.0.orders_are) ∙ ap counted both
+
+  -- of a search that has made all statements
+  pub are_outcomes : IsMeeting m → (s : Search) (seen last : List Group) (notes : List Note) (all : given.Outcomes) → IsAt m (count_statements m.scripts) s → seen ≡ s.layer.items → notes ≡ s.notes.items → AreByResult m seen last → all.orders ≡ all_orders (Some 0) last → all.results.items ≡ map one_result last → AreAllAnswered notes m.scripts all.answered.items → AreOutcomes m all
+  are_outcomes meets s seen last notes all at same noted by number results answers =
+      let of : gathered (result_text m) [] (layer m (count_statements m.scripts)) ≡ groups (result_text m) (orders m.scripts) = gathered_is (result_text m) (layer m (count_statements m.scripts)) ∙ layer_last m meets.sound meets.fit (count_statements m.scripts) in
+      let first : AreHeld m seen (layer m (count_statements m.scripts)) = subst (λ (gs : List Group). AreHeld m gs (layer m (count_statements m.scripts))) (sym same) at.held in
+      let held : AreHeld m last (groups (result_text m) (orders m.scripts)) = subst (λ (ws : List (List (ℕ × Statement) × ℕ)). AreHeld m last ws) of (by.held (layer m (count_statements m.scripts)) first) in
+      let weighs : total (groups (result_text m) (orders m.scripts)) ≡ length (orders m.scripts) = total_groups (result_text m) (orders m.scripts) in
+      let sum : 0 + total (groups (result_text m) (orders m.scripts)) ≡ length (orders m.scripts) = omega arith in
+      record {
+        orders_are = number ∙ orders_given last (groups (result_text m) (orders m.scripts)) (Some 0) 0 held refl ∙ ap counted sum;
+        results_are = results ∙ results_given last (groups (result_text m) (orders m.scripts)) held;
+        places_are = answers.places_are;
+        statuses_are = λ a c. all_statuses m s at a (subst (λ (ns : List Note). AreOfNotes ns a.unit (a.place - 1) a.statuses.items) noted (answers.each a c));
+      }

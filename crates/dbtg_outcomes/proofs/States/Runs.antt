@@ -1,0 +1,74 @@
+-- What comes of statements that are made whole, as the run of an order.
+-- m is a meeting, o is an order, u is a unit, x is a statement.
+use Rattle.std.proofs.Common.{◌≡◌, refl, sym, ◌∙◌, ap, subst, ℕ, ◌+◌, List, [], ◌∷◌, ◌++◌, length, get_or, append_assoc}
+use Rattle.std.proofs.Math.Seq.{get_or-append_seam}
+use Rattle.std.proofs.lemmas.List.{map-append}
+use Rattle.dbtg_unit.specs.declared.statement.Statement.{Statement}
+use Rattle.dbtg_unit.specs.declared.unit.Entry.{Entry}
+use Rattle.dbtg_unit.specs.Database.Statements.Codes.{status_code}
+use Rattle.dbtg_unit.specs.Database.State.Image.{image_of}
+use Rattle.dbtg_unit.specs.Database.Laws.Replay.{IsHistoryOf, State, after_outcome, opening_state, outcome_of, replay, state_after}
+use Rattle.dbtg_unit.specs.Database.Laws.Replaying.{statements_of}
+use Rattle.dbtg_unit.proofs.Public.{opening_length, statements_determine}
+use Rattle.dbtg_step.specs.declared.results.Run.{Run}
+use Rattle.dbtg_step.specs.Core.Whole.{HasMade, IsMadeRun, Making, state_now}
+use Rattle.dbtg_outcomes.specs.Outcomes.{HasStatus, IsRunOf}
+use Rattle.dbtg_outcomes.specs.Results.{Meeting, state_of}
+use Rattle.dbtg_outcomes.proofs.States.Histories.{as_many}
+
+-- four lists behind one another
+pub four_behind : {X : Type 0} (k a b c d l1 l2 l3 l4 : List X) → k ≡ [] → l1 ≡ k ++ a → l2 ≡ l1 ++ b → l3 ≡ l2 ++ c → l4 ≡ l3 ++ d → l4 ≡ a ++ (b ++ (c ++ d))
+four_behind k a b c d l1 l2 l3 l4 z e f g h = h ∙ ap (λ l. l ++ d) (g ∙ ap (λ l. l ++ c) (f ∙ ap (λ l. l ++ b) (e ∙ ap (λ l. l ++ a) z))) ∙ simp append_assoc
+
+module _ (m : Meeting) where
+  -- a database of this meeting, after these statements
+  pub record IsMaking (o : List (ℕ × Statement)) (making : Making) : Type 0 where
+    pub same : making ≡ record { schema = m.schema; capacity = m.capacity; units = length m.scripts; history = making.history }
+    pub made : statements_of making.history ≡ o
+
+  run_state_is : (o : List (ℕ × Statement)) (making : Making) → IsMaking o making → state_now making ≡ state_of m o
+  run_state_is o making h =
+      ap state_now h.same
+      ∙ (statements_determine m.schema m.capacity (opening_state m.schema (length m.scripts)) making.history).state_is
+      ∙ ap (state_of m) h.made
+
+  pub run_of : (o : List (ℕ × Statement)) (making : Making) (run : Run) → IsMaking o making → IsMadeRun making run → IsRunOf m o run
+  run_of o making run h r =
+      let own : IsMadeRun (record { schema = m.schema; capacity = m.capacity; units = length m.scripts; history = making.history }) run = subst (λ (k : Making). IsMadeRun k run) h.same r in
+      let state : replay m.schema m.capacity (opening_state m.schema (length m.scripts)) making.history ≡ state_of m o = (statements_determine m.schema m.capacity (opening_state m.schema (length m.scripts)) making.history).state_is ∙ ap (state_of m) h.made in
+      record {
+        order_is = ap statements_of own.history_is ∙ h.made;
+        history_of = subst (λ (es : List Entry). IsHistoryOf m.schema m.capacity (length m.scripts) es) (sym own.history_is) own.history_of;
+        image_is = own.image_is ∙ ap (λ (s : State). image_of m.schema m.capacity s.database) state;
+        units_are = own.units_are ∙ ap (λ (s : State). s.units) state;
+      }
+
+  pub made_more : (o : List (ℕ × Statement)) (u : ℕ) (x : Statement) (old new : Making) → IsMaking o old → HasMade old u x new → IsMaking (o ++ (u, x) ∷ []) new
+  made_more o u x old new h g =
+      let entry : Entry = record { ticket = length old.history; unit = u; statement = x; answer = g.outcome.answer } in
+      let history : new.history ≡ old.history ++ entry ∷ [] = ap (λ (k : Making). k.history) g.new_is in
+      record {
+        same = λ i. record { schema = (ap (λ (k : Making). k.schema) g.new_is ∙ ap (λ (k : Making). k.schema) h.same) i; capacity = (ap (λ (k : Making). k.capacity) g.new_is ∙ ap (λ (k : Making). k.capacity) h.same) i; units = (ap (λ (k : Making). k.units) g.new_is ∙ ap (λ (k : Making). k.units) h.same) i; history = new.history };
+        made = ap statements_of history ∙ map-append {B = ℕ × Statement} (λ (e : Entry). (e.unit, e.statement)) old.history (entry ∷ []) ∙ ap (λ l. l ++ (u, x) ∷ []) h.made;
+      }
+
+  pub status_of : (o : List (ℕ × Statement)) (u : ℕ) (x : Statement) (old new : Making) (entry : Entry) → IsMaking o old → HasMade old u x new → entry ≡ get_or new.history (length old.history) entry → HasStatus m o u x (status_code entry.statement entry.answer.status)
+  status_of o u x old new entry h g e =
+      let last : Entry = record { ticket = length old.history; unit = u; statement = x; answer = g.outcome.answer } in
+      let is : entry ≡ last = e ∙ ap (λ (k : Making). get_or k.history (length old.history) entry) g.new_is ∙ get_or-append_seam old.history last [] entry in
+      record {
+        outcome = g.outcome;
+        outcome_is = sym (λ i. outcome_of (h.same i).schema (h.same i).capacity (run_state_is o old h i) u x) ∙ g.outcome_is;
+        code_is = ap (λ (k : Entry). status_code k.statement k.answer.status) is;
+      }
+
+  units_after : (state : State) (o : List (ℕ × Statement)) → length (state_after m.schema m.capacity state o).units ≡ length state.units
+  units_after state [] = refl
+  units_after state (s ∷ o) = units_after (after_outcome state s.0 (outcome_of m.schema m.capacity state s.0 s.1)) o ∙ as_many m.schema m.capacity state s.0 (outcome_of m.schema m.capacity state s.0 s.1)
+
+  pub units_of_run : (o : List (ℕ × Statement)) (run : Run) → IsRunOf m o run → length run.units ≡ length m.scripts
+  units_of_run o run h = ap length h.units_are ∙ units_after (opening_state m.schema (length m.scripts)) o ∙ opening_length m.schema (length m.scripts)
+
+  -- a run is that of its own statements
+  pub own_run : (o : List (ℕ × Statement)) (run : Run) → IsRunOf m o run → IsRunOf m (statements_of run.history) run
+  own_run o run h = subst (λ (q : List (ℕ × Statement)). IsRunOf m q run) (sym h.order_is) h

@@ -1,0 +1,287 @@
+-- A search that goes on by one statement.
+-- m is a meeting, n is how many statements are made, o is an order, u is a unit, x is a statement, w is an order with a weight.
+use Rattle.std.proofs.Common.{append_assoc, ◌≡◌, refl, sym, ◌∙◌, ap, subst, ℕ, zero, suc, ◌+◌, ◌-◌, ◌<◌, ◌≤◌, List, [], ◌∷◌, ◌++◌, length, map, Some, arith, inl, inr, ◌⊎◌, ⊎_elim, slice_get}
+use Rattle.std.specs.Prelude.{Contains, option_and_then, if◌then◌else◌}
+use Rattle.std.specs.Str.{bytes_eq}
+use Rattle.std.proofs.lemmas.Slice.Eq.{bytes_eq-Decides}
+use Rattle.dbtg_outcomes.specs.Counted.{counted}
+use Rattle.std.specs.List.{AllByRecursion}
+use Rattle.std.proofs.lemmas.Bool.{cases_lt}
+use Rattle.dbtg_unit.specs.declared.statement.Statement.{Statement}
+use Rattle.dbtg_unit.specs.Database.Statements.Codes.{status_code}
+use Rattle.dbtg_unit.specs.Database.Statements.Effect.{Outcome}
+use Rattle.dbtg_unit.specs.Database.Laws.Replay.{AnswersHold, State, outcome_of}
+use Rattle.dbtg_unit.specs.Database.Laws.Replaying.{statements_of}
+use Rattle.dbtg_unit.proofs.Public.{In, in_flat_map, in_map, of_flat_map, of_map}
+use Rattle.dbtg_step.specs.Machine.SequentialDatabase.{unit_at}
+use Rattle.dbtg_outcomes.specs.declared.groups.Group.{Group}
+use Rattle.dbtg_outcomes.specs.declared.notes.Note.{Note}
+use Rattle.dbtg_outcomes.specs.declared.search.Search as given
+use Rattle.dbtg_outcomes.specs.Gathered.{gathered}
+use Rattle.dbtg_outcomes.specs.Orders.{completed, count_statements, made, next_of, orders}
+use Rattle.dbtg_outcomes.specs.Outcomes.{AreStatuses, Comes, IsMeeting, count_states, states_within}
+use Rattle.dbtg_outcomes.specs.Results.{Meeting, state_key, units_of}
+use Rattle.dbtg_outcomes.specs.Search.{AreHeld, HasNote, IsAt, IsHeld, IsNextNote, IsNote, layer}
+use Rattle.dbtg_outcomes.specs.Steps.{Advances, ExtendsAll, HasHistory, IsOver, IsUnderWay, LeadToMore, next_orders, nexts, with_each}
+use Rattle.dbtg_outcomes.specs.declared.answered.Answered.{Answered}
+use Rattle.dbtg_outcomes.specs.Statuses.{AreOfNotes}
+use Rattle.dbtg_outcomes.proofs.Orders.Begun.{IsNext, amid, begun_left, begun_more, completes, next_left}
+use Rattle.dbtg_outcomes.proofs.Lists.Gathered.{gathered_is}
+use Rattle.dbtg_outcomes.proofs.States.Layers.{stand_alone, stand_length}
+use Rattle.dbtg_outcomes.proofs.Lists.Members.{contains_in, in_contains}
+use Rattle.dbtg_outcomes.proofs.States.SameStates.{SameState}
+use Rattle.dbtg_outcomes.proofs.States.States.{group_of, has_group, layer_next, same_state}
+
+module _ (m : Meeting) where
+  -- GROUPS BESIDE THEIR ORDERS
+
+  pub record HasHeld (gs : List Group) (w : List (ℕ × Statement) × ℕ) : Type 0 where
+    pub group : Group
+    pub is_in : In group gs
+    pub is : IsHeld m group w
+
+  pub held_of : (gs : List Group) (ws : List (List (ℕ × Statement) × ℕ)) (w : List (ℕ × Statement) × ℕ) → AreHeld m gs ws → In w ws → HasHeld gs w
+  held_of [] [] w h i = absurd i
+  held_of [] (v ∷ ws) w h i = absurd h
+  held_of (g ∷ gs) [] w h i = absurd h
+  held_of (g ∷ gs) (v ∷ ws) w h (inl e) = record { group = g; is_in = inl refl; is = subst (λ (v : List (ℕ × Statement) × ℕ). IsHeld m g v) e h.0 }
+  held_of (g ∷ gs) (v ∷ ws) w h (inr i) = let rest = held_of gs ws w h.1 i in record { group = rest.group; is_in = inr rest.is_in; is = rest.is }
+
+  pub record HasWeight (g : Group) (ws : List (List (ℕ × Statement) × ℕ)) : Type 0 where
+    pub weighted : List (ℕ × Statement) × ℕ
+    pub is_in : In weighted ws
+    pub is : IsHeld m g weighted
+
+  pub weight_of : (gs : List Group) (ws : List (List (ℕ × Statement) × ℕ)) (g : Group) → AreHeld m gs ws → In g gs → HasWeight g ws
+  weight_of [] [] g h i = absurd i
+  weight_of [] (v ∷ ws) g h i = absurd h
+  weight_of (f ∷ gs) [] g h i = absurd h
+  weight_of (f ∷ gs) (v ∷ ws) g h (inl e) = record { weighted = v; is_in = inl refl; is = subst (λ (f : Group). IsHeld m f v) e h.0 }
+  weight_of (f ∷ gs) (v ∷ ws) g h (inr i) = let rest = weight_of gs ws g h.1 i in record { weighted = rest.weighted; is_in = inr rest.is_in; is = rest.is }
+
+  in_nexts : (gs : List Group) (g : Group) (u : ℕ) → In g gs → In u (units_of m) → In (statements_of g.history, u) (nexts m gs)
+  in_nexts gs g u i j =
+      in_flat_map (λ (g : Group). with_each (statements_of g.history) (units_of m)) g (statements_of g.history, u) gs i
+      (in_map {Y = List (ℕ × Statement) × ℕ} (λ u. (statements_of g.history, u)) u (units_of m) j)
+
+  pub record IsOfNexts (gs : List Group) (p : List (ℕ × Statement) × ℕ) : Type 0 where
+    pub group : Group
+    pub unit : ℕ
+    pub group_in : In group gs
+    pub unit_in : In unit (units_of m)
+    pub is : (statements_of group.history, unit) ≡ p
+
+  of_nexts : (gs : List Group) (p : List (ℕ × Statement) × ℕ) → In p (nexts m gs) → IsOfNexts gs p
+  of_nexts gs p i =
+      let at = of_flat_map (λ (g : Group). with_each (statements_of g.history) (units_of m)) p gs i in
+      let by = of_map {Y = List (ℕ × Statement) × ℕ} (λ u. (statements_of at.0.history, u)) p (units_of m) at.2 in
+      record { group = at.0; unit = by.0; group_in = at.1; unit_in = by.1; is = by.2 }
+
+  -- FROM ONE STATE TO ANOTHER
+
+  note_moves : (o p : List (ℕ × Statement)) (u : ℕ) (x : Statement) (notes : List Note) → SameState m o p → In u (units_of m) → HasNote m notes o u x → HasNote m notes p u x
+  note_moves o p u x notes same i h = record {
+    note = h.note;
+    is = record {
+      status = record {
+        outcome = h.is.status.outcome;
+        outcome_is = ap (λ (z : State). outcome_of m.schema m.capacity z u x) (sym same.state_same) ∙ h.is.status.outcome_is;
+        code_is = h.is.status.code_is;
+      };
+      unit_is = h.is.unit_is;
+      place_is = h.is.place_is ∙ same.made_same u i;
+    };
+    noted = h.noted;
+  }
+
+  next_moves : (o p : List (ℕ × Statement)) (u : ℕ) → SameState m o p → In u (units_of m) → next_of m.scripts o u ≡ next_of m.scripts p u
+  next_moves o p u same i = ap (λ k. option_and_then (λ (script : List Statement). slice_get script k) (unit_at m.scripts u)) (same.made_same u i)
+
+  -- what is noted of an order that is begun comes
+  pub noted_comes : (n : ℕ) (o : List (ℕ × Statement)) (u : ℕ) (x : Statement) (note : Note) → In o (completed m.scripts n []) → In u (units_of m) → next_of m.scripts o u ≡ Some x → IsNote m o u x note → Comes m note.unit note.place note.status
+  noted_comes n o u x note i j e h =
+      let next : IsNext m.scripts o (u, x) = record { unit = j; next = e } in
+      let more = begun_more m.scripts n o (u, x) i next in
+      let left_is = begun_left m.scripts (suc n) (o ++ (u, x) ∷ []) more in
+      let whole = completes m.scripts _ (suc n) (o ++ (u, x) ∷ []) refl more in
+      let is : In ((o ++ (u, x) ∷ []) ++ whole.rest) (orders m.scripts) = subst (λ (c : ℕ). In ((o ++ (u, x) ∷ []) ++ whole.rest) (completed m.scripts c [])) left_is whole.begun_with in
+      let order : In (o ++ (u, x) ∷ whole.rest) (orders m.scripts) = subst (λ (l : List (ℕ × Statement)). In l (orders m.scripts)) (append_assoc o ((u, x) ∷ []) whole.rest) is in
+      subst (λ (v : ℕ). Comes m v note.place note.status) (sym h.unit_is) (record {
+        before = o;
+        statement = x;
+        rest = whole.rest;
+        is_order = in_contains (orders m.scripts) (o ++ (u, x) ∷ whole.rest) order;
+        place_is = sym h.place_is;
+        status = h.status;
+      })
+
+  -- BEFORE THE FIRST STATEMENT
+
+  pub first_states : states_within m 0 ≡ 1
+  unfolding completed
+  first_states = refl
+
+  first_weight : (k : List ℕ) → length {A = List (ℕ × Statement)} (if bytes_eq k k then [] ∷ [] else []) ≡ 1
+  first_weight k = rw ((bytes_eq-Decides k k).1 refl) refl
+
+  first_held : AreHeld m (record { history = []; orders = Some 1 } ∷ []) (layer m 0)
+  unfolding completed AnswersHold
+  first_held = (record { order_is = refl; history_of = record { tickets = refl; fitting = refl; answers_hold = tt }; orders_are = ap counted (sym (first_weight (state_key m []))) }, tt)
+
+  pub at_first : (s : given.Search) → s.layer.items ≡ record { history = []; orders = Some 1 } ∷ [] → s.states ≡ 1 → 0 < s.limit → s.notes.items ≡ [] → IsAt m 0 s
+  at_first s layer_is states_is some none = record {
+    held = subst (λ (gs : List Group). AreHeld m gs (layer m 0)) (sym layer_is) first_held;
+    states_are = states_is ∙ sym first_states;
+    within = omega arith;
+    all = λ k low. absurd (omega arith);
+    only = λ note c. absurd (contains_in [] note (subst (λ (l : List Note). Contains l note) none c));
+  }
+
+  -- ONE STATEMENT MORE
+
+  -- what a search becomes by one statement more
+  pub record IsNextSearch (old new : given.Search) (next : List (List ℕ × Group)) : Type 0 where
+    pub all : ExtendsAll m old.layer.items next old.notes.items new.notes.items
+    pub few : length next ≤ old.limit - old.states
+    pub layer_is : new.layer.items ≡ map (λ g. g.1) next
+    pub states_are : new.states ≡ old.states + length next
+    pub limit_is : new.limit ≡ old.limit
+
+  module _ (meets : IsMeeting m) (n : ℕ) (old : given.Search) (at : IsAt m n old) where
+    pub gathers : gathered (state_key m) [] (next_orders m (layer m n)) ≡ layer m (suc n)
+    gathers = gathered_is (state_key m) _ ∙ layer_next m meets.sound meets.fit n
+
+    -- more states than there may be
+    pub over_next : LeadToMore m old.layer.items (old.limit - old.states) → old.limit < states_within m (n + 1)
+    over_next more =
+        let many : old.limit - old.states < length (layer m (suc n)) = subst (λ (ws : List (List (ℕ × Statement) × ℕ)). old.limit - old.states < length ws) gathers (more (layer m n) at.held) in
+        let so_far = at.states_are in
+        let next : suc n ≡ n + 1 = omega arith in
+        let over : old.limit < states_within m (suc n) = omega arith in
+        subst (λ (k : ℕ). old.limit < states_within m k) next over
+
+    module _ (new : given.Search) (next : List (List ℕ × Group)) (h : IsNextSearch old new next) where
+      new_all : (o : List (ℕ × Statement)) (u : ℕ) (x : Statement) → Contains (completed m.scripts n []) o → Contains (units_of m) u → next_of m.scripts o u ≡ Some x → HasNote m new.notes.items o u x
+      new_all o u x c d e =
+          let has = has_group (state_key m) (completed m.scripts n []) o (contains_in (completed m.scripts n []) o c) in
+          let held = held_of old.layer.items (layer m n) has.group at.held has.is_in in
+          let unit = contains_in (units_of m) u d in
+          let same = same_state m meets.sound meets.fit n n has.group.0 o has.of (contains_in (completed m.scripts n []) o c) has.key_is in
+          let noted = h.all.noted.all (statements_of held.group.history, u) x (in_contains (nexts m old.layer.items) (statements_of held.group.history, u) (in_nexts old.layer.items held.group u held.is_in unit)) (ap (λ (q : List (ℕ × Statement)). next_of m.scripts q u) held.is.order_is ∙ next_moves has.group.0 o u same unit ∙ e) in
+          note_moves has.group.0 o u x new.notes.items same unit (subst (λ (q : List (ℕ × Statement)). HasNote m new.notes.items q u x) held.is.order_is noted)
+
+      new_only : (note : Note) → (p : List (ℕ × Statement) × ℕ) → Contains (nexts m old.layer.items) p → IsNextNote m p note → Comes m note.unit note.place note.status
+      new_only note p c is =
+          let of = of_nexts old.layer.items p (contains_in (nexts m old.layer.items) p c) in
+          let held = weight_of old.layer.items (layer m n) of.group at.held of.group_in in
+          let order : p.0 ≡ held.weighted.0 = ap (λ (q : List (ℕ × Statement) × ℕ). q.0) (sym of.is) ∙ held.is.order_is in
+          let unit : of.unit ≡ p.1 = ap (λ (q : List (ℕ × Statement) × ℕ). q.1) of.is in
+          noted_comes n p.0 p.1 is.statement note
+          (subst (λ (q : List (ℕ × Statement)). In q (completed m.scripts n [])) (sym order) (group_of (state_key m) (completed m.scripts n []) held.weighted held.is_in))
+          (subst (λ (v : ℕ). In v (units_of m)) unit of.unit_in) is.next_is is.is
+
+      pub at_next : IsAt m (suc n) new
+      at_next =
+          let stands = h.all.holds (layer m n) at.held in
+          let long : length next ≡ length (layer m (suc n)) = stand_length m (state_key m) next _ stands ∙ ap length gathers in
+          record {
+            held = subst (λ (gs : List Group). AreHeld m gs (layer m (suc n))) (sym h.layer_is) (subst (λ (ws : List (List (ℕ × Statement) × ℕ)). AreHeld m (map (λ g. g.1) next) ws) gathers (stand_alone m (state_key m) next _ stands));
+            states_are = h.states_are ∙ (λ i. at.states_are i + long i);
+            within = let few = h.few in let before = at.within in let now = h.states_are in let same = h.limit_is in omega arith;
+            all = λ k low o u x c d e.
+                elim (cases_lt k n) [
+                  | inl below ↦ let before = at.all k below o u x c d e in record { note = before.note; is = before.is; noted = h.all.noted.kept before.note before.noted }
+                  | inr above ↦ let same : k ≡ n = omega arith in new_all o u x (subst (λ (j : ℕ). Contains (completed m.scripts j []) o) same c) d e
+                ];
+            only = λ note c. ⊎_elim (λ d. at.only note d) (λ r. new_only note r.0 r.1 r.2) (h.all.noted.only note c);
+          }
+
+  -- AT THE END
+
+  pub states_grow : (k n : ℕ) → states_within m n ≤ states_within m (n + k)
+  states_grow zero n = let k : n + 0 ≡ n = omega arith in let e : states_within m (n + 0) ≡ states_within m n = ap (states_within m) k in omega arith
+  states_grow (suc k) n =
+      let j : n + suc k ≡ suc (n + k) = omega arith in
+      let e : states_within m (n + suc k) ≡ states_within m (suc (n + k)) = ap (states_within m) j in
+      let rest = states_grow k n in
+      omega arith
+
+  -- by one statement more, where memory does
+  pub advances_one : IsMeeting m → (old new : given.Search) (seen : List Group) (next : List (List ℕ × Group)) (count : ℕ) → seen ≡ old.layer.items → ExtendsAll m seen next old.notes.items new.notes.items → length next ≤ old.limit - old.states → count ≡ length next → new.layer.items ≡ map (λ g. g.1) next → new.states ≡ old.states + count → new.limit ≡ old.limit → Advances m 1 old new
+  advances_one meets old new seen next count same all few long layer_is states_are limit_is = record {
+    at = λ n at.
+        let more : suc n ≡ n + 1 = omega arith in
+        subst (λ (k : ℕ). IsAt m k new) more
+        (at_next meets n old at new next (record {
+          all = subst (λ (gs : List Group). ExtendsAll m gs next old.notes.items new.notes.items) same all;
+          few = few;
+          layer_is = layer_is;
+          states_are = states_are ∙ ap (λ k. old.states + k) long;
+          limit_is = limit_is;
+        }));
+    limit_is = limit_is;
+  }
+
+  -- or the limit does not allow it
+  pub over_one : IsMeeting m → (old : given.Search) (seen : List Group) → seen ≡ old.layer.items → LeadToMore m seen (old.limit - old.states) → IsOver m 1 old
+  over_one meets old seen same more = λ n at. over_next meets n old at (λ ws held. more ws (subst (λ (gs : List Group). AreHeld m gs ws) (sym same) held))
+
+  -- STEP BY STEP
+
+  pub advances_none : (s : given.Search) → Advances m 0 s s
+  advances_none s = record { at = λ n at. let none : n ≡ n + 0 = omega arith in subst (λ (k : ℕ). IsAt m k s) none at; limit_is = refl }
+
+  pub advances_more : (j k : ℕ) (a b c : given.Search) → Advances m j a b → Advances m k b c → Advances m (j + k) a c
+  advances_more j k a b c h g = record {
+    at = λ n at. let both : n + j + k ≡ n + (j + k) = omega arith in subst (λ (l : ℕ). IsAt m l c) both (g.at (n + j) (h.at n at));
+    limit_is = g.limit_is ∙ h.limit_is;
+  }
+
+  pub under_way : (k : ℕ) (a b : given.Search) → Advances m k a b → IsUnderWay m a → IsUnderWay m b
+  under_way k a b h g = record { made = g.made + k; at = h.at g.made g.at }
+
+  -- whatever is over goes no further
+  pub over_later : (j k l : ℕ) (a b : given.Search) → j + k ≤ l → Advances m j a b → IsOver m k b → IsOver m l a
+  over_later j k l a b most h over = λ n at.
+      let here : b.limit < states_within m (n + j + k) = over (n + j) (h.at n at) in
+      let rest : n + j + k + (l - (j + k)) ≡ n + l = omega arith in
+      let grown : states_within m (n + j + k) ≤ states_within m (n + l) = subst (λ (i : ℕ). states_within m (n + j + k) ≤ states_within m i) rest (states_grow (l - (j + k)) (n + j + k)) in
+      let limit = h.limit_is in
+      omega arith
+
+  -- so it is over at the end
+  pub over_first : (limit : ℕ) → limit < states_within m 0 → limit < count_states m
+  over_first limit over =
+      let all : 0 + count_statements m.scripts ≡ count_statements m.scripts = omega arith in
+      let grown : states_within m 0 ≤ count_states m = subst (λ (n : ℕ). states_within m 0 ≤ states_within m n) all (states_grow (count_statements m.scripts) 0) in
+      omega arith
+
+  pub over_all : (scripts : List (List Statement)) (s : given.Search) (limit : ℕ) → scripts ≡ m.scripts → s.limit ≡ limit → IsAt m 0 s → IsOver m (count_statements scripts) s → limit < count_states m
+  over_all scripts s limit same is at over =
+      let all : 0 + count_statements scripts ≡ count_statements m.scripts = omega (arith, ap count_statements same) in
+      subst (λ (k : ℕ). k < count_states m) is (subst (λ (n : ℕ). s.limit < states_within m n) all (over 0 at))
+
+  -- the histories of what is held
+  pub held_histories : (gs : List Group) (ws : List (List (ℕ × Statement) × ℕ)) → AreHeld m gs ws → AllByRecursion (HasHistory m) gs
+  held_histories [] ws h = tt
+  held_histories (g ∷ gs) [] h = absurd h
+  held_histories (g ∷ gs) (w ∷ ws) h = (h.0.history_of, held_histories gs ws h.1)
+
+  -- the statuses that are noted at the end are just those that come
+  pub all_statuses : (s : given.Search) → IsAt m (count_statements m.scripts) s → (a : Answered) → AreOfNotes s.notes.items a.unit (a.place - 1) a.statuses.items → AreStatuses m a
+  all_statuses s at a h = record {
+    rising = h.rising;
+    come = λ code c. at.only (record { unit = a.unit; place = a.place - 1; status = code }) (h.noted code c);
+    all = λ code comes.
+        let middle = amid m.scripts comes.before (a.unit, comes.statement) comes.rest (count_statements m.scripts) [] _ (contains_in (orders m.scripts) _ comes.is_order) refl in
+        let left_is = begun_left m.scripts (length comes.before) comes.before middle.before in
+        let more = next_left m.scripts comes.before a.unit comes.statement middle.next.next in
+        let has = at.all (length comes.before) (omega arith) comes.before a.unit comes.statement (in_contains (completed m.scripts (length comes.before) []) comes.before middle.before) (in_contains (units_of m) a.unit middle.next.unit) middle.next.next in
+        h.all code (subst (λ (k : Note). Contains s.notes.items k) (is_note comes has) has.noted);
+  } where
+    is_note : {code : ℕ} (comes : Comes m a.unit (a.place - 1) code) (has : HasNote m s.notes.items comes.before a.unit comes.statement) → has.note ≡ record { unit = a.unit; place = a.place - 1; status = code }
+    is_note {code} comes has =
+        let outcomes : Some has.is.status.outcome ≡ Some comes.status.outcome = sym has.is.status.outcome_is ∙ comes.status.outcome_is in
+        let same : has.is.status.outcome ≡ comes.status.outcome = cc in
+        let status : has.note.status ≡ code = has.is.status.code_is ∙ ap (λ (o : Outcome). status_code comes.statement o.answer.status) same ∙ sym comes.status.code_is in
+        λ i. record { unit = has.is.unit_is i; place = (has.is.place_is ∙ comes.place_is) i; status = status i }

@@ -1,0 +1,8 @@
+-- FIND: what it finds off the cells in hand is what it finds in each database that agrees with them.
+-- May use: `Needs`, and the reading of cells in hand.
+-- Promises: `FindPlans`, on which the contract of `prepare` rests for FIND.
+pub mod ChosenKeys
+pub mod FindPlans
+pub mod FindsTheSame
+pub mod KeysInTurn
+pub mod NumberedKeys

@@ -1,0 +1,11 @@
+-- A unit at work: what it needs, takes, prepares and draws, what it guesses, and the scripts that units make.
+-- May use: `TheRule`, and what a statement needs and prepares.
+-- Promises: a unit at work stays one; what it needs has a number; the ticket makes its statement's effect.
+pub mod Abreast
+pub mod Commits
+pub mod Made
+pub mod Needing
+pub mod Prepares
+pub mod Rings
+pub mod Runs
+pub mod Uses

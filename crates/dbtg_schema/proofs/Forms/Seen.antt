@@ -1,0 +1,28 @@
+-- The words that the grammar sees, from here on.
+use Rattle.std.proofs.Common.{◌≡◌, ℕ, ◌≤◌, false, List, [], ◌∷◌, length, refl, ap}
+use Rattle.std.specs.Prelude.{filter, not}
+use Rattle.std.proofs.lemmas.Bool.{le-ltb}
+use Rattle.std.proofs.lemmas.List.{append-nil}
+use Rattle.dbtg_schema.specs.Lookups.{first}
+use Rattle.dbtg_schema.specs.Texts.Words.{is_noise, last_line, text_words}
+use Rattle.dbtg_schema.specs.Texts.SchemaGrammar.{Form, Labelled, schema}
+use Rattle.dbtg_schema.specs.Texts.SchemaFaults.{at_end, refusal}
+use Rattle.dbtg_schema.specs.Texts.Reading.{verdict}
+use Rattle.dbtg_schema.specs.Texts.Words.{Word, words}
+
+abbrev pub seen : ℕ → List ℕ → List Word
+seen line rest = filter (λ w. not (is_noise w)) (words line rest)
+
+pub seen_word : (line line2 : ℕ) (rest rest2 : List ℕ) (w : Word) → words line rest ≡ w ∷ words line2 rest2 → is_noise w ≡ false → seen line rest ≡ w ∷ seen line2 rest2
+seen_word line line2 rest rest2 w e h = rw (e, h) refl
+
+pub seen_end : (line : ℕ) (rest : List ℕ) → words line rest ≡ [] → seen line rest ≡ []
+seen_end line rest e = rw e refl
+
+pub short_text : (text : List ℕ) → length text ≤ 65536 → refusal text ≡ verdict (last_line text) [] schema (text_words text)
+unfolding verdict
+short_text text le = rw (le-ltb 65536 (length text) le) refl
+
+pub at_the_end : (end : ℕ) (ws : List Labelled) (f : Form) → verdict end ws f [] ≡ first (at_end end ws f)
+unfolding verdict
+at_the_end end ws f = ap first (append-nil (at_end end ws f))

@@ -1,0 +1,18 @@
+-- The lemmas that other crates cite. All others are this crate's own, free to change.
+
+-- THE READER
+
+-- a line without fault behind a script is read, and what it says is behind what the script says
+pub use Rattle.dbtg_script.proofs.Reading.LineBehind.{is_read_behind}
+-- an empty script says nothing
+pub use Rattle.dbtg_script.proofs.Reading.LineBehind.{nothing_read}
+-- PRINTED TEXTS
+
+-- the text of moves has no fault, and says these moves
+pub use Rattle.dbtg_script.proofs.Printing.ReadBack.{moves_read_back}
+-- the text of turns has no fault, and says these turns
+pub use Rattle.dbtg_script.proofs.Printing.ReadBack.{turns_read_back}
+-- FITTING
+
+-- a fault that is not found has no cause
+pub use Rattle.dbtg_script.proofs.Fitting.FittingNames.{not_when}

@@ -1,0 +1,25 @@
+-- What the machine needs of a schema, and of the statements on its database. A sound schema has both.
+use Rattle.std.proofs.Common.{ℕ, ◌≡◌, ◌<◌, true, false, List, Option, length}
+use Rattle.std.specs.Prelude.{is_some}
+use Rattle.dbtg_schema.specs.Lists.{Lists}
+use Rattle.dbtg_schema.specs.Structure.{area_of, member_clause, owns}
+use Rattle.dbtg_cells.specs.declared.key.Owner.{Owner}
+use Rattle.dbtg_cells.specs.declared.name.CellName.{CellName}
+use Rattle.dbtg_cells.specs.Shown.{CellValue}
+use Rattle.dbtg_unit.specs.declared.statement.Statement.{Statement}
+use Rattle.dbtg_unit.specs.declared.unit.Unit.{Unit}
+use Rattle.dbtg_unit.specs.Database.State.Base.{Database}
+use Rattle.dbtg_step.specs.Machine.SequentialDatabase.{HeldCell, NeedsNothing, Agrees, IsLocal, MayMake}
+use Rattle.dbtg_step.specs.Machine.Network.{network}
+
+-- each record type lies in one of its areas, and no record type is owner and member of one set
+pub record SuitsMachine (schema : Lists) : Type 0 where
+  pub areas : (t : ℕ) → area_of schema t < length schema.areas
+  pub owner_is_no_member : (s t : ℕ) → owns schema s t ≡ true → is_some (member_clause schema s t) ≡ false
+
+-- a statement that needs nothing more leaves a database with all its units legal, and changes no cell but those that it holds
+abbrev pub StatementsAreLocal : Lists → ℕ → Type 0
+StatementsAreLocal schema capacity =
+    (db : Database) (units : List Unit) (u : ℕ) (unit : Unit) (statement : Statement) (guesses : List (Option Owner)) (areas : List ℕ) (cells : List (HeldCell CellName CellValue)) →
+    MayMake (network schema capacity) db units u unit statement → Agrees (network schema capacity) db cells → (network schema capacity).need db unit statement guesses areas cells ≡ NeedsNothing →
+    IsLocal (network schema capacity) db units u unit statement cells

@@ -1,0 +1,8 @@
+-- Statements that are made whole: serial runs, turns and audits are runs of the machine.
+-- May use: `Runs` and `TheCore`.
+-- Promises: `Wholes`: a statement on all cells is its effect; `SerialLaw`, `TurnsTaken`, `Audits`.
+pub mod Audits
+pub mod SerialLaw
+pub mod SerialShown
+pub mod TurnsTaken
+pub mod Wholes

@@ -1,0 +1,134 @@
+-- An audit takes one entry after another: what it finds of each, and of the whole.
+use Rattle.std.proofs.Common.{ℕ, zero, suc, ◌+◌, ◌-◌, ◌<◌, ◌≤◌, ◌≡◌, Bool, true, false, ◌&&◌, List, [], ◌∷◌, ◌++◌, length, Some, slice_get, refl, sym, ap, ◌∙◌, subst, arith, length-append}
+use Rattle.std.specs.Prelude.{nat_lt, nat_le, option_map, ◌==◌}
+use Rattle.std.specs.Bool.{Decides, MatchBool}
+use Rattle.std.specs.List.{list_all}
+use Rattle.std.proofs.lemmas.Bool.{and_parts, and_from, false≢true, eq-eqb, eqb-true, lt-ltb, le-leb, ltb-true, leb-true}
+use Rattle.std.proofs.lemmas.List.Folds.{list_all-append}
+use Rattle.std.proofs.lemmas.Option.{same_Some, slice_get-map}
+use Rattle.dbtg_schema.specs.Lists.{Lists}
+use Rattle.dbtg_cells.proofs.Public.{get_behind}
+use Rattle.dbtg_unit.specs.declared.unit.Entry.{Entry}
+use Rattle.dbtg_unit.specs.declared.unit.Unit.{Unit}
+use Rattle.dbtg_unit.specs.Database.Statements.Effect.{Outcome, effect}
+use Rattle.dbtg_unit.specs.Database.Statements.Fits.{fits}
+use Rattle.dbtg_unit.specs.Database.State.Image.{image_of}
+use Rattle.dbtg_unit.specs.Database.Laws.Replay.{State, AnswersHold, IsHistoryOf, answer_to, opening_state, outcome_of, replay}
+use Rattle.dbtg_unit.proofs.Public.{answers_behind, slice_get_range}
+use Rattle.dbtg_step.specs.declared.results.Run.{Run}
+use Rattle.dbtg_step.specs.Core.Audit.{GoesOn, HasJoined, LeadsTo}
+use Rattle.dbtg_step.specs.Core.Whole.{HasMade, IsMadeRun, Making, state_now}
+
+-- LISTS
+
+pub newest_of : {X : Type 0} (xs all : List X) (x : X) → all ≡ xs ++ x ∷ [] → slice_get all (length all - 1) ≡ Some x
+newest_of xs all x e =
+    let l = length-append xs (x ∷ []) in
+    let back : length (xs ++ x ∷ []) - 1 ≡ length xs = omega (arith, l) in
+    subst (λ ys. slice_get ys (length ys - 1) ≡ Some x) (sym e) (ap (slice_get (xs ++ x ∷ [])) back ∙ get_behind xs x [])
+
+pub not_none : {X : Type 0} (xs all : List X) (x : X) → all ≡ xs ++ x ∷ [] → 0 < length all
+not_none xs all x e = let l = length-append xs (x ∷ []) in let k = ap length e in omega (arith, l, k)
+
+-- AN ENTRY
+
+-- an answer is to a unit that is there
+unit_is_there : (schema : Lists) (capacity : ℕ) (state : State) (entry : Entry) → answer_to schema capacity state entry ≡ Some entry.answer → (0 < entry.unit) × (entry.unit ≤ length state.units)
+unit_is_there schema capacity state entry e = by entry.unit e
+  where
+    within : (units : List Unit) (n : ℕ) (f : Unit → Outcome) → option_map (λ (o : Outcome). o.answer) (option_map f (slice_get units n)) ≡ Some entry.answer → n < length units
+    within [] n f e = absurd (cc (e))
+    within (y ∷ ys) zero f e = omega arith
+    within (y ∷ ys) (suc n) f e = let l = within ys n f e in omega (arith, l)
+
+    by : (number : ℕ) → option_map (λ (o : Outcome). o.answer) (outcome_of schema capacity state number entry.statement) ≡ Some entry.answer → (0 < number) × (number ≤ length state.units)
+    by zero e = absurd (cc (e))
+    by (suc n) e = let l = within state.units n (λ unit. effect schema capacity state.database unit entry.statement) e in (omega arith, omega (arith, l))
+
+module _ (entry : Entry) (old : Making) (count : length (state_now old).units ≡ old.units) where
+  abbrev may : Bool
+  may = entry.ticket == length old.history && nat_lt 0 entry.unit && nat_le entry.unit old.units && fits old.schema entry.statement
+
+  pub refused : may ≡ false → GoesOn old entry → ⊥
+  refused e g =
+      let there = unit_is_there old.schema old.capacity (state_now old) entry g.answer in
+      let high : entry.unit ≤ old.units = subst (λ n. entry.unit ≤ n) count there.1 in
+      false≢true (sym e ∙ and_from _ _ (and_from _ _ (and_from _ _ (eq-eqb entry.ticket (length old.history) g.ticket) (lt-ltb 0 entry.unit there.0)) (le-leb entry.unit old.units high)) g.fitting)
+
+  -- what the tests say
+  pub record MayFollow : Type 0 where
+    pub ticket : entry.ticket ≡ length old.history
+    pub numbered : 0 < entry.unit
+    pub within : entry.unit ≤ old.units
+    pub fitting : fits old.schema entry.statement ≡ true
+
+  pub may_follow : may ≡ true → MayFollow
+  may_follow e =
+      let a = and_parts _ _ e in
+      let b = and_parts _ _ a.0 in
+      let d = and_parts _ _ b.0 in
+      record { ticket = eqb-true _ _ d.0; numbered = ltb-true _ _ d.1; within = leb-true _ _ b.1; fitting = a.1 }
+
+  module _ (new : Making) (m : MayFollow) (has : HasMade old entry.unit entry.statement new) where
+    abbrev pub made_entry : Entry
+    made_entry = record { ticket = length old.history; unit = entry.unit; statement = entry.statement; answer = has.outcome.answer }
+
+    pub history_made : new.history ≡ old.history ++ made_entry ∷ []
+    history_made = ap (λ (k : Making). k.history) has.new_is
+
+    joined : has.outcome.answer ≡ entry.answer → HasJoined entry old new
+    joined e = has.new_is ∙ (λ i. record old { history = old.history ++ record { ticket = sym m.ticket i; unit = entry.unit; statement = entry.statement; answer = e i } ∷ [] })
+
+    same_answer : GoesOn old entry → has.outcome.answer ≡ entry.answer
+    same_answer g = same_Some has.outcome.answer entry.answer (sym (ap (option_map (λ (o : Outcome). o.answer)) has.outcome_is) ∙ g.answer)
+
+    pub decided : (follows : Bool) → Decides follows (has.outcome.answer ≡ entry.answer) → MatchBool follows (HasJoined entry old new) (GoesOn old entry → ⊥)
+    decided true d = joined (d.0 refl)
+    decided false d = λ g. false≢true (d.1 (same_answer g))
+
+-- THE WHOLE
+
+abbrev pub stands : Lists → ℕ → ℕ → List Entry → Making
+stands schema capacity units past = record { schema = schema; capacity = capacity; units = units; history = past }
+
+-- with one entry more
+pub joins : (schema : Lists) (capacity units : ℕ) (old new : Making) (past : List Entry) (entry : Entry) → old ≡ stands schema capacity units past → HasJoined entry old new → new ≡ stands schema capacity units (past ++ entry ∷ [])
+joins schema capacity units old new past entry e h = h ∙ (λ i. record { schema = (e i).schema; capacity = (e i).capacity; units = (e i).units; history = (e i).history ++ entry ∷ [] })
+
+module _ (schema : Lists) (capacity units : ℕ) (history : List Entry) where
+  pub led : (past : List Entry) (given : Run) → past ≡ history → IsMadeRun (stands schema capacity units past) given → LeadsTo schema capacity units history given.image given.units
+  led past given is m = record {
+    history_of = subst (IsHistoryOf schema capacity units) is m.history_of;
+    image_is = m.image_is ∙ ap (λ (es : List Entry). image_of schema capacity (replay schema capacity (opening_state schema units) es).database) is;
+    units_are = m.units_are ∙ ap (λ (es : List Entry). (replay schema capacity (opening_state schema units) es).units) is;
+  }
+
+  -- each entry of a history goes on
+  goes_on : (past rest : List Entry) (entry : Entry) → past ++ entry ∷ rest ≡ history → IsHistoryOf schema capacity units history → GoesOn (stands schema capacity units past) entry
+  unfolding AnswersHold
+  goes_on past rest entry e h =
+      let all = subst (IsHistoryOf schema capacity units) (sym e) h in
+      let long : length past < length (past ++ entry ∷ rest) = let l = length-append past (entry ∷ rest) in omega (arith, l) in
+      let ticket = sym (slice_get-map (λ (x : Entry). x.ticket) (past ++ entry ∷ rest) (length past) ∙ ap (option_map (λ (x : Entry). x.ticket)) (get_behind past entry rest)) ∙ ap (λ ts. slice_get ts (length past)) all.tickets ∙ slice_get_range (length (past ++ entry ∷ rest)) 0 (length past) long in
+      let fit : (list_all (λ (x : Entry). fits schema x.statement) past ≡ true) × (list_all (λ (x : Entry). fits schema x.statement) (entry ∷ rest) ≡ true) = and_parts _ _ (sym (list_all-append (λ (x : Entry). fits schema x.statement) past (entry ∷ rest)) ∙ all.fitting) in
+      record {
+        ticket = same_Some entry.ticket (0 + length past) ticket ∙ omega arith;
+        fitting = (and_parts _ _ fit.1).0;
+        answer = (answers_behind schema capacity (opening_state schema units) past (entry ∷ rest) all.answers_hold).0;
+      }
+
+  pub not_led : (past rest : List Entry) (entry : Entry) → past ++ entry ∷ rest ≡ history → (GoesOn (stands schema capacity units past) entry → ⊥) → IsHistoryOf schema capacity units history → ⊥
+  not_led past rest entry e n h = n (goes_on past rest entry e h)
+
+pub refused_at : (b : Bool) (P Q : Type 0) → b ≡ false → MatchBool b P Q → Q
+refused_at true P Q e h = absurd (false≢true (sym e))
+refused_at false P Q e h = h
+
+-- what a test decides, where it passes
+pub match_true : (b : Bool) (P Q : Type 0) → b ≡ true → MatchBool b P Q → P
+match_true true P Q e h = h
+match_true false P Q e h = absurd (false≢true e)
+
+-- one entry more fits
+pub fits_more : (schema : Lists) (past : List Entry) (entry : Entry) → list_all (λ (e : Entry). fits schema e.statement) past ≡ true → fits schema entry.statement ≡ true → list_all (λ (e : Entry). fits schema e.statement) (past ++ entry ∷ []) ≡ true
+fits_more schema past entry h f = list_all-append (λ (e : Entry). fits schema e.statement) past (entry ∷ []) ∙ and_from _ _ h (and_from _ _ f refl)

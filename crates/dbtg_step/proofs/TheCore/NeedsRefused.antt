@@ -1,0 +1,100 @@
+-- Memory that is refused where a need is asked for stands in the place of an event: a DELETE that has its areas waits for
+-- nobody.
+use Rattle.std.proofs.Common.{ℕ, ◌≡◌, ◌<◌, ◌-◌, true, false, List, Some, None, drop, slice_get, refl, sym, ap, ◌∙◌, subst, suc}
+use Rattle.std.specs.Prelude.{is_some, not, ◌==◌, Result, Ok, Err, OnErr}
+use Rattle.std.specs.List.{find, list_any}
+use Rattle.std.proofs.lemmas.Bool.{false≢true}
+use Rattle.std.proofs.lemmas.Option.{none-some}
+use Rattle.dbtg_schema.specs.Lists.{Lists}
+use Rattle.dbtg_cells.specs.declared.cell.Cell.{Cell}
+use Rattle.dbtg_cells.specs.declared.name.CellName.{CellName}
+use Rattle.dbtg_cells.specs.Names.{name_eq, name_lt}
+use Rattle.dbtg_cells.specs.CellNumbers.{cell_number}
+use Rattle.dbtg_cells.proofs.Public.{has_number}
+use Rattle.dbtg_unit.specs.declared.held.Need.TheVariants.{Take}
+use Rattle.dbtg_unit.specs.declared.statement.Statement.{Statement}
+use Rattle.dbtg_unit.specs.declared.unit.Unit.{Unit}
+use Rattle.dbtg_unit.specs.declared.moves.Stepped.TheVariants.{NoMemory}
+use Rattle.dbtg_unit.specs.Database.State.Base.{Database}
+use Rattle.dbtg_unit.specs.Database.Statements.Checks.{refused_at_once}
+use Rattle.dbtg_unit.specs.Hands.Hands.{Hands}
+use Rattle.dbtg_unit.specs.Hands.Needs.{areas_in_order, cells_of, is_stale, need, stale_owners}
+use Rattle.dbtg_step.specs.declared.parts.Parts.{Parts}
+use Rattle.dbtg_step.specs.declared.parts.Runner.{Runner}
+use Rattle.dbtg_step.specs.declared.parts.Stage.{Stage}
+use Rattle.dbtg_step.specs.Machine.SequentialDatabase.{NeedsArea}
+use Rattle.dbtg_step.specs.Machine.Step.{next_need}
+use Rattle.dbtg_step.specs.Machine.NeverStuck.{InTurn}
+use Rattle.dbtg_step.specs.Machine.Network.{is_delete, network, next_need_of}
+use Rattle.dbtg_step.specs.Core.Parts.{held_cells_of, progress_of, stage_of, state_of, unit_state_of}
+use Rattle.dbtg_step.specs.Machine.NeedOrder.{HasItsAreas}
+use Rattle.dbtg_step.specs.Core.Stands.{StandsNeeding}
+use Rattle.dbtg_step.specs.Core.Events.{IsStepped, IsWell, NeedsNext, opening_for}
+use Rattle.dbtg_step.proofs.TheCore.EventsShown.{drop_found, found}
+use Rattle.dbtg_step.proofs.TheCore.FollowsShown.{refused_is, statement, wants}
+use Rattle.dbtg_step.proofs.Network.NameOrder.{names_are_ordered}
+use Rattle.dbtg_step.proofs.Network.NeededCellsExist.{needed_is_cell}
+use Rattle.dbtg_step.proofs.TheCore.NeedsShown.{agrees_now, database_now, need_of_holding}
+use Rattle.dbtg_step.proofs.Network.NetworkFacts.{needs_in_order, network_is_sequential}
+use Rattle.dbtg_step.proofs.Network.NetworkNeeds.{needed_not_in_hand, chose_area}
+use Rattle.dbtg_step.proofs.Runs.Ordered.{ordered}
+use Rattle.dbtg_step.proofs.Runs.Waiting.{exclusive_moves}
+use Rattle.dbtg_step.proofs.EachEvent.UnitLists.{set_same_at}
+
+-- with all areas in hand none is needed
+no_area_needed : (schema : Lists) (capacity : ℕ) (db : Database) (unit : Unit) (hands : Hands) (x : Statement) → HasItsAreas schema unit hands x → (a : ℕ) → next_need_of hands.guesses (need schema capacity db unit hands x) ≡ NeedsArea a → ⊥
+unfolding need
+no_area_needed schema capacity db unit hands x has a e =
+    let first = find (λ b. not (list_any (λ c. c == b) hands.areas)) (areas_in_order schema unit x) in
+    let wanted : first ≡ Some a =
+    (chose_area hands.guesses (is_some (refused_at_once schema capacity unit x)) first (find (λ c. not (list_any (λ (f : CellName × Cell). name_eq c f.0) hands.cells)) (cells_of schema capacity db unit hands.guesses x)) (is_stale schema capacity db unit hands.guesses x) (stale_owners schema capacity db unit hands.guesses x) a e).1 in
+    none-some a (sym has.areas ∙ wanted)
+
+module _ (schema : Lists) (capacity u : ℕ) (old : Parts) (r : Runner) (well : IsWell schema capacity old) (numbered : 0 < u) (at : slice_get old.runners.items (u - 1) ≡ Some r) (w : Stage) (s : StandsNeeding r w) where
+  pub need_refused : ((x : Statement) → slice_get r.script r.next ≡ Some x → HasItsAreas schema r.unit r.held x) → IsStepped schema capacity u NoMemory old old
+  unfolding next_need
+  need_refused f =
+      let x = statement schema capacity u old r well numbered at w s in
+      let has = f x.0 x.1 in
+      let opening = opening_for schema capacity old in
+      let state = unit_state_of schema capacity r in
+      let progress = stage_of schema capacity r.held w in
+      let here = found schema capacity u old r well numbered at in
+      let is = ap (progress_of schema capacity r.held) s.before.stage in
+      let remaining = drop_found r.script r.next x.0 x.1 in
+      let order = ordered (network schema capacity) (network_is_sequential schema capacity well.sound) name_lt (needs_in_order schema capacity well.sound) opening (state_of schema capacity old) well.lawful well.in_turn in
+      let turn : InTurn (network schema capacity) name_lt state progress = well.in_turn.each u state progress here is s.before.ticket in
+      let same : turn.x ≡ x.0 = (let both = sym turn.remaining ∙ remaining in cc (both)) in
+      let alone : w.exclusive ≡ true = turn.exclusive ∙ (ap is_delete same ∙ has.deletes) in
+      let db = database_now schema capacity u old r well numbered at in
+      let moves = exclusive_moves (network schema capacity) (network_is_sequential schema capacity well.sound) opening name_lt names_are_ordered (state_of schema capacity old) well.lawful order u state progress here is x.0 (drop (suc r.next) r.script)
+      s.before.ticket remaining (λ t. ap held_cells_of (s.turned t)) alone (next_need_of r.held.guesses (need schema capacity db r.unit r.held x.0)) (ap (next_need_of r.held.guesses) (need_of_holding schema capacity db r.unit x.0 r.held)) (no_area_needed schema capacity db r.unit r.held x.0 has) in
+      refused_is schema capacity u old r well numbered at w s (wants schema capacity u old r well numbered at w s moves.after moves.event) old r refl refl (sym (set_same_at old.runners.items (u - 1) r at)) refl (well.runners (u - 1) r at)
+
+-- what follows from what an Err has
+pub err_also : {T E : Type 0} (r : Result T E) (P Q : Type 0) → (P → Q) → OnErr r P → OnErr r Q
+err_also (Ok t) P Q f h = tt
+err_also (Err e) P Q f h = f h
+
+-- the same of whichever unit and statement are there
+pub has_its_areas : (schema : Lists) (r : Runner) (y : Statement) (runners : List Runner) (i : ℕ) → slice_get runners i ≡ Some r → slice_get r.script r.next ≡ Some y → HasItsAreas schema r.unit r.held y →
+    (s : Runner) (x : Statement) → slice_get runners i ≡ Some s → slice_get s.script s.next ≡ Some x → HasItsAreas schema s.unit s.held x
+has_its_areas schema r y runners i at is has s x at' is' =
+    let same : r ≡ s = cc (at, at') in
+    subst (λ (q : Runner). slice_get q.script q.next ≡ Some x → HasItsAreas schema q.unit q.held x) same (λ e. let also : y ≡ x = cc (is, e) in subst (HasItsAreas schema r.unit r.held) also has) is'
+
+module _ (schema : Lists) (capacity u : ℕ) (old : Parts) (r : Runner) (well : IsWell schema capacity old) (numbered : 0 < u) (at : slice_get old.runners.items (u - 1) ≡ Some r) (w : Stage) (s : StandsNeeding r w) where
+  -- a cell that is needed has a number
+  pub needed_has_number : (c : CellName) → NeedsNext schema capacity old u w (Take c) → cell_number schema capacity c ≡ None → ⊥
+  needed_has_number c needs e =
+      let x = statement schema capacity u old r well numbered at w s in
+      let here = found schema capacity u old r well numbered at in
+      let exists = needed_is_cell schema capacity well.sound (opening_for schema capacity old) (state_of schema capacity old) well.lawful u (unit_state_of schema capacity r) (stage_of schema capacity r.held w) x.0 (drop (suc r.next) r.script) c here (well.guesses u (unit_state_of schema capacity r) here) (drop_found r.script r.next x.0 x.1) (needs r x.0 at x.1).is in
+      false≢true (sym (ap is_some e) ∙ (has_number schema capacity c ∙ exists))
+
+  -- and isn't in hand
+  pub needed_is_free : (c : CellName) → NeedsNext schema capacity old u w (Take c) → list_any (λ (e : CellName × Cell). name_eq c e.0) r.held.cells ≡ false
+  needed_is_free c needs =
+      let x = statement schema capacity u old r well numbered at w s in
+      needed_not_in_hand schema capacity (database_now schema capacity u old r well numbered at) r.unit r.held x.0 c
+      ((needs r x.0 at x.1).everywhere (database_now schema capacity u old r well numbered at) (agrees_now schema capacity u old r well numbered at))

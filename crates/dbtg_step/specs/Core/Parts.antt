@@ -1,0 +1,145 @@
+-- What the parts of the core show of the machine.
+use Rattle.std.specs.Prelude.{ℕ, List, [], ◌∷◌, Option, Some, None, drop, map, length, reverse, slice_get, slice_set}
+use Rattle.dbtg_schema.specs.Lists.{Lists}
+use Rattle.dbtg_cells.specs.declared.cell.Cell.{Cell}
+use Rattle.dbtg_cells.specs.declared.name.CellName.{CellName}
+use Rattle.dbtg_cells.specs.CellNumbers.{cell_number}
+use Rattle.dbtg_cells.specs.Cells.{shown}
+use Rattle.dbtg_cells.specs.Shown.{CellValue}
+use Rattle.dbtg_unit.specs.declared.unit.Entry.{Entry}
+use Rattle.dbtg_unit.specs.Database.State.Base.{opening}
+use Rattle.dbtg_unit.specs.Database.State.Cells.{cell}
+use Rattle.dbtg_unit.specs.Hands.Hands.{Hands}
+use Rattle.dbtg_step.specs.declared.parts.Parts.{Parts}
+use Rattle.dbtg_step.specs.declared.parts.Place.{Place}
+use Rattle.dbtg_step.specs.declared.parts.Place.TheVariants.{Home as AtHome, HeldBy as WithUnit}
+use Rattle.dbtg_step.specs.declared.parts.Runner.{Runner}
+use Rattle.dbtg_step.specs.declared.parts.Stage.{Stage}
+use Rattle.dbtg_step.specs.Machine.SequentialDatabase.{HeldCell}
+use Rattle.dbtg_step.specs.Machine.Machine.{Location, Home, HeldBy, Progress, UnitState, HistoryEntry, State, SequentialState}
+use Rattle.dbtg_step.specs.Machine.Headline.{opening_of}
+use Rattle.dbtg_step.specs.Machine.Network.{network}
+
+-- THE TABLE
+
+-- the table with a cell at home; as it was where the schema has no such cell
+abbrev pub home_at : Cell → List Place → Option ℕ → List Place
+home_at x table None = table
+home_at x table (Some n) = slice_set table n (AtHome x)
+
+-- the same by the name of the cell
+abbrev pub written_home : Lists → ℕ → CellName → Cell → List Place → List Place
+written_home schema capacity c x table = home_at x table (cell_number schema capacity c)
+
+-- the table with these cells at home
+abbrev pub written_homes : Lists → ℕ → List (CellName × Cell) → List Place → List Place
+written_homes schema capacity [] table = table
+written_homes schema capacity (e ∷ es) table = written_homes schema capacity es (written_home schema capacity e.0 e.1 table)
+
+-- the machine's location of a cell at this place
+abbrev pub location_of : Place → Location CellValue
+location_of (AtHome x) = Home (shown x)
+location_of (WithUnit u) = HeldBy u
+
+-- a cell that the table has not is at home as the opening database shows it
+abbrev pub found_location : Lists → ℕ → CellName → Option Place → Location CellValue
+found_location schema capacity c None = Home (cell schema capacity (opening schema) c)
+found_location schema capacity c (Some p) = location_of p
+
+-- where the table has cell c, by its number; one that the schema has not is at home
+abbrev pub location_in : Lists → ℕ → List Place → CellName → Option ℕ → Location CellValue
+location_in schema capacity table c None = Home (cell schema capacity (opening schema) c)
+location_in schema capacity table c (Some n) = found_location schema capacity c (slice_get table n)
+
+-- where the table has a cell
+unfoldable pub location_at : Lists → ℕ → List Place → CellName → Location CellValue
+location_at schema capacity table c = location_in schema capacity table c (cell_number schema capacity c)
+
+-- THE UNITS
+
+-- a cell in hand as the machine has it
+abbrev pub held_of : CellName × Cell → HeldCell CellName CellValue
+held_of e = record { name = e.0; value = shown e.1 }
+
+-- the machine has the newest first
+abbrev pub held_cells_of : List (CellName × Cell) → List (HeldCell CellName CellValue)
+held_cells_of cells = reverse (map held_of cells)
+
+-- the machine's progress of a stage
+abbrev pub stage_of : (schema : Lists) (capacity : ℕ) → Hands → Stage → Progress (network schema capacity)
+stage_of schema capacity hands stage = record {
+  exclusive = stage.exclusive;
+  areas = reverse hands.areas;
+  cells = held_cells_of hands.cells;
+  turning_back = stage.turning_back;
+  ticket = stage.ticket;
+  linked = stage.linked;
+}
+
+-- the same of a unit that may be between statements
+abbrev pub progress_of : (schema : Lists) (capacity : ℕ) → Hands → Option Stage → Option (Progress (network schema capacity))
+progress_of schema capacity hands None = None
+progress_of schema capacity hands (Some stage) = Some (stage_of schema capacity hands stage)
+
+-- the machine's state of a unit
+abbrev pub unit_state_of : (schema : Lists) (capacity : ℕ) → Runner → UnitState (network schema capacity)
+unit_state_of schema capacity r = record {
+  unit = r.unit;
+  guesses = r.held.guesses;
+  script = r.script;
+  remaining = drop r.next r.script;
+  progress = progress_of schema capacity r.held r.stage;
+}
+
+-- a statement is over when nothing is held any more
+abbrev pub stage_while_held : List ℕ → List (CellName × Cell) → Option Stage → Option Stage
+stage_while_held [] [] stage = None
+stage_while_held areas cells stage = stage
+
+-- THE STATE
+
+-- an entry as the machine has it
+abbrev pub note_of : {schema : Lists} {capacity : ℕ} → Entry → HistoryEntry (network schema capacity)
+note_of e = record { ticket = e.ticket; unit = e.unit; statement = e.statement; answer = e.answer }
+
+-- the machine's state by table, history and units
+unfoldable pub state_from : (schema : Lists) (capacity : ℕ) → List Place → List Entry → List Runner → State (network schema capacity)
+state_from schema capacity table history runners = record {
+  location = location_at schema capacity table;
+  history = map note_of history;
+  counter = length history;
+  units = map (unit_state_of schema capacity) runners;
+}
+
+-- the parts as a state of the machine
+abbrev pub state_of : (schema : Lists) (capacity : ℕ) → Parts → State (network schema capacity)
+state_of schema capacity parts = state_from schema capacity parts.table.items parts.history.items parts.runners.items
+
+-- WHAT THE CORE SHOWS
+
+-- the machine that the core is: its schema and capacity, the opening state of its database, and its state
+pub record CoreState : Type 0 where
+  pub schema : Lists
+  pub capacity : ℕ
+  pub opening : SequentialState (network schema capacity)
+  pub state : State (network schema capacity)
+
+-- the same core in another state
+abbrev pub with_state : (c : CoreState) → State (network c.schema c.capacity) → CoreState
+with_state c s = record { schema = c.schema; capacity = c.capacity; opening = c.opening; state = s }
+
+-- the core that the parts are
+abbrev pub core_of : Lists → ℕ → Parts → CoreState
+core_of schema capacity parts = record { schema = schema; capacity = capacity; opening = opening_of schema capacity (length parts.runners.items); state = state_of schema capacity parts }
+
+-- what a core has: where each cell is, by its number, the statements that drew a ticket, and the units
+pub record CoreParts : Type 0 where
+  pub schema : Lists
+  pub capacity : ℕ
+  pub table : List Place
+  pub history : List Entry
+  pub runners : List Runner
+
+-- a core as the machine that it is
+abbrev pub machine : CoreParts → CoreState
+machine c = record { schema = c.schema; capacity = c.capacity; opening = opening_of c.schema c.capacity (length c.runners); state = state_from c.schema c.capacity c.table c.history c.runners }

@@ -1,0 +1,113 @@
+-- What keeps units from waiting for one another for ever: areas are taken in ascending order, then cells in theirs.
+use Rattle.std.specs.Prelude.{ℕ, ◌≡◌, ◌<◌, Bool, true, false, ltb, List, [], ◌∷◌, ◌⊎◌, Option, Some, None}
+use Rattle.dbtg_step.specs.Machine.SequentialDatabase.{HeldCell, NextNeed, NeedsArea, NeedsCell, StaleGuesses, NeedsNothing, SequentialDatabase, In, NotAmong, Agrees, MayMake, unit_at}
+use Rattle.dbtg_step.specs.Machine.Machine.{Progress, UnitState, State, SequentialState}
+use Rattle.dbtg_step.specs.Machine.Step.{next_need, step, MovedTo}
+
+-- what a unit takes next
+pub data Wanted (C : Type 0) : Type 0 where
+  AnArea : ℕ → Wanted C
+  ACell : C → Wanted C
+
+module _ (D : SequentialDatabase) where
+  -- some unit's next step is an event
+  pub record SomeUnitMoves (opening : SequentialState D) (s : State D) : Type 0 where
+    pub who : ℕ
+    pub after : State D
+    pub moves : step D opening s who ≡ MovedTo after
+
+  -- where a unit is in mid-statement, some unit's next step is an event
+  abbrev pub IsNotStuck : SequentialState D → State D → Type 0
+  IsNotStuck opening s = (u : ℕ) (state : UnitState D) (w : Progress D) → unit_at s.units u ≡ Some state → state.progress ≡ Some w → SomeUnitMoves opening s
+
+module _ (D : SequentialDatabase) (below : D.Cell → D.Cell → Bool) where
+  -- areas come before cells
+  unfoldable pub is_below : Wanted D.Cell → Wanted D.Cell → Bool
+  is_below (AnArea a) (AnArea b) = ltb a b
+  is_below (AnArea a) (ACell d) = true
+  is_below (ACell c) (AnArea b) = false
+  is_below (ACell c) (ACell d) = below c d
+
+  -- the area or cell of a need
+  unfoldable pub wanted_by_need : NextNeed D.Cell D.Guesses → Option (Wanted D.Cell)
+  wanted_by_need (NeedsArea a) = Some (AnArea a)
+  wanted_by_need (NeedsCell c) = Some (ACell c)
+  wanted_by_need (StaleGuesses g) = None
+  wanted_by_need NeedsNothing = None
+
+  -- what the statement needs next, but nothing while the unit turns back with cells in hand
+  unfoldable pub wanted_unless_turning : SequentialState D → State D → UnitState D → Progress D → D.Statement → Bool → List (HeldCell D.Cell D.Value) → Option (Wanted D.Cell)
+  wanted_unless_turning opening s state w x true (h ∷ hs) = None
+  wanted_unless_turning opening s state w x turning_back cells = wanted_by_need (next_need D opening s state w x)
+
+  -- the same, but nothing with a ticket
+  unfoldable pub wanted_before_ticket : SequentialState D → State D → UnitState D → Progress D → Option ℕ → List D.Statement → Option (Wanted D.Cell)
+  wanted_before_ticket opening s state w (Some t) remaining = None
+  wanted_before_ticket opening s state w None [] = None
+  wanted_before_ticket opening s state w None (x ∷ xs) = wanted_unless_turning opening s state w x w.turning_back w.cells
+
+  -- the same, but nothing between statements
+  unfoldable pub wanted_in_progress : SequentialState D → State D → UnitState D → Option (Progress D) → Option (Wanted D.Cell)
+  wanted_in_progress opening s state None = None
+  wanted_in_progress opening s state (Some w) = wanted_before_ticket opening s state w w.ticket state.remaining
+
+  -- the area or cell that the unit takes next
+  unfoldable pub wanted : SequentialState D → State D → UnitState D → Option (Wanted D.Cell)
+  wanted opening s state = wanted_in_progress opening s state state.progress
+
+  -- what a unit in mid-statement wants keeps to the order of areas and cells
+  pub record UnitInOrder (opening : SequentialState D) (s : State D) (state : UnitState D) (w : Progress D) : Type 0 where
+    -- in mid-statement without a ticket there is the statement
+    pub busy : w.ticket ≡ None → (x : D.Statement) × (xs : List D.Statement) × (state.remaining ≡ x ∷ xs)
+    -- an area that is wanted is above all that are held, and no cell is held
+    pub areas : (a : ℕ) → wanted opening s state ≡ Some (AnArea a) → ((b : ℕ) → In b w.areas → b < a) × (w.cells ≡ [])
+    -- a cell that is wanted isn't held, and lies in an area that is held; it is above all that are held, or the areas are held exclusively
+    pub fresh : (c : D.Cell) → wanted opening s state ≡ Some (ACell c) → NotAmong D c w.cells × In (D.area c) w.areas
+    pub cells : (c : D.Cell) → wanted opening s state ≡ Some (ACell c) → (w.exclusive ≡ true) ⊎ ((h : HeldCell D.Cell D.Value) → In h w.cells → below h.name c ≡ true)
+
+  -- each unit in mid-statement is in order
+  pub record UnitsInOrder (opening : SequentialState D) (s : State D) : Type 0 where
+    pub each : (u : ℕ) (state : UnitState D) (w : Progress D) → unit_at s.units u ≡ Some state → state.progress ≡ Some w → UnitInOrder opening s state w
+
+  -- a strict order of cells
+  pub record IsStrictOrder : Type 0 where
+    pub never : (c : D.Cell) → below c c ≡ false
+    pub chain : (c d e : D.Cell) → below c d ≡ true → below d e ≡ true → below c e ≡ true
+
+  -- unit u of a legal database, in which the held cells have their values, may make the statement
+  pub record MayGoOn (db : D.Db) (unit : D.Unit) (x : D.Statement) (cells : List (HeldCell D.Cell D.Value)) : Type 0 where
+    pub units : List D.Unit
+    pub u : ℕ
+    pub may : MayMake D db units u unit x
+    pub agrees : Agrees D db cells
+
+  -- the areas and cells that are held were taken one after another, each where it was needed next. The database may have
+  -- changed between, but not in the cells that are held
+  pub data TakenInTurn (unit : D.Unit) (x : D.Statement) (g : D.Guesses) : List ℕ → List (HeldCell D.Cell D.Value) → Type 0 where
+    NoneYet : TakenInTurn unit x g [] []
+    AreaNext : {areas : List ℕ} {a : ℕ} (db : D.Db) → TakenInTurn unit x g areas [] → D.need db unit x g areas [] ≡ NeedsArea a → TakenInTurn unit x g (a ∷ areas) []
+    CellNext : {areas : List ℕ} {cells : List (HeldCell D.Cell D.Value)} {h : HeldCell D.Cell D.Value} (db : D.Db) → TakenInTurn unit x g areas cells → MayGoOn db unit x (h ∷ cells) → D.need db unit x g areas cells ≡ NeedsCell h.name → TakenInTurn unit x g areas (h ∷ cells)
+
+  -- what `need` has to promise
+  pub record NeedsInOrder : Type 0 where
+    -- where all was taken in turn, an area that is needed is above all that are held, and no cell is held
+    pub area_above : (db : D.Db) (unit : D.Unit) (x : D.Statement) (g : D.Guesses) (areas : List ℕ) (cells : List (HeldCell D.Cell D.Value)) (a : ℕ) →
+        TakenInTurn unit x g areas cells → D.need db unit x g areas cells ≡ NeedsArea a → ((b : ℕ) → In b areas → b < a) × (cells ≡ [])
+    -- and a cell that is needed is above all that are held, unless the areas are held exclusively
+    pub cell_above : (db : D.Db) (unit : D.Unit) (x : D.Statement) (g : D.Guesses) (areas : List ℕ) (cells : List (HeldCell D.Cell D.Value)) (c : D.Cell) →
+        D.is_exclusive x ≡ false → TakenInTurn unit x g areas cells → MayGoOn db unit x cells → D.need db unit x g areas cells ≡ NeedsCell c → (h : HeldCell D.Cell D.Value) → In h cells → below h.name c ≡ true
+    -- the areas don't depend on the guesses
+    pub areas_stay : (unit : D.Unit) (x : D.Statement) (g g' : D.Guesses) (areas : List ℕ) (cells : List (HeldCell D.Cell D.Value)) → TakenInTurn unit x g areas cells → TakenInTurn unit x g' areas []
+
+  -- a unit in mid-statement without a ticket: what it holds was taken in turn
+  pub record InTurn (state : UnitState D) (w : Progress D) : Type 0 where
+    pub x : D.Statement
+    pub xs : List D.Statement
+    pub remaining : state.remaining ≡ x ∷ xs
+    pub exclusive : w.exclusive ≡ D.is_exclusive x
+    pub going : w.turning_back ≡ false → TakenInTurn state.unit x state.guesses w.areas w.cells
+    pub back : w.turning_back ≡ true → TakenInTurn state.unit x state.guesses w.areas []
+
+  -- each unit without a ticket took what it holds in turn
+  pub record AllInTurn (s : State D) : Type 0 where
+    pub each : (u : ℕ) (state : UnitState D) (w : Progress D) → unit_at s.units u ≡ Some state → state.progress ≡ Some w → w.ticket ≡ None → InTurn state w

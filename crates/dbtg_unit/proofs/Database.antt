@@ -1,0 +1,5 @@
+-- Lemmas on the sequential database, the first half of the crate. They cite nothing of what is in hand.
+-- May use: `Lists` and the first half's definitions.
+pub mod Laws
+pub mod Legal
+pub mod Records

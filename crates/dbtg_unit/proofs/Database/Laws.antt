@@ -1,0 +1,8 @@
+-- The other laws of statements and histories: answers, least sets, what only goes forward, placing, one entry more.
+-- May use: `Lists`, `Records` and `Legal`.
+-- Promises: a file for each of the other laws.
+pub mod Answered
+pub mod GoForward
+pub mod LeastSets
+pub mod OneMoreEntry
+pub mod PlacingOrder

@@ -1,0 +1,12 @@
+-- A statement changes no cell but those that it needs: statement by statement, then where it is ready (`LocalReady`).
+-- May use: `Records` and `Reading`.
+-- Promises: the law that a statement which is ready changes no cell but those that it holds.
+pub mod InTurn
+pub mod LocalCells
+pub mod LocalDelete
+pub mod LocalInsert
+pub mod LocalModify
+pub mod LocalReady
+pub mod LocalRemove
+pub mod LocalStatements
+pub mod LocalStore

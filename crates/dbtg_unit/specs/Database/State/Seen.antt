@@ -1,0 +1,19 @@
+-- The currents of sets after a FIND or STORE, set by set.
+use Rattle.std.specs.Prelude.{ℕ, List, Option, map, if◌then◌else◌}
+use Rattle.std.specs.List.{enumerate_from}
+use Rattle.dbtg_schema.specs.Lists.{Lists}
+use Rattle.dbtg_schema.specs.Lookups.{at}
+use Rattle.dbtg_schema.specs.Structure.{owns}
+use Rattle.dbtg_cells.specs.declared.key.DbKey.{DbKey}
+use Rattle.dbtg_cells.specs.declared.key.Owner.{Owner}
+use Rattle.dbtg_unit.specs.declared.unit.Place.{Place}
+use Rattle.dbtg_unit.specs.declared.statement.Suppress.{Suppress}
+use Rattle.dbtg_unit.specs.Database.State.Units.{suppresses, seen_place}
+
+-- of a set by its number, with its current before
+abbrev pub seen_in_set : Lists → DbKey → List (Option Owner) → Suppress → ℕ × Option Place → Option Place
+seen_in_set schema k owners suppress e = if suppresses suppress e.0 then e.1 else seen_place e.1 (owns schema e.0 k.rtype) k (at owners e.0)
+
+-- of all sets
+abbrev pub seen_in_sets : Lists → DbKey → List (Option Owner) → Suppress → List (Option Place) → List (Option Place)
+seen_in_sets schema k owners suppress was = map (seen_in_set schema k owners suppress) (enumerate_from 0 was)

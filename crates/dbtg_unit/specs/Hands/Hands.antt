@@ -1,0 +1,17 @@
+-- What a statement has in hand.
+use Rattle.std.specs.Prelude.{ℕ, List, [], ◌∷◌, Option, Some, None, cond}
+use Rattle.dbtg_cells.specs.declared.name.CellName.{CellName}
+use Rattle.dbtg_cells.specs.declared.cell.Cell.{Cell}
+use Rattle.dbtg_cells.specs.declared.key.Owner.{Owner}
+use Rattle.dbtg_cells.specs.Names.{name_eq}
+
+-- the areas and cells that a statement holds, and by set the owner of the current of run-unit as the unit last saw it
+pub record Hands : Type 0 where
+  pub areas : List ℕ
+  pub cells : List (CellName × Cell)
+  pub guesses : List (Option Owner)
+
+-- the held cell of this name
+abbrev pub cell_of : CellName → List (CellName × Cell) → Option Cell
+cell_of c [] = None
+cell_of c (e ∷ es) = cond (name_eq c e.0) (Some e.1) (cell_of c es)
