@@ -4,7 +4,7 @@ use dbtg_cells::{
     CellName, DbKey, Extent, Mode, Owner, PlainRing, Ring, Slot, Usage, Value, copy_items,
     key_below, name_below, owner_below, same_key, same_name, same_owner, same_values,
 };
-use dbtg_schema::{AreaNo, Duplicates, RecordNo, Row, SetNo};
+use dbtg_schema::{AreaNo, Duplicates, ItemNo, RecordNo, Row, SetNo};
 use std::alloc::{AllocError, Global};
 use std::process::Abort;
 use std::test::*;

@@ -74,5 +74,3 @@ pub use Rattle.dbtg_cells.proofs.PlainLists.{same_truth}
 pub use Rattle.dbtg_cells.proofs.PlainLists.{there_is}
 -- anything follows where no is yes
 pub use Rattle.dbtg_cells.proofs.Rising.{nothing}
--- lists of values that differ in length do not compare alike
-pub use Rattle.dbtg_cells.proofs.ValuesCompared.{values_eq_unlike}

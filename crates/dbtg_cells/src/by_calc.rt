@@ -1,15 +1,18 @@
 //! The live numbers of a record type in the order of their CALC values, and numbers with the same values in ascending
 //! order: so a look-up by values halves what is left to search, and takes no memory.
-ghost use Rattle.std.specs.Prelude.{◌≡◌, ◌<◌, ◌≤◌, ◌^◌, true, not, ◌==◌, length, filter, nat_lt, vec_capacity};
-ghost use Rattle.std.specs.List.{position_or_len};
+ghost use Rattle.std.specs.Prelude.{◌≡◌, ◌<◌, ◌≤◌, ◌^◌, IsTrue, true, not, ◌==◌, length, filter, nat_lt, vec_capacity};
+ghost use Rattle.std.specs.List.{position_or_len, slice_index_or};
+ghost use Rattle.std.specs.Ordering.{ordering_then, nat_cmp, is_lt};
 ghost use Rattle.std.specs.Cmp.Lexicographic.{slice_cmp};
 ghost use Rattle.dbtg_schema.specs.Lookups.{first as first_in, some_and};
+ghost use Rattle.dbtg_cells.specs.Keys.{picked};
 ghost use Rattle.dbtg_cells.specs.Placed.{before};
-ghost use Rattle.dbtg_cells.specs.Numbers.{numbers_where, has_values, entry_of};
+ghost use Rattle.dbtg_cells.specs.Numbers.{numbers_where, is_used, has_values, entry_of, with_entry};
 ghost use Rattle.dbtg_cells.specs.ByCalc.{value_cmp, values_of, is_behind, stands_before, is_rising, IsByCalc};
 
-use crate::extent::{Number, drop_number, entry_at, insert_number, number_at};
+use crate::extent::{Number, entry_at, insert_number, number_at, remove_number, set_entry};
 use crate::key::Value;
+use dbtg_schema::ItemNo;
 use std::cmp::Ordering;
 
 fn compare_value(a: &Value, b: &Value) -> Ordering
@@ -44,6 +47,36 @@ fn compare_values(a: &[Value], b: &[Value]) -> Ordering
     }
 }
 
+fn compare_item(items: &[Value], item: ItemNo, value: &Value) -> Ordering
+    ensures { result ≡ value_cmp (slice_index_or items.now item (Value.Num 0)) value.now }
+{
+    match items.get(item.index() as usize) {
+        Some(own) => compare_value(own, value),
+        None => compare_value(&Value::Num(0), value),
+    }
+}
+
+// The items with these numbers against values.
+pub(crate) fn compare_picked(item_numbers: &[ItemNo], items: &[Value], values: &[Value]) -> Ordering
+    ensures { result ≡ slice_cmp value_cmp (picked item_numbers.now items.now) values.now }
+{
+    for (i, item) in item_numbers.iter().enumerate() {
+        match values.get(i) {
+            None => return Ordering::Greater,
+            Some(value) => match compare_item(items, *item, value) {
+                Ordering::Less => return Ordering::Less,
+                Ordering::Greater => return Ordering::Greater,
+                Ordering::Equal => {}
+            },
+        }
+    }
+    if item_numbers.len() < values.len() {
+        Ordering::Less
+    } else {
+        Ordering::Equal
+    }
+}
+
 // The CALC values of a number, none where it is not live.
 fn values_at(numbers: &[Number], number: u32) -> &[Value]
     ensures { result.now ≡ values_of numbers.now number }
@@ -57,15 +90,26 @@ fn values_at(numbers: &[Number], number: u32) -> &[Value]
     }
 }
 
-// Whether another number stands behind the place of these values and this number.
-fn is_behind(numbers: &[Number], values: &[Value], number: u32, other: u32) -> bool
-    ensures { result ≡ is_behind numbers.now (values.now, number) other }
+// Whether a number stands behind a place, by the order of the values and then of the numbers.
+fn is_past(by_values: Ordering, number: u32, other: u32) -> bool
+    ensures { result ≡ is_lt (ordering_then by_values (nat_cmp number other)) }
 {
-    match compare_values(values, values_at(numbers, other)) {
+    match by_values {
         Ordering::Less => true,
         Ordering::Equal => number < other,
         Ordering::Greater => false,
     }
+}
+
+// Whether another number stands behind the place of these values and this number.
+fn is_behind(numbers: &[Number], values: &[Value], number: u32, other: u32) -> bool
+    ensures { result ≡ is_behind numbers.now (values.now, number) other }
+{
+    is_past(
+        compare_values(values, values_at(numbers, other)),
+        number,
+        other,
+    )
 }
 
 // Where the first number behind a place stands, or the length.
@@ -117,6 +161,76 @@ pub(crate) fn next_by_calc(
     }
 }
 
+// Whether another number stands behind the place of the items with these numbers and this number.
+fn is_behind_picked(
+    numbers: &[Number],
+    item_numbers: &[ItemNo],
+    items: &[Value],
+    number: u32,
+    other: u32,
+) -> bool
+    ensures { result ≡ is_behind numbers.now (picked item_numbers.now items.now, number) other }
+{
+    is_past(
+        compare_picked(item_numbers, items, values_at(numbers, other)),
+        number,
+        other,
+    )
+}
+
+// Where the first number behind such a place stands, or the length.
+fn place_of_picked(
+    listed: &[u32],
+    numbers: &[Number],
+    item_numbers: &[ItemNo],
+    items: &[Value],
+    number: u32,
+) -> usize
+    requires { is_rising (stands_before numbers.now) listed.now ≡ true }
+    ensures at { result ≡ position_or_len (is_behind numbers.now (picked item_numbers.now items.now, number)) listed.now }
+    ensures within { result ≤ length listed.now }
+{
+    listed.partition_point(|other| !is_behind_picked(numbers, item_numbers, items, number, *other))
+}
+
+fn entry_has_picked(
+    numbers: &[Number],
+    number: u32,
+    item_numbers: &[ItemNo],
+    items: &[Value],
+) -> bool
+    ensures { result ≡ some_and (has_values (picked item_numbers.now items.now)) (entry_of number numbers.now) }
+{
+    match entry_at(numbers, number) {
+        Some(entry) => entry.has_picked(item_numbers, items),
+        None => false,
+    }
+}
+
+// The least number above another whose entry has the items with these numbers.
+pub(crate) fn next_picked(
+    listed: &[u32],
+    numbers: &[Number],
+    item_numbers: &[ItemNo],
+    items: &[Value],
+    number: u32,
+) -> Option<u32>
+    requires { IsByCalc numbers.now listed.now (length numbers.now) }
+    ensures { result ≡ first_in (filter (nat_lt number) (numbers_where (has_values (picked item_numbers.now items.now)) numbers.now)) }
+{
+    let at = place_of_picked(listed, numbers, item_numbers, items, number);
+    match number_at(listed, at) {
+        Some(found) => {
+            if entry_has_picked(numbers, found, item_numbers, items) {
+                Some(found)
+            } else {
+                None
+            }
+        }
+        None => None,
+    }
+}
+
 // Puts a number into the list, in the place of its values.
 pub(crate) fn list_by_calc(listed: &mut Vec<u32>, numbers: &[Number], number: u32)
     requires rising { is_rising (stands_before numbers.now) listed.old.items ≡ true }
@@ -133,13 +247,36 @@ pub(crate) fn list_by_calc(listed: &mut Vec<u32>, numbers: &[Number], number: u3
     insert_number(listed, at, number);
 }
 
-// Puts a number that is listed into the place of its new values.
-pub(crate) fn list_again(listed: &mut Vec<u32>, numbers: &[Number], number: u32)
-    requires rising { is_rising (stands_before numbers.now) (filter (λ n. not (n == number)) listed.old.items) ≡ true }
-    requires room { length (filter (λ n. not (n == number)) listed.old.items) < vec_capacity listed.old }
-    ensures items { listed.new.items ≡ before (stands_before numbers.now number) number (filter (λ n. not (n == number)) listed.old.items) }
+// Takes a number out of the list. The first number behind the place of its values and the number below it is itself.
+pub(crate) fn drop_by_calc(listed: &mut Vec<u32>, numbers: &[Number], number: u32)
+    requires rising { is_rising (stands_before numbers.now) listed.old.items ≡ true }
+    requires some { 0 < number }
+    ensures items { listed.new.items ≡ filter (λ n. not (n == number)) listed.old.items }
     ensures capacity { vec_capacity listed.new ≡ vec_capacity listed.old }
 {
-    drop_number(listed, number);
-    list_by_calc(listed, numbers, number);
+    let at = place_of(
+        listed.as_slice(),
+        numbers,
+        values_at(numbers, number),
+        number - 1,
+    );
+    remove_number(listed, at, number);
+}
+
+// Gives a live number another entry, and puts it into the place of its new values.
+pub(crate) fn list_again(
+    listed: &mut Vec<u32>,
+    numbers: &mut Vec<Number>,
+    number: u32,
+    entry: Number,
+)
+    requires listed { IsByCalc numbers.old.items listed.old.items (vec_capacity listed.old) }
+    requires was { IsTrue (some_and is_used (entry_of number numbers.old.items)) }
+    requires stays { IsTrue (is_used entry) }
+    ensures written { numbers.new.items ≡ with_entry number entry numbers.old.items }
+    ensures listed { IsByCalc numbers.new.items listed.new.items (vec_capacity listed.new) }
+{
+    drop_by_calc(listed, numbers.as_slice(), number);
+    set_entry(numbers, number, entry);
+    list_by_calc(listed, numbers.as_slice(), number);
 }

@@ -1,79 +1,16 @@
 //! The CALC items of a record: whether another record has them, and which number a new one gets. Nothing here takes memory
 //! but the copies.
-ghost use Rattle.std.specs.Prelude.{◌≡◌, not, option_map, IfOk};
-ghost use Rattle.std.specs.List.{list_any, slice_index_or};
-ghost use Rattle.dbtg_cells.specs.Keys.{value_eq, values_eq};
-ghost use Rattle.dbtg_cells.specs.Numbers.{entry_of, has_values, is_number_left_out, numbers_where};
-ghost use Rattle.dbtg_schema.specs.Lookups.{some_and};
+ghost use Rattle.std.specs.Prelude.{◌≡◌, option_map, IfOk};
+ghost use Rattle.std.specs.List.{slice_index_or};
 ghost use Rattle.dbtg_unit.specs.Database.State.Base.{calc_items, picked};
 ghost use Rattle.dbtg_unit.specs.Database.Statements.Conditions.{calc_taken};
 ghost use Rattle.dbtg_unit.specs.Hands.InHand.{in_hand};
 ghost use Rattle.dbtg_plan.specs.Calc.{fresh_key};
 
-use dbtg_cells::{DbKey, Extent, Value, same_value};
+use dbtg_cells::{DbKey, Extent, Value};
 use dbtg_schema::{ItemNo, RecordNo, Row, Schema};
 use dbtg_unit::{Held, numbers};
 use std::alloc::{AllocError, Global};
-
-fn is_item(value: &Value, items: &[Value], item: ItemNo) -> bool
-    ensures { result ≡ value_eq value.now (slice_index_or items.now item (Value.Num 0)) }
-{
-    match items.get(item.index() as usize) {
-        Some(own) => same_value(value, own),
-        None => same_value(value, &Value::Num(0)),
-    }
-}
-
-// Are the values those of the items with these numbers?
-fn are_items(values: &[Value], numbers: &[ItemNo], items: &[Value]) -> bool
-    ensures { result ≡ values_eq values.now (picked numbers.now items.now) }
-{
-    if values.len() != numbers.len() {
-        return false;
-    }
-    for (i, value) in values.iter().enumerate() {
-        if !is_item(value, items, numbers[i]) {
-            return false;
-        }
-    }
-    true
-}
-
-fn has_items(extent: &Extent, number: u32, numbers: &[ItemNo], items: &[Value]) -> bool
-    ensures { result ≡ some_and (has_values (picked numbers.now items.now)) (entry_of number extent.now.numbers) }
-{
-    match extent.values(number) {
-        Some(values) => are_items(values, numbers, items),
-        None => false,
-    }
-}
-
-fn is_other(number: u32, left_out: &Option<u32>) -> bool
-    ensures { result ≡ not (is_number_left_out left_out.now number) }
-{
-    match left_out {
-        Some(left) => *left != number,
-        None => true,
-    }
-}
-
-// Does a record have the items with these numbers, other than the one whose number is left out?
-fn any_has_items(
-    extent: &Extent,
-    numbers: &[ItemNo],
-    items: &[Value],
-    left_out: &Option<u32>,
-) -> bool
-    ensures { result ≡ list_any (λ n. not (is_number_left_out left_out.now n)) (numbers_where (has_values (picked numbers.now items.now)) extent.now.numbers) }
-{
-    for i in 0..extent.capacity() {
-        let number = i + 1;
-        if has_items(extent, number, numbers, items) & is_other(number, left_out) {
-            return true;
-        }
-    }
-    false
-}
 
 fn number_of(key: Option<DbKey>) -> Option<u32>
     ensures { result ≡ option_map (λ k. k.number) key }
@@ -95,7 +32,7 @@ fn has_calc(
     ensures { result ≡ (in_hand held.now).has_calc rtype (picked item_numbers.now items.now) left_out }
 {
     match numbers(held, rtype) {
-        Some(extent) => any_has_items(extent, item_numbers, items, &number_of(left_out)),
+        Some(extent) => extent.has_picked(item_numbers, items, number_of(left_out)),
         None => false,
     }
 }

@@ -67,6 +67,12 @@ fn live_numbers_are_read_both_ways(rt: HostRuntime) -> Result<(), Fail> {
     Ok(())
 }
 
+// Does a record have these one or two values, other than the one whose number is left out?
+fn has_all_of(extent: &Extent, values: &[Value], left_out: Option<u32>) -> bool {
+    let both = [ItemNo::new(0), ItemNo::new(1)];
+    extent.has_picked(&both[..values.len()], values, left_out)
+}
+
 // Numbers 1 and 3 hold 7, number 2 holds 8; then number 3 is given 8.
 #[test]
 fn calc_items_find_their_numbers(rt: HostRuntime) -> Result<(), Fail> {
@@ -78,12 +84,12 @@ fn calc_items_find_their_numbers(rt: HostRuntime) -> Result<(), Fail> {
     assert!(rt; extent.first_with(seven.as_slice()) == Some(1));
     assert!(rt; extent.next_with(seven.as_slice(), 1) == Some(3));
     assert!(rt; extent.next_with(seven.as_slice(), 3) == None);
-    assert!(rt; extent.has_values(seven.as_slice(), Some(1)));
+    assert!(rt; has_all_of(&extent, seven.as_slice(), Some(1)));
     let eight = row(&rt, 8)?;
     assert!(rt; extent.is_live(3));
     extent.set_values(3, eight);
-    assert!(rt; !extent.has_values(seven.as_slice(), Some(1)));
-    assert!(rt; extent.has_values(seven.as_slice(), None));
+    assert!(rt; !has_all_of(&extent, seven.as_slice(), Some(1)));
+    assert!(rt; has_all_of(&extent, seven.as_slice(), None));
     assert_eq!(rt; extent.generation(3), 1);
     Ok(())
 }
@@ -101,8 +107,8 @@ fn assert_only_at(rt: &impl Abort, extent: &Extent, values: &Row<Value>, number:
     let values = values.as_slice();
     assert!(rt; extent.first_with(values) == Some(number));
     assert!(rt; extent.next_with(values, number) == None);
-    assert!(rt; extent.has_values(values, None));
-    assert!(rt; !extent.has_values(values, Some(number)));
+    assert!(rt; has_all_of(extent, values, None));
+    assert!(rt; !has_all_of(extent, values, Some(number)));
 }
 
 // Numbers, texts, rows that begin alike: each is found at its own number, whatever stands beside it.
@@ -123,6 +129,25 @@ fn unlike_values_find_their_own_numbers(rt: HostRuntime) -> Result<(), Fail> {
     assert_only_at(&rt, &extent, &text(&rt, "A ")?, 5);
     let away = pair(&rt, 1, 1)?;
     assert!(rt; extent.first_with(away.as_slice()) == None);
+    Ok(())
+}
+
+// Of the items 5, 1, 2 some are picked, in this or another order; where there is no such item, 0 stands for it.
+#[test]
+fn picked_items_find_their_numbers(rt: HostRuntime) -> Result<(), Fail> {
+    let mut extent = Extent::new(rt.alloc(), 4)?;
+    enter(&rt, &mut extent, 1, pair(&rt, 1, 2)?);
+    enter(&rt, &mut extent, 3, row(&rt, 5)?);
+    enter(&rt, &mut extent, 4, pair(&rt, 2, 0)?);
+    let items = vec![in rt.alloc(); Value::Num(5), Value::Num(1), Value::Num(2)]?;
+    let items = items.as_slice();
+    assert!(rt; extent.has_picked(&[ItemNo::new(1), ItemNo::new(2)], items, None));
+    assert!(rt; !extent.has_picked(&[ItemNo::new(1), ItemNo::new(2)], items, Some(1)));
+    assert!(rt; !extent.has_picked(&[ItemNo::new(2), ItemNo::new(1)], items, None));
+    assert!(rt; extent.has_picked(&[ItemNo::new(0)], items, Some(1)));
+    assert!(rt; !extent.has_picked(&[ItemNo::new(1)], items, None));
+    assert!(rt; extent.has_picked(&[ItemNo::new(2), ItemNo::new(9)], items, None));
+    assert!(rt; !extent.has_picked(&[], items, None));
     Ok(())
 }
 

@@ -8,22 +8,6 @@ use Rattle.dbtg_schema.specs.Lookups.{first, some_and}
 use Rattle.dbtg_cells.specs.declared.extent.Number.{Number}
 use Rattle.dbtg_cells.specs.Numbers.{entry_of, is_free, last_of, numbers_from, numbers_where}
 
-any_at : (p : ℕ → Bool) (test : Number → Bool) (b : ℕ) (xs : List Number) (i : ℕ) → i < length xs
-    → list_any p (numbers_from b test (drop i xs)) ≡ ((some_and test (slice_get xs i) && p b) || list_any p (numbers_from (suc b) test (drop (suc i) xs)))
-any_at p test b [] i h = absurd (omega arith)
-any_at p test b (x ∷ xs) zero h =
-    elim (test x) as (λ t. list_any p (cond t (b ∷ numbers_from (suc b) test xs) (numbers_from (suc b) test xs)) ≡ ((t && p b) || list_any p (numbers_from (suc b) test xs))) [ true ↦ refl | false ↦ refl ]
-any_at p test b (x ∷ xs) (suc i) h = any_at p test b xs i (omega arith)
-
--- some number from one on passes: it does, or one behind it
-pub any_next : (p : ℕ → Bool) (test : Number → Bool) (xs : List Number) (i n : ℕ) → n ≡ i + 1 → i < length xs
-    → list_any p (numbers_from (suc i) test (drop i xs)) ≡ ((some_and test (entry_of n xs) && p n) || list_any p (numbers_from (suc (i + 1)) test (drop (i + 1) xs)))
-any_next p test xs i n h below =
-    let one : suc i ≡ i + 1 = omega arith in
-    let is : suc i ≡ n = omega arith in
-    any_at p test (suc i) xs i below
-    ∙ (λ j. (some_and test (entry_of (is j) xs) && p (is j)) || list_any p (numbers_from (suc (one j)) test (drop (one j) xs)))
-
 -- the first number that passes has an entry that does
 first_passes : (test : Number → Bool) (a : ℕ) (xs : List Number) (n : ℕ) → first (numbers_from a test xs) ≡ Some n → (i : ℕ) × (n ≡ a + i) × (e : Number) × (slice_get xs i ≡ Some e) × (test e ≡ true)
 first_passes test a [] n h = absurd (none-some n h)

@@ -1,7 +1,4 @@
-use Rattle.std.proofs.Common.{◌≡◌, ◌+◌, ◌*◌, length, sym, rules, ◌∙◌}
-use Rattle.dbtg_schema.specs.Structure.{set_numbers}
-use Rattle.std.specs.List.{flat_map}
-use Rattle.dbtg_cells.specs.CellNumbers.{rings_of}
+use Rattle.std.proofs.Common.{sym}
 use Rattle.dbtg_cells.proofs.PlaceNumbers.{how_many}
 use Rattle.dbtg_cells.proofs.numbering.cell_count.Goals as goal
 

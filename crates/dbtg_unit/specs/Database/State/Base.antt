@@ -8,9 +8,8 @@ use Rattle.dbtg_cells.specs.declared.key.Owner.{Owner}
 use Rattle.dbtg_cells.specs.declared.key.Owner.TheVariants.{System, Rec}
 use Rattle.dbtg_cells.specs.declared.key.Value.{Value}
 use Rattle.dbtg_cells.specs.declared.key.Value.TheVariants.{Num}
-use Rattle.dbtg_schema.specs.declared.numbers.ItemNo.{ItemNo}
 use Rattle.dbtg_cells.specs.declared.usage.Mode.{Mode}
-pub use Rattle.dbtg_cells.specs.Keys.{is_member}
+pub use Rattle.dbtg_cells.specs.Keys.{is_member, picked}
 use Rattle.dbtg_cells.specs.Keys.{owner_eq}
 use Rattle.dbtg_schema.specs.Lookups.{first}
 use Rattle.dbtg_schema.specs.Structure.{calc_of, is_system, member_clause, owner_type}
@@ -66,10 +65,6 @@ members_of db s o = unwrap_or (db.lists s o) []
 -- whose list of set s has k
 abbrev pub owner_of : Lists → ℕ → Database → ℕ → DbKey → Option Owner
 owner_of schema capacity db s k = find (λ o. is_member k (members_of db s o)) (owners schema capacity db s)
-
--- the items with these numbers
-abbrev pub picked : List ItemNo → List Value → List Value
-picked numbers items = map (λ i. slice_index_or items i (Num 0)) numbers
 
 -- the CALC items of a record of type t
 abbrev pub calc_items : Lists → ℕ → List Value → List Value
