@@ -2,7 +2,7 @@
 //! parentheses beside digits, so that no byte is one to be escaped.
 
 ghost use Rattle.dbtg_draw.specs.Layout.{box_of, last_column, picture_height, picture_width};
-ghost use Rattle.dbtg_draw.specs.Svg.{arrow_text, attribute, box_text, boxes_text, colours_text, drawn_text, end_text, head_text, label_text, line_text, lines_text, link_text, marker_text, open_rect, open_text, path_text, rect_text, start_text, style_text, svg_text, title_text, way_text, words_text};
+ghost use Rattle.dbtg_draw.specs.Svg.{arrow_text, attribute, box_text, boxes_text, colours_text, drawn_text, end_text, head_text, label_text, lines_text, link_text, marker_text, open_rect, open_text, path_text, rect_text, start_text, style_text, svg_text, title_text, way_text, words_text};
 ghost use Rattle.std.specs.List.{flat_map};
 ghost use Rattle.std.specs.Prelude.{◌≡◌, ◌++◌, ◌^◌, ◌<◌, ◌≤◌, IfOk, OnOk, decimal, length};
 

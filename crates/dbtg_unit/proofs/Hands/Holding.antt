@@ -4,4 +4,5 @@
 pub mod IndexOfNames
 pub mod NamesAndCells
 pub mod RoomMade
+pub mod TrueOwners
 pub mod WhileEditing
