@@ -8,6 +8,7 @@ ghost use Rattle.dbtg_unit.specs.declared.held.Need.TheVariants.{Take};
 ghost use Rattle.dbtg_unit.specs.Database.State.Base.{Database as Db};
 ghost use Rattle.dbtg_unit.specs.Hands.EditsOf.{is_delete};
 ghost use Rattle.dbtg_unit.specs.Database.Statements.Fits.{fits};
+ghost use Rattle.dbtg_unit.specs.Hands.Guesses.{with_owners};
 ghost use Rattle.dbtg_unit.specs.Hands.Local.{Agrees};
 ghost use Rattle.dbtg_unit.specs.Hands.Making.{IsReady};
 ghost use Rattle.dbtg_unit.specs.Hands.Needs.{need};

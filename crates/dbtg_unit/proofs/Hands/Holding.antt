@@ -1,4 +1,4 @@
--- The hands themselves: names beside cells, their index, what is held while edits and room are made.
+-- The hands themselves: names beside cells, their index, what is held while edits and room are made, guesses with true owners.
 -- May use: `Lists`.
 -- Promises: a cell in hand is found by its name, and what is held shows the same while room is made.
 pub mod IndexOfNames
