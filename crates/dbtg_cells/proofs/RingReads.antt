@@ -8,12 +8,14 @@ use Rattle.std.proofs.lemmas.Option.{same_Some}
 use Rattle.dbtg_schema.specs.Lookups.{first, final, behind, in_front}
 use Rattle.dbtg_cells.specs.declared.key.DbKey.{DbKey}
 use Rattle.dbtg_cells.specs.declared.key.Owner.{Owner}
+use Rattle.dbtg_cells.specs.declared.ring.Direction.{Direction}
+use Rattle.dbtg_cells.specs.declared.ring.Direction.TheVariants.{Next, Prior}
 use Rattle.dbtg_cells.specs.declared.ring.Node.{Node}
 use Rattle.dbtg_cells.specs.declared.ring.Occurrence.{Occurrence}
 use Rattle.dbtg_cells.specs.Keys.{key_eq}
 use Rattle.dbtg_cells.specs.Members.{Entry, members_in, has_key, with_members, without_key}
 use Rattle.dbtg_cells.specs.Placed.{after, before}
-use Rattle.dbtg_cells.specs.Chain.{Slots, Link, slot, follow, follow_back}
+use Rattle.dbtg_cells.specs.Chain.{Slots, Link, slot, neighbour, read, follow, follow_back}
 use Rattle.dbtg_cells.specs.Keys.{is_member}
 use Rattle.dbtg_cells.specs.Chain.{head_at, last_at, Seg, Avoids, Apart, IsRing, unlinked_keys, key_at}
 use Rattle.dbtg_cells.proofs.KeysAlike.{key_eq_refl, same_key}
@@ -25,31 +27,20 @@ use Rattle.slab.proofs.SlabLemmas.{Contains-cons, Contains-cons_cases}
 use Rattle.dbtg_cells.proofs.Occurrences.{shown_as}
 
 -- one node more is read
-pub read_next : (m n : ℕ) (s : Slots) (at : Option ℕ) (i : ℕ) (node : Node) → m ≡ suc n → at ≡ Some i → slot s i ≡ Some node → follow m s at ≡ node.member ∷ follow n s node.next
-read_next m n s at i node is here there = rw (is, here) (rw there refl)
-
-pub read_prior : (m n : ℕ) (s : Slots) (at : Option ℕ) (i : ℕ) (node : Node) → m ≡ suc n → at ≡ Some i → slot s i ≡ Some node → follow_back m s at ≡ node.member ∷ follow_back n s node.prior
-read_prior m n s at i node is here there = rw (is, here) (rw there refl)
+pub read_one : (d : Direction) (m n : ℕ) (s : Slots) (at : Option ℕ) (i : ℕ) (node : Node) → m ≡ suc n → at ≡ Some i → slot s i ≡ Some node → read d m s at ≡ node.member ∷ read d n s (neighbour d node)
+read_one d m n s at i node is here there = rw (is, here) (rw there refl)
 
 -- nothing more is read
-pub read_end : (m : ℕ) (s : Slots) (at : Option ℕ) → m ≡ 0 → follow m s at ≡ []
-read_end m s at is = ap (λ n. follow n s at) is
+pub read_end : (d : Direction) (m : ℕ) (s : Slots) (at : Option ℕ) → m ≡ 0 → read d m s at ≡ []
+read_end d m s at is = ap (λ n. read d n s at) is
 
-pub read_none : (m : ℕ) (s : Slots) (at : Option ℕ) → at ≡ None → follow m s at ≡ []
-read_none zero s at is = refl
-read_none (suc n) s at is = rw is refl
+pub read_none : (d : Direction) (m : ℕ) (s : Slots) (at : Option ℕ) → at ≡ None → read d m s at ≡ []
+read_none d zero s at is = refl
+read_none d (suc n) s at is = rw is refl
 
-pub read_back_none : (m : ℕ) (s : Slots) (at : Option ℕ) → at ≡ None → follow_back m s at ≡ []
-read_back_none zero s at is = refl
-read_back_none (suc n) s at is = rw is refl
-
-pub read_vacant : (m : ℕ) (s : Slots) (at : Option ℕ) (i : ℕ) → at ≡ Some i → slot s i ≡ None → follow m s at ≡ []
-read_vacant zero s at i is there = refl
-read_vacant (suc n) s at i is there = rw is (rw there refl)
-
-pub read_back_vacant : (m : ℕ) (s : Slots) (at : Option ℕ) (i : ℕ) → at ≡ Some i → slot s i ≡ None → follow_back m s at ≡ []
-read_back_vacant zero s at i is there = refl
-read_back_vacant (suc n) s at i is there = rw is (rw there refl)
+pub read_vacant : (d : Direction) (m : ℕ) (s : Slots) (at : Option ℕ) (i : ℕ) → at ≡ Some i → slot s i ≡ None → read d m s at ≡ []
+read_vacant d zero s at i is there = refl
+read_vacant d (suc n) s at i is there = rw is (rw there refl)
 
 -- how the first member read counts
 module _ (t : DbKey → Bool) (x : Entry) (r : List Entry) where
@@ -90,7 +81,7 @@ keys_end keys l whole is end = sym (append-nil keys) ∙ ap (λ m. keys ++ map (
 
 -- the list that a ring shows is the one that is read
 pub ring_list : (owner : Option Owner) (len : ℕ) (s : Slots) (first : Option ℕ) (occ : Option Occurrence) → shown_as owner (follow len s first) ≡ occ → (owner ≡ None → len ≡ 0) → follow len s first ≡ members_in occ
-ring_list None len s first occ view empty = read_end len s first (empty refl) ∙ ap members_in view
+ring_list None len s first occ view empty = read_end Next len s first (empty refl) ∙ ap members_in view
 ring_list (Some o) len s first occ view empty = ap members_in view
 
 -- reserved keys, by the test and by place
@@ -131,13 +122,13 @@ back_nth t l n = ap (λ m. slice_get (filter t m) n) (map_reverse (λ e. e.0) l)
 
 -- reading further than the end reads no more
 pub follow_more : (s : Slots) (p : Option ℕ) (es : List Link) (m : ℕ) → Seg s p es None → follow (length es + m) s (head_at es None) ≡ members es
-follow_more s p [] m h = read_none (0 + m) s None refl
+follow_more s p [] m h = read_none Next (0 + m) s None refl
 follow_more s p (e ∷ es) m h =
     let n : length (e ∷ es) + m ≡ suc (length es + m) = omega arith in
-    read_next (length (e ∷ es) + m) (length es + m) s (Some e.at) e.at _ n refl h.0 ∙ ap (λ ms. e.member ∷ ms) (follow_more s (Some e.at) es m h.1)
+    read_one Next (length (e ∷ es) + m) (length es + m) s (Some e.at) e.at _ n refl h.0 ∙ ap (λ ms. e.member ∷ ms) (follow_more s (Some e.at) es m h.1)
 
 pub follow_back_more : (s : Slots) (es : List Link) (q : Option ℕ) (m : ℕ) → Seg s None es q → follow_back (length es + m) s (last_at None es) ≡ reverse (members es)
-follow_back_more s es q m h = follow_back_Seg s None es q m h ∙ ap (λ l. reverse (members es) ++ l) (read_back_none m s None refl) ∙ append-nil (reverse (members es))
+follow_back_more s es q m h = follow_back_Seg s None es q m h ∙ ap (λ l. reverse (members es) ++ l) (read_none Prior m s None refl) ∙ append-nil (reverse (members es))
 
 drop_behind : {X : Type 0} (xs : List X) (y : X) (ys : List X) → drop (suc (length xs)) (xs ++ y ∷ ys) ≡ ys
 drop_behind [] y ys = refl

@@ -2,6 +2,8 @@
 use Rattle.std.specs.Prelude.{◌≡◌, ◌≢◌, ℕ, zero, suc, Bool, true, false, List, [], ◌∷◌, length, Option, Some, None, slice_index_or, ⊤, ◌⊎◌, if◌then◌else◌}
 use Rattle.std.specs.Option.{option_map, option_map_or}
 use Rattle.dbtg_cells.specs.declared.key.DbKey.{DbKey}
+use Rattle.dbtg_cells.specs.declared.ring.Direction.{Direction}
+use Rattle.dbtg_cells.specs.declared.ring.Direction.TheVariants.{Next, Prior}
 use Rattle.dbtg_cells.specs.declared.ring.Node.{Node}
 use Rattle.dbtg_cells.specs.Members.{Entry}
 
@@ -60,17 +62,24 @@ abbrev pub LiesAt : List Link → ℕ → Type 0
 LiesAt [] i = ⊥
 LiesAt (e ∷ es) i = (e.at ≡ i) ⊎ LiesAt es i
 
--- the members that are read from `at` on by `next`
+-- the place of the node beside this one
+abbrev pub neighbour : Direction → Node → Option ℕ
+neighbour Next n = n.next
+neighbour Prior n = n.prior
+
+-- the members that are read from `at` on in this direction, as many as n
+abbrev pub read : Direction → ℕ → Slots → Option ℕ → List Entry
+read direction zero s at = []
+read direction (suc n) s None = []
+read direction (suc n) s (Some i) = option_map_or (λ node. node.member ∷ read direction n s (neighbour direction node)) (slot s i) []
+
+-- the members that are read by `next`
 abbrev pub follow : ℕ → Slots → Option ℕ → List Entry
-follow zero s at = []
-follow (suc n) s None = []
-follow (suc n) s (Some i) = option_map_or (λ node. node.member ∷ follow n s node.next) (slot s i) []
+follow = read Next
 
 -- the same by `prior`
 abbrev pub follow_back : ℕ → Slots → Option ℕ → List Entry
-follow_back zero s at = []
-follow_back (suc n) s None = []
-follow_back (suc n) s (Some i) = option_map_or (λ node. node.member ∷ follow_back n s node.prior) (slot s i) []
+follow_back = read Prior
 
 -- the keys of the nodes that are not linked
 abbrev pub unlinked_keys : Slots → List DbKey

@@ -52,9 +52,13 @@ rect_text area box =
     open_rect area ++ attribute (codes "x") box.left ++ attribute (codes "y") box.top ++ attribute (codes "width") box.width
     ++ attribute (codes "height") box.height ++ codes "/>\n"
 
+-- words at a point, in an element that begins with this tag
+unfoldable pub words_text : List ℕ → ℕ → ℕ → List ℕ → List ℕ
+words_text tag x y words = tag ++ attribute (codes "x") x ++ attribute (codes "y") y ++ codes ">" ++ words ++ codes "</text>\n"
+
 -- a line of words at a point
-unfoldable pub line_text : ℕ → ℕ → List ℕ → List ℕ
-line_text x y line = codes "<text" ++ attribute (codes "x") x ++ attribute (codes "y") y ++ codes ">" ++ line ++ codes "</text>\n"
+abbrev pub line_text : ℕ → ℕ → List ℕ → List ℕ
+line_text = words_text (codes "<text")
 
 -- one below another, the first on this base
 abbrev pub lines_text : ℕ → ℕ → List (List ℕ) → List ℕ
@@ -89,8 +93,8 @@ unfoldable pub path_text : Arrow → List ℕ
 path_text a = start_text a ++ way_text a ++ end_text
 
 -- words that end in front of the head of an arrow
-unfoldable pub label_text : ℕ → ℕ → List ℕ → List ℕ
-label_text x y words = codes "<text class='label'" ++ attribute (codes "x") x ++ attribute (codes "y") y ++ codes ">" ++ words ++ codes "</text>\n"
+abbrev pub label_text : ℕ → ℕ → List ℕ → List ℕ
+label_text = words_text (codes "<text class='label'")
 
 -- an arrow with its words above and below
 unfoldable pub arrow_text : Arrow → Link → List ℕ

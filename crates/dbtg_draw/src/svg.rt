@@ -2,7 +2,7 @@
 //! parentheses beside digits, so that no byte is one to be escaped.
 
 ghost use Rattle.dbtg_draw.specs.Layout.{box_of, last_column, picture_height, picture_width};
-ghost use Rattle.dbtg_draw.specs.Svg.{arrow_text, attribute, box_text, boxes_text, colours_text, drawn_text, end_text, head_text, label_text, line_text, lines_text, link_text, marker_text, open_rect, open_text, path_text, rect_text, start_text, style_text, svg_text, title_text, way_text};
+ghost use Rattle.dbtg_draw.specs.Svg.{arrow_text, attribute, box_text, boxes_text, colours_text, drawn_text, end_text, head_text, label_text, lines_text, link_text, marker_text, open_rect, open_text, path_text, rect_text, start_text, style_text, svg_text, title_text, way_text, words_text};
 ghost use Rattle.std.specs.List.{flat_map};
 ghost use Rattle.std.specs.Prelude.{◌≡◌, ◌++◌, ◌^◌, ◌<◌, ◌≤◌, IfOk, OnOk, decimal, length};
 
@@ -141,15 +141,22 @@ fn push_rect(out: &mut Vec<u8>, scale: &Scale, top: u128, block: &Block) -> Resu
     Ok(())
 }
 
-#[tactic(auto, unfolding(crate::specs::Svg::line_text))]
-fn push_line(out: &mut Vec<u8>, left: u128, base: u128, line: &[u8]) -> Result<(), AllocError>
-    ensures { OnOk result (out.new.items ≡ out.old.items ++ line_text left base line.now) }
+// Words at a point, in an element that begins with this tag.
+#[tactic(auto, unfolding(crate::specs::Svg::words_text))]
+fn push_words(
+    out: &mut Vec<u8>,
+    tag: &[u8],
+    x: u128,
+    base: u128,
+    words: &[u8],
+) -> Result<(), AllocError>
+    ensures { OnOk result (out.new.items ≡ out.old.items ++ words_text tag.now x base words.now) }
 {
-    out.extend_from_slice(b"<text")?;
-    push_attribute(out, b"x", left)?;
+    out.extend_from_slice(tag)?;
+    push_attribute(out, b"x", x)?;
     push_attribute(out, b"y", base)?;
     out.push(b'>')?;
-    out.extend_from_slice(line)?;
+    out.extend_from_slice(words)?;
     out.extend_from_slice(b"</text>\n")?;
     Ok(())
 }
@@ -165,7 +172,7 @@ fn push_lines(
 {
     let mut base = first;
     for line in lines {
-        push_line(out, left, base, line.as_slice())?;
+        push_words(out, b"<text", left, base, line.as_slice())?;
         base += 16;
     }
     Ok(())
@@ -237,17 +244,10 @@ fn push_path(out: &mut Vec<u8>, arrow: &Arrow) -> Result<(), AllocError>
     push_end(out)
 }
 
-#[tactic(auto, unfolding(crate::specs::Svg::label_text))]
 fn push_label(out: &mut Vec<u8>, right: u128, base: u128, words: &[u8]) -> Result<(), AllocError>
     ensures { OnOk result (out.new.items ≡ out.old.items ++ label_text right base words.now) }
 {
-    out.extend_from_slice(b"<text class='label'")?;
-    push_attribute(out, b"x", right)?;
-    push_attribute(out, b"y", base)?;
-    out.push(b'>')?;
-    out.extend_from_slice(words)?;
-    out.extend_from_slice(b"</text>\n")?;
-    Ok(())
+    push_words(out, b"<text class='label'", right, base, words)
 }
 
 #[tactic(auto, unfolding(crate::specs::Svg::arrow_text))]

@@ -28,9 +28,9 @@ use Rattle.dbtg_unit.specs.Hands.Erasing.{delete_cells, delete_cells_of}
 use Rattle.dbtg_unit.specs.Hands.Guesses.{guesses_after}
 use Rattle.dbtg_unit.specs.Hands.Hands.{Hands}
 use Rattle.dbtg_unit.specs.Hands.Local.{Agrees, holds}
-use Rattle.dbtg_unit.specs.Hands.Prepared.{IsEffect, IsPrepared, Plan}
+use Rattle.dbtg_unit.specs.Hands.Prepared.{IsEffect, IsPrepared, Plan, refusal, unless_refusal}
 use Rattle.dbtg_unit.specs.Database.State.Units.{forgotten}
-use Rattle.dbtg_erase.specs.ErasePlan.{delete_plan, erasing_plan, refusal, unless_refusal, whole_plan}
+use Rattle.dbtg_erase.specs.ErasePlan.{delete_plan, erasing_plan, whole_plan}
 use Rattle.dbtg_erase.specs.WorkList.{gone_in}
 use Rattle.dbtg_erase.proofs.ErasePlan.{checks_are, edits_are, edits_held, kept_are}
 

@@ -1,6 +1,6 @@
 -- What a DELETE prepares, read off the cells in hand.
 -- k is a key, s a set.
-use Rattle.std.specs.Prelude.{ℕ, ◌+◌, List, [], Option, Some, None, map}
+use Rattle.std.specs.Prelude.{ℕ, ◌+◌, List, Option, Some, None, map}
 use Rattle.dbtg_schema.specs.Lists.{Lists}
 use Rattle.dbtg_schema.specs.Lookups.{first_cause}
 use Rattle.dbtg_cells.specs.declared.key.DbKey.{DbKey}
@@ -8,22 +8,17 @@ use Rattle.dbtg_cells.specs.declared.name.CellName.TheVariants.{Ring}
 use Rattle.dbtg_unit.specs.Database.Statements.Checks.{delete_checks, refused_at_once}
 use Rattle.dbtg_unit.specs.declared.edit.CellEdit.{CellEdit}
 use Rattle.dbtg_unit.specs.declared.edit.Edit.TheVariants.{ChangeOwner, CloseRing}
-use Rattle.dbtg_unit.specs.declared.edit.UnitEdit.TheVariants.{LoseCurrent, Same}
+use Rattle.dbtg_unit.specs.declared.edit.UnitEdit.TheVariants.{LoseCurrent}
 use Rattle.dbtg_unit.specs.declared.statement.Erase.{Erase}
 use Rattle.dbtg_unit.specs.declared.statement.Statement.TheVariants.{Delete}
-use Rattle.dbtg_unit.specs.declared.unit.Cause.{Cause}
 use Rattle.dbtg_unit.specs.declared.unit.Cause.TheVariants.{NoCurrentOfRunUnit}
-use Rattle.dbtg_unit.specs.declared.unit.Status.TheVariants.{Done, Refused}
+use Rattle.dbtg_unit.specs.declared.unit.Status.TheVariants.{Done}
 use Rattle.dbtg_unit.specs.declared.unit.Unit.{Unit}
 use Rattle.dbtg_unit.specs.Hands.EditsOf.{erasing_edits, left_behind, slot_edit}
 use Rattle.dbtg_unit.specs.Hands.Hands.{Hands}
 use Rattle.dbtg_unit.specs.Hands.InHand.{owner_in, version_in, in_hand}
-use Rattle.dbtg_unit.specs.Hands.Prepared.{Plan}
+use Rattle.dbtg_unit.specs.Hands.Prepared.{Plan, refusal, unless_refusal}
 use Rattle.dbtg_erase.specs.WorkList.{gone_in, members_in_hand}
-
--- refused for a cause: nothing is changed
-abbrev pub refusal : Cause → Plan
-refusal cause = record { answer = record { status = Refused cause; key = None; items = None }; cells = []; versions = []; unit = Same }
 
 -- the members that stay, each at its next version
 abbrev pub raised_versions : Lists → Hands → List DbKey → List (DbKey × ℕ)
@@ -46,11 +41,6 @@ erasing_plan schema hands gone k =
       versions = raised_versions schema hands gone;
       unit = LoseCurrent k;
     }
-
--- refused for the first cause, if there is one, and else this plan
-abbrev pub unless_refusal : Option Cause → Plan → Plan
-unless_refusal (Some cause) plan = refusal cause
-unless_refusal None plan = plan
 
 -- DELETE of the current of run-unit
 abbrev pub delete_plan : Lists → ℕ → Hands → Unit → Erase → Option DbKey → Plan

@@ -6,7 +6,7 @@ ghost use Rattle.dbtg_unit.specs.Database.Statements.Conditions.{has_members};
 ghost use Rattle.dbtg_unit.specs.Hands.InHand.{in_hand, version_in};
 ghost use Rattle.dbtg_unit.specs.Hands.Making.{CanFinish, HaveNextVersions, MayPrepare};
 ghost use Rattle.dbtg_unit.specs.declared.statement.Statement.TheVariants.{Delete};
-ghost use Rattle.dbtg_erase.specs.ErasePlan.{erasing_plan, refusal, whole_plan};
+ghost use Rattle.dbtg_erase.specs.ErasePlan.{erasing_plan, whole_plan};
 ghost use Rattle.dbtg_erase.specs.WorkList.{gone_in, list_in};
 
 use crate::edits::erasing_edits;
@@ -16,7 +16,7 @@ use dbtg_cells::{DbKey, Owner};
 use dbtg_schema::{Row, Schema, SetNo};
 use dbtg_unit::{
     Answer, Cause, Erase, Held, Prepared, Statement, Status, Unit, UnitEdit, occurrence,
-    own_refusal, refused_at_once, set_count, stored,
+    own_refusal, refused, refused_at_once, set_count, stored,
 };
 use std::alloc::{AllocError, Global};
 
@@ -67,22 +67,6 @@ fn refusal_of(
         }
         _ => None,
     }
-}
-
-fn refused(alloc: Global, cause: Cause) -> Prepared
-    ensures { result ≡ refusal cause }
-{
-    let answer = Answer {
-        status: Status::Refused(cause),
-        key: None,
-        items: None,
-    };
-    Prepared::new(
-        answer,
-        Row::of(Vec::new(alloc)),
-        Row::of(Vec::new(alloc)),
-        UnitEdit::Same,
-    )
 }
 
 // The version of a record in hand once it is changed.

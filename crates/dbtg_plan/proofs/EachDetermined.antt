@@ -25,6 +25,7 @@ use Rattle.dbtg_unit.specs.Hands.Local.{Agrees}
 use Rattle.dbtg_unit.specs.Hands.Locality.{DoTheSame}
 use Rattle.dbtg_unit.specs.Hands.Needs.{areas_in_order, cells_of, need}
 use Rattle.dbtg_unit.proofs.Public.{HasPlan, MayPlan, one_plan_does_the_same}
+use Rattle.dbtg_unit.specs.Hands.Prepared.{refusal, unless_refusal}
 use Rattle.dbtg_plan.specs.Finding.{found_in, plan_of_found}
 use Rattle.dbtg_plan.specs.Inserting.{insert_plan}
 use Rattle.dbtg_plan.specs.Keeping.{free_plan, get_plan, keep_plan}
@@ -32,7 +33,6 @@ use Rattle.dbtg_plan.specs.Locality.{EachIsDetermined}
 use Rattle.dbtg_plan.specs.Missing.{first_missing}
 use Rattle.dbtg_plan.specs.Modifying.{modify_plan}
 use Rattle.dbtg_plan.specs.Opening.{close_plan, open_plan}
-use Rattle.dbtg_plan.specs.Plans.{refusal, unless_refusal}
 use Rattle.dbtg_plan.specs.Removing.{remove_plan}
 use Rattle.dbtg_plan.specs.Store.{store_plan}
 use Rattle.dbtg_plan.proofs.Find.FindPlans.{find_is_effect, next_cell_is}

@@ -28,10 +28,10 @@ use Rattle.dbtg_unit.specs.Database.Statements.Found.{chosen, chosen_by_key, fou
 use Rattle.dbtg_unit.specs.Hands.Hands.{Hands}
 use Rattle.dbtg_unit.specs.Hands.InHand.{key_of, numbers_in, occurrence_in, stored_in, values_of_key}
 use Rattle.dbtg_unit.specs.Hands.Needs.{current_owner, found_slot, ring_names, slot_names}
-use Rattle.dbtg_unit.specs.Hands.Prepared.{Plan}
+use Rattle.dbtg_unit.specs.Hands.Prepared.{Plan, refusal}
 use Rattle.dbtg_unit.specs.Database.State.Units.{key_of_owner, key_of_place, place_in}
 use Rattle.dbtg_plan.specs.Missing.{first_missing}
-use Rattle.dbtg_plan.specs.Plans.{done_plan, refusal}
+use Rattle.dbtg_plan.specs.Plans.{done_plan}
 
 -- the record k in hand, or this cause where it is not there
 abbrev pub stored_or : Cause → Hands → DbKey → Result DbKey Cause

@@ -1,28 +1,18 @@
--- What statements prepare: a refusal, or what is done.
+-- What statements prepare that change no cell, and those about the current of run-unit.
 use Rattle.std.specs.Prelude.{Bool, List, [], Option, Some, None}
 use Rattle.dbtg_schema.specs.Lookups.{first_cause}
 use Rattle.dbtg_cells.specs.declared.key.DbKey.{DbKey}
 use Rattle.dbtg_cells.specs.declared.key.Value.{Value}
 use Rattle.dbtg_unit.specs.declared.edit.UnitEdit.{UnitEdit}
-use Rattle.dbtg_unit.specs.declared.edit.UnitEdit.TheVariants.{Same}
 use Rattle.dbtg_unit.specs.declared.unit.Answer.{Answer}
 use Rattle.dbtg_unit.specs.declared.unit.Cause.{Cause}
 use Rattle.dbtg_unit.specs.declared.unit.Cause.TheVariants.{NoCurrentOfRunUnit}
-use Rattle.dbtg_unit.specs.declared.unit.Status.TheVariants.{Done, Refused}
-use Rattle.dbtg_unit.specs.Hands.Prepared.{Plan}
+use Rattle.dbtg_unit.specs.declared.unit.Status.TheVariants.{Done}
+use Rattle.dbtg_unit.specs.Hands.Prepared.{Plan, refusal, unless_refusal}
 
 -- done, with neither a key nor items
 abbrev pub done_answer : Answer
 done_answer = record { status = Done; key = None; items = None }
-
--- refused for a cause: nothing is changed
-abbrev pub refusal : Cause → Plan
-refusal cause = record { answer = record { status = Refused cause; key = None; items = None }; cells = []; versions = []; unit = Same }
-
--- refused for the first cause, if there is one, and else this plan
-abbrev pub unless_refusal : Option Cause → Plan → Plan
-unless_refusal (Some cause) plan = refusal cause
-unless_refusal None plan = plan
 
 -- about the current of run-unit, which passes these checks
 abbrev pub on_current_plan : Option DbKey → (DbKey → List (Bool × Cause)) → (DbKey → Plan) → Plan

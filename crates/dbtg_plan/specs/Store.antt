@@ -28,13 +28,12 @@ use Rattle.dbtg_unit.specs.Hands.EditsOf.{first_owners, joining_edits, store_edi
 use Rattle.dbtg_unit.specs.Hands.Hands.{Hands}
 use Rattle.dbtg_unit.specs.Hands.InHand.{numbers_in, in_hand, next_key_of}
 use Rattle.dbtg_unit.specs.Hands.Needs.{current_owner, ring_names, store_rings}
-use Rattle.dbtg_unit.specs.Hands.Prepared.{Plan}
+use Rattle.dbtg_unit.specs.Hands.Prepared.{Plan, unless_refusal}
 use Rattle.dbtg_unit.specs.Hands.Reserving.{CanTakeMember, OfHeld}
 use Rattle.dbtg_unit.specs.Database.State.Units.{place_in}
 use Rattle.dbtg_plan.specs.Calc.{fresh_key}
 use Rattle.dbtg_plan.specs.Joining.{joined_place}
 use Rattle.dbtg_plan.specs.Missing.{first_missing}
-use Rattle.dbtg_plan.specs.Plans.{unless_refusal}
 
 -- WHAT IT NEEDS
 

@@ -19,10 +19,10 @@ mod set;
 
 use crate::joining::current_owner;
 use crate::missing::{missing, missing_ring, missing_slot};
-use crate::outcomes::{done, refused};
+use crate::outcomes::done;
 use dbtg_cells::{CellName, DbKey};
 use dbtg_schema::Schema;
-use dbtg_unit::{Cause, Form, Held, Owners, Prepared, Suppress, Unit, UnitEdit, stored};
+use dbtg_unit::{Cause, Form, Held, Owners, Prepared, Suppress, Unit, UnitEdit, refused, stored};
 use std::alloc::Global;
 
 // The key that is found, or the cause why none is.

@@ -16,12 +16,11 @@ ghost use Rattle.dbtg_plan.specs.Missing.{first_missing};
 use crate::joining::{current_owner, joined_place, joining_edit, make_room, place_refusal};
 use crate::members::{next_version, slot_edit, sort_key_in};
 use crate::missing::{missing_ring, missing_slot};
-use crate::outcomes::refused;
 use dbtg_cells::{CellName, DbKey, Value};
 use dbtg_schema::{Row, Schema, SetNo};
 use dbtg_unit::{
     Answer, Cause, CellEdit, Edit, Held, Place, Prepared, Status, Unit, UnitEdit, own_refusal,
-    owner_of,
+    owner_of, refused,
 };
 use std::alloc::{AllocError, Global};
 

@@ -4,10 +4,10 @@ ghost use Rattle.dbtg_unit.specs.Database.Statements.Checks.{refused_at_once};
 ghost use Rattle.dbtg_unit.specs.Hands.Making.{CanFinish, MayPrepare};
 ghost use Rattle.dbtg_plan.specs.Keeping.{free_plan, get_plan, keep_plan};
 
-use crate::outcomes::{done, refused};
+use crate::outcomes::done;
 use dbtg_cells::copy_items;
 use dbtg_schema::{RecordNo, Schema};
-use dbtg_unit::{Cause, Held, Prepared, Statement, Unit, UnitEdit, stored};
+use dbtg_unit::{Cause, Held, Prepared, Statement, Unit, UnitEdit, refused, stored};
 use std::alloc::{AllocError, Global};
 
 fn get(alloc: Global, unit: &Unit, held: &Held) -> Result<Prepared, AllocError>

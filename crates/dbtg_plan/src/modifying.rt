@@ -19,12 +19,11 @@ ghost use Rattle.dbtg_plan.specs.Modifying.{calc_edits_in, is_refused, is_rekeye
 use crate::calc::{copy_calc, is_calc_taken};
 use crate::members::{copy_sort_key, next_version, slot_edit};
 use crate::missing::{missing, missing_ring, missing_slot};
-use crate::outcomes::refused;
 use dbtg_cells::{CellName, DbKey, Owner, Value, copy_items};
 use dbtg_schema::{Duplicates, Order, RecordNo, Row, Schema, SetNo};
 use dbtg_unit::{
     Answer, Cause, CellEdit, Change, Edit, Held, Prepared, Status, Unit, UnitEdit, is_rekeyed_in,
-    names_calc, occurrence, own_refusal, owner_of, ring_name, set_count, stored,
+    names_calc, occurrence, own_refusal, owner_of, refused, ring_name, set_count, stored,
 };
 use std::alloc::{AllocError, Global};
 

@@ -7,12 +7,11 @@ ghost use Rattle.dbtg_unit.specs.Hands.InHand.{users_in};
 ghost use Rattle.dbtg_unit.specs.Hands.Making.{CanFinish, MayPrepare, ShowsTheSame};
 ghost use Rattle.dbtg_plan.specs.Opening.{close_plan, mode_plan, open_plan};
 
-use crate::outcomes::refused;
 use dbtg_cells::{CellName, Mode};
 use dbtg_schema::{AreaNo, Row, Schema};
 use dbtg_unit::{
-    Answer, Cause, CellEdit, Edit, Held, Prepared, Statement, Status, Unit, UnitEdit, reserve_user,
-    usage,
+    Answer, Cause, CellEdit, Edit, Held, Prepared, Statement, Status, Unit, UnitEdit, refused,
+    reserve_user, usage,
 };
 use std::alloc::{AllocError, Global};
 

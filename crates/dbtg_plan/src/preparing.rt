@@ -8,11 +8,10 @@ use crate::inserting::prepare_insert;
 use crate::keeping::{prepare_free, prepare_get, prepare_keep};
 use crate::modifying::prepare_modify;
 use crate::opening::{prepare_close, prepare_open};
-use crate::outcomes::refused;
 use crate::removing::prepare_remove;
 use crate::storing::prepare_store;
 use dbtg_schema::Schema;
-use dbtg_unit::{Cause, Held, Prepared, Statement, Unit, refused_at_once};
+use dbtg_unit::{Cause, Held, Prepared, Statement, Unit, refused, refused_at_once};
 use std::alloc::{AllocError, Global};
 
 /// Prepares a statement other than DELETE that needs nothing more: makes room for what it adds to the cells in hand, which show

@@ -14,12 +14,11 @@ ghost use Rattle.dbtg_plan.specs.Removing.{removing};
 
 use crate::members::{next_version, slot_edit};
 use crate::missing::{missing_ring, missing_slot};
-use crate::outcomes::refused;
 use dbtg_cells::{CellName, DbKey, Owner};
 use dbtg_schema::{Row, Schema, SetNo};
 use dbtg_unit::{
     Answer, Cause, CellEdit, Edit, Held, Prepared, Status, Unit, UnitEdit, own_refusal, owner_of,
-    push_taking_out,
+    push_taking_out, refused,
 };
 use std::alloc::{AllocError, Global};
 

@@ -16,22 +16,21 @@ ghost use Rattle.dbtg_unit.specs.Hands.Making.{CanFinish, MayPrepare, ShowsTheSa
 ghost use Rattle.dbtg_unit.specs.Hands.Needs.{cells_of, current_owner, ring_names, store_rings};
 ghost use Rattle.dbtg_unit.specs.Hands.Reserving.{KeepsOthers};
 ghost use Rattle.dbtg_unit.specs.Database.State.Units.{place_in};
+ghost use Rattle.dbtg_unit.specs.Hands.Prepared.{unless_refusal};
 ghost use Rattle.dbtg_plan.specs.Calc.{fresh_key};
 ghost use Rattle.dbtg_plan.specs.Joining.{joined_place};
 ghost use Rattle.dbtg_plan.specs.Missing.{first_missing};
-ghost use Rattle.dbtg_plan.specs.Plans.{unless_refusal};
 ghost use Rattle.dbtg_plan.specs.Store.{HasRoom, first_owner, join_checks, joins_of, missing_of_store, openings_of, store_plan, store_rings_in, stored_plan};
 
 use crate::calc::{copy_calc, fresh_key, is_calc_taken};
 use crate::joining::{current_owner, joining_edit, make_room, place_refusal};
 use crate::members::{copy_sort_key, slot_edit};
 use crate::missing::{missing, missing_ring, missing_slot};
-use crate::outcomes::refused;
 use dbtg_cells::{CellName, DbKey, Owner, Value, copy_items};
 use dbtg_schema::{RecordNo, Row, Schema, SetNo};
 use dbtg_unit::{
     Answer, Cause, CellEdit, Edit, Held, Owners, Prepared, Status, Suppress, Unit, UnitEdit,
-    is_automatic_in, numbers, set_count,
+    is_automatic_in, numbers, refused, set_count,
 };
 use std::alloc::{AllocError, Global};
 

@@ -21,10 +21,10 @@ ghost use Rattle.dbtg_run.specs.Works.{Belongs, IsAtWork, IsSameUnit, KnowsBette
 use crate::database::Database;
 use crate::plays::{LookAtArea, PutCell, TakeAlone, TakeCell, TakeShared};
 use crate::work::Work;
-use dbtg_cells::{CellName, Owner, cell_number};
+use dbtg_cells::{CellName, cell_number};
 use dbtg_schema::AreaNo;
 use dbtg_step::next_need;
-use dbtg_unit::{Need, Owners, Statement};
+use dbtg_unit::{Need, Owners, Statement, with_true_owners};
 use std::alloc::{AllocError, Global};
 
 fn takes_alone(statement: &Statement) -> bool
@@ -37,18 +37,6 @@ fn is_ready(wanted: &Need) -> bool
     ensures { MatchBool result (wanted.now ≡ Need.Ready) (wanted.now ≢ Need.Ready) }
 {
     matches!(wanted, Need::Ready)
-}
-
-// The guesses with the true owners, where there is one.
-fn with_true_owners(guesses: &[Option<Owner>], mut owners: Owners) -> Owners
-    requires { length guesses.now ≡ length owners }
-    ensures { result ≡ with_owners guesses.now owners }
-{
-    for set in 0..guesses.len() {
-        let owner = owners.as_slice()[set].or(guesses[set]);
-        owners.set(set, owner);
-    }
-    owners
 }
 
 impl Work {

@@ -104,8 +104,6 @@ pub use Rattle.dbtg_step.proofs.TheCore.DrawnShown.{held_are_due}
 pub use Rattle.dbtg_step.proofs.TheCore.DrawnShown.{versions_next}
 -- what stands at a number of a list is in the list
 pub use Rattle.dbtg_step.proofs.TheCore.EventsShown.{slice_get_in}
--- guesses with owners put over them up to an entry, and then at it, have them one entry further
-pub use Rattle.dbtg_step.proofs.TheCore.FollowsShown.{merged_more}
 -- what shows the same agrees with the same databases
 pub use Rattle.dbtg_step.proofs.TheCore.Makings.{agrees_also}
 -- what a plan makes of the cells in hand is the statement's effect on each database that agrees with them

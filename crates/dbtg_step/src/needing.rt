@@ -5,7 +5,6 @@ ghost use Rattle.dbtg_cells.specs.Names.{name_eq};
 ghost use Rattle.dbtg_schema.specs.Lists.{Lists};
 ghost use Rattle.dbtg_unit.specs.declared.held.Need.{Need};
 ghost use Rattle.dbtg_unit.specs.declared.statement.Statement.{Statement};
-ghost use Rattle.dbtg_unit.specs.Hands.Guesses.{with_owners};
 ghost use Rattle.dbtg_step.specs.declared.parts.Runner.{Runner};
 ghost use Rattle.dbtg_step.specs.Machine.NeedOrder.{HasItsAreas};
 ghost use Rattle.dbtg_step.specs.Core.Stands.{holds_against, StandsNeeding};
@@ -16,9 +15,9 @@ use crate::drawing::draws;
 use crate::parts::{Parts, Place, Runner, Stage};
 use crate::runner::{statement_of, turn_back};
 use crate::statements::next_need;
-use dbtg_cells::{CellName, Owner, cell_number};
+use dbtg_cells::{CellName, cell_number};
 use dbtg_schema::{AreaNo, Schema};
-use dbtg_unit::{Held, Need, Owners, Stepped};
+use dbtg_unit::{Held, Need, Owners, Stepped, with_true_owners};
 use std::alloc::{AllocError, Global};
 use std::mem;
 
@@ -150,18 +149,6 @@ fn takes_cell(
         }
         None => unreachable!(),
     }
-}
-
-// The guesses with the true owners, where there is one.
-fn with_true_owners(guesses: &[Option<Owner>], mut owners: Owners) -> Owners
-    requires { length guesses.now ≡ length owners }
-    ensures { result ≡ with_owners guesses.now owners }
-{
-    for set in 0..guesses.len() {
-        let owner = owners.as_slice()[set].or(guesses[set]);
-        owners.set(set, owner);
-    }
-    owners
 }
 
 /// Turns back with the true owners as guesses.

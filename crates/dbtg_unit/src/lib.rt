@@ -51,8 +51,8 @@ pub use legality::{
 };
 pub use moves::{Move, Stepped};
 pub use order::{has_area, next_area};
-pub use owners::Owners;
-pub use prepared::{Prepared, finish, has_next_versions};
+pub use owners::{Owners, with_true_owners};
+pub use prepared::{Prepared, finish, has_next_versions, refused};
 pub use reserving::{reserve_member, reserve_user};
 pub use statement::{Change, Erase, Form, Statement, Suppress, Which};
 pub use unit::{Answer, Cause, Currency, Entry, Place, Status, Unit};

@@ -1,5 +1,6 @@
 //! An owner or none for each set of a schema, in place. Nothing here takes memory.
-ghost use Rattle.std.specs.Prelude.{◌≡◌, ◌≤◌, ◌<◌, slice_set, replicate, take, None};
+ghost use Rattle.std.specs.Prelude.{◌≡◌, ◌≤◌, ◌<◌, slice_set, length, replicate, take, None};
+ghost use Rattle.dbtg_unit.specs.Hands.Guesses.{with_owners};
 
 use dbtg_cells::Owner;
 use std::marker::Model;
@@ -68,4 +69,16 @@ impl Owners {
             set_entry(&mut self.entries, set, owner);
         }
     }
+}
+
+/// These guesses with the true owners: where there is one it is the guess, elsewhere the guess stays.
+pub fn with_true_owners(guesses: &[Option<Owner>], mut owners: Owners) -> Owners
+    requires { length guesses.now ≡ length owners }
+    ensures { result ≡ with_owners guesses.now owners }
+{
+    for set in 0..guesses.len() {
+        let owner = owners.as_slice()[set].or(guesses[set]);
+        owners.set(set, owner);
+    }
+    owners
 }

@@ -2,14 +2,15 @@
 ghost use Rattle.std.specs.Prelude.{◌≡◌, slice_set, IsTrue};
 ghost use Rattle.std.specs.List.{list_all};
 ghost use Rattle.dbtg_unit.specs.Hands.Making.{CanEditHeld, CanMake, HaveNextVersions, IsMade, has_next_version};
-ghost use Rattle.dbtg_unit.specs.Hands.Prepared.{edited_values, guesses_edited, renoted_at, unit_after, unit_edited, values_of};
+ghost use Rattle.dbtg_unit.specs.Hands.Prepared.{edited_values, guesses_edited, refusal, renoted_at, unit_after, unit_edited, values_of};
 
 use crate::apply::edit_cell;
 use crate::edit::{CellEdit, UnitEdit};
 use crate::held::Held;
-use crate::unit::{Answer, Unit};
+use crate::unit::{Answer, Cause, Status, Unit};
 use dbtg_cells::{Cell, DbKey, Mode};
 use dbtg_schema::{AreaNo, Row, Schema};
+use std::alloc::Global;
 use std::marker::Model;
 
 /// What a statement has prepared: its answer, the changes of the cells that it holds in their order, the new versions of the
@@ -53,6 +54,23 @@ impl Prepared {
     {
         &self.answer
     }
+}
+
+/// Refused for a cause: nothing changes.
+pub fn refused(alloc: Global, cause: Cause) -> Prepared
+    ensures { result ≡ refusal cause }
+{
+    let answer = Answer {
+        status: Status::Refused(cause),
+        key: None,
+        items: None,
+    };
+    Prepared::new(
+        answer,
+        Row::of(Vec::new(alloc)),
+        Row::of(Vec::new(alloc)),
+        UnitEdit::Same,
+    )
 }
 
 fn has_next(cell: &Cell) -> bool

@@ -41,7 +41,7 @@ use Rattle.dbtg_unit.specs.Database.State.Legal.{Legal}
 use Rattle.dbtg_unit.specs.Hands.Local.{Agrees, holds}
 use Rattle.dbtg_unit.specs.Hands.Making.{CanEditHeld, CanFinish, CanMake, MayPrepare, ShowsTheSame}
 use Rattle.dbtg_unit.specs.Hands.Needs.{current_owner, ring_names, slot_names}
-use Rattle.dbtg_unit.specs.Hands.Prepared.{IsEffect, IsPrepared, Plan, unit_after}
+use Rattle.dbtg_unit.specs.Hands.Prepared.{IsEffect, IsPrepared, Plan, unit_after, refusal, unless_refusal}
 use Rattle.dbtg_unit.specs.Hands.Reserving.{CanTakeMember, OfHeld}
 use Rattle.dbtg_unit.specs.Database.State.Units.{place_in}
 use Rattle.dbtg_unit.proofs.Public.{In, MayPlan, agrees_same, can_make_raised, holds_same, in_left, in_range, in_right, insert_checks_agree, items_in_hand}
@@ -53,7 +53,7 @@ use Rattle.dbtg_unit.specs.Database.Statements.View.{View, whole}
 use Rattle.dbtg_plan.proofs.Plans.CurrentPlans.{current_cells, current_is_effect}
 use Rattle.dbtg_plan.specs.Inserting.{insert_plan, inserting}
 use Rattle.dbtg_plan.specs.Joining.{joined_occurrence, joined_place, joining_edit}
-use Rattle.dbtg_plan.specs.Plans.{on_current_plan, refusal, unless_refusal}
+use Rattle.dbtg_plan.specs.Plans.{on_current_plan}
 use Rattle.dbtg_plan.proofs.Connect.PlacesDecide.{can_join_in_hand, place_checks_in_hand}
 use Rattle.dbtg_plan.proofs.Plans.IsEffect.{done_is_effect, noted_renoted}
 use Rattle.dbtg_plan.proofs.Plans.RingEdits.{can_edit_ring, free_owner}

@@ -36,11 +36,11 @@ use Rattle.dbtg_unit.specs.Hands.InHand.{owner_in, version_in}
 use Rattle.dbtg_unit.specs.Hands.Local.{Agrees, holds}
 use Rattle.dbtg_unit.specs.Hands.Making.{CanFinish, CanMake, HaveNextVersions}
 use Rattle.dbtg_unit.specs.Hands.Needs.{is_wrong_guess, ring_names, slot_names}
-use Rattle.dbtg_unit.specs.Hands.Prepared.{IsEffect, IsPrepared, unit_after}
+use Rattle.dbtg_unit.specs.Hands.Prepared.{IsEffect, IsPrepared, unit_after, refusal, unless_refusal}
 use Rattle.dbtg_unit.specs.Hands.InHand.{in_hand}
 use Rattle.dbtg_unit.specs.Database.Statements.View.{View, whole}
 use Rattle.dbtg_plan.proofs.Plans.CurrentPlans.{current_cells, current_is_effect}
-use Rattle.dbtg_plan.specs.Plans.{on_current_plan, refusal, unless_refusal}
+use Rattle.dbtg_plan.specs.Plans.{on_current_plan}
 use Rattle.dbtg_plan.specs.Removing.{remove_plan, removing}
 use Rattle.dbtg_plan.proofs.Connect.InsertIsEffect.{own_passed, version_raised}
 use Rattle.dbtg_plan.proofs.Plans.IsEffect.{done_is_effect, noted_renoted}

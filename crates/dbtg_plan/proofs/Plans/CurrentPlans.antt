@@ -15,9 +15,9 @@ use Rattle.dbtg_unit.specs.Database.Statements.Effect.{Outcome, effect, effect_o
 use Rattle.dbtg_unit.proofs.Public.{on_current}
 use Rattle.dbtg_unit.specs.Hands.Hands.{Hands}
 use Rattle.dbtg_unit.specs.Hands.InHand.{in_hand}
-use Rattle.dbtg_unit.specs.Hands.Prepared.{IsEffect, Plan}
+use Rattle.dbtg_unit.specs.Hands.Prepared.{IsEffect, Plan, unless_refusal}
 use Rattle.dbtg_unit.specs.Database.Statements.View.{View, whole}
-use Rattle.dbtg_plan.specs.Plans.{on_current_plan, unless_refusal}
+use Rattle.dbtg_plan.specs.Plans.{on_current_plan}
 use Rattle.dbtg_plan.proofs.Plans.IsEffect.{effect_is_on_cells, refusal_is_effect}
 
 module _ (schema : Lists) (capacity : ℕ) (unit : Unit) (hands : Hands) (statement : Statement) (passes : refused_at_once schema capacity unit statement ≡ None)

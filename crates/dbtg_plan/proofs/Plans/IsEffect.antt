@@ -22,9 +22,8 @@ use Rattle.dbtg_unit.specs.Hands.Guesses.{guesses_after}
 use Rattle.dbtg_unit.specs.Hands.Hands.{Hands}
 use Rattle.dbtg_unit.specs.Database.State.Kept.{entry_again, noted_again}
 use Rattle.dbtg_unit.specs.Hands.Local.{Agrees}
-use Rattle.dbtg_unit.specs.Hands.Prepared.{IsEffect, Plan, guesses_edited, unit_after}
+use Rattle.dbtg_unit.specs.Hands.Prepared.{IsEffect, Plan, guesses_edited, unit_after, refusal}
 use Rattle.dbtg_unit.proofs.Public.{MayPlan, effect_is_its_edits, legal_after}
-use Rattle.dbtg_plan.specs.Plans.{refusal}
 
 -- where no check without cells refuses, the effect is that on the cells
 pub effect_is_on_cells : (schema : Lists) (capacity : ℕ) (db : Database) (unit : Unit) (statement : Statement) → refused_at_once schema capacity unit statement ≡ None

@@ -28,12 +28,11 @@ use Rattle.dbtg_unit.specs.Hands.Hands.{Hands}
 use Rattle.dbtg_unit.specs.Hands.InHand.{in_hand, users_in}
 use Rattle.dbtg_unit.specs.Hands.Local.{Agrees, holds}
 use Rattle.dbtg_unit.specs.Hands.Making.{CanFinish, MayPrepare, ShowsTheSame}
-use Rattle.dbtg_unit.specs.Hands.Prepared.{IsEffect}
+use Rattle.dbtg_unit.specs.Hands.Prepared.{IsEffect, refusal, unless_refusal}
 use Rattle.dbtg_unit.specs.Hands.Reserving.{CanTakeUser, OfHeld}
 use Rattle.dbtg_unit.proofs.Public.{MayPlan, may_plan, may_prepare_same, prepared_has_all, users_in_hand, users_in_same}
 use Rattle.dbtg_unit.specs.Database.Statements.View.{whole}
 use Rattle.dbtg_plan.specs.Opening.{close_plan, open_plan}
-use Rattle.dbtg_plan.specs.Plans.{refusal, unless_refusal}
 use Rattle.dbtg_plan.proofs.Plans.PartByPart.{makes_effect, makes_unless, no_cells_can_finish}
 
 -- EDITS OF A USAGE CELL

@@ -23,8 +23,8 @@ use Rattle.dbtg_unit.specs.Hands.Guesses.{guesses_after}
 use Rattle.dbtg_unit.specs.Hands.Hands.{Hands}
 use Rattle.dbtg_unit.specs.Hands.Local.{Agrees, holds}
 use Rattle.dbtg_unit.specs.Hands.Making.{CanFinish, CanMake}
-use Rattle.dbtg_unit.specs.Hands.Prepared.{IsEffect, Plan, guesses_edited, unit_after, unit_edited}
-use Rattle.dbtg_plan.specs.Plans.{done_plan, on_current_plan, refusal, unless_refusal}
+use Rattle.dbtg_unit.specs.Hands.Prepared.{IsEffect, Plan, guesses_edited, unit_after, unit_edited, refusal, unless_refusal}
+use Rattle.dbtg_plan.specs.Plans.{done_plan, on_current_plan}
 use Rattle.dbtg_plan.proofs.Plans.IsEffect.{effect_is_on_cells, refusal_is_effect}
 
 module _ (schema : Lists) (capacity : ℕ) (db : Database) (unit : Unit) (guesses : List (Option Owner)) (statement : Statement) where

@@ -23,9 +23,8 @@ use Rattle.dbtg_unit.specs.Hands.Hands.{Hands}
 use Rattle.dbtg_unit.specs.Hands.InHand.{in_hand}
 use Rattle.dbtg_unit.specs.Hands.Local.{Agrees, holds}
 use Rattle.dbtg_unit.specs.Hands.Making.{CanFinish, CanMake, MayPrepare, ShowsTheSame}
-use Rattle.dbtg_unit.specs.Hands.Prepared.{IsEffect, Plan}
+use Rattle.dbtg_unit.specs.Hands.Prepared.{IsEffect, Plan, refusal, unless_refusal}
 use Rattle.dbtg_unit.proofs.Public.{agrees_same, holds_same, may_plan, same_sym, some_from_not_none}
-use Rattle.dbtg_plan.specs.Plans.{refusal, unless_refusal}
 use Rattle.dbtg_plan.specs.Store.{HasRoom, store_plan, stored_key, stored_plan}
 use Rattle.dbtg_plan.proofs.Store.StoreInHand.{checks_in_hand, has_places, key_in_hand, number, passed_held, plan_is_effect}
 use Rattle.dbtg_plan.proofs.Store.StoreMaking.{edits_held, store_can_make}

@@ -32,7 +32,7 @@ use Rattle.dbtg_unit.specs.Hands.InHand.{in_hand, numbers_in}
 use Rattle.dbtg_unit.specs.Database.State.Legal.{Legal}
 use Rattle.dbtg_unit.specs.Hands.Local.{Agrees, holds}
 use Rattle.dbtg_unit.specs.Hands.Needs.{cells_of, current_owner, ring_names, store_cells, store_rings}
-use Rattle.dbtg_unit.specs.Hands.Prepared.{IsEffect}
+use Rattle.dbtg_unit.specs.Hands.Prepared.{IsEffect, unless_refusal}
 use Rattle.dbtg_unit.specs.Database.State.Units.{owners_of, place_in, seen_with}
 use Rattle.dbtg_unit.proofs.Public.{In, MayPlan, any_in, calc_taken_agrees, free_in_hand, holds_any, in_flat_map, in_left, legal_after, new_key_in_hand}
 use Rattle.dbtg_unit.proofs.Public.{no_number_passes, numbers_in_hand, of_filter, owners_first, passes_check, passes_without_cells, prepared_has_all}
@@ -40,7 +40,6 @@ use Rattle.dbtg_unit.proofs.Public.{same_numbers, same_occurrence, some_from_not
 use Rattle.dbtg_plan.specs.Calc.{fresh_key}
 use Rattle.dbtg_plan.specs.Joining.{joined_place}
 use Rattle.dbtg_plan.specs.Missing.{first_missing}
-use Rattle.dbtg_plan.specs.Plans.{unless_refusal}
 use Rattle.dbtg_plan.specs.Store.{cells_of_key, missing_of_store, store_cells_in, store_plan, stored_key, stored_plan}
 use Rattle.dbtg_plan.proofs.Plans.IsEffect.{done_is_effect, effect_is_on_cells, refusal_is_effect}
 

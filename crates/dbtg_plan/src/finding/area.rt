@@ -1,5 +1,6 @@
 //! FIND in an area: the live keys of its record types in key order, type by type.
-ghost use Rattle.std.specs.Prelude.{◌≡◌, ◌≢◌, ◌<◌, ◌+◌, ◌^◌, ◌≤◌, true, pos, map, filter, reverse, length, slice_get, IfSome, None};
+ghost use Rattle.std.specs.Prelude.{◌≡◌, ◌≢◌, ◌<◌, ◌+◌, ◌^◌, ◌≤◌, true, pos, map, filter, reverse, length, slice_get, option_map, unwrap_or, [], IfSome, None};
+ghost use Rattle.std.specs.Option.{option_copied};
 ghost use Rattle.std.specs.List.{range_with_len};
 ghost use Rattle.dbtg_schema.specs.Lookups.{at, final, first, nth};
 ghost use Rattle.dbtg_cells.specs.declared.name.CellName.TheVariants.{Extent};
@@ -9,12 +10,12 @@ ghost use Rattle.dbtg_unit.specs.Database.Statements.Found.{chosen_by_key, found
 ghost use Rattle.dbtg_unit.specs.declared.statement.Which.TheVariants.{Next, Prior};
 ghost use Rattle.dbtg_unit.specs.declared.unit.Cause.TheVariants.{End};
 ghost use Rattle.dbtg_plan.specs.Missing.{first_missing};
-ghost use Rattle.dbtg_plan.specs.Finding.{area_keys_in, is_above, is_below, is_wanted, keys_wanted};
+ghost use Rattle.dbtg_plan.specs.Finding.{area_keys_in, is_above, is_below, is_wanted, keys_of_type, keys_wanted};
 
 use crate::finding::current::of_area;
 use crate::finding::numbered;
 use crate::missing::is_missing;
-use dbtg_cells::{CellName, DbKey};
+use dbtg_cells::{CellName, DbKey, Extent};
 use dbtg_schema::{AreaNo, RecordNo, Schema};
 use dbtg_unit::{Cause, Held, Unit, Which, numbers, type_count};
 
@@ -25,6 +26,23 @@ fn is_wanted(schema: &Schema, named: &Option<RecordNo>, area: AreaNo, rtype: Rec
     match named {
         Some(named) => rtype.index() == named.index(),
         None => schema.area_of(rtype).index() == area.index(),
+    }
+}
+
+// The extent of a type that is wanted, where it is in hand.
+fn wanted_extent<'a>(
+    schema: &Schema,
+    held: &'a Held,
+    named: &Option<RecordNo>,
+    area: AreaNo,
+    rtype: RecordNo,
+) -> Option<&'a Extent>
+    ensures { keys_of_type rtype (unwrap_or (option_map (λ e. e.numbers) (option_copied result)) []) ≡ keys_wanted schema.now held.now named.now area rtype }
+{
+    if is_wanted(schema, named, area, rtype) {
+        numbers(held, rtype)
+    } else {
+        None
     }
 }
 
@@ -39,10 +57,7 @@ fn first_of_type(
 ) -> Option<DbKey>
     ensures { result ≡ first (filter (is_above bound.now) (keys_wanted schema.now held.now named.now area rtype)) }
 {
-    if !is_wanted(schema, named, area, rtype) {
-        return None;
-    }
-    match numbers(held, rtype) {
+    match wanted_extent(schema, held, named, area, rtype) {
         Some(extent) => numbered::first_key(extent, rtype, bound),
         None => None,
     }
@@ -79,10 +94,7 @@ fn last_of_type(
     requires { IfSome bound.now (λ k. k.number + 1 < 2 ^ 32) }
     ensures { result ≡ final (filter (is_below bound.now) (keys_wanted schema.now held.now named.now area rtype)) }
 {
-    if !is_wanted(schema, named, area, rtype) {
-        return None;
-    }
-    match numbers(held, rtype) {
+    match wanted_extent(schema, held, named, area, rtype) {
         Some(extent) => numbered::last_key(extent, rtype, bound),
         None => None,
     }
@@ -117,10 +129,7 @@ fn count_of_type(
     ensures count { result ≡ length (keys_wanted schema.now held.now named.now area rtype) }
     ensures few { result < 2 ^ 16 }
 {
-    if !is_wanted(schema, named, area, rtype) {
-        return 0;
-    }
-    match numbers(held, rtype) {
+    match wanted_extent(schema, held, named, area, rtype) {
         Some(extent) => extent.count_live(),
         None => 0,
     }
@@ -149,10 +158,7 @@ fn nth_of_type(
     requires { place < 2 ^ 16 }
     ensures { result ≡ slice_get (keys_wanted schema.now held.now named.now area rtype) place }
 {
-    if !is_wanted(schema, named, area, rtype) {
-        return None;
-    }
-    match numbers(held, rtype) {
+    match wanted_extent(schema, held, named, area, rtype) {
         Some(extent) => numbered::key_at(extent, rtype, place),
         None => None,
     }

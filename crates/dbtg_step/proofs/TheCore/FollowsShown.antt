@@ -2,7 +2,6 @@
 use Rattle.std.proofs.Common.{ℕ, zero, suc, ◌≡◌, ◌<◌, ◌-◌, Bool, true, false, eqb, ◌&&◌, ◌||◌, List, [], ◌∷◌, ◌++◌, Option, Some, None, drop, take, map, length, reverse, slice_get, slice_set, refl, sym, ap, ◌∙◌, subst, arith}
 use Rattle.std.specs.Prelude.{nat_lt}
 use Rattle.std.specs.List.{list_any}
-use Rattle.std.specs.Option.{option_or}
 use Rattle.std.proofs.lemmas.Bool.Decides.{nat_tests}
 use Rattle.std.proofs.lemmas.Option.{slice_get_within}
 use Rattle.std.proofs.lemmas.List.{length-set}
@@ -72,13 +71,6 @@ module _ (schema : Lists) (capacity : ℕ) (exclusive : Bool) (a : ℕ) where
   others_hold (suc i) runners l = let back : i ≡ suc i - 1 = omega arith in others_but i runners ∙ ap (λ k. list_any (holds_against exclusive a) (take k runners) || list_any (holds_against exclusive a) (drop (suc i) runners)) back
 
 -- GUESSES
-
-pub merged_more : (i : ℕ) (gs os : List (Option Owner)) (g o : Option Owner) → length gs ≡ length os → slice_get gs i ≡ Some g → slice_get (with_owners (take i gs) (take i os) ++ drop i os) i ≡ Some o →
-    slice_set (with_owners (take i gs) (take i os) ++ drop i os) i (option_or o g) ≡ with_owners (take (suc i) gs) (take (suc i) os) ++ drop (suc i) os
-merged_more i [] os g o l e f = absurd (cc (e))
-merged_more i (h ∷ gs) [] g o l e f = absurd (omega arith)
-merged_more zero (h ∷ gs) (p ∷ os) g o l e f = let same : h ≡ g = cc (e) in let also : p ≡ o = cc (f) in λ i. option_or (sym also i) (sym same i) ∷ os
-merged_more (suc i) (h ∷ gs) (p ∷ os) g o l e f = ap (λ xs. option_or p h ∷ xs) (merged_more i gs os g o (omega arith) e f)
 
 merged_length : (gs os : List (Option Owner)) → length gs ≡ length os → length (with_owners gs os) ≡ length gs
 merged_length [] [] l = refl

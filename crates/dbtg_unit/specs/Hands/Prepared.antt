@@ -16,6 +16,8 @@ use Rattle.dbtg_unit.specs.declared.edit.UnitEdit.{UnitEdit}
 use Rattle.dbtg_unit.specs.declared.edit.UnitEdit.TheVariants.{Same, See, Move, Leave, SetMode, Keep, Forget, ForgetAll, LoseCurrent}
 use Rattle.dbtg_unit.specs.declared.statement.Statement.{Statement}
 use Rattle.dbtg_unit.specs.declared.unit.Answer.{Answer}
+use Rattle.dbtg_unit.specs.declared.unit.Cause.{Cause}
+use Rattle.dbtg_unit.specs.declared.unit.Status.TheVariants.{Refused}
 use Rattle.dbtg_unit.specs.declared.unit.Unit.{Unit}
 use Rattle.dbtg_unit.specs.Database.State.Base.{Database}
 use Rattle.dbtg_unit.specs.Database.State.Cells.{cell}
@@ -33,6 +35,15 @@ pub record Plan : Type 0 where
   pub cells : List CellEdit
   pub versions : List (DbKey × ℕ)
   pub unit : UnitEdit
+
+-- refused for a cause: nothing is changed
+abbrev pub refusal : Cause → Plan
+refusal cause = record { answer = record { status = Refused cause; key = None; items = None }; cells = []; versions = []; unit = Same }
+
+-- refused for the first cause, if there is one, and else this plan
+abbrev pub unless_refusal : Option Cause → Plan → Plan
+unless_refusal (Some cause) plan = refusal cause
+unless_refusal None plan = plan
 
 -- each of these keys, where it is kept, at its new version
 abbrev pub renoted_at : List (DbKey × ℕ) → List (DbKey × ℕ) → List (DbKey × ℕ)

@@ -1,10 +1,10 @@
 use Rattle.std.proofs.Common.{◌≡◌, ◌-◌, map, filter}
 use Rattle.dbtg_schema.specs.Lookups.{first}
 use Rattle.dbtg_cells.specs.Keys.{has_type}
-use Rattle.dbtg_cells.specs.Chain.{follow}
+use Rattle.dbtg_cells.specs.Chain.{read}
 use Rattle.dbtg_cells.proofs.ring.first_along.Given as goal
 
 abbrev pub invariant-loop-turn : goal.invariant-loop-turn
 invariant-loop-turn l =
-    first (filter (has_type l.rtype) (map (λ e. e.0) (follow (l.limit - l.turn) l.nodes.slots l.at)))
-    ≡ first (filter (has_type l.rtype) (map (λ e. e.0) (follow l.limit l.nodes.slots l.fn.start)))
+    first (filter (has_type l.rtype) (map (λ e. e.0) (read l.direction (l.links.len - l.turn) l.links.nodes.slots l.at)))
+    ≡ first (filter (has_type l.rtype) (map (λ e. e.0) (read l.direction l.links.len l.links.nodes.slots l.fn.start)))

@@ -1,8 +1,8 @@
 use Rattle.std.proofs.Common.{◌≡◌, ◌-◌, ◌++◌, map}
-use Rattle.dbtg_cells.specs.Chain.{follow}
+use Rattle.dbtg_cells.specs.Chain.{read}
 use Rattle.dbtg_cells.proofs.ring.keys_along.Given as goal
 
 abbrev pub invariant-loop-turn : goal.invariant-loop-turn
 invariant-loop-turn l =
-    l.keys.items ++ map (λ e. e.0) (follow (l.limit - l.turn) l.nodes.slots l.at)
-    ≡ map (λ e. e.0) (follow l.limit l.nodes.slots l.fn.start)
+    l.keys.items ++ map (λ e. e.0) (read l.direction (l.links.len - l.turn) l.links.nodes.slots l.at)
+    ≡ map (λ e. e.0) (read l.direction l.links.len l.links.nodes.slots l.fn.start)

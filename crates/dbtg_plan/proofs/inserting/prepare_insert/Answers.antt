@@ -6,7 +6,8 @@ use Rattle.dbtg_unit.specs.Database.Statements.Checks.{insert_checks}
 use Rattle.dbtg_unit.specs.declared.statement.Statement.TheVariants.{Insert}
 use Rattle.dbtg_unit.specs.declared.unit.Cause.{Cause}
 use Rattle.dbtg_unit.specs.Hands.Making.{CanFinish}
-use Rattle.dbtg_plan.specs.Plans.{on_current_plan, refusal, unless_refusal}
+use Rattle.dbtg_unit.specs.Hands.Prepared.{refusal, unless_refusal}
+use Rattle.dbtg_plan.specs.Plans.{on_current_plan}
 use Rattle.dbtg_plan.specs.Inserting.{insert_plan, inserting}
 use Rattle.dbtg_plan.proofs.Connect.InsertIsEffect.{insert_can_finish, refused_insert_can_finish}
 use Rattle.dbtg_plan.proofs.inserting.prepare_insert.Goals as goal

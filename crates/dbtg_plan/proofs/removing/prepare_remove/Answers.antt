@@ -7,7 +7,8 @@ use Rattle.dbtg_unit.specs.Database.Statements.Checks.{remove_checks}
 use Rattle.dbtg_unit.specs.declared.statement.Statement.TheVariants.{Remove}
 use Rattle.dbtg_unit.specs.declared.unit.Cause.{Cause}
 use Rattle.dbtg_unit.specs.Hands.Making.{CanFinish}
-use Rattle.dbtg_plan.specs.Plans.{on_current_plan, refusal, unless_refusal}
+use Rattle.dbtg_unit.specs.Hands.Prepared.{refusal, unless_refusal}
+use Rattle.dbtg_plan.specs.Plans.{on_current_plan}
 use Rattle.dbtg_plan.specs.Removing.{remove_plan, removing}
 use Rattle.dbtg_plan.proofs.Connect.RemoveIsEffect.{refused_remove_can_finish, remove_can_finish}
 use Rattle.dbtg_plan.proofs.removing.prepare_remove.Goals as goal

@@ -108,25 +108,19 @@ module _ (schema : Lists) (capacity : ℕ) (db : Database) where
 
 -- RAISED VERSIONS
 
-abbrev read : Option Record → List Value
-read r = unwrap_or (option_map (λ (q : Record). q.items) r) []
-
 module _ (test : DbKey → Bool) (db : Database) where
+  -- what is read of a record, and read so of its next version, is the same where versions are raised
+  read_raised : {X : Type 0} (read : Option Record → X) → ((r : Record) → read (Some (next_version r)) ≡ read (Some r)) → (k : DbKey) → read ((raised test db).records k) ≡ read (db.records k)
+  read_raised read kept k = elim (test k) as (λ b. read (cond b (option_map next_version (db.records k)) (db.records k)) ≡ read (db.records k)) [
+    | true ↦ elim (db.records k) as (λ r. read (option_map next_version r) ≡ read r) [ None ↦ refl | Some r ↦ kept r ]
+    | false ↦ refl
+  ]
+
   pub live_raised : is_live (raised test db) ≡ is_live db
-  live_raised = λ i k. at k i where
-    at : (k : DbKey) → is_live (raised test db) k ≡ is_live db k
-    at k = elim (test k) as (λ b. is_some (cond b (option_map next_version (db.records k)) (db.records k)) ≡ is_some (db.records k)) [
-      | true ↦ elim (db.records k) as (λ r. is_some (option_map next_version r) ≡ is_some r) [ None ↦ refl | Some r ↦ refl ]
-      | false ↦ refl
-    ]
+  live_raised = λ i k. read_raised is_some (λ r. refl) k i
 
   pub items_raised : items_of (raised test db) ≡ items_of db
-  items_raised = λ i k. at k i where
-    at : (k : DbKey) → items_of (raised test db) k ≡ items_of db k
-    at k = elim (test k) as (λ b. read (cond b (option_map next_version (db.records k)) (db.records k)) ≡ read (db.records k)) [
-      | true ↦ elim (db.records k) as (λ r. read (option_map next_version r) ≡ read r) [ None ↦ refl | Some r ↦ refl ]
-      | false ↦ refl
-    ]
+  items_raised = λ i k. read_raised (λ o. unwrap_or (option_map (λ (r : Record). r.items) o) []) (λ r. refl) k i
 
 -- a legal database stays so where versions are raised: it is read without them
 pub legal_raised : (schema : Lists) (capacity : ℕ) (test : DbKey → Bool) (db : Database) → Sound schema capacity (is_live db) (items_of db) db.lists db.last → Uses schema db.usage → Legal schema capacity (raised test db)
