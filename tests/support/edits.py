@@ -10,7 +10,7 @@ import re
 import shutil
 
 from functions import declared_in, functions_of, module_of, places_of
-from kit import text_of
+from kit import crates_of, text_of
 from stand_ins import BODY
 
 
@@ -53,7 +53,7 @@ class Edit:
     def can_have_twin(self):
         """Whether it changes one function alone, which stands outside traits and is not called by the new body."""
         return len(self.bodies) == 1 and all(
-            not function.trait and function.name != "main" and not re.search(rf"\b{function.name}\b", body) for (_, function), body in self.bodies.items()
+            not function.trait and function.name != "main" and not calls(body, function.name) for (_, function), body in self.bodies.items()
         )
 
     def is_called_by(self, other):
@@ -77,6 +77,12 @@ class Edit:
             places = (places_of(it, module_of(file), sources.declared()) for it in (function, self.twin))
             for was, new in zip(*places):
                 copy_proof(f"{copy}/proofs", crate, was, new)
+
+
+def calls(body, name):
+    """Whether a body calls a function of this name that may be of the same crate: none that a path names as another crate's."""
+    paths = re.findall(rf"((?:\b\w+::)*)\b{name}(?:\(|::<)", body)
+    return any(it.split("::")[0] not in crates_of() for it in paths)
 
 
 class Sources:

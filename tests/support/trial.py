@@ -21,9 +21,10 @@ from verdicts import Said, Verdict, names_of
 
 
 class Lanes:
-    """As many processes of checks at a time as there are lanes, each as nice as is said; counts the processor seconds that they
-    took. A lane that is free goes to the crate with the most libraries below it, since its trial begins last and is among the longest.
-    A check waits for memory while others run, and is what the system kills first where memory ends: then it runs again."""
+    """As many processes of checks at a time as there are lanes; counts the processor seconds that they took. A lane that is free goes
+    to the crate with the most libraries below it, since its trial begins last and is among the longest; for the same reason a check is
+    as nice as is said, less the number of those libraries. A check waits for memory while others run, and is what the system kills
+    first where memory ends: then it runs again."""
 
     ROOM = 5_000_000_000
     RUNS = 3
@@ -45,7 +46,7 @@ class Lanes:
     @contextlib.contextmanager
     def lane(self, crate):
         """Has a lane, once one is free and no crate with more libraries below it waits for one."""
-        below = len(kit.below(kit.crates_of(), crate))
+        below = libraries_below(crate)
         with self.turn:
             self.waiting.append(below)
             self.turn.wait_for(lambda: self.free and below == max(self.waiting))
@@ -65,8 +66,9 @@ class Lanes:
 
     def ran(self, crate, words, folder):
         """Runs a command once, and gives how it ended and what it printed."""
+        nice = max(0, self.nice - libraries_below(crate))
         with tempfile.TemporaryFile("w+", errors="replace") as out:
-            process = subprocess.Popen(words, cwd=folder, stdin=subprocess.DEVNULL, stdout=out, stderr=subprocess.STDOUT, preexec_fn=self.step_back)
+            process = subprocess.Popen(words, cwd=folder, stdin=subprocess.DEVNULL, stdout=out, stderr=subprocess.STDOUT, preexec_fn=lambda: step_back(nice))
             self.note(1)
             _, status, used = os.wait4(process.pid, 0)
             self.note(-1)
@@ -79,12 +81,6 @@ class Lanes:
     def note(self, change):
         with self.lock:
             self.running += change
-
-    def step_back(self):
-        """Leaves processors and memory to what is not a check of edits."""
-        os.nice(self.nice)
-        with open("/proc/self/oom_score_adj", "w", encoding="ascii") as it:
-            it.write("900")
 
 
 class Trial:
@@ -226,6 +222,17 @@ class Trial:
             self.passed, self.failed = self.passed + is_well, self.failed + (not is_well)
             self.names.append(name)
             print(f"{'ok' if is_well else 'FAILED'} {self.crate}/{name}: {words}", flush=True)
+
+
+def step_back(nice):
+    """Leaves processors and memory to what is not a check of edits."""
+    os.nice(nice)
+    with open("/proc/self/oom_score_adj", "w", encoding="ascii") as it:
+        it.write("900")
+
+
+def libraries_below(crate):
+    return len(kit.below(kit.crates_of(), crate))
 
 
 def wanted(edit):
