@@ -1,7 +1,8 @@
 -- The areas of a DELETE, marked by their numbers, and the steps by which they are found.
-use Rattle.std.specs.Prelude.{ℕ, ◌≡◌, ◌<◌, Bool, false, ◌&&◌, ◌||◌, ◌==◌, List, Some, is_some, length, slice_get, slice_index_or}
+use Rattle.std.specs.Prelude.{ℕ, ◌≡◌, ◌<◌, Bool, false, ◌&&◌, ◌||◌, ◌==◌, List, is_some, length, slice_index_or}
 use Rattle.std.specs.List.{list_any, range_with_len}
 use Rattle.dbtg_schema.specs.Lists.{Lists}
+use Rattle.dbtg_schema.specs.Lookups.{EachAt}
 use Rattle.dbtg_schema.specs.Structure.{owns, member_clause, set_numbers, home, area_of, erase_areas}
 
 -- some set leads from owner type o to member type m
@@ -33,5 +34,5 @@ abbrev pub AreErased : Lists → ℕ → List Bool → Type 0
 AreErased schema t marks = (a : ℕ) → a < 8 → marked marks a ≡ list_any (λ b. b == a) (erase_areas schema t)
 
 -- of each of these record types, from 0 on, so many as there are, they are marked
-unfoldable pub AreErasedOfEach : List (List Bool) → Lists → Type 0
-AreErasedOfEach each schema = (t : ℕ) (marks : List Bool) → slice_get each t ≡ Some marks → AreErased schema t marks
+abbrev pub AreErasedOfEach : List (List Bool) → Lists → Type 0
+AreErasedOfEach each schema = EachAt (AreErased schema) each

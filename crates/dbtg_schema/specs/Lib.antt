@@ -5,6 +5,7 @@ pub mod Structure
 pub mod NameIndexes
 pub mod WellFormed
 pub mod Erasing
+pub mod Connecting
 pub mod Sound
 pub mod Named
 pub mod Laws

@@ -36,7 +36,8 @@ impl AreaSet {
     }
 }
 
-fn is_marked(marks: &[bool], number: u8) -> bool
+/// Is this number marked? None behind the last mark is.
+pub fn is_marked(marks: &[bool], number: u8) -> bool
     ensures { result ≡ marked marks.now number }
 {
     match marks.get(number as usize) {

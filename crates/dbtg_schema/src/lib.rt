@@ -4,6 +4,7 @@
 mod automaton;
 mod build;
 mod checks;
+mod connecting;
 mod copies;
 mod entries;
 mod erasing;

@@ -1,6 +1,7 @@
 //! A schema, and what it says of its record types, sets and areas by their numbers. Look-ups take no memory.
 
 ghost use Rattle.std.specs.Prelude.{◌≡◌, ◌==◌, ◌≤◌, length, None, IfOk, IfSome, map, IfErr, OnOk, option_map, slice_get};
+ghost use Rattle.dbtg_schema.specs.Connecting.{AreConnecting};
 ghost use Rattle.dbtg_schema.specs.Erasing.{AreErased};
 ghost use Rattle.dbtg_schema.specs.Lookups.{some_and};
 ghost use Rattle.dbtg_schema.specs.Texts.Words.{text_words};
@@ -17,6 +18,7 @@ ghost use Rattle.std.specs.List.{find};
 ghost use Rattle.dbtg_schema.specs.Structure.{place_of, owner_type, is_system, owns, member_clause, is_automatic, is_mandatory, area_of, calc_of, home, order_of, item_list, picture_of};
 
 use crate::build::{areas, sets, text_of, types};
+use crate::connecting::{SetMarks, connects_by_clause, sets_connecting_each};
 use crate::copies::copy_all;
 use crate::entries::front;
 use crate::erasing::{AreaSet, areas_of_each};
@@ -39,6 +41,8 @@ pub struct Schema {
     types: Row<RecordType>,
     sets: Row<SetType>,
     index: SchemaIndex,
+    /// Of each record type the sets in which STORE connects its records; of none while they are worked out.
+    connecting: Row<SetMarks>,
     /// Of each record type the areas that a DELETE may reach; of none while they are worked out.
     erased: Row<AreaSet>,
 }
@@ -48,13 +52,23 @@ impl Model for Schema {
 
     ghost Value = { Lists };
 
+    ghost use Rattle.dbtg_schema.specs.Connecting.{AreConnectingOfEach};
     ghost use Rattle.dbtg_schema.specs.Erasing.{AreErasedOfEach};
     ghost use Rattle.dbtg_schema.specs.NameIndexes.{IsSchemaIndex};
     ghost use Rattle.dbtg_schema.specs.WellFormed.{IsSchema};
 
     ghost view = { λ a. record { name = a.name; areas = a.areas; types = a.types; sets = a.sets } };
 
-    ghost invariant = { λ a. IsSchema (record { name = a.name; areas = a.areas; types = a.types; sets = a.sets }) × IsSchemaIndex a.index a.areas a.types a.sets × AreErasedOfEach a.erased (record { name = a.name; areas = a.areas; types = a.types; sets = a.sets }) };
+    ghost invariant = { λ a. IsSchema (record { name = a.name; areas = a.areas; types = a.types; sets = a.sets }) × IsSchemaIndex a.index a.areas a.types a.sets × AreErasedOfEach a.erased (record { name = a.name; areas = a.areas; types = a.types; sets = a.sets }) × AreConnectingOfEach a.connecting (record { name = a.name; areas = a.areas; types = a.types; sets = a.sets }) };
+}
+
+/// Works out the sets in which STORE connects.
+fn work_out_connecting(alloc: Global, schema: &mut Schema) -> Result<(), AllocError>
+    ensures { schema.new ≡ schema.old }
+{
+    let connecting = sets_connecting_each(alloc, schema)?;
+    schema.connecting = connecting;
+    Ok(())
 }
 
 /// Works out the areas of the schema's deletions.
@@ -66,15 +80,17 @@ fn work_out_erased(alloc: Global, schema: &mut Schema) -> Result<(), AllocError>
     Ok(())
 }
 
-/// The schema, with the areas of its deletions worked out.
-fn with_erased(alloc: Global, schema: Schema) -> Result<Schema, AllocError>
+/// The schema, with the sets in which STORE connects and the areas of its deletions worked out.
+fn worked_out(alloc: Global, schema: Schema) -> Result<Schema, AllocError>
     ensures { IfOk result (λ s. s ≡ schema) }
 {
     let mut schema = schema;
-    work_out_erased(alloc, &mut schema).and(Ok(schema))
+    work_out_connecting(alloc, &mut schema)?;
+    work_out_erased(alloc, &mut schema)?;
+    Ok(schema)
 }
 
-/// The schema of these lists, with the indexes of its names, and the areas of its deletions.
+/// The schema of these lists, with the indexes of its names and what is worked out of it.
 fn of_lists(
     alloc: Global,
     name: Row<u8>,
@@ -92,9 +108,10 @@ fn of_lists(
         types,
         sets,
         index,
+        connecting: Row::of(Vec::new(alloc)),
         erased: Row::of(Vec::new(alloc)),
     };
-    with_erased(alloc, schema)
+    worked_out(alloc, schema)
 }
 
 /// The schema whose words these are.
@@ -177,6 +194,16 @@ impl Schema {
         ensures few { length result.now ≤ 16 }
     {
         self.sets.as_slice()
+    }
+
+    /// The sets in which STORE connects a record of this type, where they are worked out.
+    fn connecting_known(&self, rtype: RecordNo) -> Option<SetMarks>
+        ensures { IfSome result (λ sets. AreConnecting self.now rtype sets) }
+    {
+        match self.connecting.get(rtype.index() as usize) {
+            Some(sets) => Some(*sets),
+            None => None,
+        }
     }
 
     /// The areas that a DELETE of a record of this type may reach, where they are worked out.
@@ -269,9 +296,9 @@ impl Schema {
     pub fn connects(&self, set: SetNo, rtype: RecordNo) -> bool
         ensures { result ≡ some_and (λ m. is_automatic m.class) (member_clause self.now set rtype) }
     {
-        match self.member_clause(set, rtype) {
-            Some(member) => member.class.is_automatic(),
-            None => false,
+        match self.connecting_known(rtype) {
+            Some(sets) => sets.contains(set),
+            None => connects_by_clause(self, set, rtype),
         }
     }
 

@@ -97,31 +97,6 @@ pub all_rounds : (schema : Lists) (t k : ℕ) (marks : List Bool) → filter (ma
 all_rounds schema t k marks same e =
     subst (λ (n : ℕ). filter (marked marks) (types_of schema) ≡ reached_in (leads schema) (λ u. u == t) (types_of schema) n) (e ∙ sym (length-range_with_len 0 (length schema.types))) same
 
--- an entry of a list with one more at its end
-either_of : {X : Type 0} (xs : List X) (x : X) (k : ℕ) (y : X) → slice_get (xs ++ x ∷ []) k ≡ Some y → (slice_get xs k ≡ Some y) ⊎ ((k ≡ length xs) × (x ≡ y))
-either_of [] x zero y is = inr (refl, same_Some x y is)
-either_of [] x (suc k) y is = absurd cc
-either_of (z ∷ xs) x zero y is = inl is
-either_of (z ∷ xs) x (suc k) y is = elim (either_of xs x k y is) [ inl h ↦ inl h | inr w ↦ inr (ap suc w.0, w.1) ]
-
-pub none_of_each : (schema : Lists) → AreErasedOfEach [] schema
-unfolding AreErasedOfEach
-none_of_each schema t marks is = absurd cc
-
--- one record type more
-pub one_of_each : (schema : Lists) (each : List (List Bool)) (marks : List Bool) (t : ℕ) → length each ≡ t → AreErasedOfEach each schema → AreErased schema t marks → AreErasedOfEach (each ++ marks ∷ []) schema
-unfolding AreErasedOfEach
-one_of_each schema each marks t many right more u it is =
-    elim (either_of each marks u it is) [
-      | inl h ↦ right u it h
-      | inr w ↦ subst (λ (m : List Bool). AreErased schema u m) w.1 (subst (λ (n : ℕ). AreErased schema n marks) (sym (w.0 ∙ many)) more)
-    ]
-
--- the areas of one of them
-pub of_one : (schema : Lists) (each : List (List Bool)) (t : ℕ) (marks : List Bool) → AreErasedOfEach each schema → slice_get each t ≡ Some marks → AreErased schema t marks
-unfolding AreErasedOfEach
-of_one schema each t marks right is = right t marks is
-
 module _ (schema : Lists) (limits : IsSchema schema) where
   abbrev is_area : ℕ → Bool
   is_area a = nat_lt a (length schema.areas)

@@ -1,6 +1,6 @@
 use Rattle.std.proofs.Common.{Bool, List, [], ◌∷◌, ◌∙◌, ap, sym, subst, length, length-append, arith}
 use Rattle.dbtg_schema.specs.Erasing.{AreErased, AreErasedOfEach}
-use Rattle.dbtg_schema.proofs.Known.Erasings.{none_of_each, one_of_each}
+use Rattle.dbtg_schema.proofs.Known.EachAt.{none_at, one_more_at}
 use Rattle.dbtg_schema.proofs.erasing.areas_of_each.Goals as goal
 
 pub loop-t-init : goal.loop-t-init
@@ -8,7 +8,7 @@ loop-t-init c =
     let none = c.of-each.ensures ∙ c.new.ensures.items in
     record {
       many = ap length none;
-      right = subst (λ (each : List (List Bool)). AreErasedOfEach each c.args.schema.now) (sym none) (none_of_each c.args.schema.now);
+      right = subst (λ (each : List (List Bool)). AreErasedOfEach each c.args.schema.now) (sym none) (none_at (AreErased c.args.schema.now));
     }
 
 pub loop-t-preserved : goal.loop-t-preserved
@@ -23,7 +23,7 @@ loop-t-preserved c =
     let same = ap length pushed in
     record {
       many = omega (arith, same, longer, many);
-      right = subst (λ (each : List (List Bool)). AreErasedOfEach each schema) (sym pushed) (one_of_each schema c.loop-t.each marks c.loop-t.t many so_far.right more);
+      right = subst (λ (each : List (List Bool)). AreErasedOfEach each schema) (sym pushed) (one_more_at (AreErased schema) c.loop-t.each marks c.loop-t.t many so_far.right more);
     }
 
 pub returns : goal.returns

@@ -1,11 +1,12 @@
 use Rattle.std.proofs.Common.{Bool, List, ◌∙◌, subst, sym}
-use Rattle.dbtg_schema.specs.Erasing.{AreErasedOfEach}
+use Rattle.dbtg_schema.specs.Connecting.{AreConnecting, AreConnectingOfEach}
+use Rattle.dbtg_schema.specs.Erasing.{AreErased, AreErasedOfEach}
 use Rattle.dbtg_schema.specs.Lists.{Lists}
 use Rattle.dbtg_schema.specs.NameIndexes.{IsSchemaIndex}
 use Rattle.dbtg_schema.specs.declared.shape.Area.{Area}
 use Rattle.dbtg_schema.specs.declared.shape.RecordType.{RecordType}
 use Rattle.dbtg_schema.specs.declared.shape.SetType.{SetType}
-use Rattle.dbtg_schema.proofs.Known.Erasings.{none_of_each}
+use Rattle.dbtg_schema.proofs.Known.EachAt.{none_at}
 use Rattle.dbtg_schema.proofs.schema.of_lists.Goals as goal
 
 pub invariant_of-schema : goal.invariant_of-schema
@@ -16,5 +17,6 @@ invariant_of-schema c =
       subst (λ (sets : List SetType). IsSchemaIndex index c.args.areas c.args.types sets) c.as_slice-3.ensures
           (subst (λ (types : List RecordType). IsSchemaIndex index c.args.areas types c.as_slice-3.result.now) c.as_slice-2.ensures
           (subst (λ (areas : List Area). IsSchemaIndex index areas c.as_slice-2.result.now c.as_slice-3.result.now) c.as_slice.ensures c.in_ok-index.ensures)),
-      subst (λ (each : List (List Bool)). AreErasedOfEach each lists) (sym (c.of-2.ensures ∙ c.new.ensures.items)) (none_of_each lists),
+      subst (λ (each : List (List Bool)). AreErasedOfEach each lists) (sym (c.of-3.ensures ∙ c.new-2.ensures.items)) (none_at (AreErased lists)),
+      subst (λ (each : List (List Bool)). AreConnectingOfEach each lists) (sym (c.of-2.ensures ∙ c.new.ensures.items)) (none_at (AreConnecting lists)),
     )

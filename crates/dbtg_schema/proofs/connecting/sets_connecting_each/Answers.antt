@@ -1,0 +1,30 @@
+use Rattle.std.proofs.Common.{Bool, List, [], ◌∷◌, ◌∙◌, ap, sym, subst, length, length-append, arith}
+use Rattle.dbtg_schema.specs.Connecting.{AreConnecting, AreConnectingOfEach}
+use Rattle.dbtg_schema.proofs.Known.EachAt.{none_at, one_more_at}
+use Rattle.dbtg_schema.proofs.connecting.sets_connecting_each.Goals as goal
+
+pub loop-t-init : goal.loop-t-init
+loop-t-init c =
+    let none = c.of-each.ensures ∙ c.new.ensures.items in
+    record {
+      many = ap length none;
+      right = subst (λ (each : List (List Bool)). AreConnectingOfEach each c.args.schema.now) (sym none) (none_at (AreConnecting c.args.schema.now));
+    }
+
+pub loop-t-preserved : goal.loop-t-preserved
+loop-t-preserved c =
+    let schema = c.args.schema.now in
+    let so_far = c.loop-t.invariant in
+    let marks = c.sets_connecting.result in
+    let pushed = c.in_ok-push.ensures.ok in
+    let more = subst (λ t. AreConnecting schema t marks) c.new-in-loop-t.ensures c.sets_connecting.ensures in
+    let longer = length-append c.loop-t.each (marks ∷ []) in
+    let many = so_far.many in
+    let same = ap length pushed in
+    record {
+      many = omega (arith, same, longer, many);
+      right = subst (λ (each : List (List Bool)). AreConnectingOfEach each schema) (sym pushed) (one_more_at (AreConnecting schema) c.loop-t.each marks c.loop-t.t many so_far.right more);
+    }
+
+pub returns : goal.returns
+returns c = c.loop-t.invariant.right
