@@ -13,7 +13,9 @@ ghost use Rattle.dbtg_erase.specs.WorkList.{members_in_hand};
 use crate::keys::Keys;
 use dbtg_cells::{CellName, DbKey, Owner};
 use dbtg_schema::{Row, Schema, SetNo};
-use dbtg_unit::{CellEdit, Edit, Held, owner_of, push_taking_out, set_count};
+use dbtg_unit::{
+    CellEdit, Edit, Held, entry_at, owner_of, owners_of, push_taking_out, set_count,
+};
 use std::alloc::{AllocError, Global};
 
 // Adds an edit of the slot of a key.
@@ -85,9 +87,10 @@ fn leave_lists(
 ) -> Result<(), AllocError>
     ensures { OnOk result (edits.new ≡ edits.old ++ leaving_edits schema.now (owner_in held.now) gone.now key.now) }
 {
+    let owners = owners_of(held, key);
     for s in 0..set_count(schema) {
-        let set = SetNo::new(s);
-        push_taking_out(edits, set, staying(gone, owner_of(held, set, key)), key)?;
+        let owner = staying(gone, entry_at(owners, s as usize));
+        push_taking_out(edits, SetNo::new(s), owner, key)?;
     }
     Ok(())
 }

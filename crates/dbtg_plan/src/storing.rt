@@ -310,14 +310,12 @@ fn first_owners(schema: &Schema, unit: &Unit, rtype: RecordNo) -> Owners
 
 fn filling(
     alloc: Global,
-    schema: &Schema,
-    unit: &Unit,
     key: &DbKey,
     items: &Row<Value>,
+    owners: &Owners,
 ) -> Result<CellEdit, AllocError>
-    ensures { IfOk result (λ edit. edit ≡ slot_edit key.now (Edit.Fill key.now.generation items.now (first_owners schema.now unit.now key.now.rtype))) }
+    ensures { IfOk result (λ edit. edit ≡ slot_edit key.now (Edit.Fill key.now.generation items.now owners.now)) }
 {
-    let owners = first_owners(schema, unit, key.rtype);
     let owners = Row::of(Vec::from_slice(alloc, owners.as_slice())?);
     let items = copy_items(items, alloc)?;
     Ok(slot_edit(
@@ -336,7 +334,9 @@ fn edits_of(
     unit: &Unit,
     key: &DbKey,
     items: &Row<Value>,
+    owners: &Owners,
 ) -> Result<Row<CellEdit>, AllocError>
+    requires { owners.now ≡ first_owners schema.now unit.now key.now.rtype }
     ensures { IfOk result (λ edits. edits ≡ store_edits schema.now unit.now key.now items.now) }
 {
     let calc = copy_calc(alloc, schema, key.rtype, items.as_slice())?;
@@ -350,7 +350,7 @@ fn edits_of(
     })?;
     push_joins(alloc, schema, unit, key, items.as_slice(), &mut edits)?;
     push_openings(schema, key, &mut edits)?;
-    edits.push(filling(alloc, schema, unit, key, items)?)?;
+    edits.push(filling(alloc, key, items, owners)?)?;
     Ok(Row::of(edits))
 }
 
@@ -364,7 +364,8 @@ fn stored(
 ) -> Result<Prepared, AllocError>
     ensures { IfOk result (λ plan. plan ≡ stored_plan schema.now unit.now items.now suppress key.now) }
 {
-    let edits = edits_of(alloc, schema, unit, key, items)?;
+    let owners = first_owners(schema, unit, key.rtype);
+    let edits = edits_of(alloc, schema, unit, key, items, &owners)?;
     let answer = Answer {
         status: Status::Done,
         key: Some(*key),
@@ -372,7 +373,7 @@ fn stored(
     };
     let change = UnitEdit::See {
         key: *key,
-        owners: first_owners(schema, unit, key.rtype),
+        owners,
         suppress,
     };
     Ok(Prepared::new(answer, edits, Row::of(Vec::new(alloc)), change))

@@ -170,7 +170,9 @@ pub fn hold_opening_cells(
     requires { held.old.cells ≡ [] }
     ensures { OnOk result (HasTaken schema.now capacity (cells_in_order schema.now capacity) held.old held.new) }
 {
-    for name in cell_names(alloc, schema, capacity)? {
+    let names = cell_names(alloc, schema, capacity)?;
+    held.reserve_cells(names.len())?;
+    for name in names {
         let cell = opening_cell(alloc, schema, capacity, &name)?;
         held.push_cell(name, cell)?;
     }

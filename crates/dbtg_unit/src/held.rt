@@ -163,6 +163,15 @@ impl Held {
         Ok(())
     }
 
+    /// Makes room for so many more cells, so that taking them moves none of those in hand. Nothing else changes.
+    pub fn reserve_cells(&mut self, more: usize) -> Result<(), AllocError>
+        ensures { self.new ≡ self.old }
+    {
+        self.names.reserve(more)?;
+        self.cells.reserve(more)?;
+        self.index.reserve(more)
+    }
+
     /// Gives the cell back that was taken last, under its name.
     pub fn pop_cell(&mut self) -> Option<(CellName, Cell)>
         ensures cells { self.old.cells ≡ self.new.cells ++ option_to_list result }

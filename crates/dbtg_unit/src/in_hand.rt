@@ -1,6 +1,6 @@
 //! What is read off the cells in hand. Nothing here takes memory.
-ghost use Rattle.std.specs.Prelude.{◌≡◌, [], is_some, option_and_then, option_copied, option_map, unwrap_or};
-ghost use Rattle.dbtg_schema.specs.Lookups.{first_cause};
+ghost use Rattle.std.specs.Prelude.{◌≡◌, ℕ, [], is_some, option_and_then, option_copied, option_map, unwrap_or};
+ghost use Rattle.dbtg_schema.specs.Lookups.{at, first_cause};
 ghost use Rattle.dbtg_unit.specs.Database.Statements.Checks.{own_checks};
 ghost use Rattle.dbtg_unit.specs.Database.State.CellNames.{place_of};
 ghost use Rattle.dbtg_unit.specs.Hands.InHand.{extent_in, in_hand, numbers_in, occurrence_in, owner_in, stored_in, usage_in, users_in};
@@ -49,6 +49,16 @@ pub fn owner_of(held: &Held, set: SetNo, key: &DbKey) -> Option<Owner>
             None => None,
         },
         None => None,
+    }
+}
+
+/// The owners of a record, by set, by its slot in hand; there are none where the slot is not in hand or has another record.
+pub fn owners_of<'a>(held: &'a Held, key: &DbKey) -> &'a [Option<Owner>]
+    ensures { (s : ℕ) → at result.now s ≡ owner_in held.now s key.now }
+{
+    match stored(held, key) {
+        Some(stored) => stored.owners.as_slice(),
+        None => &[],
     }
 }
 

@@ -1,6 +1,7 @@
 //! Where a name stands among those of the cells in hand. The first eight live in place and are searched one by one; an
-//! index leads from each later name to its place, so that a statement that holds thousands of cells finds each at once.
-ghost use Rattle.std.specs.Prelude.{◌≡◌, OnErr, OnOk};
+//! index leads from each later name to its place, so that a statement that holds thousands of cells finds each at once. It is
+//! asked first: where there are thousands, few names live in place.
+ghost use Rattle.std.specs.Prelude.{◌≡◌, None, OnErr, OnOk};
 ghost use Rattle.std.specs.List.{position_from};
 ghost use Rattle.indexmap.specs.IndexMap.{get};
 ghost use Rattle.dbtg_cells.specs.Names.{name_eq};
@@ -66,28 +67,26 @@ pub(crate) fn find_place(
     if names.len() <= 8 {
         return find_name(names, name);
     }
-    match find_name(&names[..8], name) {
+    match find_key(index, &key_of(name)) {
         Some(at) => Some(at),
-        None => find_key(index, &key_of(name)),
+        None => find_name(&names[..8], name),
     }
 }
 
-/// Leads from the name that comes to this place, past those that live in place, where the index leads nowhere yet.
+/// Leads from the name that comes to this place, past those that live in place. The index leads nowhere from it yet.
 pub(crate) fn enter(
     index: &mut IndexMap<NameKey, usize>,
     name: &CellName,
     place: usize,
 ) -> Result<(), AllocError>
+    requires { get key_eq index.old (name_key name.now) ≡ None }
     ensures ok { OnOk result ((q : NameKey) → get key_eq index.new q ≡ entered (get key_eq index.old) (name_key name.now) place q) }
     ensures err { OnErr result ((q : NameKey) → get key_eq index.new q ≡ get key_eq index.old q) }
 {
     if place < 8 {
         return Ok(());
     }
-    let key = key_of(name);
-    if find_key(index, &key).is_none() {
-        index.insert(key, place)?;
-    }
+    index.insert(key_of(name), place)?;
     Ok(())
 }
 

@@ -1,8 +1,9 @@
 //! What a run-unit sees by a FIND or STORE of a record. It takes no memory, and is told the record's owners.
-ghost use Rattle.std.specs.Prelude.{◌≡◌, slice_set, if◌then◌else◌, Some};
+ghost use Rattle.std.specs.Prelude.{◌≡◌, ◌<◌, length, slice_set, if◌then◌else◌, Some};
+ghost use Rattle.dbtg_schema.specs.Lookups.{at};
 ghost use Rattle.dbtg_schema.specs.Structure.{area_of, owns};
 ghost use Rattle.dbtg_unit.specs.Database.State.Seen.{seen_in_set, seen_in_sets};
-ghost use Rattle.dbtg_unit.specs.Database.State.Units.{seen_place, seen_with, suppresses};
+ghost use Rattle.dbtg_unit.specs.Database.State.Units.{seen_with, suppresses};
 
 use crate::entries::{entry_at, set_entry};
 use crate::statement::Suppress;
@@ -35,46 +36,35 @@ fn owns_set(schema: &Schema, set: usize, rtype: RecordNo) -> bool
     }
 }
 
-fn place_seen(
-    was: Option<Place>,
-    is_owner: bool,
-    key: &DbKey,
-    owner: Option<Owner>,
-) -> Option<Place>
-    ensures { result ≡ seen_place was is_owner key.now owner }
-{
-    if is_owner {
-        return Some(Place {
-            owner: Owner::Rec(*key),
-            at: None,
-        });
-    }
-    match owner {
-        Some(owner) => {
-            Some(Place {
-                owner,
-                at: Some(*key),
-            })
-        }
-        None => was,
-    }
-}
-
+// The current of a set, written only where the record changes it.
 fn see_set(
+    sets: &mut Row<Option<Place>>,
     schema: &Schema,
     key: &DbKey,
     owners: &[Option<Owner>],
     suppress: &Suppress,
     set: usize,
-    was: Option<Place>,
-) -> Option<Place>
-    ensures { result ≡ seen_in_set schema.now key.now owners.now suppress.now (set, was) }
+)
+    requires { set < length sets.old }
+    ensures { sets.new ≡ slice_set sets.old set (seen_in_set schema.now key.now owners.now suppress.now (set, at sets.old set)) }
 {
     if suppress.has_set(set) {
-        was
-    } else {
-        let is_owner = owns_set(schema, set, key.rtype);
-        place_seen(was, is_owner, key, entry_at(owners, set))
+        return;
+    }
+    if owns_set(schema, set, key.rtype) {
+        let place = Place {
+            owner: Owner::Rec(*key),
+            at: None,
+        };
+        sets.set(set, Some(place));
+        return;
+    }
+    if let Some(owner) = entry_at(owners, set) {
+        let place = Place {
+            owner,
+            at: Some(*key),
+        };
+        sets.set(set, Some(place));
     }
 }
 
@@ -88,9 +78,7 @@ fn see_sets(
     ensures { sets.new ≡ seen_in_sets schema.now key.now owners.now suppress.now sets.old }
 {
     for set in 0..sets.len() {
-        let was = sets.at(set);
-        let place = see_set(schema, key, owners, suppress, set, was);
-        sets.set(set, place);
+        see_set(sets, schema, key, owners, suppress, set);
     }
 }
 

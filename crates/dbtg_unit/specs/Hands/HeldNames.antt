@@ -1,5 +1,5 @@
 -- How the names of the cells in hand are found again.
-use Rattle.std.specs.Prelude.{◌≡◌, ℕ, Bool, false, ◌&&◌, ◌==◌, cond, nat_lt, List, Option, Some, None, drop}
+use Rattle.std.specs.Prelude.{◌≡◌, ℕ, Bool, false, ◌&&◌, ◌==◌, cond, nat_lt, List, Option, Some, None}
 use Rattle.std.specs.List.{position_from}
 use Rattle.std.specs.Option.{option_map_or, option_or}
 use Rattle.dbtg_cells.specs.declared.name.CellName.{CellName}
@@ -19,13 +19,14 @@ name_key (Ring s None) = record { kind = 2; of = s; owner = 0; number = 0 }
 name_key (Ring s (Some o)) = record { kind = 3; of = s; owner = o.0; number = o.1 }
 name_key (Slot t n) = record { kind = 4; of = t; owner = 0; number = n }
 
--- where a name first stands, past those that live in place
-abbrev pub later_place : CellName → List CellName → Option ℕ
-later_place c names = position_from (name_eq c) 8 (drop 8 names)
+-- a place, if it lies past those of the names that live in place
+abbrev pub past_in_place : Option ℕ → Option ℕ
+past_in_place None = None
+past_in_place (Some p) = cond (nat_lt p 8) None (Some p)
 
--- an index leads from each name to where it first stands, past those that live in place
+-- an index leads from each name to where it first stands, if that lies past the names that live in place
 abbrev pub IsIndexOf : (NameKey → Option ℕ) → List CellName → Type 0
-IsIndexOf index names = (c : CellName) → index (name_key c) ≡ later_place c names
+IsIndexOf index names = (c : CellName) → index (name_key c) ≡ past_in_place (position_from (name_eq c) 0 names)
 
 -- the index that has taken a name at a place, past those that live in place: it leads there, if it led nowhere
 abbrev pub entered : (NameKey → Option ℕ) → NameKey → ℕ → NameKey → Option ℕ

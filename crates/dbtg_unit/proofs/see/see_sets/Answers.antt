@@ -1,5 +1,7 @@
-use Rattle.std.proofs.Common.{◌≡◌, sym, ◌∙◌, ap, ◌+◌, length, slice_set, arith}
+use Rattle.std.proofs.Common.{◌≡◌, None, sym, ◌∙◌, ap, ◌+◌, ◌<◌, length, arith}
 use Rattle.std.proofs.lemmas.List.{length-set}
+use Rattle.std.proofs.lemmas.Option.{slice_get-get_or}
+use Rattle.dbtg_schema.specs.Lookups.{at}
 use Rattle.dbtg_unit.specs.Database.State.Seen.{seen_in_set}
 use Rattle.dbtg_unit.proofs.Lists.Numbered.{rewritten, rewritten_all, rewritten_next}
 use Rattle.dbtg_unit.proofs.see.see_sets.Goals as goal
@@ -7,11 +9,13 @@ use Rattle.dbtg_unit.proofs.see.see_sets.Goals as goal
 pub loop-set-preserved : goal.loop-set-preserved
 loop-set-preserved c =
     let f = seen_in_set c.args.schema.now c.args.key.now c.args.owners.now c.args.suppress.now in
-    let written = c.set.ensures ∙ ap (slice_set c.loop-set.sets c.loop-set.set) c.see_set-place.ensures in
+    let sets = c.loop-set.sets in
+    let set = c.loop-set.set in
+    let within : set < length sets = omega (arith, c.len-set-end.ensures, c.loop-set.invariant.as_long, c.loop-set-test.true) in
     record {
       finishes =
-          ap (rewritten f 0 (c.loop-set.set + 1)) written ∙ rewritten_next f c.loop-set.set c.loop-set.sets c.at-was.result c.at-was.ensures ∙ c.loop-set.invariant.finishes;
-      as_long = ap length c.set.ensures ∙ length-set c.loop-set.sets c.loop-set.set c.see_set-place.result ∙ c.loop-set.invariant.as_long;
+          ap (rewritten f 0 (set + 1)) c.see_set.ensures ∙ rewritten_next f set sets (at sets set) (slice_get-get_or sets set None within) ∙ c.loop-set.invariant.finishes;
+      as_long = ap length c.see_set.ensures ∙ length-set sets set (f (set, at sets set)) ∙ c.loop-set.invariant.as_long;
     }
 
 pub returns : goal.returns
