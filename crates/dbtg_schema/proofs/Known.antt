@@ -8,3 +8,4 @@ pub mod Erasings
 pub mod LeastClosed
 pub mod NameIndexes
 pub mod Places
+pub mod Positions

@@ -32,6 +32,8 @@ pub use Rattle.dbtg_schema.proofs.Known.Erasings.{any_same}
 pub use Rattle.dbtg_schema.proofs.Known.LeastClosed.{least_closed_is_least}
 -- a list is no shorter than what a test keeps of it
 pub use Rattle.dbtg_schema.proofs.Known.LeastClosed.{length_filter}
+-- the first place in a list with one more at its end
+pub use Rattle.dbtg_schema.proofs.Known.Positions.{position_more}
 -- OPTIONS
 
 -- it is not something: it is nothing

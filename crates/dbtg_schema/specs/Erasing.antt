@@ -1,5 +1,5 @@
 -- The areas of a DELETE, marked by their numbers, and the steps by which they are found.
-use Rattle.std.specs.Prelude.{ℕ, ◌≡◌, ◌<◌, Bool, false, ◌&&◌, ◌||◌, ◌==◌, List, is_some, length, slice_index_or}
+use Rattle.std.specs.Prelude.{ℕ, ◌≡◌, ◌<◌, Bool, false, ◌&&◌, ◌||◌, ◌==◌, List, [], is_some, length, slice_index_or}
 use Rattle.std.specs.List.{list_any, range_with_len}
 use Rattle.dbtg_schema.specs.Lists.{Lists}
 use Rattle.dbtg_schema.specs.Lookups.{EachAt}
@@ -20,6 +20,19 @@ touches schema t a = area_of schema t == a || is_home_of schema t a
 -- the number n is marked
 abbrev pub marked : List Bool → ℕ → Bool
 marked marks n = slice_index_or marks n false
+
+-- the row x of the table has the mark n
+abbrev pub marked_in : List (List Bool) → ℕ → ℕ → Bool
+marked_in table x n = marked (slice_index_or table x []) n
+
+-- of so many rows of the table, one that is marked has the mark n
+unfoldable pub is_given : List (List Bool) → ℕ → List Bool → ℕ → Bool
+is_given table rows marks n = list_any (λ x. marked marks x && marked_in table x n) (range_with_len 0 rows)
+
+-- a row for each record type: the types to which it leads, the areas that it touches
+pub record AreWays (schema : Lists) (leads touched : List (List Bool)) : Type 0 where
+  pub leads_right : (x y : ℕ) → x < length schema.types → y < length schema.types → marked_in leads x y ≡ leads_to schema x y
+  pub touched_right : (t a : ℕ) → t < length schema.types → a < 8 → marked_in touched t a ≡ touches schema t a
 
 -- a type that is marked leads to y
 unfoldable pub is_next : Lists → List Bool → ℕ → Bool

@@ -3,7 +3,7 @@
 ghost use Rattle.std.specs.Prelude.{◌≡◌, ◌==◌, ◌<◌, ◌≤◌, ◌||◌, ◌&&◌, true, ℕ, IfOk, is_some, nat_lt, length, filter};
 ghost use Rattle.std.specs.List.{list_all, list_any, range_with_len};
 ghost use Rattle.dbtg_schema.specs.Structure.{erase_areas, home, member_clause, owns, reachable_types};
-ghost use Rattle.dbtg_schema.specs.Erasing.{leads_to, is_home_of, touches, marked, is_next, is_touched, AreErased, AreErasedOfEach};
+ghost use Rattle.dbtg_schema.specs.Erasing.{leads_to, is_home_of, touches, marked, marked_in, is_given, AreWays, AreErased, AreErasedOfEach};
 
 use crate::numbers::{AreaNo, RecordNo, SetNo};
 use crate::row::Row;
@@ -86,81 +86,122 @@ fn is_area_or_home(schema: &Schema, sets: u8, rtype: RecordNo, area: AreaNo) -> 
     is_area || is_home(schema, sets, rtype, area)
 }
 
-/// Is this type marked, and does it lead to that one?
-fn is_led_by(schema: &Schema, sets: u8, marks: &[bool], owner: RecordNo, member: RecordNo) -> bool
-    requires { sets ≡ length schema.now.sets }
-    ensures { result ≡ (marked marks.now owner && leads_to schema.now owner member) }
-{
-    is_marked(marks, owner.index()) && leads(schema, sets, owner, member)
-}
-
-/// Does a marked type lead to this one?
-#[tactic(auto, unfolding(crate::specs::Erasing::is_next))]
-fn is_led_to(schema: &Schema, sets: u8, types: u8, marks: &[bool], member: RecordNo) -> bool
+/// Marks the member types to which this type leads.
+fn leads_from(schema: &Schema, sets: u8, types: u8, owner: RecordNo) -> [bool; 16]
     requires sets { sets ≡ length schema.now.sets }
-    requires types { types ≡ length schema.now.types }
-    ensures { result ≡ is_next schema.now marks.now member }
+    requires few { types ≤ 16 }
+    ensures { (y : ℕ) → y < types → marked result y ≡ leads_to schema.now owner y }
 {
-    (0..types).any(|x| is_led_by(schema, sets, marks, RecordNo::new(x), member))
+    let mut members = [false; 16];
+    for y in 0..types {
+        members[y as usize] = leads(schema, sets, owner, RecordNo::new(y));
+    }
+    members
 }
 
-/// Is this the area, or such a home, of this type, and is the type marked?
-fn is_reached_by(schema: &Schema, sets: u8, marks: &[bool], rtype: RecordNo, area: AreaNo) -> bool
+/// Marks the areas that this type touches.
+fn touched_by(schema: &Schema, sets: u8, rtype: RecordNo) -> [bool; 16]
     requires { sets ≡ length schema.now.sets }
-    ensures { result ≡ (marked marks.now rtype && touches schema.now rtype area) }
+    ensures { (a : ℕ) → a < 8 → marked result a ≡ touches schema.now rtype a }
 {
-    is_marked(marks, rtype.index()) && is_area_or_home(schema, sets, rtype, area)
+    let mut areas = [false; 16];
+    for a in 0..8u8 {
+        areas[a as usize] = is_area_or_home(schema, sets, rtype, AreaNo::new(a));
+    }
+    areas
 }
 
-/// Is this the area, or such a home, of a marked type?
-#[tactic(auto, unfolding(crate::specs::Erasing::is_touched))]
-fn is_reached(schema: &Schema, sets: u8, types: u8, marks: &[bool], area: AreaNo) -> bool
-    requires sets { sets ≡ length schema.now.sets }
-    requires types { types ≡ length schema.now.types }
-    ensures { result ≡ is_touched schema.now marks.now area }
+/// What a DELETE goes by, a row of marks for each record type.
+#[derive(Clone, Copy)]
+struct Ways {
+    /// The types to which it leads.
+    leads: [[bool; 16]; 16],
+    /// The areas that it touches.
+    touched: [[bool; 16]; 16],
+}
+
+/// The rows of each type.
+fn ways_of(schema: &Schema) -> Ways
+    ensures { AreWays schema.now result.leads result.touched }
 {
-    (0..types).any(|t| is_reached_by(schema, sets, marks, RecordNo::new(t), area))
+    let sets = schema.sets().len() as u8;
+    let types = schema.types().len() as u8;
+    let mut leads = [[false; 16]; 16];
+    let mut touched = [[false; 16]; 16];
+    for t in 0..types {
+        leads[t as usize] = leads_from(schema, sets, types, RecordNo::new(t));
+        touched[t as usize] = touched_by(schema, sets, RecordNo::new(t));
+    }
+    Ways { leads, touched }
+}
+
+/// Has this row of the table this mark?
+fn is_in_row(table: &[[bool; 16]], row: u8, number: u8) -> bool
+    ensures { result ≡ marked_in table.now row number }
+{
+    match table.get(row as usize) {
+        Some(marks) => is_marked(marks, number),
+        None => false,
+    }
+}
+
+/// Is this row marked, and has it this mark?
+fn is_given_by(table: &[[bool; 16]], marks: &[bool], row: u8, number: u8) -> bool
+    ensures { result ≡ (marked marks.now row && marked_in table.now row number) }
+{
+    is_marked(marks, row) && is_in_row(table, row, number)
+}
+
+/// Has a marked row this mark? There are so many rows.
+#[tactic(auto, unfolding(crate::specs::Erasing::is_given))]
+fn is_given(table: &[[bool; 16]], rows: u8, marks: &[bool], number: u8) -> bool
+    ensures { result ≡ is_given table.now rows marks.now number }
+{
+    (0..rows).any(|row| is_given_by(table, marks, row, number))
 }
 
 /// The first type, and the types to which a marked type leads.
-fn one_step(schema: &Schema, sets: u8, types: u8, marks: &[bool], start: RecordNo) -> [bool; 16]
-    requires sets { sets ≡ length schema.now.sets }
-    requires types { types ≡ length schema.now.types }
-    requires few { types ≤ 16 }
-    ensures { (y : ℕ) → y < types → marked result y ≡ (y == start || is_next schema.now marks.now y) }
+fn one_step(leads: &[[bool; 16]], types: u8, marks: &[bool], start: RecordNo) -> [bool; 16]
+    requires { types ≤ 16 }
+    ensures { (y : ℕ) → y < types → marked result y ≡ (y == start || is_given leads.now types marks.now y) }
 {
     let mut next = [false; 16];
     for y in 0..types {
         let is_start = y == start.index();
-        next[y as usize] = is_start || is_led_to(schema, sets, types, marks, RecordNo::new(y));
+        next[y as usize] = is_start || is_given(leads, types, marks, y);
     }
     next
 }
 
-/// Marks the types that can be reached from this one by going from owner type to member type.
-fn reachable(schema: &Schema, sets: u8, types: u8, start: RecordNo) -> [bool; 16]
-    requires sets { sets ≡ length schema.now.sets }
+/// Marks the types that can be reached from this one by going from owner type to member type. A round that changes
+/// nothing is the last.
+fn reachable(schema: &Schema, ways: &Ways, types: u8, start: RecordNo) -> [bool; 16]
+    requires ways { AreWays schema.now ways.now.leads ways.now.touched }
     requires types { types ≡ length schema.now.types }
     requires few { types ≤ 16 }
     ensures { filter (marked result) (range_with_len 0 (length schema.now.types)) ≡ reachable_types schema.now start }
 {
     let mut marks = [false; 16];
     for round in 0..types {
-        marks = one_step(schema, sets, types, &marks, start);
+        let next = one_step(&ways.leads, types, &marks, start);
+        if next == marks {
+            return marks;
+        }
+        marks = next;
     }
     marks
 }
 
 /// The areas that a DELETE of a record of this type may reach, by going through the types that it may take.
-fn areas_reached(schema: &Schema, rtype: RecordNo) -> AreaSet
+fn areas_reached(schema: &Schema, ways: &Ways, rtype: RecordNo) -> AreaSet
+    requires { AreWays schema.now ways.now.leads ways.now.touched }
     ensures { AreErased schema.now rtype result }
 {
-    let sets = schema.sets().len() as u8;
     let types = schema.types().len() as u8;
-    let marks = reachable(schema, sets, types, rtype);
+    let marks = reachable(schema, ways, types, rtype);
     let mut members = [false; 8];
     for a in 0..8u8 {
-        members[a as usize] = is_reached(schema, sets, types, &marks, AreaNo::new(a));
+        members[a as usize] = is_given(&ways.touched, types, &marks, a);
     }
     AreaSet { members }
 }
@@ -169,9 +210,10 @@ fn areas_reached(schema: &Schema, rtype: RecordNo) -> AreaSet
 pub fn areas_of_each(alloc: Global, schema: &Schema) -> Result<Row<AreaSet>, AllocError>
     ensures { IfOk result (λ each. AreErasedOfEach each schema.now) }
 {
+    let ways = ways_of(schema);
     let mut each = Row::of(Vec::new(alloc));
     for t in 0..schema.types().len() as u8 {
-        each.push(areas_reached(schema, RecordNo::new(t)))?;
+        each.push(areas_reached(schema, &ways, RecordNo::new(t)))?;
     }
     Ok(each)
 }
@@ -186,7 +228,7 @@ impl Schema {
         self.is_well_formed();
         match self.areas_known(rtype) {
             Some(areas) => areas,
-            None => areas_reached(self, rtype),
+            None => areas_reached(self, &ways_of(self), rtype),
         }
     }
 }

@@ -1,18 +1,18 @@
 -- The marked types are those that are reached, and touch the areas of a DELETE; these areas are known to the schema.
-use Rattle.std.proofs.Common.{◌≡◌, ℕ, zero, suc, ◌+◌, ◌<◌, Bool, true, false, Some, cond, ◌&&◌, ◌||◌, ◌==◌, List, [], ◌∷◌, ◌++◌, length, map, refl, sym, ap, subst, ◌∙◌, inl, inr, arith}
-use Rattle.std.specs.Prelude.{◌⊎◌, Option, None, filter, is_some, nat_lt, not, option_map, slice_get, unwrap_or}
+use Rattle.std.proofs.Common.{◌≡◌, ℕ, zero, suc, ◌+◌, ◌<◌, ◌≤◌, Bool, true, false, Some, cond, ◌&&◌, ◌||◌, ◌==◌, List, [], ◌∷◌, ◌++◌, length, map, refl, sym, ap, subst, ◌∙◌, inl, inr, arith}
+use Rattle.std.specs.Prelude.{Option, None, filter, is_some, nat_lt, not, option_map, slice_get, unwrap_or}
 use Rattle.std.specs.List.{list_any, list_all, range_with_len}
-use Rattle.std.proofs.lemmas.Bool.{and_from, lt-ltb}
+use Rattle.std.proofs.lemmas.Bool.{and_from, cases_lt, lt-ltb}
 use Rattle.std.proofs.lemmas.List.Folds.{list_all-append}
 use Rattle.std.proofs.lemmas.List.FromFn.{length-range_with_len}
-use Rattle.std.proofs.lemmas.Option.{get_or_from_slice_get, same_Some, slice_get_within}
+use Rattle.std.proofs.lemmas.Option.{get_or_from_slice_get, slice_get_within}
 use Rattle.dbtg_schema.specs.Lists.{Lists}
 use Rattle.dbtg_schema.specs.Lookups.{flatten}
-use Rattle.dbtg_schema.specs.Closure.{reached_in}
+use Rattle.dbtg_schema.specs.Closure.{grown, reached_in}
 use Rattle.dbtg_schema.specs.Structure.{owns, member_clause, set_numbers, home, area_of, areas_with_homes, erase_areas, reachable_types}
 use Rattle.dbtg_schema.specs.declared.shape.RecordType.{RecordType}
 use Rattle.dbtg_schema.specs.WellFormed.{IsRecordType, IsSchema}
-use Rattle.dbtg_schema.specs.Erasing.{leads_to, is_home_of, touches, marked, is_next, is_touched, AreErased, AreErasedOfEach}
+use Rattle.dbtg_schema.specs.Erasing.{leads_to, is_home_of, touches, marked, marked_in, is_given, is_next, is_touched, AreWays}
 
 any_filter : (q p : ℕ → Bool) (xs : List ℕ) → list_any q (filter p xs) ≡ list_any (λ x. p x && q x) xs
 any_filter q p [] = refl
@@ -49,6 +49,11 @@ filter_range p q i (suc n) h =
     ap (λ b. cond b (i ∷ filter p (range_with_len (i + 1) n)) (filter p (range_with_len (i + 1) n))) (h i (omega arith))
     ∙ ap (λ (ys : List ℕ). cond (q i) (i ∷ ys) ys) (filter_range p q (i + 1) n (λ k l. h k (omega arith)))
 
+any_range : (p q : ℕ → Bool) (i n : ℕ) → ((k : ℕ) → k < i + n → p k ≡ q k) → list_any p (range_with_len i n) ≡ list_any q (range_with_len i n)
+any_range p q i zero h = refl
+any_range p q i (suc n) h =
+    ap (λ z. z || list_any p (range_with_len (i + 1) n)) (h i (omega arith)) ∙ ap (λ z. q i || z) (any_range p q (i + 1) n (λ k l. h k (omega arith)))
+
 filter_none : (p : ℕ → Bool) (xs : List ℕ) → ((k : ℕ) → p k ≡ false) → filter p xs ≡ []
 filter_none p [] h = refl
 filter_none p (x ∷ xs) h = ap (λ b. cond b (x ∷ filter p xs) (filter p xs)) (h x) ∙ filter_none p xs h
@@ -67,6 +72,39 @@ next_round schema t k old new same made =
     let same_next = λ (y : ℕ) (l : y < 0 + length schema.types).
     made y (omega arith) ∙ ap (λ b. y == t || b) (sym (any_filter (λ x. leads schema x y) (marked old) (types_of schema)) ∙ ap (list_any (λ x. leads schema x y)) same) in
     filter_range (marked new) (λ y. y == t || list_any (λ x. leads schema x y) (reached_in (leads schema) (λ u. u == t) (types_of schema) k)) 0 (length schema.types) same_next
+
+-- the rows of marked types give the types to which these lead
+pub given_is_next : (schema : Lists) (leads touched : List (List Bool)) (marks : List Bool) (y : ℕ) → AreWays schema leads touched → y < length schema.types → is_given leads (length schema.types) marks y ≡ is_next schema marks y
+unfolding is_given is_next
+given_is_next schema leads touched marks y ways lt =
+    any_range (λ x. marked marks x && marked_in leads x y) (λ x. marked marks x && leads_to schema x y) 0 (length schema.types) (λ x l. ap (λ z. marked marks x && z) (ways.leads_right x y (omega arith) lt))
+
+-- and the areas that these touch
+pub given_is_touched : (schema : Lists) (leads touched : List (List Bool)) (marks : List Bool) (a : ℕ) → AreWays schema leads touched → a < 8 → is_given touched (length schema.types) marks a ≡ is_touched schema marks a
+unfolding is_given is_touched
+given_is_touched schema leads touched marks a ways lt =
+    any_range (λ x. marked marks x && marked_in touched x a) (λ x. marked marks x && touches schema x a) 0 (length schema.types) (λ x l. ap (λ z. marked marks x && z) (ways.touched_right x a (omega arith) lt))
+
+-- what a round leaves as it is all later rounds leave
+all_after : (schema : Lists) (t n k : ℕ) → reached_in (leads schema) (λ u. u == t) (types_of schema) k ≡ reached_in (leads schema) (λ u. u == t) (types_of schema) (suc k) → k ≤ n
+    → reached_in (leads schema) (λ u. u == t) (types_of schema) k ≡ reached_in (leads schema) (λ u. u == t) (types_of schema) n
+all_after schema t zero k same l =
+    let e : k ≡ zero = omega arith in
+    ap (reached_in (leads schema) (λ u. u == t) (types_of schema)) e
+all_after schema t (suc n) k same l =
+    elim (cases_lt n k) [
+      | inl past ↦
+          let e : k ≡ suc n = omega arith in
+          ap (reached_in (leads schema) (λ u. u == t) (types_of schema)) e
+      | inr within ↦ same ∙ ap (grown (leads schema) (λ u. u == t) (types_of schema)) (all_after schema t n k same within)
+    ]
+
+-- a round that changes nothing is the last
+pub settled : (schema : Lists) (t k : ℕ) (marks : List Bool) → filter (marked marks) (types_of schema) ≡ reached_in (leads schema) (λ u. u == t) (types_of schema) k
+    → filter (marked marks) (types_of schema) ≡ reached_in (leads schema) (λ u. u == t) (types_of schema) (suc k) → k ≤ length schema.types → filter (marked marks) (types_of schema) ≡ reachable_types schema t
+settled schema t k marks same next l =
+    let many = length-range_with_len 0 (length schema.types) in
+    same ∙ all_after schema t (length (types_of schema)) k (sym same ∙ next) (omega (arith, many, l))
 
 -- no type is marked at first
 pub none_marked : (schema : Lists) (t : ℕ) (marks : List Bool) → ((y : ℕ) → marked marks y ≡ false) → filter (marked marks) (types_of schema) ≡ []

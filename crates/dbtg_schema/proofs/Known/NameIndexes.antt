@@ -1,12 +1,12 @@
 -- The indexes of names, as names are entered, and what they lead to.
 use Rattle.std.proofs.Common.{◌≡◌, ℕ, suc, zero, ◌+◌, ◌<◌, Bool, true, false, cond, List, [], ◌∷◌, ◌++◌, length, get_or, take, map, slice_get, Some, None, refl, sym, ap, subst, ◌∙◌, arith}
 use Rattle.std.specs.Prelude.{option_map, option_and_then, unwrap_or}
-use Rattle.std.specs.List.{position_from}
 use Rattle.std.specs.Map.{lookup}
 use Rattle.std.specs.Option.{option_or}
 use Rattle.std.specs.Str.{bytes_eq}
 use Rattle.std.proofs.lemmas.List.{length-map, length-take-le, map_more, take_more}
 use Rattle.indexmap.proofs.SetLemmas.{AllZip-push}
+use Rattle.dbtg_schema.proofs.Known.Positions.{position_more}
 use Rattle.dbtg_schema.specs.Structure.{place_of}
 use Rattle.dbtg_schema.specs.NameIndexes.{leads_to, AreItemIndexes, IsIndexOf, NamesAreIndexed, IsSchemaIndex}
 use Rattle.dbtg_schema.specs.declared.index.NameIndex.{NameIndex}
@@ -21,16 +21,6 @@ pub lookup_more : {K X : Type 0} (t : K → Bool) (es : List (K × X)) (k : K) (
 lookup_more t [] k v = refl
 lookup_more t (e ∷ es) k v = elim (t e.0) as (λ b. cond b (Some e.1) (lookup t (es ++ (k, v) ∷ [])) ≡ option_or (cond b (Some e.1) (lookup t es)) (cond (t k) (Some v) None)) [ true ↦ refl | false ↦ lookup_more t es k v ]
 
--- the first place in a list with one name more
-place_more : (t : List ℕ → Bool) (base : ℕ) (names : List (List ℕ)) (n : List ℕ) → position_from t base (names ++ n ∷ []) ≡ option_or (position_from t base names) (cond (t n) (Some (base + length names)) None)
-place_more t base [] n = let e : base ≡ base + 0 = omega arith in ap (λ (k : ℕ). cond (t n) (Some k) None) e
-place_more t base (m ∷ names) n =
-    let e : (base + 1) + length names ≡ base + length (m ∷ names) = omega arith in
-    elim (t m) as (λ b. cond b (Some base) (position_from t (base + 1) (names ++ n ∷ [])) ≡ option_or (cond b (Some base) (position_from t (base + 1) names)) (cond (t n) (Some (base + length (m ∷ names))) None)) [
-      | true ↦ refl
-      | false ↦ place_more t (base + 1) names n ∙ ap (λ (k : ℕ). option_or (position_from t (base + 1) names) (cond (t n) (Some k) None)) e
-    ]
-
 -- the name at i is entered
 pub entered_name : {X : Type 0} (name_of : X → List ℕ) (old new : NameIndex) (xs : List X) (i : ℕ) (x : X) → i < length xs → x ≡ get_or xs i x → IsIndexOf old (map name_of (take i xs))
     → ((q : List ℕ) → leads_to new q ≡ option_or (leads_to old q) (cond (bytes_eq q (name_of x)) (Some i) None)) → IsIndexOf new (map name_of (take (i + 1) xs))
@@ -40,7 +30,7 @@ entered_name {X} name_of old new xs i x lt is before enters q =
     enters q
     ∙ ap (λ o. option_or o (cond (bytes_eq q (name_of x)) (Some i) None)) (before q)
     ∙ ap (λ (k : ℕ). option_or (place_of q names) (cond (bytes_eq q (name_of x)) (Some k) None)) (sym long)
-    ∙ sym (place_more (bytes_eq q) 0 names (name_of x))
+    ∙ sym (position_more (bytes_eq q) 0 names (name_of x))
     ∙ ap (λ (z : X). place_of q (names ++ name_of z ∷ [])) is
     ∙ ap (place_of q) (sym (map_more name_of xs i x lt))
 

@@ -1,9 +1,9 @@
 use Rattle.std.proofs.Common.{◌≡◌, ℕ, ◌<◌, ◌||◌, ◌==◌, length}
-use Rattle.dbtg_schema.specs.Erasing.{marked, is_next}
+use Rattle.dbtg_schema.specs.Erasing.{marked, is_given}
 use Rattle.dbtg_schema.proofs.erasing.one_step.Given as goal
 
 abbrev pub invariant-loop-y : goal.invariant-loop-y
 invariant-loop-y l = record {
   room : length l.next ≡ 16;
-  made : (y : ℕ) → y < l.y → marked l.next y ≡ (y == l.start || is_next l.schema l.marks y);
+  made : (y : ℕ) → y < l.y → marked l.next y ≡ (y == l.start || is_given l.leads l.types l.marks y);
 }
