@@ -1,10 +1,9 @@
 -- The numbers of an extent, one after another.
-use Rattle.std.proofs.Common.{◌≡◌, refl, ◌∙◌, subst, ℕ, zero, suc, ◌+◌, ◌<◌, Bool, true, false, cond, ◌&&◌, ◌||◌, List, [], ◌∷◌, Some, length, drop, arith, inl, inr}
+use Rattle.std.proofs.Common.{◌≡◌, refl, subst, ℕ, suc, ◌+◌, ◌<◌, true, cond, List, [], ◌∷◌, Some, arith, inl, inr}
 use Rattle.std.specs.Prelude.{is_none, nat_lt, slice_get}
-use Rattle.std.specs.List.{list_any}
 use Rattle.std.proofs.lemmas.Bool.{and_parts, cases_Bool, ltb-true}
 use Rattle.std.proofs.lemmas.Option.{none-some, same_Some}
-use Rattle.dbtg_schema.specs.Lookups.{first, some_and}
+use Rattle.dbtg_schema.specs.Lookups.{first}
 use Rattle.dbtg_cells.specs.declared.extent.Number.{Number}
 use Rattle.dbtg_cells.specs.Numbers.{entry_of, is_free, last_of, numbers_from, numbers_where}
 
