@@ -55,10 +55,7 @@ fn ask_of_key(schema: &Schema, unit: &Unit, question: &Question, key: Option<DbK
 pub fn is_automatic_in(schema: &Schema, set: SetNo, rtype: RecordNo) -> bool
     ensures { result ≡ some_and (λ m. is_automatic m.class) (member_clause schema.now set rtype) }
 {
-    match schema.member_clause(set, rtype) {
-        Some(member) => member.class.is_automatic(),
-        None => false,
-    }
+    schema.connects(set, rtype)
 }
 
 // Of the homes of the sets in which STORE connects a record of this type.
