@@ -5,7 +5,7 @@ use Rattle.std.specs.List.{list_any, position_from, zip}
 use Rattle.std.specs.Option.{option_map_or, option_or}
 use Rattle.std.proofs.lemmas.Bool.{cases_Bool, eq-eqb}
 use Rattle.std.proofs.lemmas.Bool.Decides.{nat_tests}
-use Rattle.dbtg_schema.proofs.Public.{or_none}
+use Rattle.dbtg_schema.proofs.Public.{or_none, position_more}
 use Rattle.dbtg_cells.specs.declared.cell.Cell.{Cell}
 use Rattle.dbtg_cells.specs.declared.name.CellName.{CellName}
 use Rattle.dbtg_cells.specs.declared.name.CellName.TheVariants.{Usage, Extent, Ring, Slot}
@@ -46,16 +46,6 @@ keys_tell (Slot t n) (Usage b) = refl
 keys_tell (Slot t n) (Extent u) = refl
 keys_tell (Slot t n) (Ring u None) = refl
 keys_tell (Slot t n) (Ring u (Some q)) = refl
-
--- the first place in a list with one name more
-position_more : (t : CellName → Bool) (base : ℕ) (xs : List CellName) (n : CellName) → position_from t base (xs ++ n ∷ []) ≡ option_or (position_from t base xs) (cond (t n) (Some (base + length xs)) None)
-position_more t base [] n = let e : base ≡ base + 0 = omega arith in ap (λ (k : ℕ). cond (t n) (Some k) None) e
-position_more t base (x ∷ xs) n =
-    let e : (base + 1) + length xs ≡ base + length (x ∷ xs) = omega arith in
-    elim (t x) as (λ b. cond b (Some base) (position_from t (base + 1) (xs ++ n ∷ [])) ≡ option_or (cond b (Some base) (position_from t (base + 1) xs)) (cond (t n) (Some (base + length (x ∷ xs))) None)) [
-      | true ↦ refl
-      | false ↦ position_more t (base + 1) xs n ∙ ap (λ (k : ℕ). option_or (position_from t (base + 1) xs) (cond (t n) (Some k) None)) e
-    ]
 
 -- no place lies past the end
 position_within : (t : CellName → Bool) (base : ℕ) (xs : List CellName) (p : ℕ) → position_from t base xs ≡ Some p → p < base + length xs
