@@ -13,9 +13,7 @@ ghost use Rattle.dbtg_erase.specs.WorkList.{members_in_hand};
 use crate::keys::Keys;
 use dbtg_cells::{CellName, DbKey, Owner};
 use dbtg_schema::{Row, Schema, SetNo};
-use dbtg_unit::{
-    CellEdit, Edit, Held, entry_at, owner_of, owners_of, push_taking_out, set_count,
-};
+use dbtg_unit::{CellEdit, Edit, Held, entry_at, owner_of, owners_of, push_taking_out, set_count};
 use std::alloc::{AllocError, Global};
 
 // Adds an edit of the slot of a key.

@@ -38,7 +38,9 @@ pub use edit::{CellEdit, Edit, UnitEdit, push_taking_out};
 pub use entries::entry_at;
 pub use held::{Held, Need};
 pub use image::Image;
-pub use in_hand::{numbers, occurrence, own_refusal, owner_of, owners_of, ring_name, stored, usage};
+pub use in_hand::{
+    numbers, occurrence, own_refusal, owner_of, owners_of, ring_name, stored, usage,
+};
 pub use kept::Kept;
 pub use laws::{
     cells_determine, delete_stays_in_its_areas, doomed_is_least, doomed_is_least_set,
