@@ -14,7 +14,7 @@ pub use causes::CAUSES;
 use dbtg_script::{is_number, number};
 use faults::{MOVES_FAULTS, SCHEMA_FAULTS, SCRIPT_FAULTS, TURNS_FAULTS};
 use row::push_form;
-pub use row::{behind, field, in_front, row_with};
+pub use row::{field, row_with};
 pub use schema_word::said_of_schema_word;
 use statuses::STATUSES;
 use std::alloc::{AllocError, Global};

@@ -3,6 +3,7 @@
 -- Promises: `ReadBack`: printed moves and turns are those that were printed; `EchoedLines`: each answer has its statement
 -- beside it.
 pub mod Beside
+pub mod DecimalSteps
 pub mod EchoedLines
 pub mod KeyText
 pub mod ReadBack

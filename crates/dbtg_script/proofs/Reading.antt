@@ -13,3 +13,4 @@ pub mod ScriptSteps
 pub mod Steps
 pub mod Suppressed
 pub mod TokenSteps
+pub mod WordSteps

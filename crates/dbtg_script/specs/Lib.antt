@@ -7,6 +7,7 @@ pub mod Values
 pub mod StatementFaults
 pub mod Automaton
 pub mod Views
+pub mod Words
 pub mod Reading
 pub mod Statements
 pub mod Known

@@ -31,22 +31,12 @@ fits_plain value t = is_number t
 -- what the sign = fits
 abbrev pub is_equals : Kind → Bool
 is_equals equals_sign = true
-is_equals (key k) = false
-is_equals (other_than k) = false
-is_equals name = false
-is_equals signed = false
-is_equals keyed = false
-is_equals value = false
+is_equals _ = false
 
 -- what a literal in quotes fits
 abbrev pub is_value : Kind → Bool
 is_value value = true
-is_value (key k) = false
-is_value (other_than k) = false
-is_value name = false
-is_value equals_sign = false
-is_value signed = false
-is_value keyed = false
+is_value _ = false
 
 -- which token fits: a plain word, the sign =, a literal
 abbrev pub fits : Kind → Token → Bool

@@ -2,22 +2,26 @@
 
 ghost use Rattle.dbtg_schema.specs.Lookups.{first};
 ghost use Rattle.dbtg_schema.specs.WellFormed.{is_sorted};
-ghost use Rattle.dbtg_script.specs.Lookups.{item_no};
-ghost use Rattle.dbtg_script.specs.Labels.{texts};
-ghost use Rattle.dbtg_script.specs.StatementFaults.{at_other, differs_from, end_faults, is_misused, is_outside, item_faults, items_in, key_faults, said, sorted_faults, value_faults, when, without_minus};
+ghost use Rattle.dbtg_schema.specs.Structure.{calc_of};
+ghost use Rattle.dbtg_schema.specs.Texts.Forms.{labelled};
+ghost use Rattle.dbtg_script.specs.Lookups.{item_named, item_no, sort_picture};
+ghost use Rattle.dbtg_script.specs.Labels.{first_word, has, texts};
+ghost use Rattle.dbtg_script.specs.StatementFaults.{at_other, differs_from, end_faults, is_misused, is_outside, item_faults, items_in, key_faults, said, set_in, sorted_faults, type_in, value_faults, when, without_minus};
 ghost use Rattle.dbtg_script.specs.Tokens.{view};
 ghost use Rattle.dbtg_script.specs.Views.{views};
+ghost use Rattle.dbtg_script.specs.Words.{IsNamed};
 ghost use Rattle.dbtg_script.specs.declared.role.Role.TheVariants as role;
 ghost use Rattle.std.specs.List.{list_all, list_any};
-ghost use Rattle.std.specs.Prelude.{◌≡◌, ◌==◌, map, option_map};
+ghost use Rattle.std.specs.Prelude.{◌≡◌, ◌==◌, ◌&&◌, ◌||◌, is_none, map, option_map};
 
 use crate::fault::Cause;
-use crate::lookups::{area_in, item_no, item_picture, set_in, sort_picture, type_in};
-use crate::queries::{Labelled, count, first_word, has, has_role, is_named, named, text_of};
+use crate::lookups::{area_in, item_no, set_in, sort_picture};
+use crate::queries::{Labelled, count, first_word, has_role, is_named, named, text_of};
 use crate::role::Role;
 use crate::spelling::{generation, key_name, key_number, number};
 use crate::token::Token;
 use crate::values::{is_of_kind, is_spelled, up_to};
+use crate::words::{Named, Words};
 use dbtg_schema::{Calc, ItemNo, Order, Picture, RecordNo, Schema};
 
 fn when(test: bool, cause: Cause) -> Option<Cause>
@@ -43,12 +47,13 @@ fn value_fault(picture: Option<Picture>, token: Token) -> Option<Cause>
     }
 }
 
-fn item_fault(schema: &Schema, words: &[Labelled], name: &[u8]) -> Option<Cause>
-    ensures { result ≡ first (item_faults schema.now (views words.now) name.now) }
+fn item_fault(words: &Words, item: Option<ItemNo>, name: &[u8]) -> Option<Cause>
+    requires { item ≡ item_named words.now.schema (type_in words.now.schema words.now.words) name.now }
+    ensures { result ≡ first (item_faults words.now.schema words.now.words name.now) }
 {
-    if schema.item(type_in(schema, words), name).is_none() {
+    if item.is_none() {
         Some(Cause::UnknownItem)
-    } else if is_named(words, Role::ItemName, name) {
+    } else if is_named(words.list(), Role::ItemName, name) {
         Some(Cause::ItemTwice)
     } else {
         None
@@ -79,36 +84,37 @@ pub fn without_minus(text: &[u8]) -> &[u8]
     }
 }
 
-/// The first fault at a word that the grammar wants, behind these words.
-pub fn said(schema: &Schema, words: &[Labelled], token: Token, role: Role) -> Option<Cause>
-    ensures { result ≡ first (said schema.now (views words.now) (view token.entry) role) }
+/// The first fault at a word that the grammar wants, behind these words, and which names this.
+pub fn said(words: &Words, token: Token, role: Role, names: &Named) -> Option<Cause>
+    requires { IsNamed words.now.schema words.now.words (labelled role (view token)) names.now }
+    ensures { result ≡ first (said words.now.schema words.now.words (view token.entry) role) }
 {
+    let schema = words.schema();
     let text = text_of(token);
     match role {
         Role::AreaName => when(schema.area(text).is_none(), Cause::UnknownArea),
-        Role::TypeName => when(schema.rtype(text).is_none(), Cause::UnknownRecordType),
+        Role::TypeName => when(names.rtype.is_none(), Cause::UnknownRecordType),
         Role::SetName | Role::SuppressSet => when(schema.set(text).is_none(), Cause::UnknownSet),
         Role::KindArea => when(
-            schema.area(named(words, Role::Name)).is_none(),
+            schema.area(named(words.list(), Role::Name)).is_none(),
             Cause::UnknownArea,
         ),
         Role::KindRecord => when(
-            schema.rtype(named(words, Role::Name)).is_none(),
+            schema.rtype(named(words.list(), Role::Name)).is_none(),
             Cause::UnknownRecordType,
         ),
         Role::KindSet => when(
-            schema.set(named(words, Role::Name)).is_none(),
+            schema.set(named(words.list(), Role::Name)).is_none(),
             Cause::UnknownSet,
         ),
         Role::RecordWord => when(
-            schema.rtype(named(words, Role::RecordName)).is_none(),
+            schema
+                .rtype(named(words.list(), Role::RecordName))
+                .is_none(),
             Cause::UnknownRecordType,
         ),
-        Role::ItemName => item_fault(schema, words, text),
-        Role::Value => value_fault(
-            item_picture(schema, type_in(schema, words), named(words, Role::ItemName)),
-            token,
-        ),
+        Role::ItemName => item_fault(words, names.item, text),
+        Role::Value => value_fault(words.picture(), token),
         Role::Key => key_fault(schema, text),
         Role::WhichNumber => when(
             up_to(999_999, number(without_minus(text))) == 0,
@@ -118,18 +124,19 @@ pub fn said(schema: &Schema, words: &[Labelled], token: Token, role: Role) -> Op
     }
 }
 
-fn is_outside(schema: &Schema, words: &[Labelled]) -> bool
-    ensures { result ≡ is_outside schema.now (views words.now) }
+fn is_outside(words: &Words) -> bool
+    ensures { result ≡ is_outside words.now.schema words.now.words }
 {
-    if !has(words, Role::RecordName) {
+    if !words.has(Role::RecordName) {
         return false;
     }
-    let rtype = type_in(schema, words);
-    let no_member = has(words, Role::KindSet)
-        & schema.member_clause(set_in(schema, words), rtype).is_none();
-    let elsewhere = has(words, Role::KindArea)
-        & (schema.area_of(rtype).index() != area_in(schema, words).index());
-    no_member | elsewhere
+    let schema = words.schema();
+    let rtype = words.type_in();
+    let no_member = words.has(Role::KindSet)
+        && schema.member_clause(set_in(words), rtype).is_none();
+    let elsewhere = words.has(Role::KindArea)
+        && schema.area_of(rtype).index() != area_in(words).index();
+    no_member || elsewhere
 }
 
 fn is_among(item: ItemNo, items: &[ItemNo]) -> bool
@@ -151,29 +158,36 @@ fn are_among(schema: &Schema, rtype: RecordNo, words: &[Labelled], items: &[Item
     true
 }
 
-fn differs_from(schema: &Schema, words: &[Labelled], calc: Option<&Calc>) -> bool
-    ensures { result ≡ differs_from (option_map (λ c. c.now) calc.entry) (items_in schema.now (views words.now)) }
+fn differs_from(words: &Words, calc: Option<&Calc>) -> bool
+    ensures { result ≡ differs_from (option_map (λ c. c.now) calc.entry) (items_in words.now.schema words.now.words) }
 {
     match calc {
         None => true,
         Some(calc) => {
             let items = calc.items.as_slice();
-            count(words, Role::ItemName) != items.len()
-                || !are_among(schema, type_in(schema, words), words, items)
+            count(words.list(), Role::ItemName) != items.len()
+                || !are_among(words.schema(), words.type_in(), words.list(), items)
         }
     }
 }
 
-fn is_misused(schema: &Schema, words: &[Labelled]) -> bool
-    ensures { result ≡ is_misused schema.now (views words.now) }
+/// A FIND with other items than those of the CALC clause, or with no CALC clause at all.
+fn has_other_calc(words: &Words) -> bool
+    ensures { result ≡ ((has role.FindCalc words.now.words && differs_from (calc_of words.now.schema (type_in words.now.schema words.now.words)) (items_in words.now.schema words.now.words)) || (has role.FindDuplicate words.now.words && is_none (calc_of words.now.schema (type_in words.now.schema words.now.words)))) }
 {
-    let calc = schema.calc_of(type_in(schema, words));
-    let set = set_in(schema, words);
-    let other_items = has(words, Role::FindCalc) & differs_from(schema, words, calc);
-    let no_calc = has(words, Role::FindDuplicate) & calc.is_none();
-    let unsorted = has(words, Role::FindSorted) & !is_sorted(schema.order_of(set));
-    let unowned = has(words, Role::FindOwner) & schema.is_system(set);
-    other_items | no_calc | unsorted | unowned
+    if words.has(Role::FindCalc) && differs_from(words, words.schema().calc_of(words.type_in())) {
+        return true;
+    }
+    words.has(Role::FindDuplicate) && words.schema().calc_of(words.type_in()).is_none()
+}
+
+fn is_misused(words: &Words) -> bool
+    ensures { result ≡ is_misused words.now.schema words.now.words }
+{
+    let unsorted = words.has(Role::FindSorted)
+        && !is_sorted(words.schema().order_of(set_in(words)));
+    let unowned = words.has(Role::FindOwner) && words.schema().is_system(set_in(words));
+    has_other_calc(words) || unsorted || unowned
 }
 
 fn is_sorted(order: Order) -> bool
@@ -182,37 +196,39 @@ fn is_sorted(order: Order) -> bool
     matches!(order, Order::Sorted { .. })
 }
 
-fn sorted_fault(picture: Option<Picture>, token: Option<Token>) -> Option<Cause>
-    ensures { result ≡ first (sorted_faults picture (option_map view token.entry)) }
+/// The first fault of the value that a sort key is to have.
+fn sorted_fault(words: &Words) -> Option<Cause>
+    ensures { result ≡ first (sorted_faults (sort_picture words.now.schema (set_in words.now.schema words.now.words)) (first_word role.SortedValue words.now.words)) }
 {
-    match token {
-        None => None,
-        Some(token) => value_fault(picture, token),
+    if words.has(Role::SortedValue) {
+        match first_word(words.list(), Role::SortedValue) {
+            None => None,
+            Some(token) => value_fault(sort_picture(words.schema(), set_in(words)), token),
+        }
+    } else {
+        None
     }
 }
 
 /// The first fault of a statement as a whole.
 #[tactic(auto, using(crate::proofs::Reading::Firsts::first_steps))]
-pub fn end_fault(schema: &Schema, words: &[Labelled]) -> Option<Cause>
-    ensures { result ≡ first (end_faults schema.now (views words.now)) }
+pub fn end_fault(words: &Words) -> Option<Cause>
+    ensures { result ≡ first (end_faults words.now.schema words.now.words) }
 {
-    if is_outside(schema, words) {
+    if is_outside(words) {
         return Some(Cause::NotThere);
     }
-    if is_misused(schema, words) {
+    if is_misused(words) {
         return Some(Cause::NotThisWay);
     }
-    sorted_fault(
-        sort_picture(schema, set_in(schema, words)),
-        first_word(words, Role::SortedValue),
-    )
+    sorted_fault(words)
 }
 
 /// The fault that a word is which the grammar does not want.
-pub fn at_other(words: &[Labelled]) -> Cause
-    ensures { result ≡ at_other (views words.now) }
+pub fn at_other(words: &Words) -> Cause
+    ensures { result ≡ at_other words.now.words }
 {
-    if words.is_empty() {
+    if words.list().is_empty() {
         Cause::NoStatementWord
     } else {
         Cause::UnexpectedWord

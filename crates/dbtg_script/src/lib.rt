@@ -24,6 +24,7 @@ mod token;
 mod turns;
 mod values;
 mod word_texts;
+mod words;
 
 pub use echo::statement_lines;
 pub use fault::{Cause, LineFault, ScriptFault};
@@ -37,7 +38,7 @@ pub use moves::{MovesCause, MovesFault, read_moves};
 pub use print::{push_number, push_status};
 pub use reader::{read_script, read_script_line};
 pub use sizes::{push_echoed_run, push_run, push_schema_line, push_script_line};
-pub use spelling::{is_number, number};
+pub use spelling::{behind, in_front, is_number, number};
 pub use texts::{answers_text, push_answer, push_named_answer, push_unit, units_text};
 pub use turns::{TurnsFault, read_turns};
 pub use word_texts::{moves_words_text, turns_text};

@@ -1,12 +1,12 @@
 //! The names in a statement, and the numbers that they stand for. It takes no memory.
 
 ghost use Rattle.dbtg_script.specs.Lookups.{area_no, item_no, item_picture, set_no, sort_picture, type_no};
-ghost use Rattle.dbtg_script.specs.StatementFaults.{area_in, set_in, type_in, type_text};
-ghost use Rattle.dbtg_script.specs.Views.{views};
+ghost use Rattle.dbtg_script.specs.StatementFaults.{area_in, set_in};
 ghost use Rattle.std.specs.Prelude.{◌≡◌};
 
-use crate::queries::{Labelled, has, named};
+use crate::queries::named;
 use crate::role::Role;
+use crate::words::Words;
 use dbtg_schema::{AreaNo, ItemNo, Picture, RecordNo, Schema, SetNo};
 
 pub fn area_no(schema: &Schema, name: &[u8]) -> AreaNo
@@ -75,33 +75,16 @@ pub fn sort_picture(schema: &Schema, set: SetNo) -> Option<Picture>
     }
 }
 
-fn type_text<'a>(words: &[Labelled<'a>]) -> &'a [u8]
-    ensures { result.now ≡ type_text (views words.now) }
-{
-    if has(words, Role::TypeName) {
-        named(words, Role::TypeName)
-    } else {
-        named(words, Role::RecordName)
-    }
-}
-
-/// The record type that is named behind GET, STORE and MODIFY, or before RECORD.
-pub fn type_in(schema: &Schema, words: &[Labelled]) -> RecordNo
-    ensures { result ≡ type_in schema.now (views words.now) }
-{
-    type_no(schema, type_text(words))
-}
-
 /// The set that stands before SET.
-pub fn set_in(schema: &Schema, words: &[Labelled]) -> SetNo
-    ensures { result ≡ set_in schema.now (views words.now) }
+pub fn set_in(words: &Words) -> SetNo
+    ensures { result ≡ set_in words.now.schema words.now.words }
 {
-    set_no(schema, named(words, Role::Name))
+    set_no(words.schema(), named(words.list(), Role::Name))
 }
 
 /// The area that stands before AREA.
-pub fn area_in(schema: &Schema, words: &[Labelled]) -> AreaNo
-    ensures { result ≡ area_in schema.now (views words.now) }
+pub fn area_in(words: &Words) -> AreaNo
+    ensures { result ≡ area_in words.now.schema words.now.words }
 {
-    area_no(schema, named(words, Role::Name))
+    area_no(words.schema(), named(words.list(), Role::Name))
 }

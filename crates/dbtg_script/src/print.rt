@@ -2,7 +2,7 @@
 
 ghost use Rattle.dbtg_script.specs.Printing.Texts.{at_text, current_text, four_digits, generation_text, items_text, key_text, kept_entry, kept_text, mode_text, owner_text, place_text, spaced_key, type_name, value_text};
 ghost use Rattle.std.specs.List.{flat_map};
-ghost use Rattle.std.specs.Prelude.{◌≡◌, ◌++◌, ◌∷◌, ◌<◌, OnOk, decimal};
+ghost use Rattle.std.specs.Prelude.{◌≡◌, ◌+◌, ◌++◌, ◌∷◌, [], ◌<◌, OnOk, decimal};
 
 use dbtg_cells::{DbKey, Mode, Owner, Value};
 use dbtg_schema::{Item, RecordNo, Schema};
@@ -10,9 +10,54 @@ use dbtg_unit::Place;
 use itoa::Buffer;
 use std::alloc::AllocError;
 
+fn push_digit(out: &mut Vec<u8>, digit: u64) -> Result<(), AllocError>
+    requires { digit < 10 }
+    ensures { OnOk result (out.new.items ≡ out.old.items ++ (48 + digit) ∷ []) }
+{
+    out.push(b'0' + digit as u8)?;
+    Ok(())
+}
+
+fn push_two(out: &mut Vec<u8>, n: u64) -> Result<(), AllocError>
+    requires { n < 100 }
+    ensures { OnOk result (out.new.items ≡ out.old.items ++ decimal n) }
+{
+    if n < 10 {
+        return push_digit(out, n);
+    }
+    push_digit(out, n / 10)?;
+    push_digit(out, n % 10)
+}
+
+fn push_three(out: &mut Vec<u8>, n: u64) -> Result<(), AllocError>
+    requires { n < 1000 }
+    ensures { OnOk result (out.new.items ≡ out.old.items ++ decimal n) }
+{
+    if n < 100 {
+        return push_two(out, n);
+    }
+    push_two(out, n / 10)?;
+    push_digit(out, n % 10)
+}
+
+/// A number of at most four digits, which most numbers are, without a buffer between.
+fn push_four(out: &mut Vec<u8>, n: u64) -> Result<(), AllocError>
+    requires { n < 10000 }
+    ensures { OnOk result (out.new.items ≡ out.old.items ++ decimal n) }
+{
+    if n < 1000 {
+        return push_three(out, n);
+    }
+    push_three(out, n / 10)?;
+    push_digit(out, n % 10)
+}
+
 pub fn push_number(out: &mut Vec<u8>, n: u64) -> Result<(), AllocError>
     ensures { OnOk result (out.new.items ≡ out.old.items ++ decimal n) }
 {
+    if n < 10_000 {
+        return push_four(out, n);
+    }
     let mut buffer = Buffer::new();
     out.extend_from_slice(buffer.format(n).as_bytes())
 }

@@ -1,7 +1,7 @@
 //! What the words of a statement say, by their roles.
 
 ghost use Rattle.dbtg_schema.specs.Texts.Spelling.{among};
-ghost use Rattle.dbtg_script.specs.Labels.{first_word, given, has, is, last_text, lead, named, text_of, texts};
+ghost use Rattle.dbtg_script.specs.Labels.{first_word, given, is, last_text, lead, named, text_of, texts};
 ghost use Rattle.dbtg_script.specs.Tokens.{view};
 ghost use Rattle.dbtg_script.specs.Views.{view_labelled, views};
 ghost use Rattle.std.specs.Prelude.{◌≡◌, ◌≤◌, length, option_map};
@@ -20,18 +20,6 @@ pub fn has_role(labelled: &Labelled, role: Role) -> bool
     ensures { result ≡ is role (view_labelled labelled.now) }
 {
     labelled.role as u8 == role as u8
-}
-
-/// Is there a word with this role?
-pub fn has(words: &[Labelled], role: Role) -> bool
-    ensures { result ≡ has role (views words.now) }
-{
-    for word in words {
-        if has_role(word, role) {
-            return true;
-        }
-    }
-    false
 }
 
 /// The role of the first word.

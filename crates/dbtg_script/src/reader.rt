@@ -11,7 +11,6 @@ ghost use Rattle.dbtg_script.specs.StatementFaults.{line_faults, refusal, statem
 ghost use Rattle.dbtg_script.specs.Statements.{line_statement, prepend, script, statement_of};
 ghost use Rattle.dbtg_script.specs.StatementGrammar.{fits, statement};
 ghost use Rattle.dbtg_script.specs.Tokens.{Token as SeenToken, tokens, view};
-ghost use Rattle.dbtg_script.specs.Views.{views};
 ghost use Rattle.std.specs.Prelude.{◌≡◌, ◌∷◌, ◌++◌, ℕ, List, [], None, IfErr, IfOk, IfSome, MatchResult, OnOk, false, true, length};
 ghost use Rattle.std.specs.List.{list_all};
 ghost use Rattle.dbtg_schema.specs.Sound.{IsSound};
@@ -25,21 +24,18 @@ use crate::line::{Lines, ends_in_text, is_allowed, is_statement, trimmed};
 use crate::queries::Labelled;
 use crate::statement::statement_of;
 use crate::token::{Token, Tokens};
+use crate::words::Words;
 use dbtg_schema::Schema;
 use dbtg_unit::Statement;
 use std::alloc::{AllocError, Global};
 
 /// Takes the next word: the state behind it, or the fault that the word is.
-fn take<'a>(
-    schema: &Schema,
-    words: &mut Vec<Labelled<'a>>,
-    state: State,
-    token: Token<'a>,
-) -> Result<State, LineFault>
+fn take<'a>(words: &mut Words<'a>, state: State, token: Token<'a>) -> Result<State, LineFault>
+    ensures schema { OnOk result (words.new.schema ≡ words.old.schema) }
     ensures reached { (left : List SeenToken) → MatchResult result
-        (λ next. verdict schema.now (views words.old.items) (rest_of state) (view token.entry ∷ left) ≡ verdict schema.now (views words.new.items) (rest_of next) left)
-        (λ e. Refuses e (verdict schema.now (views words.old.items) (rest_of state) (view token.entry ∷ left))) }
-    ensures labels { IfOk result (λ next. (left : List SeenToken) → views words.old.items ++ labels fits (rest_of state) (view token.entry ∷ left) ≡ views words.new.items ++ labels fits (rest_of next) left) }
+        (λ next. verdict words.old.schema words.old.words (rest_of state) (view token.entry ∷ left) ≡ verdict words.old.schema words.new.words (rest_of next) left)
+        (λ e. Refuses e (verdict words.old.schema words.old.words (rest_of state) (view token.entry ∷ left))) }
+    ensures labels { IfOk result (λ next. (left : List SeenToken) → words.old.words ++ labels fits (rest_of state) (view token.entry ∷ left) ≡ words.new.words ++ labels fits (rest_of next) left) }
 {
     match follow(state, token) {
         None => Err(LineFault::Refused(at_other(words))),
@@ -48,73 +44,77 @@ fn take<'a>(
                 role: start.role,
                 token,
             };
-            if let Some(cause) = said(schema, words, token, start.role) {
+            let names = words.named_by(token, start.role);
+            if let Some(cause) = said(words, token, start.role, &names) {
                 return Err(LineFault::Refused(cause));
             }
-            words.push(labelled)?;
+            words.push(&labelled, &names)?;
             Ok(start.next)
         }
     }
 }
 
 #[tactic(auto, unfolding(crate::specs::Reading::verdict))]
-fn end_of(schema: &Schema, words: &[Labelled], state: State) -> Option<Cause>
-    ensures { result ≡ verdict schema.now (views words.now) (rest_of state) [] }
+fn end_of(words: &Words, state: State) -> Option<Cause>
+    ensures { result ≡ verdict words.now.schema words.now.words (rest_of state) [] }
 {
     if state.may_end() {
-        end_fault(schema, words)
+        end_fault(words)
     } else {
         Some(Cause::UnexpectedWord)
     }
 }
 
-/// The words of a line that holds a statement, with their roles.
-fn read_words<'a>(
-    alloc: Global,
-    schema: &Schema,
-    line: &'a [u8],
-) -> Result<Vec<Labelled<'a>>, LineFault>
-    ensures accepted { OnOk result (verdict schema.now [] statement (tokens false line.now) ≡ None) }
-    ensures words { IfOk result (λ v. views v.items ≡ labels fits statement (tokens false line.now)) }
-    ensures refused { IfErr result (λ e. Refuses e (verdict schema.now [] statement (tokens false line.now))) }
+/// Reads the words of a line that holds a statement, with their roles; they take the place of those before.
+fn read_words<'a>(words: &mut Words<'a>, line: &'a [u8]) -> Result<(), LineFault>
+    ensures schema { OnOk result (words.new.schema ≡ words.old.schema) }
+    ensures accepted { OnOk result (verdict words.old.schema [] statement (tokens false line.now) ≡ None) }
+    ensures words { OnOk result (words.new.words ≡ labels fits statement (tokens false line.now)) }
+    ensures refused { IfErr result (λ e. Refuses e (verdict words.old.schema [] statement (tokens false line.now))) }
 {
-    let mut words = Vec::new(alloc);
+    words.clear();
     let mut state = State::Opening;
     let mut left = Tokens { rest: line };
     while let Some(token) = left.next() {
-        state = take(schema, &mut words, state, token)?;
+        state = take(words, state, token)?;
     }
-    match end_of(schema, &words, state) {
+    match end_of(words, state) {
         Some(cause) => Err(LineFault::Refused(cause)),
-        None => Ok(words),
+        None => Ok(()),
     }
 }
 
 /// The statement of a line that holds one.
-fn read_statement(alloc: Global, schema: &Schema, line: &[u8]) -> Result<Statement, LineFault>
-    ensures accepted { OnOk result (first (statement_faults schema.now line.now) ≡ None) }
-    ensures statement { IfOk result (λ s. s ≡ statement_of schema.now (labels fits statement (tokens false line.now))) }
-    ensures refused { IfErr result (λ e. Refuses e (first (statement_faults schema.now line.now))) }
+fn read_statement<'a>(
+    alloc: Global,
+    words: &mut Words<'a>,
+    line: &'a [u8],
+) -> Result<Statement, LineFault>
+    ensures schema { OnOk result (words.new.schema ≡ words.old.schema) }
+    ensures accepted { OnOk result (first (statement_faults words.old.schema line.now) ≡ None) }
+    ensures statement { IfOk result (λ s. s ≡ statement_of words.old.schema (labels fits statement (tokens false line.now))) }
+    ensures refused { IfErr result (λ e. Refuses e (first (statement_faults words.old.schema line.now))) }
 {
     if ends_in_text(line) {
         return Err(LineFault::Refused(Cause::UnexpectedWord));
     }
-    match read_words(alloc, schema, line) {
+    match read_words(words, line) {
         Err(fault) => Err(fault),
-        Ok(words) => Ok(statement_of(alloc, schema, &words)?),
+        Ok(()) => Ok(statement_of(alloc, words)?),
     }
 }
 
 /// The statement of a line behind so many statements, if it holds one.
-fn read_line(
+fn read_line<'a>(
     alloc: Global,
-    schema: &Schema,
+    words: &mut Words<'a>,
     count: usize,
-    line: &[u8],
+    line: &'a [u8],
 ) -> Result<Option<Statement>, LineFault>
-    ensures accepted { OnOk result (first (line_faults schema.now count line.now) ≡ None) }
-    ensures statement { IfOk result (λ s. s ≡ line_statement schema.now line.now) }
-    ensures refused { IfErr result (λ e. Refuses e (first (line_faults schema.now count line.now))) }
+    ensures schema { OnOk result (words.new.schema ≡ words.old.schema) }
+    ensures accepted { OnOk result (first (line_faults words.old.schema count line.now) ≡ None) }
+    ensures statement { IfOk result (λ s. s ≡ line_statement words.old.schema line.now) }
+    ensures refused { IfErr result (λ e. Refuses e (first (line_faults words.old.schema count line.now))) }
 {
     let holds_one = is_statement(line);
     if holds_one && 65535 <= count {
@@ -126,7 +126,7 @@ fn read_line(
     if !holds_one {
         return Ok(None);
     }
-    Ok(Some(read_statement(alloc, schema, line)?))
+    Ok(Some(read_statement(alloc, words, line)?))
 }
 
 /// The statement of one more line of a script that has so many statements; none where the line is a note or blank.
@@ -141,7 +141,8 @@ pub fn read_script_line(
     ensures fitting { IsSound schema.now → IfOk result (λ s. IfSome s (λ x. statement_fits schema.now x ≡ true)) }
     ensures refused { IfErr result (λ e. Refuses e (first (line_faults schema.now count (trimmed line.now)))) }
 {
-    read_line(alloc, schema, count, trimmed(line))
+    let mut words = Words::new(alloc, schema);
+    read_line(alloc, &mut words, count, trimmed(line))
 }
 
 /// The statement of a line, if the line was read before and there is room for one more.
@@ -170,18 +171,19 @@ fn said_again(
 /// Takes a line that is read anew: its statement goes behind those before it, and the line is kept.
 fn take_new_line<'a>(
     alloc: Global,
-    schema: &Schema,
+    words: &mut Words<'a>,
     known: &mut Known<'a>,
     statements: &mut Vec<Statement>,
     line: &'a [u8],
 ) -> Result<(), LineFault>
-    requires { IsKnown schema.now statements.old.items known.old.places }
-    ensures known { OnOk result (IsKnown schema.now statements.new.items known.new.places) }
-    ensures accepted { OnOk result (first (line_faults schema.now (length statements.old.items) line.now) ≡ None) }
-    ensures taken { OnOk result (statements.new.items ≡ statements.old.items ++ prepend (line_statement schema.now line.now) []) }
-    ensures refused { IfErr result (λ e. Refuses e (first (line_faults schema.now (length statements.old.items) line.now))) }
+    requires { IsKnown words.old.schema statements.old.items known.old.places }
+    ensures schema { OnOk result (words.new.schema ≡ words.old.schema) }
+    ensures known { OnOk result (IsKnown words.old.schema statements.new.items known.new.places) }
+    ensures accepted { OnOk result (first (line_faults words.old.schema (length statements.old.items) line.now) ≡ None) }
+    ensures taken { OnOk result (statements.new.items ≡ statements.old.items ++ prepend (line_statement words.old.schema line.now) []) }
+    ensures refused { IfErr result (λ e. Refuses e (first (line_faults words.old.schema (length statements.old.items) line.now))) }
 {
-    match read_line(alloc, schema, statements.len(), line) {
+    match read_line(alloc, words, statements.len(), line) {
         Err(fault) => Err(fault),
         Ok(None) => Ok(()),
         Ok(Some(statement)) => {
@@ -195,19 +197,20 @@ fn take_new_line<'a>(
 /// Takes a line: its statement goes behind those before it.
 fn take_line<'a>(
     alloc: Global,
-    schema: &Schema,
+    words: &mut Words<'a>,
     known: &mut Known<'a>,
     statements: &mut Vec<Statement>,
     line: &'a [u8],
 ) -> Result<(), LineFault>
-    requires { IsKnown schema.now statements.old.items known.old.places }
-    ensures known { OnOk result (IsKnown schema.now statements.new.items known.new.places) }
-    ensures accepted { OnOk result (first (line_faults schema.now (length statements.old.items) line.now) ≡ None) }
-    ensures taken { OnOk result (statements.new.items ≡ statements.old.items ++ prepend (line_statement schema.now line.now) []) }
-    ensures refused { IfErr result (λ e. Refuses e (first (line_faults schema.now (length statements.old.items) line.now))) }
+    requires { IsKnown words.old.schema statements.old.items known.old.places }
+    ensures schema { OnOk result (words.new.schema ≡ words.old.schema) }
+    ensures known { OnOk result (IsKnown words.old.schema statements.new.items known.new.places) }
+    ensures accepted { OnOk result (first (line_faults words.old.schema (length statements.old.items) line.now) ≡ None) }
+    ensures taken { OnOk result (statements.new.items ≡ statements.old.items ++ prepend (line_statement words.old.schema line.now) []) }
+    ensures refused { IfErr result (λ e. Refuses e (first (line_faults words.old.schema (length statements.old.items) line.now))) }
 {
     match said_again(alloc, known, statements, line)? {
-        None => take_new_line(alloc, schema, known, statements, line),
+        None => take_new_line(alloc, words, known, statements, line),
         Some(again) => {
             statements.push(again)?;
             Ok(())
@@ -246,11 +249,18 @@ pub fn read_script(
         });
     }
     let mut statements = Vec::new(alloc);
+    let mut words = Words::new(alloc, schema);
     let mut known = Known::none();
     let mut number: u64 = 1;
     let mut left = Lines { rest: text };
     while let Some(line) = left.next() {
-        if let Err(fault) = take_line(alloc, schema, &mut known, &mut statements, trimmed(line)) {
+        if let Err(fault) = take_line(
+            alloc,
+            &mut words,
+            &mut known,
+            &mut statements,
+            trimmed(line),
+        ) {
             return Err(at_line(number, fault));
         }
         number += 1;

@@ -11,28 +11,29 @@ ghost use Rattle.std.specs.Prelude.{◌≡◌, ◌<◌, ◌≤◌, ◌^◌, ◌|
 
 use crate::checks::without_minus;
 use crate::lookups::{
-    area_in, area_no, item_no, item_picture, set_in, set_no, sort_picture, type_in, type_no,
+    area_in, area_no, item_no, item_picture, set_in, set_no, sort_picture, type_no,
 };
-use crate::queries::{Labelled, first_word, given, has, has_role, is_named, lead, named, text_of};
+use crate::queries::{Labelled, first_word, given, has_role, is_named, lead, named, text_of};
 use crate::role::Role;
 use crate::spelling::{generation, key_name, key_number, number};
 use crate::values::{up_to, value_for};
+use crate::words::Words;
 use dbtg_cells::{DbKey, Mode, Value};
 use dbtg_schema::{Item, ItemNo, Picture, RecordNo, Row, Schema, SetType};
 use dbtg_unit::{Change, Erase, Form, Statement, Suppress, Which};
 use std::alloc::{AllocError, Global};
 
-fn mode_of(words: &[Labelled]) -> Mode
-    ensures { result ≡ mode_of (views words.now) }
+fn mode_of(words: &Words) -> Mode
+    ensures { result ≡ mode_of words.now.words }
 {
-    let update = has(words, Role::Update);
-    if has(words, Role::Protected) {
+    let update = words.has(Role::Update);
+    if words.has(Role::Protected) {
         if update {
             Mode::ProtectedUpdate
         } else {
             Mode::ProtectedRetrieval
         }
-    } else if has(words, Role::Exclusive) {
+    } else if words.has(Role::Exclusive) {
         if update {
             Mode::ExclusiveUpdate
         } else {
@@ -45,30 +46,30 @@ fn mode_of(words: &[Labelled]) -> Mode
     }
 }
 
-fn erase_of(words: &[Labelled]) -> Erase
-    ensures { result ≡ erase_of (views words.now) }
+fn erase_of(words: &Words) -> Erase
+    ensures { result ≡ erase_of words.now.words }
 {
-    if has(words, Role::Only) {
+    if words.has(Role::Only) {
         Erase::Only
-    } else if has(words, Role::Selective) {
+    } else if words.has(Role::Selective) {
         Erase::Selective
-    } else if has(words, Role::All) {
+    } else if words.has(Role::All) {
         Erase::All
     } else {
         Erase::Plain
     }
 }
 
-fn is_suppressed(words: &[Labelled], name: &[u8]) -> bool
-    ensures { result ≡ (has role.SuppressAll (views words.now) || among name.now (texts role.SuppressSet (views words.now))) }
+fn is_suppressed(words: &Words, name: &[u8]) -> bool
+    ensures { result ≡ (has role.SuppressAll words.now.words || among name.now (texts role.SuppressSet words.now.words)) }
 {
-    has(words, Role::SuppressAll) | is_named(words, Role::SuppressSet, name)
+    words.has(Role::SuppressAll) | is_named(words.list(), Role::SuppressSet, name)
 }
 
 /// A bit for each set, the first set's the lowest.
-fn set_bits(words: &[Labelled], sets: &[SetType]) -> u32
+fn set_bits(words: &Words, sets: &[SetType]) -> u32
     requires { length sets.now ≤ 16 }
-    ensures bits { result ≡ set_bits (views words.now) sets.now }
+    ensures bits { result ≡ set_bits words.now.words sets.now }
     ensures bound { result < 2 ^ length sets.now }
 {
     match sets.split_first() {
@@ -85,24 +86,24 @@ fn set_bits(words: &[Labelled], sets: &[SetType]) -> u32
 }
 
 /// The bits of the sets; none is looked at where no word suppresses one.
-fn suppressed_sets(schema: &Schema, words: &[Labelled]) -> u16
-    ensures { result ≡ set_bits (views words.now) schema.now.sets }
+fn suppressed_sets(words: &Words) -> u16
+    ensures { result ≡ set_bits words.now.words words.now.schema.sets }
 {
-    if has(words, Role::SuppressAll) | has(words, Role::SuppressSet) {
-        set_bits(words, schema.sets()) as u16
+    if words.has(Role::SuppressAll) | words.has(Role::SuppressSet) {
+        set_bits(words, words.schema().sets()) as u16
     } else {
         0
     }
 }
 
-fn suppress_of(schema: &Schema, words: &[Labelled]) -> Suppress
-    ensures { result ≡ suppress_of schema.now (views words.now) }
+fn suppress_of(words: &Words) -> Suppress
+    ensures { result ≡ suppress_of words.now.schema words.now.words }
 {
-    let all = has(words, Role::SuppressAll);
+    let all = words.has(Role::SuppressAll);
     Suppress {
-        types: all | has(words, Role::SuppressTypes),
-        areas: all | has(words, Role::SuppressAreas),
-        sets: suppressed_sets(schema, words),
+        types: all | words.has(Role::SuppressTypes),
+        areas: all | words.has(Role::SuppressAreas),
+        sets: suppressed_sets(words),
     }
 }
 
@@ -122,19 +123,19 @@ fn signed(text: &[u8]) -> i32
     if is_negative(text) { -n } else { n }
 }
 
-fn which_of(words: &[Labelled]) -> Which
-    ensures { result ≡ which_of (views words.now) }
+fn which_of(words: &Words) -> Which
+    ensures { result ≡ which_of words.now.words }
 {
-    if has(words, Role::WhichFirst) {
+    if words.has(Role::WhichFirst) {
         Which::First
-    } else if has(words, Role::WhichLast) {
+    } else if words.has(Role::WhichLast) {
         Which::Last
-    } else if has(words, Role::WhichNext) {
+    } else if words.has(Role::WhichNext) {
         Which::Next
-    } else if has(words, Role::WhichPrior) {
+    } else if words.has(Role::WhichPrior) {
         Which::Prior
     } else {
-        Which::Nth(signed(named(words, Role::WhichNumber)))
+        Which::Nth(signed(named(words.list(), Role::WhichNumber)))
     }
 }
 
@@ -242,114 +243,114 @@ fn changes_of(
     Ok(changes)
 }
 
-fn named_type(schema: &Schema, words: &[Labelled], role: Role) -> Option<RecordNo>
-    ensures { result ≡ named_type schema.now (views words.now) role }
+fn named_type(words: &Words, role: Role) -> Option<RecordNo>
+    ensures { result ≡ named_type words.now.schema words.now.words role }
 {
-    if has(words, role) {
-        Some(type_in(schema, words))
+    if words.has(role) {
+        Some(words.type_in())
     } else {
         None
     }
 }
 
-fn in_place(schema: &Schema, words: &[Labelled]) -> Form
-    ensures { result ≡ in_place schema.now (views words.now) }
+fn in_place(words: &Words) -> Form
+    ensures { result ≡ in_place words.now.schema words.now.words }
 {
     let which = which_of(words);
-    let rtype = named_type(schema, words, Role::RecordName);
-    if has(words, Role::KindSet) {
+    let rtype = named_type(words, Role::RecordName);
+    if words.has(Role::KindSet) {
         Form::InSet {
             which,
             rtype,
-            set: set_in(schema, words),
+            set: set_in(words),
         }
     } else {
         Form::InArea {
             which,
             rtype,
-            area: area_in(schema, words),
+            area: area_in(words),
         }
     }
 }
 
-fn current_of(schema: &Schema, words: &[Labelled]) -> Form
-    ensures { result ≡ current_of schema.now (views words.now) }
+fn current_of(words: &Words) -> Form
+    ensures { result ≡ current_of words.now.schema words.now.words }
 {
-    if has(words, Role::RunUnit) {
+    if words.has(Role::RunUnit) {
         Form::CurrentOfUnit
-    } else if has(words, Role::KindRecord) {
-        Form::CurrentOfType(type_no(schema, named(words, Role::Name)))
-    } else if has(words, Role::KindSet) {
-        Form::CurrentOfSet(set_in(schema, words))
+    } else if words.has(Role::KindRecord) {
+        Form::CurrentOfType(type_no(words.schema(), named(words.list(), Role::Name)))
+    } else if words.has(Role::KindSet) {
+        Form::CurrentOfSet(set_in(words))
     } else {
-        Form::CurrentOfArea(area_in(schema, words))
+        Form::CurrentOfArea(area_in(words))
     }
 }
 
-fn by_calc(alloc: Global, schema: &Schema, words: &[Labelled]) -> Result<Form, AllocError>
-    ensures { IfOk result (λ f. f ≡ Form.Calc (type_in schema.now (views words.now)) (calc_values schema.now (type_in schema.now (views words.now)) (views words.now) (calc_of schema.now (type_in schema.now (views words.now))))) }
+fn by_calc(alloc: Global, words: &Words) -> Result<Form, AllocError>
+    ensures { IfOk result (λ f. f ≡ Form.Calc (type_in words.now.schema words.now.words) (calc_values words.now.schema (type_in words.now.schema words.now.words) words.now.words (calc_of words.now.schema (type_in words.now.schema words.now.words)))) }
 {
-    let rtype = type_in(schema, words);
-    let values = calc_values(alloc, schema, rtype, words)?;
+    let rtype = words.type_in();
+    let values = calc_values(alloc, words.schema(), rtype, words.list())?;
     Ok(Form::Calc {
         rtype,
         values: Row::of(values),
     })
 }
 
-fn by_sort_key(alloc: Global, schema: &Schema, words: &[Labelled]) -> Result<Form, AllocError>
-    ensures { IfOk result (λ f. f ≡ Form.Sorted (sorted_value schema.now (views words.now)) (set_in schema.now (views words.now))) }
+fn by_sort_key(alloc: Global, words: &Words) -> Result<Form, AllocError>
+    ensures { IfOk result (λ f. f ≡ Form.Sorted (sorted_value words.now.schema words.now.words) (set_in words.now.schema words.now.words)) }
 {
-    let set = set_in(schema, words);
-    let picture = picture_or_none(sort_picture(schema, set));
-    let value = value_for(alloc, picture, first_word(words, Role::SortedValue))?;
+    let set = set_in(words);
+    let picture = picture_or_none(sort_picture(words.schema(), set));
+    let value = value_for(alloc, picture, first_word(words.list(), Role::SortedValue))?;
     Ok(Form::Sorted { value, set })
 }
 
-fn form_of(alloc: Global, schema: &Schema, words: &[Labelled]) -> Result<Form, AllocError>
-    ensures { IfOk result (λ f. f ≡ form_of schema.now (views words.now)) }
+fn form_of(alloc: Global, words: &Words) -> Result<Form, AllocError>
+    ensures { IfOk result (λ f. f ≡ form_of words.now.schema words.now.words) }
 {
-    if has(words, Role::FindKey) {
-        Ok(Form::Key(key_of(schema, named(words, Role::Key))))
-    } else if has(words, Role::FindCurrent) {
-        Ok(current_of(schema, words))
-    } else if has(words, Role::FindOwner) {
-        Ok(Form::OwnerOf(set_in(schema, words)))
-    } else if has(words, Role::FindCalc) {
-        by_calc(alloc, schema, words)
-    } else if has(words, Role::FindSorted) {
-        by_sort_key(alloc, schema, words)
-    } else if has(words, Role::FindDuplicate) {
-        Ok(Form::NextDuplicate(type_in(schema, words)))
+    if words.has(Role::FindKey) {
+        Ok(Form::Key(key_of(words.schema(), named(words.list(), Role::Key))))
+    } else if words.has(Role::FindCurrent) {
+        Ok(current_of(words))
+    } else if words.has(Role::FindOwner) {
+        Ok(Form::OwnerOf(set_in(words)))
+    } else if words.has(Role::FindCalc) {
+        by_calc(alloc, words)
+    } else if words.has(Role::FindSorted) {
+        by_sort_key(alloc, words)
+    } else if words.has(Role::FindDuplicate) {
+        Ok(Form::NextDuplicate(words.type_in()))
     } else {
-        Ok(in_place(schema, words))
+        Ok(in_place(words))
     }
 }
 
-fn find_of(alloc: Global, schema: &Schema, words: &[Labelled]) -> Result<Statement, AllocError>
-    ensures { IfOk result (λ s. s ≡ Statement.Find (form_of schema.now (views words.now)) (suppress_of schema.now (views words.now))) }
+fn find_of(alloc: Global, words: &Words) -> Result<Statement, AllocError>
+    ensures { IfOk result (λ s. s ≡ Statement.Find (form_of words.now.schema words.now.words) (suppress_of words.now.schema words.now.words)) }
 {
-    let form = form_of(alloc, schema, words)?;
-    Ok(Statement::Find(form, suppress_of(schema, words)))
+    let form = form_of(alloc, words)?;
+    Ok(Statement::Find(form, suppress_of(words)))
 }
 
-fn store_of(alloc: Global, schema: &Schema, words: &[Labelled]) -> Result<Statement, AllocError>
-    ensures { IfOk result (λ s. s ≡ Statement.Store (type_in schema.now (views words.now)) (values_of (views words.now) (item_list schema.now (type_in schema.now (views words.now)))) (suppress_of schema.now (views words.now))) }
+fn store_of(alloc: Global, words: &Words) -> Result<Statement, AllocError>
+    ensures { IfOk result (λ s. s ≡ Statement.Store (type_in words.now.schema words.now.words) (values_of words.now.words (item_list words.now.schema (type_in words.now.schema words.now.words))) (suppress_of words.now.schema words.now.words)) }
 {
-    let rtype = type_in(schema, words);
-    let values = values_of(alloc, words, schema.items(rtype))?;
+    let rtype = words.type_in();
+    let values = values_of(alloc, words.list(), words.schema().items(rtype))?;
     Ok(Statement::Store {
         rtype,
         items: Row::of(values),
-        suppress: suppress_of(schema, words),
+        suppress: suppress_of(words),
     })
 }
 
-fn modify_of(alloc: Global, schema: &Schema, words: &[Labelled]) -> Result<Statement, AllocError>
-    ensures { IfOk result (λ s. s ≡ Statement.Modify (type_in schema.now (views words.now)) (changes_of schema.now (type_in schema.now (views words.now)) (views words.now))) }
+fn modify_of(alloc: Global, words: &Words) -> Result<Statement, AllocError>
+    ensures { IfOk result (λ s. s ≡ Statement.Modify (type_in words.now.schema words.now.words) (changes_of words.now.schema (type_in words.now.schema words.now.words) words.now.words)) }
 {
-    let rtype = type_in(schema, words);
-    let changes = changes_of(alloc, schema, rtype, words)?;
+    let rtype = words.type_in();
+    let changes = changes_of(alloc, words.schema(), rtype, words.list())?;
     Ok(Statement::Modify {
         rtype,
         changes: Row::of(changes),
@@ -357,28 +358,33 @@ fn modify_of(alloc: Global, schema: &Schema, words: &[Labelled]) -> Result<State
 }
 
 /// The statement that these words say.
-pub fn statement_of(
-    alloc: Global,
-    schema: &Schema,
-    words: &[Labelled],
-) -> Result<Statement, AllocError>
-    ensures { IfOk result (λ s. s ≡ statement_of schema.now (views words.now)) }
+pub fn statement_of(alloc: Global, words: &Words) -> Result<Statement, AllocError>
+    ensures { IfOk result (λ s. s ≡ statement_of words.now.schema words.now.words) }
 {
-    match lead(words) {
+    match lead(words.list()) {
         Role::Open => Ok(Statement::OpenArea {
-            area: area_no(schema, named(words, Role::AreaName)),
+            area: area_no(words.schema(), named(words.list(), Role::AreaName)),
             mode: mode_of(words),
         }),
-        Role::Close => Ok(Statement::CloseArea(area_no(schema, named(words, Role::AreaName)))),
-        Role::Find => find_of(alloc, schema, words),
-        Role::Get => Ok(Statement::Get(named_type(schema, words, Role::TypeName))),
-        Role::Store => store_of(alloc, schema, words),
-        Role::Insert => Ok(Statement::Insert(set_no(schema, named(words, Role::SetName)))),
-        Role::Remove => Ok(Statement::Remove(set_no(schema, named(words, Role::SetName)))),
-        Role::Modify => modify_of(alloc, schema, words),
+        Role::Close => Ok(Statement::CloseArea(area_no(
+            words.schema(),
+            named(words.list(), Role::AreaName),
+        ))),
+        Role::Find => find_of(alloc, words),
+        Role::Get => Ok(Statement::Get(named_type(words, Role::TypeName))),
+        Role::Store => store_of(alloc, words),
+        Role::Insert => Ok(Statement::Insert(set_no(
+            words.schema(),
+            named(words.list(), Role::SetName),
+        ))),
+        Role::Remove => Ok(Statement::Remove(set_no(
+            words.schema(),
+            named(words.list(), Role::SetName),
+        ))),
+        Role::Modify => modify_of(alloc, words),
         Role::Delete => Ok(Statement::Delete(erase_of(words))),
         Role::Free => Ok(Statement::Free {
-            all: has(words, Role::FreeAll),
+            all: words.has(Role::FreeAll),
         }),
         _ => Ok(Statement::Keep),
     }

@@ -57,7 +57,8 @@ pub fn is_spelled(picture: Picture, token: Token) -> bool
 fn filled(alloc: Global, size: u8, text: &[u8]) -> Result<Value, AllocError>
     ensures { IfOk result (λ v. v ≡ Value.Text (filled size text.now)) }
 {
-    let mut bytes = Vec::from_slice(alloc, text)?;
+    let mut bytes = Vec::with_capacity(alloc, size as usize)?;
+    bytes.extend_from_slice(text)?;
     for _ in text.len()..size as usize {
         bytes.push(b' ')?;
     }

@@ -4,8 +4,9 @@ ghost use Rattle.dbtg_schema.specs.Texts.Words.{is_gap};
 ghost use Rattle.dbtg_schema.specs.Texts.SchemaFaults.{refusal};
 ghost use Rattle.dbtg.specs.FaultyWord.{apart, is_of_entry, laid_out, line_at, line_in};
 
-use crate::explain::row::{behind, behind_all, in_front};
+use crate::explain::row::behind_all;
 use dbtg_schema::{Schema, SchemaFault};
+use dbtg_script::{behind, in_front};
 use std::alloc::{AllocError, Global};
 
 fn is_gap(b: u8) -> bool

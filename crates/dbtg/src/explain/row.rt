@@ -1,35 +1,11 @@
 //! The tables of texts: a row is a line, its fields stand between bars, and the first of them is a code.
 ghost use Rattle.std.specs.Prelude.{◌≡◌, IfSome};
-ghost use Rattle.dbtg_script.specs.Printing.Spelling.{behind, in_front};
+ghost use Rattle.dbtg_script.specs.Printing.Spelling.{in_front};
 ghost use Rattle.dbtg.specs.Explaining.{code_in};
 ghost use Rattle.dbtg.specs.FaultyWord.{behind_all};
 
-use dbtg_script::number;
+use dbtg_script::{behind, in_front, number};
 use std::alloc::AllocError;
-
-/// The bytes in front of the first c, all where there is none.
-pub fn in_front(text: &[u8], c: u8) -> &[u8]
-    ensures { result.now ≡ in_front c text.now }
-{
-    for (i, b) in text.iter().enumerate() {
-        if *b == c {
-            return &text[..i];
-        }
-    }
-    text
-}
-
-/// The bytes behind the first c, none where there is none.
-pub fn behind(text: &[u8], c: u8) -> &[u8]
-    ensures { result.now ≡ behind c text.now }
-{
-    for (i, b) in text.iter().enumerate() {
-        if *b == c {
-            return &text[i + 1..];
-        }
-    }
-    &text[text.len()..]
-}
 
 /// What is left behind so many c, nothing where there are fewer.
 pub fn behind_all(text: &[u8], c: u8, count: usize) -> &[u8]

@@ -1,9 +1,9 @@
 //! The word of a script's line at which a fault is, and the names that there are in its place. The reader itself finds the
 //! word: it reads the line's first words, one more each time, until it finds the fault.
 
-use crate::explain::row::{field, in_front, push_form, row_with};
+use crate::explain::row::{field, push_form, row_with};
 use dbtg_schema::{RecordNo, Schema};
-use dbtg_script::{ScriptFault, read_script};
+use dbtg_script::{ScriptFault, in_front, read_script};
 use std::alloc::{AllocError, Global};
 
 // A longer line might pass the reader's limit once its words stand apart.

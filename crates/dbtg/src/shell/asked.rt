@@ -2,8 +2,7 @@
 ghost use Rattle.std.specs.Prelude.{◌≡◌};
 ghost use Rattle.dbtg.specs.Asking.{asked_of, behind_spaces, names_unit};
 
-use crate::explain::{behind, in_front};
-use dbtg_script::{is_number, number};
+use dbtg_script::{behind, in_front, is_number, number};
 
 /// A command, a statement of the unit whose turn it is, or one of the unit that the line names.
 #[derive(Clone, Copy)]

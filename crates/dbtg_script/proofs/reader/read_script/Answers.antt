@@ -19,13 +19,14 @@ returns-in-Err-clause-refused c =
     let line = c.in-Some.line.now in
     let after = lines c.next.new.self.rest.now in
     let whole = short_script schema c.args.text.now (omega arith) ∙ sym c.loop-line.invariant.reached ∙ ap (λ (ls : List (List ℕ)). lines_verdict schema n number ls) c.in-Some.ensures.found in
-    let refused = rw c.trimmed.ensures at c.in-Err.ensures.refused in
+    let refused = rw (c.trimmed.ensures, c.loop-line.invariant.same) at c.in-Err.ensures.refused in
     rw c.at_line.ensures (subst (λ (v : Option Fault). RefusesScript (at_line number c.in-Err.fault) v) (sym whole) (line_refused schema n number line after c.in-Err.fault refused))
 
 pub loop-line-init : goal.loop-line-init
 loop-line-init c =
     let none = c.new-statements.ensures.items in
     record {
+      same = rw c.new-words.ensures refl;
       reached = rw none refl;
       said = rw none refl;
       known = c.none-known.ensures c.args.schema.now c.new-statements.result.items;
@@ -40,15 +41,17 @@ loop-line-preserved c =
     let line = c.in-Some.line.now in
     let after = lines c.next.new.self.rest.now in
     let found = c.in-Some.ensures.found in
-    let accepted = rw c.trimmed.ensures at c.in_default-take_line.ensures.accepted in
-    let taken = rw c.trimmed.ensures at c.in_default-take_line.ensures.taken in
+    let same = c.loop-line.invariant.same in
+    let accepted = rw (c.trimmed.ensures, same) at c.in_default-take_line.ensures.accepted in
+    let taken = rw (c.trimmed.ensures, same) at c.in_default-take_line.ensures.taken in
     record {
+      same = c.in_default-take_line.ensures.schema ∙ same;
       reached = ap (λ (n : ℕ). lines_verdict schema n (number + 1) after) (ap length taken ∙ counted schema ss (trimmed line))
           ∙ sym (line_passes schema (length ss) number line after accepted)
           ∙ ap (λ (ls : List (List ℕ)). lines_verdict schema (length ss) number ls) (sym found) ∙ c.loop-line.invariant.reached;
       said = ap (λ (xs : List Statement). xs ++ statements_of schema after) taken ∙ one_more (line_statement schema (trimmed line)) ss (statements_of schema after)
           ∙ ap (λ (ls : List (List ℕ)). ss ++ statements_of schema ls) (sym found) ∙ c.loop-line.invariant.said;
-      known = c.in_default-take_line.ensures.known;
+      known = rw same at c.in_default-take_line.ensures.known;
       in_range = omega (arith, c.in-Some.ensures.shorter);
     }
 

@@ -7,6 +7,7 @@ use Rattle.dbtg_script.proofs.reader.read_script.Given as goal
 
 abbrev pub invariant-loop-line : goal.invariant-loop-line
 invariant-loop-line l = record {
+  same : l.words.schema ≡ l.schema;
   reached : lines_verdict l.schema (length l.statements.items) l.number (lines l.left.rest.now) ≡ lines_verdict l.schema 0 1 (lines l.fn.text);
   said : l.statements.items ++ statements_of l.schema (lines l.left.rest.now) ≡ script l.schema l.fn.text;
   known : IsKnown l.schema l.statements.items l.known.places;

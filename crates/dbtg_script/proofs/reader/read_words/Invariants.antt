@@ -3,14 +3,14 @@ use Rattle.dbtg_schema.specs.Texts.Forms.{labels}
 use Rattle.dbtg_script.specs.StatementGrammar.{fits, statement}
 use Rattle.dbtg_script.specs.Tokens.{tokens}
 use Rattle.dbtg_script.specs.Automaton.{rest_of}
-use Rattle.dbtg_script.specs.Views.{views}
 use Rattle.dbtg_script.specs.Reading.{verdict}
 use Rattle.dbtg_script.proofs.reader.read_words.Given as goal
 
 abbrev pub invariant-loop-token : goal.invariant-loop-token
 invariant-loop-token l = record {
-  reached : verdict l.schema (views l.words.items) (rest_of l.state) (tokens false l.left.rest.now) ≡ verdict l.schema [] statement (tokens false l.fn.line);
-  labelled : views l.words.items ++ labels fits (rest_of l.state) (tokens false l.left.rest.now) ≡ labels fits statement (tokens false l.fn.line);
+  schema : l.words.schema ≡ l.fn.words.schema;
+  reached : verdict l.fn.words.schema l.words.words (rest_of l.state) (tokens false l.left.rest.now) ≡ verdict l.fn.words.schema [] statement (tokens false l.fn.line);
+  labelled : l.words.words ++ labels fits (rest_of l.state) (tokens false l.left.rest.now) ≡ labels fits statement (tokens false l.fn.line);
 }
 
 abbrev pub decreases-loop-token : goal.decreases-loop-token

@@ -5,7 +5,7 @@ use Rattle.dbtg_script.proofs.reader.take_new_line.Goals as goal
 
 pub returns-in_ok-push-in-Ok-Some-clause-known : goal.returns-in_ok-push-in-Ok-Some-clause-known
 returns-in_ok-push-in-Ok-Some-clause-known c =
-    let schema = c.args.schema.now in
+    let schema = c.args.words.now.schema in
     let ss = c.args.statements.now.items in
     let s = c.in-Ok-Some.statement in
     let line = c.args.line.now in

@@ -1,6 +1,0 @@
-use Rattle.std.proofs.Common.{◌≡◌, drop}
-use Rattle.dbtg_script.specs.Printing.Spelling.{behind}
-use Rattle.dbtg.proofs.explain.row.behind.Given as goal
-
-abbrev pub invariant-loop-i : goal.invariant-loop-i
-invariant-loop-i l = behind l.c (drop l.i l.text) ≡ behind l.c l.text
