@@ -26,12 +26,14 @@ same_key a b h =
     λ i. record { rtype = r i; number = n i; generation = g i }
 
 -- the test as a derived comparison writes it
-pub key_test : (a b : DbKey) → key_eq a b ≡ (a.rtype == b.rtype) && ((a.number == b.number) && (a.generation == b.generation))
-key_test a b = by (a.rtype == b.rtype)
+pub key_test : (a b : DbKey) → key_eq a b ≡ (a.number == b.number) && ((a.rtype == b.rtype) && (a.generation == b.generation))
+key_test a b = by (a.rtype == b.rtype) (a.number == b.number)
   where
-    by : (r : Bool) → (r && (a.number == b.number)) && (a.generation == b.generation) ≡ r && ((a.number == b.number) && (a.generation == b.generation))
-    by true = refl
-    by false = refl
+    by : (r n : Bool) → (r && n) && (a.generation == b.generation) ≡ n && (r && (a.generation == b.generation))
+    by true true = refl
+    by true false = refl
+    by false true = refl
+    by false false = refl
 
 pub owner_eq_refl : (a : Owner) → owner_eq a a ≡ true
 owner_eq_refl System = refl
