@@ -10,9 +10,13 @@ use Rattle.dbtg_schema.specs.declared.sets_of_type.SetsOfType.{SetsOfType}
 abbrev pub sets_alone : List SetType → Lists
 sets_alone sets = record { name = []; areas = []; types = []; sets = sets }
 
+-- the sets that record type t owns, in the order of the schema
+abbrev pub owned_sets : Lists → ℕ → List ℕ
+owned_sets schema t = filter (λ s. owns schema s t) (set_numbers schema)
+
 -- the sets that are kept are those of record type t, in the order of the schema
 abbrev pub AreSetsOf : Lists → ℕ → SetsOfType → Type 0
-AreSetsOf schema t kept = (kept.automatic ≡ automatic_sets schema t) × (kept.owned ≡ filter (λ s. owns schema s t) (set_numbers schema))
+AreSetsOf schema t kept = (kept.automatic ≡ automatic_sets schema t) × (kept.owned ≡ owned_sets schema t)
 
 -- they are kept of each of so many record types
 pub record AreSetsOfEach (each : List SetsOfType) (types : ℕ) (sets : List SetType) : Type 0 where

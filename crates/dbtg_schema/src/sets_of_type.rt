@@ -1,11 +1,11 @@
 //! The sets in which a record type has a part. They are found once for each record type, when a schema is made, so that a
 //! statement goes through these alone and not through all sets of the schema.
 
-ghost use Rattle.std.specs.Prelude.{◌≡◌, ◌≤◌, IfOk, filter, length};
-ghost use Rattle.std.specs.List.{range_with_len};
-ghost use Rattle.dbtg_schema.specs.Connecting.{connects_in};
-ghost use Rattle.dbtg_schema.specs.SetsOfTypes.{sets_alone, AreSetsOf, AreSetsOfEach};
-ghost use Rattle.dbtg_schema.specs.Structure.{automatic_sets, owns, set_numbers};
+ghost use Rattle.std.specs.Prelude.{◌≡◌, ◌==◌, ◌≤◌, IfOk, length};
+ghost use Rattle.std.specs.List.{find};
+ghost use Rattle.dbtg_schema.specs.Lookups.{some_and};
+ghost use Rattle.dbtg_schema.specs.SetsOfTypes.{sets_alone, owned_sets, AreSetsOfEach};
+ghost use Rattle.dbtg_schema.specs.Structure.{automatic_sets, is_automatic};
 
 use crate::numbers::{RecordNo, SetNo};
 use crate::row::Row;
@@ -23,31 +23,11 @@ pub struct SetsOfType {
 }
 
 /// Does STORE connect a record of this type in the set?
-fn is_connected_in(sets: &[SetType], set: SetNo, rtype: RecordNo) -> bool
-    ensures { result ≡ connects_in (sets_alone sets.now) set rtype }
+fn connects(set: &SetType, rtype: RecordNo) -> bool
+    ensures { result ≡ some_and (λ m. is_automatic m.class) (find (λ member. member.rtype == rtype) set.now.members) }
 {
-    match sets.get(set.index() as usize) {
-        Some(set) => {
-            match clause_for(set.members.as_slice(), rtype) {
-                Some(member) => member.class.is_automatic(),
-                None => false,
-            }
-        }
-        None => false,
-    }
-}
-
-/// Does this record type own the set?
-fn is_owner_of(sets: &[SetType], set: SetNo, rtype: RecordNo) -> bool
-    ensures { result ≡ owns (sets_alone sets.now) set rtype }
-{
-    match sets.get(set.index() as usize) {
-        Some(set) => {
-            match set.owner {
-                Some(owner) => owner.index() == rtype.index(),
-                None => false,
-            }
-        }
+    match clause_for(set.members.as_slice(), rtype) {
+        Some(member) => member.class.is_automatic(),
         None => false,
     }
 }
@@ -57,23 +37,45 @@ fn automatic(alloc: Global, sets: &[SetType], rtype: RecordNo) -> Result<Row<Set
     requires { length sets.now ≤ 16 }
     ensures { IfOk result (λ row. row ≡ automatic_sets (sets_alone sets.now) rtype) }
 {
-    let numbers = (0..sets.len() as u8).map(SetNo::new);
-    let found = numbers.filter(|set| is_connected_in(sets, *set, rtype)).collect(alloc)?;
-    Ok(Row::of(found))
+    let mut found = Row::of(Vec::new(alloc));
+    for (s, set) in sets.iter().enumerate() {
+        if connects(set, rtype) {
+            found.push(SetNo::new(s as u8))?;
+        }
+    }
+    Ok(found)
+}
+
+/// Is this record type the owner type of the set?
+fn owns(set: &SetType, rtype: RecordNo) -> bool
+    ensures { result ≡ some_and (λ owner. owner == rtype) set.now.owner }
+{
+    match set.owner {
+        Some(owner) => owner.index() == rtype.index(),
+        None => false,
+    }
 }
 
 /// The sets that this record type owns.
 fn owned(alloc: Global, sets: &[SetType], rtype: RecordNo) -> Result<Row<SetNo>, AllocError>
     requires { length sets.now ≤ 16 }
-    ensures { IfOk result (λ row. row ≡ filter (λ s. owns (sets_alone sets.now) s rtype) (set_numbers (sets_alone sets.now))) }
+    ensures { IfOk result (λ row. row ≡ owned_sets (sets_alone sets.now) rtype) }
 {
-    let numbers = (0..sets.len() as u8).map(SetNo::new);
-    let found = numbers.filter(|set| is_owner_of(sets, *set, rtype)).collect(alloc)?;
-    Ok(Row::of(found))
+    let mut found = Row::of(Vec::new(alloc));
+    for (s, set) in sets.iter().enumerate() {
+        if owns(set, rtype) {
+            found.push(SetNo::new(s as u8))?;
+        }
+    }
+    Ok(found)
 }
 
 /// The sets of each of so many record types.
-pub fn sets_of_each(alloc: Global, sets: &[SetType], types: u8) -> Result<Row<SetsOfType>, AllocError>
+pub fn sets_of_each(
+    alloc: Global,
+    sets: &[SetType],
+    types: u8,
+) -> Result<Row<SetsOfType>, AllocError>
     requires { length sets.now ≤ 16 }
     ensures { IfOk result (λ each. AreSetsOfEach each types sets.now) }
 {
