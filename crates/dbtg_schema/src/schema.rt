@@ -1,9 +1,10 @@
 //! A schema, and what it says of its record types, sets and areas by their numbers. Look-ups take no memory.
 
-ghost use Rattle.std.specs.Prelude.{◌≡◌, ◌==◌, ◌≤◌, length, None, IfOk, IfSome, filter, map, IfErr, OnOk, option_map, slice_get};
+ghost use Rattle.std.specs.Prelude.{◌≡◌, ◌==◌, ◌≤◌, length, None, [], IfNone, IfOk, IfSome, filter, map, IfErr, OnOk, option_map, slice_get};
 ghost use Rattle.dbtg_schema.specs.Connecting.{AreConnecting};
 ghost use Rattle.dbtg_schema.specs.Erasing.{AreErased};
 ghost use Rattle.dbtg_schema.specs.Lookups.{some_and};
+ghost use Rattle.dbtg_schema.specs.SetsOfTypes.{AreSetsOf};
 ghost use Rattle.dbtg_schema.specs.Texts.Words.{text_words};
 ghost use Rattle.dbtg_schema.specs.Texts.Forms.{labels, Derives};
 ghost use Rattle.dbtg_schema.specs.Texts.SchemaGrammar.{fits, schema};
@@ -314,7 +315,7 @@ impl Schema {
     pub fn automatic_sets(&self, rtype: RecordNo) -> &[SetNo]
         ensures { result.now ≡ automatic_sets self.now rtype }
     {
-        match self.sets_of_types.get(rtype.index() as usize) {
+        match self.sets_of(rtype) {
             Some(sets) => sets.automatic.as_slice(),
             None => &[],
         }
@@ -324,10 +325,18 @@ impl Schema {
     pub fn owned_sets(&self, rtype: RecordNo) -> &[SetNo]
         ensures { result.now ≡ filter (λ s. owns self.now s rtype) (set_numbers self.now) }
     {
-        match self.sets_of_types.get(rtype.index() as usize) {
+        match self.sets_of(rtype) {
             Some(sets) => sets.owned.as_slice(),
             None => &[],
         }
+    }
+
+    /// Both, where the schema has the record type.
+    fn sets_of(&self, rtype: RecordNo) -> Option<&SetsOfType>
+        ensures listed { IfSome result (λ sets. AreSetsOf self.now rtype sets.now) }
+        ensures past { IfNone result (AreSetsOf self.now rtype (record { automatic = []; owned = [] })) }
+    {
+        self.sets_of_types.get(rtype.index() as usize)
     }
 
     /// The same schema, in memory of its own.

@@ -1,11 +1,11 @@
 //! The sets in which a record type has a part. They are found once for each record type, when a schema is made, so that a
 //! statement goes through these alone and not through all sets of the schema.
 
-ghost use Rattle.std.specs.Prelude.{◌≡◌, ◌==◌, ◌≤◌, IfOk, length};
+ghost use Rattle.std.specs.Prelude.{◌≡◌, ◌==◌, ◌≤◌, ◌++◌, ◌∷◌, [], cond, IfOk, OnOk, length};
 ghost use Rattle.std.specs.List.{find};
 ghost use Rattle.dbtg_schema.specs.Lookups.{some_and};
-ghost use Rattle.dbtg_schema.specs.SetsOfTypes.{sets_alone, owned_sets, AreSetsOfEach};
-ghost use Rattle.dbtg_schema.specs.Structure.{automatic_sets, is_automatic};
+ghost use Rattle.dbtg_schema.specs.SetsOfTypes.{sets_alone, AreSetsOf, AreSetsOfEach};
+ghost use Rattle.dbtg_schema.specs.Structure.{is_automatic};
 
 use crate::numbers::{RecordNo, SetNo};
 use crate::row::Row;
@@ -32,20 +32,6 @@ fn connects(set: &SetType, rtype: RecordNo) -> bool
     }
 }
 
-/// The sets in which STORE connects a record of this type.
-fn automatic(alloc: Global, sets: &[SetType], rtype: RecordNo) -> Result<Row<SetNo>, AllocError>
-    requires { length sets.now ≤ 16 }
-    ensures { IfOk result (λ row. row ≡ automatic_sets (sets_alone sets.now) rtype) }
-{
-    let mut found = Row::of(Vec::new(alloc));
-    for (s, set) in sets.iter().enumerate() {
-        if connects(set, rtype) {
-            found.push(SetNo::new(s as u8))?;
-        }
-    }
-    Ok(found)
-}
-
 /// Is this record type the owner type of the set?
 fn owns(set: &SetType, rtype: RecordNo) -> bool
     ensures { result ≡ some_and (λ owner. owner == rtype) set.now.owner }
@@ -56,18 +42,29 @@ fn owns(set: &SetType, rtype: RecordNo) -> bool
     }
 }
 
-/// The sets that this record type owns.
-fn owned(alloc: Global, sets: &[SetType], rtype: RecordNo) -> Result<Row<SetNo>, AllocError>
-    requires { length sets.now ≤ 16 }
-    ensures { IfOk result (λ row. row ≡ owned_sets (sets_alone sets.now) rtype) }
+/// Adds the set to the list where its test has passed.
+fn list_if(passed: bool, list: &mut Row<SetNo>, set: SetNo) -> Result<(), AllocError>
+    ensures { OnOk result (list.new ≡ list.old ++ cond passed (set ∷ []) []) }
 {
-    let mut found = Row::of(Vec::new(alloc));
-    for (s, set) in sets.iter().enumerate() {
-        if owns(set, rtype) {
-            found.push(SetNo::new(s as u8))?;
-        }
+    if passed {
+        list.push(set)?;
     }
-    Ok(found)
+    Ok(())
+}
+
+/// The sets of this record type.
+fn sets_of_type(alloc: Global, sets: &[SetType], rtype: RecordNo) -> Result<SetsOfType, AllocError>
+    requires { length sets.now ≤ 16 }
+    ensures { IfOk result (λ listed. AreSetsOf (sets_alone sets.now) rtype listed) }
+{
+    let mut automatic = Row::of(Vec::new(alloc));
+    let mut owned = Row::of(Vec::new(alloc));
+    for (s, set) in sets.iter().enumerate() {
+        let number = SetNo::new(s as u8);
+        list_if(connects(set, rtype), &mut automatic, number)?;
+        list_if(owns(set, rtype), &mut owned, number)?;
+    }
+    Ok(SetsOfType { automatic, owned })
 }
 
 /// The sets of each of so many record types.
@@ -81,10 +78,7 @@ pub fn sets_of_each(
 {
     let mut each = Row::of(Vec::new(alloc));
     for t in 0..types {
-        let rtype = RecordNo::new(t);
-        let automatic = automatic(alloc, sets, rtype)?;
-        let owned = owned(alloc, sets, rtype)?;
-        each.push(SetsOfType { automatic, owned })?;
+        each.push(sets_of_type(alloc, sets, RecordNo::new(t))?)?;
     }
     Ok(each)
 }

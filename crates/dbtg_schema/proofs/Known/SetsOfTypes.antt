@@ -1,6 +1,6 @@
 -- The sets of a record type, found one after another; a type that is not there has none.
 use Rattle.std.proofs.Common.{◌≡◌, ℕ, zero, suc, ◌+◌, ◌<◌, ◌≤◌, ◌==◌, Bool, true, false, cond, List, [], ◌∷◌, ◌++◌, Option, None, Some, length, refl, sym, ap, subst, ◌∙◌, inl, inr, arith, add-one}
-use Rattle.std.specs.Prelude.{filter, slice_get, option_and_then, IfSome}
+use Rattle.std.specs.Prelude.{filter, slice_get, option_and_then, option_map, IfSome, IfNone}
 use Rattle.std.specs.List.{range_with_len, find, All}
 use Rattle.std.proofs.lemmas.Bool.{ne_eqb}
 use Rattle.std.proofs.lemmas.List.{append-nil}
@@ -9,12 +9,13 @@ use Rattle.std.proofs.lemmas.Option.{get_or_from_slice_get, slice_get_cases, sli
 use Rattle.dbtg_schema.specs.Connecting.{connects_in}
 use Rattle.dbtg_schema.specs.Lists.{Lists}
 use Rattle.dbtg_schema.specs.Lookups.{some_and}
-use Rattle.dbtg_schema.specs.SetsOfTypes.{owned_sets, AreSetsOfEach}
+use Rattle.dbtg_schema.specs.SetsOfTypes.{sets_alone, owned_sets, AreSetsOf, AreSetsOfEach}
 use Rattle.dbtg_schema.specs.Structure.{automatic_sets, is_automatic, owns, set_numbers}
 use Rattle.dbtg_schema.specs.WellFormed.{IsSchema, IsSetType}
 use Rattle.dbtg_schema.specs.declared.shape.Member.{Member}
 use Rattle.dbtg_schema.specs.declared.shape.SetType.{SetType}
 use Rattle.dbtg_schema.specs.declared.sets_of_type.SetsOfType.{SetsOfType}
+use Rattle.dbtg_schema.proofs.Known.EachAt.{one_at}
 use Rattle.dbtg_schema.proofs.Known.Erasings.{filter_none}
 
 range_more : (i n : ℕ) → range_with_len i (suc n) ≡ range_with_len i n ++ (i + n) ∷ []
@@ -30,18 +31,14 @@ filter_more p n =
     ∙ ap (filter p) (range_more 0 n ∙ ap (λ (k : ℕ). range_with_len 0 n ++ k ∷ []) e)
     ∙ filter-append p (range_with_len 0 n) (n ∷ [])
 
--- a number that passes is one more
-pub one_more_listed : (p : ℕ → Bool) (n : ℕ) (row new : List ℕ) → p n ≡ true → row ≡ filter p (range_with_len 0 n) → new ≡ row ++ n ∷ [] → new ≡ filter p (range_with_len 0 (n + 1))
-one_more_listed p n row new is same pushed =
-    pushed ∙ ap (λ (ks : List ℕ). ks ++ n ∷ []) same ∙ sym (filter_more p n ∙ ap (λ b. filter p (range_with_len 0 n) ++ cond b (n ∷ []) []) is)
-
--- one that does not pass is none
-pub none_more_listed : (p : ℕ → Bool) (n : ℕ) (row : List ℕ) → p n ≡ false → row ≡ filter p (range_with_len 0 n) → row ≡ filter p (range_with_len 0 (n + 1))
-none_more_listed p n row is same =
-    same ∙ sym (filter_more p n ∙ ap (λ b. filter p (range_with_len 0 n) ++ cond b (n ∷ []) []) is ∙ append-nil (filter p (range_with_len 0 n)))
+-- a number that is listed where its test passes
+pub one_more_tested : (p : ℕ → Bool) (n number : ℕ) (passed : Bool) (row new : List ℕ) → number ≡ n → p n ≡ passed → row ≡ filter p (range_with_len 0 n) → new ≡ row ++ cond passed (number ∷ []) [] → new ≡ filter p (range_with_len 0 (n + 1))
+one_more_tested p n number passed row new same_number tested same listed =
+    listed ∙ ap (λ (k : ℕ). row ++ cond passed (k ∷ []) []) same_number ∙ ap (λ (ks : List ℕ). ks ++ cond passed (n ∷ []) []) same
+    ∙ sym (filter_more p n ∙ ap (λ b. filter p (range_with_len 0 n) ++ cond b (n ∷ []) []) tested)
 
 -- of a type for which nothing is kept, there is none
-pub none_kept : (each : List SetsOfType) (types : ℕ) (sets : List SetType) (t : ℕ) → AreSetsOfEach each types sets → slice_get each t ≡ None → types ≤ t
+none_kept : (each : List SetsOfType) (types : ℕ) (sets : List SetType) (t : ℕ) → AreSetsOfEach each types sets → slice_get each t ≡ None → types ≤ t
 none_kept each types sets t kept none =
     let many = kept.many in
     elim (slice_get_cases each t).1 [ inl w ↦ (let both = sym none ∙ w.2 in absurd cc) | inr w ↦ (let past = w.0 in omega (arith, many, past)) ]
@@ -74,9 +71,22 @@ module _ (schema : Lists) (limits : IsSchema schema) (t : ℕ) (past : length sc
   owns_none s (Some set) is = no_owner set.owner (set_of s set is).owner
 
   -- STORE connects no record of a type that is not there
-  pub none_automatic : automatic_sets schema t ≡ []
+  none_automatic : automatic_sets schema t ≡ []
   none_automatic = filter_none (λ s. connects_in schema s t) (set_numbers schema) (λ s. connects_none s (slice_get schema.sets s) refl)
 
   -- such a type owns no set
-  pub none_owned : owned_sets schema t ≡ []
+  none_owned : owned_sets schema t ≡ []
   none_owned = filter_none (λ s. owns schema s t) (set_numbers schema) (λ s. owns_none s (slice_get schema.sets s) refl)
+
+module _ (schema : Lists) (limits : IsSchema schema) (each : List SetsOfType) (t : ℕ) (kept : AreSetsOfEach each (length schema.types) schema.sets) {B : Type 0} (now : B → SetsOfType) where
+  -- what is found for a type are its sets
+  pub found_are_sets_of : (o : Option B) → option_map now o ≡ slice_get each t → IfSome o (λ b. AreSetsOf schema t (now b))
+  found_are_sets_of None is = tt
+  found_are_sets_of (Some b) is = one_at (AreSetsOf (sets_alone schema.sets)) each t (now b) kept.right (sym is)
+
+  -- a type for which nothing is found has none
+  pub none_found_is_none : (o : Option B) → option_map now o ≡ slice_get each t → IfNone o (AreSetsOf schema t (record { automatic = []; owned = [] }))
+  none_found_is_none None is =
+      let past = none_kept each (length schema.types) schema.sets t kept (sym is) in
+      (sym (none_automatic schema limits t past), sym (none_owned schema limits t past))
+  none_found_is_none (Some b) is = tt

@@ -1,8 +1,6 @@
-use Rattle.std.proofs.Common.{◌∷◌, ◌∙◌, [], ap, sym, subst, length, length-append, arith}
+use Rattle.std.proofs.Common.{◌∷◌, ◌∙◌, [], ap, sym, subst, length, length-append, arith, ℕ}
 use Rattle.dbtg_schema.specs.Lookups.{EachAt}
-use Rattle.dbtg_schema.specs.SetsOfTypes.{sets_alone, owned_sets, AreSetsOf}
-use Rattle.dbtg_schema.specs.Structure.{automatic_sets}
-use Rattle.dbtg_schema.specs.declared.sets_of_type.SetsOfType.{SetsOfType}
+use Rattle.dbtg_schema.specs.SetsOfTypes.{sets_alone, AreSetsOf}
 use Rattle.dbtg_schema.proofs.Known.EachAt.{none_at, one_more_at}
 use Rattle.dbtg_schema.proofs.sets_of_type.sets_of_each.Goals as goal
 
@@ -17,16 +15,15 @@ loop-t-init c =
 
 pub loop-t-preserved : goal.loop-t-preserved
 loop-t-preserved c =
-    let alone = sets_alone c.args.sets.now in
+    let of_type = AreSetsOf (sets_alone c.args.sets.now) in
     let so_far = c.loop-t.invariant in
-    let kept : SetsOfType = record { automatic = c.in_ok-automatic.automatic; owned = c.in_ok-owned.owned } in
-    let same_type = c.new-rtype.ensures in
-    let more : AreSetsOf alone c.loop-t.t kept = (c.in_ok-automatic.ensures ∙ ap (automatic_sets alone) same_type, c.in_ok-owned.ensures ∙ ap (owned_sets alone) same_type) in
+    let listed = c.in_ok-sets_of_type.field-0 in
+    let more = subst (λ (t : ℕ). of_type t listed) c.new-in-loop-t.ensures c.in_ok-sets_of_type.ensures in
     let pushed = c.in_ok-push.ensures.ok in
-    let longer = length-append c.loop-t.each (kept ∷ []) in
+    let longer = length-append c.loop-t.each (listed ∷ []) in
     let many = so_far.many in
     let same = ap length pushed in
     record {
       many = omega (arith, same, longer, many);
-      right = subst (EachAt (AreSetsOf alone)) (sym pushed) (one_more_at (AreSetsOf alone) c.loop-t.each kept c.loop-t.t many so_far.right more);
+      right = subst (EachAt of_type) (sym pushed) (one_more_at of_type c.loop-t.each listed c.loop-t.t many so_far.right more);
     }
