@@ -1,4 +1,4 @@
-use Rattle.std.proofs.Common.{◌≡◌, ◌==◌, ◌∙◌, ℕ, [], ◌∷◌, ◌++◌, cond, ap, refl, sym}
+use Rattle.std.proofs.Common.{◌==◌, ◌∙◌, ℕ, ap, refl, sym}
 use Rattle.std.specs.Prelude.{option_and_then}
 use Rattle.std.specs.List.{find}
 use Rattle.std.proofs.lemmas.Option.{slice_get_read}
