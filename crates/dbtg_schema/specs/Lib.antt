@@ -6,6 +6,7 @@ pub mod NameIndexes
 pub mod WellFormed
 pub mod Erasing
 pub mod Connecting
+pub mod SetsOfTypes
 pub mod Sound
 pub mod Named
 pub mod Laws

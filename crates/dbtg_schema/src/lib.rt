@@ -21,6 +21,7 @@ mod role;
 mod row;
 mod scanner;
 mod schema;
+mod sets_of_type;
 mod shape;
 
 pub use erasing::AreaSet;

@@ -1,9 +1,10 @@
 //! A schema, and what it says of its record types, sets and areas by their numbers. Look-ups take no memory.
 
-ghost use Rattle.std.specs.Prelude.{◌≡◌, ◌==◌, ◌≤◌, length, None, IfOk, IfSome, map, IfErr, OnOk, option_map, slice_get};
+ghost use Rattle.std.specs.Prelude.{◌≡◌, ◌==◌, ◌≤◌, length, None, [], IfNone, IfOk, IfSome, filter, map, IfErr, OnOk, option_map, slice_get};
 ghost use Rattle.dbtg_schema.specs.Connecting.{AreConnecting};
 ghost use Rattle.dbtg_schema.specs.Erasing.{AreErased};
 ghost use Rattle.dbtg_schema.specs.Lookups.{some_and};
+ghost use Rattle.dbtg_schema.specs.SetsOfTypes.{AreSetsOf};
 ghost use Rattle.dbtg_schema.specs.Texts.Words.{text_words};
 ghost use Rattle.dbtg_schema.specs.Texts.Forms.{labels, Derives};
 ghost use Rattle.dbtg_schema.specs.Texts.SchemaGrammar.{fits, schema};
@@ -15,7 +16,7 @@ ghost use Rattle.dbtg_schema.specs.WellFormed.{IsSchema};
 ghost use Rattle.dbtg_schema.specs.Sound.{IsSound};
 ghost use Rattle.dbtg_schema.specs.Named.{IsNamed};
 ghost use Rattle.std.specs.List.{find};
-ghost use Rattle.dbtg_schema.specs.Structure.{place_of, owner_type, is_system, owns, member_clause, is_automatic, is_mandatory, area_of, calc_of, home, order_of, item_list, picture_of};
+ghost use Rattle.dbtg_schema.specs.Structure.{place_of, owner_type, is_system, owns, member_clause, is_automatic, is_mandatory, area_of, calc_of, home, order_of, item_list, picture_of, automatic_sets, set_numbers};
 
 use crate::build::{areas, sets, text_of, types};
 use crate::connecting::{SetMarks, connects_by_clause, sets_connecting_each};
@@ -29,6 +30,7 @@ use crate::queries::Labelled;
 use crate::reader::read as read_words;
 use crate::role::Role;
 use crate::row::Row;
+use crate::sets_of_type::{SetsOfType, sets_of_each};
 use crate::shape::{Area, Calc, Class, Item, Member, Order, Picture, RecordType, SetType};
 use std::alloc::{AllocError, Global};
 use std::marker::Model;
@@ -41,6 +43,8 @@ pub struct Schema {
     types: Row<RecordType>,
     sets: Row<SetType>,
     index: SchemaIndex,
+    /// Of each record type the sets in which STORE connects its records, and those that it owns.
+    sets_of_types: Row<SetsOfType>,
     /// Of each record type the sets in which STORE connects its records; of none while they are worked out.
     connecting: Row<SetMarks>,
     /// Of each record type the areas that a DELETE may reach; of none while they are worked out.
@@ -55,11 +59,13 @@ impl Model for Schema {
     ghost use Rattle.dbtg_schema.specs.Connecting.{AreConnectingOfEach};
     ghost use Rattle.dbtg_schema.specs.Erasing.{AreErasedOfEach};
     ghost use Rattle.dbtg_schema.specs.NameIndexes.{IsSchemaIndex};
+    ghost use Rattle.dbtg_schema.specs.SetsOfTypes.{AreSetsOfEach};
     ghost use Rattle.dbtg_schema.specs.WellFormed.{IsSchema};
+    ghost use Rattle.std.specs.Prelude.{length};
 
     ghost view = { λ a. record { name = a.name; areas = a.areas; types = a.types; sets = a.sets } };
 
-    ghost invariant = { λ a. IsSchema (record { name = a.name; areas = a.areas; types = a.types; sets = a.sets }) × IsSchemaIndex a.index a.areas a.types a.sets × AreErasedOfEach a.erased (record { name = a.name; areas = a.areas; types = a.types; sets = a.sets }) × AreConnectingOfEach a.connecting (record { name = a.name; areas = a.areas; types = a.types; sets = a.sets }) };
+    ghost invariant = { λ a. IsSchema (record { name = a.name; areas = a.areas; types = a.types; sets = a.sets }) × IsSchemaIndex a.index a.areas a.types a.sets × AreErasedOfEach a.erased (record { name = a.name; areas = a.areas; types = a.types; sets = a.sets }) × AreConnectingOfEach a.connecting (record { name = a.name; areas = a.areas; types = a.types; sets = a.sets }) × AreSetsOfEach a.sets_of_types (length a.types) a.sets };
 }
 
 /// Works out the sets in which STORE connects.
@@ -102,12 +108,14 @@ fn of_lists(
     ensures { IfOk result (λ s. s ≡ record { name = name; areas = areas; types = types; sets = sets }) }
 {
     let index = SchemaIndex::of(alloc, areas.as_slice(), types.as_slice(), sets.as_slice())?;
+    let sets_of_types = sets_of_each(alloc, sets.as_slice(), types.len() as u8)?;
     let schema = Schema {
         name,
         areas,
         types,
         sets,
         index,
+        sets_of_types,
         connecting: Row::of(Vec::new(alloc)),
         erased: Row::of(Vec::new(alloc)),
     };
@@ -143,7 +151,8 @@ impl Class {
     }
 }
 
-fn clause_for(members: &[Member], rtype: RecordNo) -> Option<Member>
+/// The first member clause of this record type.
+pub fn clause_for(members: &[Member], rtype: RecordNo) -> Option<Member>
     ensures { result ≡ find (λ member. member.rtype == rtype) members.now }
 {
     for member in members {
@@ -300,6 +309,34 @@ impl Schema {
             Some(sets) => sets.contains(set),
             None => connects_by_clause(self, set, rtype),
         }
+    }
+
+    /// The sets in which STORE connects a record of this type, in the order of the schema.
+    pub fn automatic_sets(&self, rtype: RecordNo) -> &[SetNo]
+        ensures { result.now ≡ automatic_sets self.now rtype }
+    {
+        match self.sets_of(rtype) {
+            Some(sets) => sets.automatic.as_slice(),
+            None => &[],
+        }
+    }
+
+    /// The sets that a record type owns, in the order of the schema.
+    pub fn owned_sets(&self, rtype: RecordNo) -> &[SetNo]
+        ensures { result.now ≡ filter (λ s. owns self.now s rtype) (set_numbers self.now) }
+    {
+        match self.sets_of(rtype) {
+            Some(sets) => sets.owned.as_slice(),
+            None => &[],
+        }
+    }
+
+    /// Both, where the schema has the record type.
+    fn sets_of(&self, rtype: RecordNo) -> Option<&SetsOfType>
+        ensures listed { IfSome result (λ sets. AreSetsOf self.now rtype sets.now) }
+        ensures past { IfNone result (AreSetsOf self.now rtype (record { automatic = []; owned = [] })) }
+    {
+        self.sets_of_types.get(rtype.index() as usize)
     }
 
     /// The same schema, in memory of its own.

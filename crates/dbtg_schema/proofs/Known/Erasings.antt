@@ -54,7 +54,8 @@ any_range p q i zero h = refl
 any_range p q i (suc n) h =
     ap (λ z. z || list_any p (range_with_len (i + 1) n)) (h i (omega arith)) ∙ ap (λ z. q i || z) (any_range p q (i + 1) n (λ k l. h k (omega arith)))
 
-filter_none : (p : ℕ → Bool) (xs : List ℕ) → ((k : ℕ) → p k ≡ false) → filter p xs ≡ []
+-- a test that nothing passes keeps nothing
+pub filter_none : (p : ℕ → Bool) (xs : List ℕ) → ((k : ℕ) → p k ≡ false) → filter p xs ≡ []
 filter_none p [] h = refl
 filter_none p (x ∷ xs) h = ap (λ b. cond b (x ∷ filter p xs) (filter p xs)) (h x) ∙ filter_none p xs h
 
