@@ -326,7 +326,8 @@ fn edits_of(
     ensures { IfOk result (λ edits. edits ≡ store_edits schema.now unit.now key.now items.now) }
 {
     let calc = copy_calc(alloc, schema, key.rtype, items.as_slice())?;
-    let mut edits = Vec::new(alloc);
+    // Most records have a number, a set joined, one opened, and a slot.
+    let mut edits = Vec::with_capacity(alloc, 4)?;
     edits.push(CellEdit {
         name: CellName::Extent(key.rtype),
         edit: Edit::EnterNumber {
