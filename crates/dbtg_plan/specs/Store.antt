@@ -1,36 +1,32 @@
--- STORE, read off the cells in hand: the cells that it needs; what it does; and then, set by set as the code goes, its checks, its
--- edits, its owners and its room.
+-- STORE, read off the cells in hand: the cells that it needs; what it does; and then, set by set as the code goes, the occurrences that
+-- it opens and its room.
 -- k is the key of the new record, s a set, t its record type, c the name of a cell.
-use Rattle.std.specs.Prelude.{◌≡◌, ℕ, Bool, true, false, ◌==◌, List, [], ◌∷◌, ◌++◌, Option, Some, None, if◌then◌else◌, option_map, unwrap_or}
+use Rattle.std.specs.Prelude.{◌≡◌, ℕ, Bool, true, false, ◌==◌, List, [], ◌∷◌, ◌++◌, Option, Some, None, if◌then◌else◌, unwrap_or}
 use Rattle.std.specs.List.{list_any}
 use Rattle.dbtg_schema.specs.Lists.{Lists}
 use Rattle.dbtg_schema.specs.Lookups.{first, first_cause}
 use Rattle.dbtg_schema.specs.Structure.{automatic_sets, owns}
 use Rattle.dbtg_cells.specs.declared.key.DbKey.{DbKey}
-use Rattle.dbtg_cells.specs.declared.key.Owner.{Owner}
 use Rattle.dbtg_cells.specs.declared.key.Owner.TheVariants.{Rec}
 use Rattle.dbtg_cells.specs.declared.key.Value.{Value}
 use Rattle.dbtg_cells.specs.declared.name.CellName.{CellName}
 use Rattle.dbtg_cells.specs.declared.name.CellName.TheVariants.{Extent, Ring}
-use Rattle.dbtg_unit.specs.Database.Statements.Checks.{place_checks, store_checks}
+use Rattle.dbtg_unit.specs.Database.Statements.Checks.{store_checks}
 use Rattle.dbtg_unit.specs.Database.Statements.Conditions.{calc_taken}
 use Rattle.dbtg_cells.specs.Numbers.{is_free, numbers_where}
 use Rattle.dbtg_unit.specs.declared.edit.CellEdit.{CellEdit}
 use Rattle.dbtg_unit.specs.declared.edit.Edit.TheVariants.{OpenRing}
 use Rattle.dbtg_unit.specs.declared.edit.UnitEdit.TheVariants.{See}
 use Rattle.dbtg_unit.specs.declared.statement.Suppress.{Suppress}
-use Rattle.dbtg_unit.specs.declared.unit.Cause.{Cause}
 use Rattle.dbtg_unit.specs.declared.unit.Status.TheVariants.{Done}
 use Rattle.dbtg_unit.specs.declared.unit.Unit.{Unit}
-use Rattle.dbtg_unit.specs.Database.State.Base.{key_item}
 use Rattle.dbtg_unit.specs.Database.State.CellNames.{place_of, slot_name}
-use Rattle.dbtg_unit.specs.Hands.EditsOf.{first_owners, joining_edits, store_edits}
+use Rattle.dbtg_unit.specs.Hands.EditsOf.{first_owners, store_edits}
 use Rattle.dbtg_unit.specs.Hands.Hands.{Hands}
 use Rattle.dbtg_unit.specs.Hands.InHand.{numbers_in, in_hand, next_key_of}
 use Rattle.dbtg_unit.specs.Hands.Needs.{current_owner, ring_names, store_rings}
 use Rattle.dbtg_unit.specs.Hands.Prepared.{Plan, unless_refusal}
 use Rattle.dbtg_unit.specs.Hands.Reserving.{CanTakeMember, OfHeld}
-use Rattle.dbtg_unit.specs.Database.State.Units.{place_in}
 use Rattle.dbtg_plan.specs.Calc.{fresh_key}
 use Rattle.dbtg_plan.specs.Joining.{joined_place}
 use Rattle.dbtg_plan.specs.Missing.{first_missing}
@@ -80,21 +76,9 @@ store_plan schema unit hands t items suppress =
 
 -- STEP BY STEP
 
--- the checks of set s; none where STORE does not connect a record of type t
-abbrev pub join_checks : Lists → Unit → Hands → ℕ → List Value → ℕ → List (Bool × Cause)
-join_checks schema unit hands t items s = if list_any (λ s'. s' == s) (automatic_sets schema t) then place_checks schema (in_hand hands) unit s (key_item schema s t items) else []
-
--- the edits by which k joins set s
-abbrev pub joins_of : Lists → Unit → DbKey → List Value → ℕ → List CellEdit
-joins_of schema unit k items s = if list_any (λ s'. s' == s) (automatic_sets schema k.rtype) then joining_edits schema unit s k (key_item schema s k.rtype items) else []
-
--- the edit by which k opens an occurrence of set s
-abbrev pub openings_of : Lists → DbKey → ℕ → List CellEdit
-openings_of schema k s = if owns schema s k.rtype then record { name = Ring s (Some (k.rtype, k.number)); edit = OpenRing (Rec k) } ∷ [] else []
-
--- the owner in set s of a new record of type t
-abbrev pub first_owner : Lists → Unit → ℕ → ℕ → Option Owner
-first_owner schema unit t s = if list_any (λ s'. s' == s) (automatic_sets schema t) then option_map (λ place. place.owner) (place_in schema unit s) else None
+-- the edit by which k opens its occurrence of set s
+abbrev pub opening_edit : DbKey → ℕ → CellEdit
+opening_edit k s = record { name = Ring s (Some (k.rtype, k.number)); edit = OpenRing (Rec k) }
 
 -- there is room for k in the current occurrence of set s, where it joins the set
 abbrev pub HasRoom : Lists → Unit → Hands → DbKey → ℕ → Type 0

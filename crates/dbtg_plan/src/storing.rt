@@ -1,5 +1,5 @@
 //! STORE: what it needs next, and what it does once it needs nothing more.
-ghost use Rattle.std.specs.Prelude.{◌≡◌, ℕ, ◌==◌, ◌++◌, [], ◌∷◌, false, is_none, if◌then◌else◌, IfOk, OnOk};
+ghost use Rattle.std.specs.Prelude.{◌≡◌, ℕ, ◌==◌, ◌++◌, [], ◌∷◌, false, is_none, if◌then◌else◌, filter, IfOk, OnOk};
 ghost use Rattle.std.specs.List.{flat_map, list_any};
 ghost use Rattle.dbtg_cells.specs.declared.key.DbKey.{DbKey};
 ghost use Rattle.dbtg_schema.specs.Lookups.{first_cause};
@@ -7,20 +7,16 @@ ghost use Rattle.dbtg_schema.specs.Structure.{automatic_sets, owns, set_numbers}
 ghost use Rattle.dbtg_unit.specs.Database.Statements.Checks.{place_checks, store_checks};
 ghost use Rattle.dbtg_unit.specs.declared.statement.Statement.TheVariants.{Store};
 ghost use Rattle.dbtg_unit.specs.Database.State.Base.{Database, key_item};
-ghost use Rattle.dbtg_unit.specs.Database.State.CellNames.{place_of};
 ghost use Rattle.dbtg_unit.specs.Database.Statements.Checks.{refused_at_once};
 ghost use Rattle.dbtg_unit.specs.Hands.EditsOf.{first_owners, joining_edits, slot_edit, store_edits};
 ghost use Rattle.dbtg_unit.specs.Hands.InHand.{numbers_in, in_hand};
 ghost use Rattle.dbtg_unit.specs.Hands.Local.{Agrees};
 ghost use Rattle.dbtg_unit.specs.Hands.Making.{CanFinish, MayPrepare, ShowsTheSame};
 ghost use Rattle.dbtg_unit.specs.Hands.Needs.{cells_of, current_owner, ring_names, store_rings};
-ghost use Rattle.dbtg_unit.specs.Hands.Reserving.{KeepsOthers};
-ghost use Rattle.dbtg_unit.specs.Database.State.Units.{place_in};
 ghost use Rattle.dbtg_unit.specs.Hands.Prepared.{unless_refusal};
 ghost use Rattle.dbtg_plan.specs.Calc.{fresh_key};
-ghost use Rattle.dbtg_plan.specs.Joining.{joined_place};
 ghost use Rattle.dbtg_plan.specs.Missing.{first_missing};
-ghost use Rattle.dbtg_plan.specs.Store.{HasRoom, first_owner, join_checks, joins_of, missing_of_store, openings_of, store_plan, store_rings_in, stored_plan};
+ghost use Rattle.dbtg_plan.specs.Store.{HasRoom, missing_of_store, opening_edit, store_plan, store_rings_in, stored_plan};
 
 use crate::calc::{copy_calc, fresh_key, is_calc_taken};
 use crate::joining::{current_owner, joining_edit, make_room, place_refusal};
@@ -40,6 +36,22 @@ fn connects(schema: &Schema, set: SetNo, rtype: RecordNo) -> bool
     ensures { result ≡ list_any (λ s. s == set) (automatic_sets schema.now rtype) }
 {
     is_automatic_in(schema, set, rtype)
+}
+
+// TEMPORARY, until the schema has these two methods: its lists of the sets in which STORE connects a record of a type, and of the sets that
+// the type owns.
+fn automatic_sets<'a>(schema: &'a Schema, rtype: RecordNo) -> &'a [SetNo]
+    ensures { result.now ≡ automatic_sets schema.now rtype }
+{
+    let _ = (schema, rtype);
+    &[]
+}
+
+fn owned_sets<'a>(schema: &'a Schema, rtype: RecordNo) -> &'a [SetNo]
+    ensures { result.now ≡ filter (λ s. owns schema.now s rtype) (set_numbers schema.now) }
+{
+    let _ = (schema, rtype);
+    &[]
 }
 
 // WHAT IT NEEDS
@@ -171,11 +183,8 @@ fn refusal_in_set(
     items: &[Value],
     set: SetNo,
 ) -> Result<Option<Cause>, AllocError>
-    ensures { IfOk result (λ cause. cause ≡ first_cause (join_checks schema.now unit.now held.now rtype items.now set)) }
+    ensures { IfOk result (λ cause. cause ≡ first_cause (place_checks schema.now (in_hand held.now) unit.now set (key_item schema.now set rtype items.now))) }
 {
-    if !connects(schema, set, rtype) {
-        return Ok(None);
-    }
     let sort_key = copy_sort_key(alloc, schema, set, rtype, items)?;
     Ok(place_refusal(schema, unit, held, set, &sort_key))
 }
@@ -190,9 +199,8 @@ fn refusal_in_sets(
 ) -> Result<Option<Cause>, AllocError>
     ensures { IfOk result (λ cause. cause ≡ first_cause (flat_map (λ s. place_checks schema.now (in_hand held.now) unit.now s (key_item schema.now s rtype items.now)) (automatic_sets schema.now rtype))) }
 {
-    for s in 0..set_count(schema) {
-        let set = SetNo::new(s);
-        let cause = refusal_in_set(alloc, schema, unit, held, rtype, items, set)?;
+    for set in automatic_sets(schema, rtype) {
+        let cause = refusal_in_set(alloc, schema, unit, held, rtype, items, *set)?;
         if cause.is_some() {
             return Ok(cause);
         }
@@ -229,11 +237,8 @@ fn push_join(
     set: SetNo,
     edits: &mut Vec<CellEdit>,
 ) -> Result<(), AllocError>
-    ensures { OnOk result (edits.new.items ≡ edits.old.items ++ joins_of schema.now unit.now key.now items.now set) }
+    ensures { OnOk result (edits.new.items ≡ edits.old.items ++ joining_edits schema.now unit.now set key.now (key_item schema.now set key.now.rtype items.now)) }
 {
-    if !connects(schema, set, key.rtype) {
-        return Ok(());
-    }
     if unit.place_in(schema, set).is_none() {
         return Ok(());
     }
@@ -252,58 +257,39 @@ fn push_joins(
 ) -> Result<(), AllocError>
     ensures { OnOk result (edits.new.items ≡ edits.old.items ++ flat_map (λ s. joining_edits schema.now unit.now s key.now (key_item schema.now s key.now.rtype items.now)) (automatic_sets schema.now key.now.rtype)) }
 {
-    for s in 0..set_count(schema) {
-        push_join(alloc, schema, unit, key, items, SetNo::new(s), edits)?;
+    for set in automatic_sets(schema, key.rtype) {
+        push_join(alloc, schema, unit, key, items, *set, edits)?;
     }
     Ok(())
 }
 
-fn push_opening(
-    schema: &Schema,
-    key: &DbKey,
-    set: SetNo,
-    edits: &mut Vec<CellEdit>,
-) -> Result<(), AllocError>
-    ensures { OnOk result (edits.new.items ≡ edits.old.items ++ openings_of schema.now key.now set) }
+// The edit by which a new record opens its occurrence of a set that its type owns.
+fn opening_edit(key: &DbKey, set: SetNo) -> CellEdit
+    ensures { result ≡ opening_edit key.now set }
 {
-    if !schema.owns(set, key.rtype) {
-        return Ok(());
-    }
-    edits.push(CellEdit {
+    CellEdit {
         name: CellName::Ring(set, Some((key.rtype, key.number))),
         edit: Edit::OpenRing {
             owner: Owner::Rec(*key),
         },
-    })?;
-    Ok(())
+    }
 }
 
 fn push_openings(schema: &Schema, key: &DbKey, edits: &mut Vec<CellEdit>) -> Result<(), AllocError>
-    ensures { OnOk result (edits.new.items ≡ edits.old.items ++ flat_map (openings_of schema.now key.now) (set_numbers schema.now)) }
+    ensures { OnOk result (edits.new.items ≡ edits.old.items ++ flat_map (λ s. opening_edit key.now s ∷ []) (filter (λ s. owns schema.now s key.now.rtype) (set_numbers schema.now))) }
 {
-    for s in 0..set_count(schema) {
-        push_opening(schema, key, SetNo::new(s), edits)?;
+    for set in owned_sets(schema, key.rtype) {
+        edits.push(opening_edit(key, *set))?;
     }
     Ok(())
-}
-
-fn first_owner(schema: &Schema, unit: &Unit, rtype: RecordNo, set: SetNo) -> Option<Owner>
-    ensures { result ≡ first_owner schema.now unit.now rtype set }
-{
-    if connects(schema, set, rtype) {
-        current_owner(schema, unit, set)
-    } else {
-        None
-    }
 }
 
 fn first_owners(schema: &Schema, unit: &Unit, rtype: RecordNo) -> Owners
     ensures { result ≡ first_owners schema.now unit.now rtype }
 {
     let mut owners = Owners::none(schema.sets().len());
-    for s in 0..set_count(schema) {
-        let owner = first_owner(schema, unit, rtype, SetNo::new(s));
-        owners.set(s as usize, owner);
+    for set in automatic_sets(schema, rtype) {
+        owners.set(set.index() as usize, current_owner(schema, unit, *set));
     }
     owners
 }
@@ -340,7 +326,8 @@ fn edits_of(
     ensures { IfOk result (λ edits. edits ≡ store_edits schema.now unit.now key.now items.now) }
 {
     let calc = copy_calc(alloc, schema, key.rtype, items.as_slice())?;
-    let mut edits = Vec::new(alloc);
+    // Most records have a number, a set joined, one opened, and a slot.
+    let mut edits = Vec::with_capacity(alloc, 4)?;
     edits.push(CellEdit {
         name: CellName::Extent(key.rtype),
         edit: Edit::EnterNumber {
@@ -381,29 +368,12 @@ fn stored(
 
 // ITS PLACES
 
-fn make_place(
-    schema: &Schema,
-    unit: &Unit,
-    held: &mut Held,
-    key: &DbKey,
-    set: SetNo,
-) -> Result<(), AllocError>
-    ensures same { ShowsTheSame held.old held.new }
-    ensures others { KeepsOthers (CellName.Ring set (place_of (joined_place schema.now unit.now set).owner)) held.old.cells held.new.cells }
-    ensures room { OnOk result (HasRoom schema.now unit.now held.new key.now set) }
-{
-    if !connects(schema, set, key.rtype) {
-        return Ok(());
-    }
-    make_room(schema, unit, set, held, key)
-}
-
 fn make_places(schema: &Schema, unit: &Unit, held: &mut Held, key: &DbKey) -> Result<(), AllocError>
     ensures same { ShowsTheSame held.old held.new }
     ensures rooms { OnOk result ((s : ℕ) → HasRoom schema.now unit.now held.new key.now s) }
 {
-    for s in 0..set_count(schema) {
-        make_place(schema, unit, held, key, SetNo::new(s))?;
+    for set in automatic_sets(schema, key.rtype) {
+        make_room(schema, unit, *set, held, key)?;
     }
     Ok(())
 }

@@ -1,5 +1,5 @@
 -- The numbers of an extent, one after another.
-use Rattle.std.proofs.Common.{◌≡◌, refl, subst, ℕ, suc, ◌+◌, ◌<◌, true, cond, List, [], ◌∷◌, Some, arith, inl, inr}
+use Rattle.std.proofs.Common.{◌≡◌, refl, subst, ℕ, suc, ◌+◌, ◌<◌, Bool, true, cond, List, [], ◌∷◌, Some, arith, inl, inr}
 use Rattle.std.specs.Prelude.{is_none, nat_lt, slice_get}
 use Rattle.std.proofs.lemmas.Bool.{and_parts, cases_Bool, ltb-true}
 use Rattle.std.proofs.lemmas.Option.{none-some, same_Some}

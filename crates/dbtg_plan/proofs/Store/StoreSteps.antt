@@ -1,9 +1,10 @@
 -- The steps of a STORE over the sets of a schema.
 -- s is a set, t a record type, i how many sets are behind.
-use Rattle.std.proofs.Common.{◌≡◌, ◌≢◌, refl, sym, ◌∙◌, ap, ℕ, zero, suc, ◌+◌, ◌<◌, ◌≤◌, Bool, true, false, cond, List, [], ◌∷◌, ◌++◌, Option, Some, None, eqb, inl, inr, map, drop, length, append_assoc, append-nil, arith}
-use Rattle.std.specs.Prelude.{filter, is_some, option_and_then, replicate, slice_get}
+use Rattle.std.proofs.Common.{◌≡◌, refl, sym, ◌∙◌, ap, subst, ℕ, zero, suc, ◌+◌, ◌<◌, Bool, true, false, cond, ◌&&◌, ◌||◌, List, [], ◌∷◌, ◌++◌, Option, Some, None, eqb, inl, inr, map, drop, get_or, length, append_assoc, arith}
+use Rattle.std.specs.Prelude.{filter, is_some, option_and_then, replicate, slice_get, slice_set}
 use Rattle.std.specs.List.{enumerate_from, find, flat_map, list_any, range_with_len}
-use Rattle.std.proofs.lemmas.Bool.{cases_Bool, false_from_ne_true, false≢true}
+use Rattle.std.proofs.lemmas.Bool.{cases_Bool, eq-eqb, eqb-false, eqb-true, false_from_ne_true, false≢true}
+use Rattle.std.proofs.lemmas.List.{drop_more}
 use Rattle.std.proofs.lemmas.List.Folds.{find-append}
 use Rattle.dbtg_schema.specs.Lists.{Lists}
 use Rattle.dbtg_schema.specs.Lookups.{first_cause, some_and}
@@ -11,20 +12,24 @@ use Rattle.dbtg_schema.specs.Structure.{automatic_sets, is_automatic, member_cla
 use Rattle.dbtg_schema.specs.declared.shape.SetType.{SetType}
 use Rattle.dbtg_cells.specs.declared.key.DbKey.{DbKey}
 use Rattle.dbtg_cells.specs.declared.key.Owner.{Owner}
-use Rattle.dbtg_cells.specs.declared.key.Owner.TheVariants.{Rec}
 use Rattle.dbtg_cells.specs.declared.key.Value.{Value}
 use Rattle.dbtg_cells.specs.declared.name.CellName.{CellName}
 use Rattle.dbtg_cells.specs.declared.name.CellName.TheVariants.{Extent, Ring}
+use Rattle.dbtg_cells.specs.Names.{place_eq}
 use Rattle.dbtg_cells.proofs.Public.{index_within}
 use Rattle.dbtg_unit.specs.declared.edit.CellEdit.{CellEdit}
-use Rattle.dbtg_unit.specs.declared.edit.Edit.TheVariants.{EnterNumber, Fill, OpenRing}
+use Rattle.dbtg_unit.specs.declared.edit.Edit.TheVariants.{EnterNumber, Fill}
 use Rattle.dbtg_unit.specs.declared.unit.Unit.{Unit}
 use Rattle.dbtg_unit.specs.Database.State.Base.{calc_items, key_item}
+use Rattle.dbtg_unit.specs.Database.State.CellNames.{place_of}
 use Rattle.dbtg_unit.specs.Hands.EditsOf.{first_owners, joining_edits, slot_edit, store_edits}
 use Rattle.dbtg_unit.specs.Hands.Hands.{Hands}
-use Rattle.dbtg_unit.proofs.Public.{has_number_filter, has_number_passes, has_number_range, has_number_unfiltered, number_within, numbers_end}
+use Rattle.dbtg_unit.specs.Hands.Needs.{current_owner}
+use Rattle.dbtg_unit.specs.Hands.Reserving.{CanTakeMember, KeepsOthers, OfHeld}
+use Rattle.dbtg_unit.proofs.Public.{has_number_filter, has_number_passes, has_number_range, map_same}
+use Rattle.dbtg_plan.specs.Joining.{joined_place}
 use Rattle.dbtg_plan.specs.Missing.{first_missing, is_missing}
-use Rattle.dbtg_plan.specs.Store.{HasRoom, openings_of}
+use Rattle.dbtg_plan.specs.Store.{HasRoom, opening_edit}
 use Rattle.dbtg_plan.proofs.Store.SetSteps.{first_cause_append, flat_step, or_first, or_second}
 
 -- SETS IN WHICH STORE CONNECTS
@@ -45,21 +50,6 @@ connected schema s t =
       there : (s : ℕ) → some_and (λ m. is_automatic m.class) (member_clause schema s t) ≡ true → is_some (slice_get schema.sets s) ≡ true
       there s h = of_set (slice_get schema.sets s) h
 
--- lists of the sets that pass, one after another
-kept_flat_map : {Y : Type 0} (f : ℕ → List Y) (p q : ℕ → Bool) → ((s : ℕ) → p s ≡ q s) → (sets : List ℕ) → flat_map f (filter p sets) ≡ flat_map (λ s. cond (q s) (f s) []) sets
-kept_flat_map f p q h [] = refl
-kept_flat_map f p q h (s ∷ sets) =
-    elim (p s) as (λ b. flat_map f (cond b (s ∷ filter p sets) (filter p sets)) ≡ cond b (f s) [] ++ flat_map (λ s. cond (q s) (f s) []) sets) [
-      | true ↦ ap (λ ys. f s ++ ys) (kept_flat_map f p q h sets)
-      | false ↦ kept_flat_map f p q h sets
-    ]
-    ∙ ap (λ b. cond b (f s) [] ++ flat_map (λ s. cond (q s) (f s) []) sets) (h s)
-
--- what STORE does in each set in which it connects
-pub over_sets : {Y : Type 0} (schema : Lists) (t : ℕ) (f : ℕ → List Y) → flat_map f (automatic_sets schema t) ≡ flat_map (λ s. cond (list_any (λ s'. eqb s' s) (automatic_sets schema t)) (f s) []) (set_numbers schema)
-over_sets schema t f =
-    kept_flat_map f (λ s. some_and (λ m. is_automatic m.class) (member_clause schema s t)) (λ s. list_any (λ s'. eqb s' s) (automatic_sets schema t)) (λ s. connected schema s t) (set_numbers schema)
-
 -- CELLS THAT ARE MISSING
 
 pub missing_here : (hands : Hands) (xs ys : List CellName) → is_some (first_missing hands xs) ≡ true → first_missing hands (xs ++ ys) ≡ first_missing hands xs
@@ -75,51 +65,36 @@ pub missing_passed : (hands : Hands) (f : ℕ → List CellName) (n i : ℕ) →
     → first_missing hands (flat_map f (drop i (range_with_len 0 n))) ≡ first_missing hands (flat_map f (drop (i + 1) (range_with_len 0 n)))
 missing_passed hands f n i h none = ap (first_missing hands) (flat_step f n i h) ∙ missing_behind hands (f i) (flat_map f (drop (i + 1) (range_with_len 0 n))) none
 
+-- IN EACH SET OF A LIST
+
+-- the next set comes first of what is left
+pub left_next : (sets : List ℕ) (i x : ℕ) → i < length sets → x ≡ get_or sets i x → drop i sets ≡ x ∷ drop (i + 1) sets
+left_next sets i x below is = drop_more sets i x below ∙ ap (λ s. s ∷ drop (i + 1) sets) (sym is)
+
 -- CAUSES
 
-cause_here : {C : Type 0} (xs ys : List (Bool × C)) → is_some (first_cause xs) ≡ true → first_cause (xs ++ ys) ≡ first_cause xs
+pub cause_here : {C : Type 0} (xs ys : List (Bool × C)) → is_some (first_cause xs) ≡ true → first_cause (xs ++ ys) ≡ first_cause xs
 cause_here xs ys h = first_cause_append xs ys ∙ or_first (first_cause xs) (first_cause ys) h
 
-cause_behind : {C : Type 0} (xs ys : List (Bool × C)) → is_some (first_cause xs) ≡ false → first_cause (xs ++ ys) ≡ first_cause ys
+pub cause_behind : {C : Type 0} (xs ys : List (Bool × C)) → is_some (first_cause xs) ≡ false → first_cause (xs ++ ys) ≡ first_cause ys
 cause_behind xs ys h = first_cause_append xs ys ∙ or_second (first_cause xs) (first_cause ys) h
 
-pub cause_found : {C : Type 0} (f : ℕ → List (Bool × C)) (n i : ℕ) → i < n → is_some (first_cause (f i)) ≡ true → first_cause (flat_map f (drop i (range_with_len 0 n))) ≡ first_cause (f i)
-cause_found f n i h there = ap first_cause (flat_step f n i h) ∙ cause_here (f i) (flat_map f (drop (i + 1) (range_with_len 0 n))) there
-
-pub cause_passed : {C : Type 0} (f : ℕ → List (Bool × C)) (n i : ℕ) → i < n → is_some (first_cause (f i)) ≡ false
-    → first_cause (flat_map f (drop i (range_with_len 0 n))) ≡ first_cause (flat_map f (drop (i + 1) (range_with_len 0 n)))
-cause_passed f n i h none = ap first_cause (flat_step f n i h) ∙ cause_behind (f i) (flat_map f (drop (i + 1) (range_with_len 0 n))) none
-
 -- EDITS THAT ARE PUSHED
-
--- what is pushed of the next set, and what is left
-pub pushed_next : {Y : Type 0} (f : ℕ → List Y) (n i : ℕ) (old new : List Y) → i < n → new ≡ old ++ f i → new ++ flat_map f (drop (i + 1) (range_with_len 0 n)) ≡ old ++ flat_map f (drop i (range_with_len 0 n))
-pushed_next f n i old new h is =
-    ap (λ ys. ys ++ flat_map f (drop (i + 1) (range_with_len 0 n))) is ∙ append_assoc old (f i) (flat_map f (drop (i + 1) (range_with_len 0 n))) ∙ ap (λ ys. old ++ ys) (sym (flat_step f n i h))
-
--- nothing is left
-pub pushed_all : {Y : Type 0} (f : ℕ → List Y) (n i : ℕ) (old : List Y) → n ≤ i → old ++ flat_map f (drop i (range_with_len 0 n)) ≡ old
-pushed_all f n i old h = ap (λ ss. old ++ flat_map f ss) (numbers_end n i h) ∙ append-nil old
-
--- the sets that a type owns, one after another
-pub over_owned : {Y : Type 0} (f : ℕ → List Y) (p : ℕ → Bool) (sets : List ℕ) → flat_map f (filter p sets) ≡ flat_map (λ s. cond (p s) (f s) []) sets
-over_owned f p sets = kept_flat_map f p p (λ s. refl) sets
 
 -- the edits of a STORE, as they were pushed
 pub edits_pushed : (schema : Lists) (unit : Unit) (k : DbKey) (items : List Value) (entered joined opened filled : List CellEdit)
     → entered ≡ [] ++ record { name = Extent k.rtype; edit = EnterNumber k.number (calc_items schema k.rtype items) } ∷ []
     → joined ≡ entered ++ flat_map (λ s. joining_edits schema unit s k (key_item schema s k.rtype items)) (automatic_sets schema k.rtype)
-    → opened ≡ joined ++ flat_map (openings_of schema k) (set_numbers schema)
+    → opened ≡ joined ++ flat_map (λ s. opening_edit k s ∷ []) (filter (λ s. owns schema s k.rtype) (set_numbers schema))
     → filled ≡ opened ++ slot_edit k (Fill k.generation items (first_owners schema unit k.rtype)) ∷ []
     → filled ≡ store_edits schema unit k items
 edits_pushed schema unit k items entered joined opened filled enters joins opens fills =
     let first : CellEdit = record { name = Extent k.rtype; edit = EnterNumber k.number (calc_items schema k.rtype items) } in
     let joining = flat_map (λ s. joining_edits schema unit s k (key_item schema s k.rtype items)) (automatic_sets schema k.rtype) in
-    let opening = flat_map (openings_of schema k) (set_numbers schema) in
+    let opening = flat_map (λ s. opening_edit k s ∷ []) (filter (λ s. owns schema s k.rtype) (set_numbers schema)) in
     let last = slot_edit k (Fill k.generation items (first_owners schema unit k.rtype)) ∷ [] in
     fills ∙ ap (λ es. es ++ last) (opens ∙ ap (λ es. es ++ opening) (joins ∙ ap (λ es. es ++ joining) enters))
     ∙ append_assoc (first ∷ joining) opening last
-    ∙ ap (λ es. first ∷ (joining ++ (es ++ last))) (sym (over_owned (λ s. record { name = Ring s (Some (k.rtype, k.number)); edit = OpenRing (Rec k) } ∷ []) (λ s. owns schema s k.rtype) (set_numbers schema)))
 
 -- OWNERS
 
@@ -128,14 +103,75 @@ pub owners_before : (f : ℕ → Option Owner) (n a : ℕ) → map {B = Option O
 owners_before f zero a = refl
 owners_before f (suc n) a = ap (λ ys. f a ∷ ys) (owners_before f n (a + 1))
 
+-- no owner for any set, as a list over the sets
+nobody : (n a : ℕ) → ◌≡◌ {A = List (Option Owner)} (replicate n None) (map (λ s. None) (range_with_len a n))
+nobody zero a = refl
+nobody (suc n) a = ap (λ ys. None ∷ ys) (nobody n (a + 1))
+
+-- what is noted at x leaves the entries behind x
+behind_stay : {Y : Type 0} (g : ℕ → Y) (v : Y) (x n a : ℕ) → x < a → map g (range_with_len a n) ≡ map (λ s. cond (eqb x s) v (g s)) (range_with_len a n)
+behind_stay g v x zero a h = refl
+behind_stay g v x (suc n) a h =
+    let other : eqb x a ≡ false = false_from_ne_true (eqb x a) (λ e. let same : x ≡ a = eqb-true x a e in omega arith) in
+    λ i. cond (sym other i) v (g a) ∷ behind_stay g v x n (a + 1) (omega arith) i
+
+-- an entry for each number from a on, once v is noted in place x of them
+noted_in : {Y : Type 0} (g : ℕ → Y) (v : Y) (n a x : ℕ) → slice_set (map g (range_with_len a n)) x v ≡ map (λ s. cond (eqb (a + x) s) v (g s)) (range_with_len a n)
+noted_in g v zero a x = refl
+noted_in g v (suc n) a zero =
+    let here : a + 0 ≡ a = omega arith in
+    let this : eqb a a ≡ true = eq-eqb a a refl in
+    (λ i. cond (sym this i) v (g a) ∷ behind_stay g v a n (a + 1) (omega arith) i) ∙ ap (λ x. map (λ s. cond (eqb x s) v (g s)) (range_with_len a (suc n))) (sym here)
+noted_in g v (suc n) a (suc x) =
+    let next : (a + 1) + x ≡ a + suc x = omega arith in
+    let other : eqb (a + suc x) a ≡ false = false_from_ne_true (eqb (a + suc x) a) (λ e. let same : a + suc x ≡ a = eqb-true (a + suc x) a e in omega arith) in
+    λ i. cond (sym other i) v (g a) ∷ (noted_in g v n (a + 1) x ∙ ap (λ x. map (λ s. cond (eqb x s) v (g s)) (range_with_len (a + 1) n)) next) i
+
+-- the owners, once those in some sets are noted
+abbrev pub noted : {Y : Type 0} → (ℕ → Y) → List ℕ → List Y → List Y
+noted f [] owners = owners
+noted f (s ∷ sets) owners = noted f sets (slice_set owners s (f s))
+
+noted_each : {Y : Type 0} (f g : ℕ → Y) (n : ℕ) (sets : List ℕ) → noted f sets (map g (range_with_len 0 n)) ≡ map (λ s. cond (list_any (λ s'. eqb s' s) sets) (f s) (g s)) (range_with_len 0 n)
+noted_each f g n [] = refl
+noted_each f g n (x ∷ sets) =
+    let zero_first : 0 + x ≡ x = omega arith in
+    ap (noted f sets) (noted_in g (f x) n 0 x ∙ ap (λ x'. map (λ s. cond (eqb x' s) (f x) (g s)) (range_with_len 0 n)) zero_first)
+    ∙ noted_each f (λ s. cond (eqb x s) (f x) (g s)) n sets
+    ∙ map_same (λ s. cond (list_any (λ s'. eqb s' s) sets) (f s) (cond (eqb x s) (f x) (g s))) (λ s. cond (eqb x s || list_any (λ s'. eqb s' s) sets) (f s) (g s)) (range_with_len 0 n) at where
+      at : (s : ℕ) → cond (list_any (λ s'. eqb s' s) sets) (f s) (cond (eqb x s) (f x) (g s)) ≡ cond (eqb x s || list_any (λ s'. eqb s' s) sets) (f s) (g s)
+      at s =
+          elim (cases_Bool (eqb x s)) [
+            | inl e ↦
+                let same : x ≡ s = eqb-true x s e in
+                (λ i. cond (list_any (λ s'. eqb s' s) sets) (f s) (cond (e i) (f (same i)) (g s)))
+                ∙ elim (list_any (λ s'. eqb s' s) sets) as (λ b. cond b (f s) (f s) ≡ f s) [ true ↦ refl | false ↦ refl ]
+                ∙ ap (λ b. cond (b || list_any (λ s'. eqb s' s) sets) (f s) (g s)) (sym e)
+            | inr e ↦ (λ i. cond (list_any (λ s'. eqb s' s) sets) (f s) (cond (e i) (f x) (g s))) ∙ ap (λ b. cond (b || list_any (λ s'. eqb s' s) sets) (f s) (g s)) (sym e)
+          ]
+
+-- the first owners: the current ones in the sets in which STORE connects, and nobody elsewhere
+pub first_owners_noted : (schema : Lists) (unit : Unit) (t : ℕ) → noted (current_owner schema unit) (automatic_sets schema t) (replicate (length schema.sets) None) ≡ first_owners schema unit t
+first_owners_noted schema unit t =
+    ap (noted (current_owner schema unit) (automatic_sets schema t)) (nobody (length schema.sets) 0)
+    ∙ noted_each (current_owner schema unit) (λ s. None) (length schema.sets) (automatic_sets schema t)
+
 -- ROOMS
 
--- there is room in the sets that are behind
-abbrev pub RoomsBelow : Lists → Unit → Hands → DbKey → ℕ → Type 0
-RoomsBelow schema unit hands k i = (s : ℕ) → s < i → HasRoom schema unit hands k s
+-- there is room in each set in which STORE connects, but those that are left
+abbrev pub RoomsBut : Lists → Unit → Hands → DbKey → List ℕ → Type 0
+RoomsBut schema unit hands k left = (s : ℕ) → list_any (λ s'. eqb s' s) left ≡ false → HasRoom schema unit hands k s
 
--- a set that is not the schema's is joined by none
-pub rooms_all : (schema : Lists) (unit : Unit) (hands : Hands) (k : DbKey) (i : ℕ) → length schema.sets ≤ i → RoomsBelow schema unit hands k i → (s : ℕ) → HasRoom schema unit hands k s
-rooms_all schema unit hands k i all rooms s joins =
-    let low = (number_within s 0 (length schema.sets) (has_number_unfiltered (λ s. some_and (λ m. is_automatic m.class) (member_clause schema s k.rtype)) s (set_numbers schema) joins)).1 in
-    rooms s (omega arith) joins
+-- room is made in the next set
+pub rooms_next : (schema : Lists) (unit : Unit) (old new : Hands) (k : DbKey) (x : ℕ) (left : List ℕ)
+    → KeepsOthers (Ring x (place_of (joined_place schema unit x).owner)) old.cells new.cells
+    → OfHeld (Ring x (place_of (joined_place schema unit x).owner)) new.cells (CanTakeMember k)
+    → RoomsBut schema unit old k (x ∷ left) → RoomsBut schema unit new k left
+rooms_next schema unit old new k x left others room rooms s passed joins =
+    elim (cases_Bool (eqb x s)) [
+      | inl e ↦ subst (λ (s : ℕ). OfHeld (Ring s (place_of (joined_place schema unit s).owner)) new.cells (CanTakeMember k)) (eqb-true x s e) room
+      | inr e ↦ λ cell is.
+          let apart : eqb s x ≡ false = false_from_ne_true (eqb s x) (λ h. eqb-false x s e (sym (eqb-true s x h))) in
+          rooms s (ap (λ b. b || list_any (λ s'. eqb s' s) left) e ∙ passed) joins cell
+          (sym (others (Ring s (place_of (joined_place schema unit s).owner)) (ap (λ b. b && place_eq (place_of (joined_place schema unit s).owner) (place_of (joined_place schema unit x).owner)) apart)) ∙ is)
+    ]

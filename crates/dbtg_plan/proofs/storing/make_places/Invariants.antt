@@ -1,10 +1,11 @@
+use Rattle.std.proofs.Common.{drop}
 use Rattle.dbtg_unit.specs.Hands.Making.{ShowsTheSame}
-use Rattle.dbtg_plan.proofs.Store.StoreSteps.{RoomsBelow}
+use Rattle.dbtg_plan.proofs.Store.StoreSteps.{RoomsBut}
 use Rattle.dbtg_plan.proofs.storing.make_places.Given as goal
 
-abbrev pub invariant-loop-s : goal.invariant-loop-s
-invariant-loop-s l =
+abbrev pub invariant-loop-set : goal.invariant-loop-set
+invariant-loop-set l =
     record {
       same : ShowsTheSame l.initial.held l.held;
-      rooms : RoomsBelow l.schema l.unit l.held l.key l.s;
+      rooms : RoomsBut l.schema l.unit l.held l.key (drop l.set-index l.set-items);
     }

@@ -1,10 +1,11 @@
 use Rattle.std.proofs.Common.{◌≡◌, ◌++◌, drop}
 use Rattle.std.specs.List.{flat_map}
-use Rattle.dbtg_schema.specs.Structure.{set_numbers}
-use Rattle.dbtg_plan.specs.Store.{joins_of}
+use Rattle.dbtg_schema.specs.Structure.{automatic_sets}
+use Rattle.dbtg_unit.specs.Database.State.Base.{key_item}
+use Rattle.dbtg_unit.specs.Hands.EditsOf.{joining_edits}
 use Rattle.dbtg_plan.proofs.storing.push_joins.Given as goal
 
-abbrev pub invariant-loop-s : goal.invariant-loop-s
-invariant-loop-s l =
-    l.edits.items ++ flat_map (joins_of l.schema l.unit l.key l.items) (drop l.s (set_numbers l.schema))
-    ≡ l.initial.edits.items ++ flat_map (joins_of l.schema l.unit l.key l.items) (set_numbers l.schema)
+abbrev pub invariant-loop-set : goal.invariant-loop-set
+invariant-loop-set l =
+    l.edits.items ++ flat_map (λ s. joining_edits l.schema l.unit s l.key (key_item l.schema s l.key.rtype l.items)) (drop l.set-index l.set-items)
+    ≡ l.initial.edits.items ++ flat_map (λ s. joining_edits l.schema l.unit s l.key (key_item l.schema s l.key.rtype l.items)) (automatic_sets l.schema l.key.rtype)
