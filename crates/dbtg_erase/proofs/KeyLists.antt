@@ -1,11 +1,9 @@
 -- Lists of keys, each once, as they grow.
-use Rattle.std.proofs.Common.{◌≡◌, refl, sym, ◌∙◌, ap, ℕ, suc, ◌+◌, ◌-◌, ◌<◌, ◌≤◌, arith, append_assoc, drop, Bool, true, false, cond, List, [], ◌∷◌, ◌++◌, Some, None}
-use Rattle.std.specs.Prelude.{filter, slice_get}
-use Rattle.std.specs.List.{flat_map, range_with_len}
+use Rattle.std.proofs.Common.{◌≡◌, refl, ◌∙◌, ap, ℕ, suc, ◌+◌, ◌-◌, ◌<◌, arith, append_assoc, cond, List, [], ◌∷◌, ◌++◌, Some, None}
+use Rattle.std.specs.Prelude.{slice_get}
 use Rattle.dbtg_cells.specs.declared.key.DbKey.{DbKey}
 use Rattle.dbtg_cells.specs.Keys.{is_member}
 use Rattle.dbtg_unit.specs.Hands.Erasing.{brought, brought_from, with_those}
-use Rattle.dbtg_unit.proofs.Public.{numbers_end, numbers_next}
 use Rattle.dbtg_erase.proofs.Bringing.{past, stable}
 
 -- those of a list, and then of another
@@ -31,22 +29,6 @@ pub append_nil : {X : Type 0} (xs : List X) → xs ++ [] ≡ xs
 append_nil [] = refl
 append_nil (x ∷ xs) = ap (λ ys. x ∷ ys) (append_nil xs)
 
-parts : (f : ℕ → List DbKey) (p : ℕ → Bool) (i : ℕ) (xs : List ℕ) → flat_map f (filter p (i ∷ xs)) ≡ flat_map f (filter p (i ∷ [])) ++ flat_map f (filter p xs)
-parts f p i xs =
-    elim (p i) as (λ b. flat_map f (cond b (i ∷ filter p xs) (filter p xs)) ≡ flat_map f (cond b (i ∷ []) []) ++ flat_map f (filter p xs)) [
-      | true ↦ ap (λ ys. ys ++ flat_map f (filter p xs)) (sym (append_nil (f i)))
-      | false ↦ refl
-    ]
-
--- number by number, what the numbers that pass have
-pub keys_of_next : (keys new goal : List DbKey) (f : ℕ → List DbKey) (p : ℕ → Bool) (n i set : ℕ) → i < n → set ≡ i → new ≡ keys ++ flat_map f (filter p (set ∷ []))
-    → keys ++ flat_map f (filter p (drop i (range_with_len 0 n))) ≡ goal → new ++ flat_map f (filter p (drop (i + 1) (range_with_len 0 n))) ≡ goal
-keys_of_next keys new goal f p n i set below is new_is h =
-    ap (λ ks. ks ++ flat_map f (filter p (drop (i + 1) (range_with_len 0 n)))) (new_is ∙ ap (λ s. keys ++ flat_map f (filter p (s ∷ []))) is)
-    ∙ append_assoc keys (flat_map f (filter p (i ∷ []))) (flat_map f (filter p (drop (i + 1) (range_with_len 0 n))))
-    ∙ ap (λ ks. keys ++ ks) (sym (ap (λ xs. flat_map f (filter p xs)) (numbers_next n i below) ∙ parts f p i (drop (i + 1) (range_with_len 0 n))))
-    ∙ h
-
--- past the last number none is left
-pub keys_of_end : (keys goal : List DbKey) (f : ℕ → List DbKey) (p : ℕ → Bool) (n i : ℕ) → n ≤ i → keys ++ flat_map f (filter p (drop i (range_with_len 0 n))) ≡ goal → keys ≡ goal
-keys_of_end keys goal f p n i past h = sym (append_nil keys) ∙ ap (λ xs. keys ++ flat_map f (filter p xs)) (sym (numbers_end n i past)) ∙ h
+-- one list behind two others, in whatever brackets
+pub keys_append : (xs ys zs : List DbKey) → (xs ++ ys) ++ zs ≡ xs ++ (ys ++ zs)
+keys_append xs ys zs = append_assoc xs ys zs

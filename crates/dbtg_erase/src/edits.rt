@@ -2,7 +2,6 @@
 ghost use Rattle.std.specs.Prelude.{◌≡◌, [], ◌∷◌, ◌++◌, filter, map, IfOk, OnOk};
 ghost use Rattle.std.specs.List.{flat_map};
 ghost use Rattle.dbtg_schema.specs.Lookups.{some_and};
-ghost use Rattle.dbtg_schema.specs.Structure.{owns, set_numbers};
 ghost use Rattle.dbtg_unit.specs.declared.edit.Edit.TheVariants.{ChangeOwner, Vacate};
 ghost use Rattle.dbtg_unit.specs.Hands.EditsOf.{closing_edits, erasing_edits, leave_number, leaving_edits, left_behind, losing_edits, lost_sets, slot_edit, staying_owner};
 ghost use Rattle.dbtg_unit.specs.Database.Statements.Effect.{is_gone};
@@ -11,6 +10,7 @@ ghost use Rattle.dbtg_erase.specs.ErasePlan.{close_ring, lose_owner};
 ghost use Rattle.dbtg_erase.specs.WorkList.{members_in_hand};
 
 use crate::keys::Keys;
+use crate::work_list::owned_sets;
 use dbtg_cells::{CellName, DbKey, Owner};
 use dbtg_schema::{Row, Schema, SetNo};
 use dbtg_unit::{CellEdit, Edit, Held, entry_at, owner_of, owners_of, push_taking_out, set_count};
@@ -107,32 +107,25 @@ fn leave_all_lists(
     Ok(())
 }
 
-// Closes the occurrence that a record owns in a set, if it owns one.
-fn close_list(
-    schema: &Schema,
-    key: &DbKey,
-    set: SetNo,
-    edits: &mut Row<CellEdit>,
-) -> Result<(), AllocError>
-    ensures { OnOk result (edits.new ≡ edits.old ++ map (close_ring key.now) (filter (λ s. owns schema.now s key.now.rtype) (set ∷ []))) }
+// Closes the occurrence that a record owns in a set.
+fn close_list(key: &DbKey, set: SetNo, edits: &mut Row<CellEdit>) -> Result<(), AllocError>
+    ensures { OnOk result (edits.new ≡ edits.old ++ close_ring key.now set ∷ []) }
 {
-    if schema.owns(set, key.rtype) {
-        let edit = CellEdit {
-            name: CellName::Ring(set, Some((key.rtype, key.number))),
-            edit: Edit::CloseRing,
-        };
-        edits.push(edit)?;
-    }
+    let edit = CellEdit {
+        name: CellName::Ring(set, Some((key.rtype, key.number))),
+        edit: Edit::CloseRing,
+    };
+    edits.push(edit)?;
     Ok(())
 }
 
 // Closes the occurrences that a record owns.
+#[tactic(auto, using(crate::proofs::EditLists::edits_append))]
 fn close_lists(schema: &Schema, key: &DbKey, edits: &mut Row<CellEdit>) -> Result<(), AllocError>
     ensures { OnOk result (edits.new ≡ edits.old ++ closing_edits schema.now key.now) }
 {
-    for s in 0..set_count(schema) {
-        let set = SetNo::new(s);
-        close_list(schema, key, set, edits)?;
+    for set in owned_sets(schema, key.rtype) {
+        close_list(key, *set, edits)?;
     }
     Ok(())
 }
@@ -237,7 +230,7 @@ pub(crate) fn erasing_edits(
     requires { left.now ≡ left_behind (members_in_hand schema.now held.now) gone.now }
     ensures { IfOk result (λ edits. edits ≡ erasing_edits schema.now (owner_in held.now) (members_in_hand schema.now held.now) gone.now) }
 {
-    let mut edits = Row::of(Vec::new(alloc));
+    let mut edits = Row::of(Vec::with_capacity(alloc, gone.as_slice().len())?);
     leave_numbers(gone.as_slice(), &mut edits)?;
     leave_all_lists(schema, held, gone, &mut edits)?;
     close_all_lists(schema, gone.as_slice(), &mut edits)?;

@@ -1,17 +1,16 @@
 //! The members of what goes that stay.
-ghost use Rattle.std.specs.Prelude.{◌≡◌, [], ◌∷◌, ◌++◌, filter, not, IfOk, OnOk};
+ghost use Rattle.std.specs.Prelude.{◌≡◌, ◌++◌, filter, not, IfOk, OnOk};
 ghost use Rattle.std.specs.List.{flat_map};
-ghost use Rattle.dbtg_schema.specs.Structure.{owns};
 ghost use Rattle.dbtg_cells.specs.Keys.{is_member};
 ghost use Rattle.dbtg_unit.specs.Hands.EditsOf.{left_behind};
 ghost use Rattle.dbtg_unit.specs.Hands.Erasing.{with_those};
 ghost use Rattle.dbtg_erase.specs.WorkList.{list_in, members_in_hand};
 
 use crate::keys::Keys;
-use crate::work_list::list;
+use crate::work_list::{list, owned_sets};
 use dbtg_cells::DbKey;
 use dbtg_schema::{Schema, SetNo};
-use dbtg_unit::{Held, set_count};
+use dbtg_unit::Held;
 use std::alloc::{AllocError, Global};
 
 // Of a list, those that do not go.
@@ -26,26 +25,23 @@ fn leave_list(members: &[DbKey], gone: &Keys, left: &mut Keys) -> Result<(), All
     Ok(())
 }
 
-// Adds the members of a record's list of a set, if it owns one.
-#[tactic(auto, using(crate::proofs::KeyLists::append_nil))]
+// Adds the members of a record's list of a set.
 fn push_list(
     alloc: Global,
-    schema: &Schema,
     held: &Held,
     key: &DbKey,
     set: SetNo,
     members: &mut Vec<DbKey>,
 ) -> Result<(), AllocError>
-    ensures { OnOk result (members.new.items ≡ members.old.items ++ flat_map (list_in held.now key.now) (filter (λ s. owns schema.now s key.now.rtype) (set ∷ []))) }
+    ensures { OnOk result (members.new.items ≡ members.old.items ++ list_in held.now key.now set) }
 {
-    if schema.owns(set, key.rtype) {
-        let list = list(alloc, held, key, set)?;
-        members.extend_from_slice(list.as_slice())?;
-    }
+    let list = list(alloc, held, key, set)?;
+    members.extend_from_slice(list.as_slice())?;
     Ok(())
 }
 
 // Adds the members of a record's lists, set by set.
+#[tactic(auto, using(crate::proofs::KeyLists::keys_append))]
 fn push_members(
     alloc: Global,
     schema: &Schema,
@@ -55,9 +51,8 @@ fn push_members(
 ) -> Result<(), AllocError>
     ensures { OnOk result (members.new.items ≡ members.old.items ++ members_in_hand schema.now held.now key.now) }
 {
-    for s in 0..set_count(schema) {
-        let set = SetNo::new(s);
-        push_list(alloc, schema, held, key, set, members)?;
+    for set in owned_sets(schema, key.rtype) {
+        push_list(alloc, held, key, *set, members)?;
     }
     Ok(())
 }

