@@ -10,7 +10,6 @@ ghost use Rattle.dbtg_erase.specs.ErasePlan.{close_ring, lose_owner};
 ghost use Rattle.dbtg_erase.specs.WorkList.{members_in_hand};
 
 use crate::keys::Keys;
-use crate::work_list::owned_sets;
 use dbtg_cells::{CellName, DbKey, Owner};
 use dbtg_schema::{Row, Schema, SetNo};
 use dbtg_unit::{CellEdit, Edit, Held, entry_at, owner_of, owners_of, push_taking_out, set_count};
@@ -124,7 +123,7 @@ fn close_list(key: &DbKey, set: SetNo, edits: &mut Row<CellEdit>) -> Result<(), 
 fn close_lists(schema: &Schema, key: &DbKey, edits: &mut Row<CellEdit>) -> Result<(), AllocError>
     ensures { OnOk result (edits.new ≡ edits.old ++ closing_edits schema.now key.now) }
 {
-    for set in owned_sets(schema, key.rtype) {
+    for set in schema.owned_sets(key.rtype) {
         close_list(key, *set, edits)?;
     }
     Ok(())

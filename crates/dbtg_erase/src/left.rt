@@ -7,7 +7,7 @@ ghost use Rattle.dbtg_unit.specs.Hands.Erasing.{with_those};
 ghost use Rattle.dbtg_erase.specs.WorkList.{list_in, members_in_hand};
 
 use crate::keys::Keys;
-use crate::work_list::{list, owned_sets};
+use crate::work_list::list;
 use dbtg_cells::DbKey;
 use dbtg_schema::{Schema, SetNo};
 use dbtg_unit::Held;
@@ -51,7 +51,7 @@ fn push_members(
 ) -> Result<(), AllocError>
     ensures { OnOk result (members.new.items ≡ members.old.items ++ members_in_hand schema.now held.now key.now) }
 {
-    for set in owned_sets(schema, key.rtype) {
+    for set in schema.owned_sets(key.rtype) {
         push_list(alloc, held, key, *set, members)?;
     }
     Ok(())

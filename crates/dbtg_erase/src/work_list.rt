@@ -14,14 +14,6 @@ use dbtg_schema::{RecordNo, Schema, SetNo};
 use dbtg_unit::{Erase, Held, occurrence, owner_of, set_count, type_count};
 use std::alloc::{AllocError, Global};
 
-// TEMPORARY: stands for the method of Schema of the same name and contract.
-pub(crate) fn owned_sets(schema: &Schema, rtype: RecordNo) -> &[SetNo]
-    ensures { result.now ≡ filter (λ s. owns schema.now s rtype) (set_numbers schema.now) }
-{
-    let _ = (schema, rtype);
-    &[]
-}
-
 /// The members of a record's list of a set in hand.
 pub(crate) fn list(
     alloc: Global,
@@ -125,7 +117,7 @@ fn bring(
 ) -> Result<(), AllocError>
     ensures { OnOk result (gone.new ≡ with_those gone.old (taken_in schema.now held.now option key.now)) }
 {
-    for set in owned_sets(schema, key.rtype) {
+    for set in schema.owned_sets(key.rtype) {
         bring_of_set(alloc, schema, held, option, key, *set, gone)?;
     }
     Ok(())

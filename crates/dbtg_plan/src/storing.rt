@@ -38,22 +38,6 @@ fn connects(schema: &Schema, set: SetNo, rtype: RecordNo) -> bool
     is_automatic_in(schema, set, rtype)
 }
 
-// TEMPORARY, until the schema has these two methods: its lists of the sets in which STORE connects a record of a type, and of the sets that
-// the type owns.
-fn automatic_sets<'a>(schema: &'a Schema, rtype: RecordNo) -> &'a [SetNo]
-    ensures { result.now ≡ automatic_sets schema.now rtype }
-{
-    let _ = (schema, rtype);
-    &[]
-}
-
-fn owned_sets<'a>(schema: &'a Schema, rtype: RecordNo) -> &'a [SetNo]
-    ensures { result.now ≡ filter (λ s. owns schema.now s rtype) (set_numbers schema.now) }
-{
-    let _ = (schema, rtype);
-    &[]
-}
-
 // WHAT IT NEEDS
 
 fn missing_joined(
@@ -199,7 +183,7 @@ fn refusal_in_sets(
 ) -> Result<Option<Cause>, AllocError>
     ensures { IfOk result (λ cause. cause ≡ first_cause (flat_map (λ s. place_checks schema.now (in_hand held.now) unit.now s (key_item schema.now s rtype items.now)) (automatic_sets schema.now rtype))) }
 {
-    for set in automatic_sets(schema, rtype) {
+    for set in schema.automatic_sets(rtype) {
         let cause = refusal_in_set(alloc, schema, unit, held, rtype, items, *set)?;
         if cause.is_some() {
             return Ok(cause);
@@ -257,7 +241,7 @@ fn push_joins(
 ) -> Result<(), AllocError>
     ensures { OnOk result (edits.new.items ≡ edits.old.items ++ flat_map (λ s. joining_edits schema.now unit.now s key.now (key_item schema.now s key.now.rtype items.now)) (automatic_sets schema.now key.now.rtype)) }
 {
-    for set in automatic_sets(schema, key.rtype) {
+    for set in schema.automatic_sets(key.rtype) {
         push_join(alloc, schema, unit, key, items, *set, edits)?;
     }
     Ok(())
@@ -278,7 +262,7 @@ fn opening_edit(key: &DbKey, set: SetNo) -> CellEdit
 fn push_openings(schema: &Schema, key: &DbKey, edits: &mut Vec<CellEdit>) -> Result<(), AllocError>
     ensures { OnOk result (edits.new.items ≡ edits.old.items ++ flat_map (λ s. opening_edit key.now s ∷ []) (filter (λ s. owns schema.now s key.now.rtype) (set_numbers schema.now))) }
 {
-    for set in owned_sets(schema, key.rtype) {
+    for set in schema.owned_sets(key.rtype) {
         edits.push(opening_edit(key, *set))?;
     }
     Ok(())
@@ -288,7 +272,7 @@ fn first_owners(schema: &Schema, unit: &Unit, rtype: RecordNo) -> Owners
     ensures { result ≡ first_owners schema.now unit.now rtype }
 {
     let mut owners = Owners::none(schema.sets().len());
-    for set in automatic_sets(schema, rtype) {
+    for set in schema.automatic_sets(rtype) {
         owners.set(set.index() as usize, current_owner(schema, unit, *set));
     }
     owners
@@ -372,7 +356,7 @@ fn make_places(schema: &Schema, unit: &Unit, held: &mut Held, key: &DbKey) -> Re
     ensures same { ShowsTheSame held.old held.new }
     ensures rooms { OnOk result ((s : ℕ) → HasRoom schema.now unit.now held.new key.now s) }
 {
-    for set in automatic_sets(schema, key.rtype) {
+    for set in schema.automatic_sets(key.rtype) {
         make_room(schema, unit, *set, held, key)?;
     }
     Ok(())

@@ -58,19 +58,11 @@ pub fn is_automatic_in(schema: &Schema, set: SetNo, rtype: RecordNo) -> bool
     schema.connects(set, rtype)
 }
 
-// TEMPORARY: stands for the method of Schema of the same name and contract.
-pub(crate) fn automatic_sets(schema: &Schema, rtype: RecordNo) -> &[SetNo]
-    ensures { result.now ≡ automatic_sets schema.now rtype }
-{
-    let _ = (schema, rtype);
-    &[]
-}
-
 // Of the homes of the sets in which STORE connects a record of this type.
 fn ask_of_automatic(schema: &Schema, unit: &Unit, question: &Question, rtype: RecordNo) -> bool
     ensures { result ≡ list_any (asks unit.now.modes question.now) (map (home schema.now) (automatic_sets schema.now rtype)) }
 {
-    for set in automatic_sets(schema, rtype) {
+    for set in schema.automatic_sets(rtype) {
         if ask(unit, question, schema.home(*set)) {
             return true;
         }

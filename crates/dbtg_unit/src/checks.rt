@@ -7,7 +7,7 @@ ghost use Rattle.dbtg_unit.specs.Database.Statements.Checks.{accepts_type, chang
 ghost use Rattle.dbtg_unit.specs.Database.Statements.Found.{needs_position};
 ghost use Rattle.dbtg_unit.specs.Database.State.Units.{place_in};
 
-use crate::areas::{Question, ask_of_areas, automatic_sets};
+use crate::areas::{Question, ask_of_areas};
 use crate::entries::entry_at;
 use crate::statement::{Form, Statement, Which};
 use crate::unit::{Cause, Unit};
@@ -141,7 +141,7 @@ fn has_null(schema: &Schema, unit: &Unit, set: SetNo) -> bool
 fn store_wants_null(schema: &Schema, unit: &Unit, rtype: RecordNo) -> bool
     ensures { result ≡ list_any (λ s. is_none (place_in schema.now unit.now s)) (automatic_sets schema.now rtype) }
 {
-    for set in automatic_sets(schema, rtype) {
+    for set in schema.automatic_sets(rtype) {
         if has_null(schema, unit, *set) {
             return true;
         }
