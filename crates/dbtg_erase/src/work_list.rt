@@ -1,16 +1,16 @@
 //! What a DELETE takes: a work list, first in, first out, over the cells in hand.
-ghost use Rattle.std.specs.Prelude.{◌≡◌, ◌*◌, ◌^◌, ◌<◌, filter, length, not, ◌&&◌, ◌==◌, IfOk, OnOk};
+ghost use Rattle.std.specs.Prelude.{◌≡◌, ◌*◌, ◌^◌, ◌<◌, length, not, ◌&&◌, ◌==◌, IfOk, OnOk};
 ghost use Rattle.dbtg_cells.specs.declared.key.Owner.TheVariants.{Rec};
 ghost use Rattle.dbtg_cells.specs.Keys.{owner_eq};
 ghost use Rattle.dbtg_schema.specs.Lookups.{some_and};
-ghost use Rattle.dbtg_schema.specs.Structure.{is_mandatory, member_clause, owns, set_numbers};
+ghost use Rattle.dbtg_schema.specs.Structure.{is_mandatory, member_clause};
 ghost use Rattle.dbtg_unit.specs.Database.Statements.Doomed.{takes_member};
 ghost use Rattle.dbtg_unit.specs.Hands.Erasing.{with_those};
 ghost use Rattle.dbtg_erase.specs.WorkList.{elsewhere_in, gone_in, list_in, taken_in, taken_of_set};
 
 use crate::keys::Keys;
 use dbtg_cells::{DbKey, Owner, same_owner};
-use dbtg_schema::{RecordNo, Schema, SetNo};
+use dbtg_schema::{Schema, SetNo};
 use dbtg_unit::{Erase, Held, occurrence, owner_of, set_count, type_count};
 use std::alloc::{AllocError, Global};
 
