@@ -1,7 +1,7 @@
 -- Lists of edits, as they grow.
 use Rattle.std.proofs.Common.{◌≡◌, refl, sym, ◌∙◌, ap, ℕ, ◌+◌, ◌<◌, ◌≤◌, Bool, true, false, cond, List, [], ◌∷◌, ◌++◌, drop, map, append_assoc, append-nil}
 use Rattle.std.specs.Prelude.{filter}
-use Rattle.std.specs.List.{range_with_len}
+use Rattle.std.specs.List.{flat_map, range_with_len}
 use Rattle.dbtg_unit.specs.declared.edit.CellEdit.{CellEdit}
 use Rattle.dbtg_unit.proofs.Public.{numbers_end, numbers_next}
 
@@ -27,3 +27,14 @@ pub edits_of_end : (edits goal : List CellEdit) (f : List ℕ → List CellEdit)
     → edits ++ (f (drop i (range_with_len 0 n))) ≡ goal → edits ≡ goal
 edits_of_end edits goal f n i past none h =
     sym (append-nil edits) ∙ ap (λ es. edits ++ es) (sym (ap f (numbers_end n i past) ∙ none)) ∙ h
+
+-- number by number, the edits of each
+pub edits_of_each : (edits new goal : List CellEdit) (f : ℕ → List CellEdit) (n i : ℕ) → i < n
+    → new ≡ edits ++ f i
+    → edits ++ (flat_map f (drop i (range_with_len 0 n))) ≡ goal
+    → new ++ (flat_map f (drop (i + 1) (range_with_len 0 n))) ≡ goal
+edits_of_each edits new goal f n i below new_is h =
+    ap (λ es. es ++ (flat_map f (drop (i + 1) (range_with_len 0 n)))) new_is
+    ∙ edits_append edits (f i) (flat_map f (drop (i + 1) (range_with_len 0 n)))
+    ∙ ap (λ es. edits ++ es) (sym (ap (flat_map f) (numbers_next n i below)))
+    ∙ h

@@ -75,7 +75,6 @@ fn leave_numbers(gone: &[DbKey], edits: &mut Row<CellEdit>) -> Result<(), AllocE
 }
 
 // Takes a record out of the lists of the owners that stay.
-#[tactic(auto, using(dbtg_unit::proofs::Public::numbers_next, dbtg_unit::proofs::Public::numbers_end, crate::proofs::EditLists::edits_append))]
 fn leave_lists(
     schema: &Schema,
     held: &Held,

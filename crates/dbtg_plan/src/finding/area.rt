@@ -3,7 +3,6 @@ ghost use Rattle.std.specs.Prelude.{◌≡◌, ◌≢◌, ◌<◌, ◌+◌, ◌^
 ghost use Rattle.std.specs.Option.{option_copied};
 ghost use Rattle.std.specs.List.{range_with_len};
 ghost use Rattle.dbtg_schema.specs.Lookups.{at, final, first, nth};
-ghost use Rattle.dbtg_cells.specs.declared.name.CellName.TheVariants.{Extent};
 ghost use Rattle.dbtg_unit.specs.Database.State.Belongs.{IsWithin};
 ghost use Rattle.dbtg_unit.specs.Database.Statements.Fits.{which_fits};
 ghost use Rattle.dbtg_unit.specs.Database.Statements.Found.{chosen_by_key, found_unless};
@@ -309,7 +308,7 @@ pub(crate) fn missing_extent(
     named: Option<RecordNo>,
     area: AreaNo,
 ) -> Option<CellName>
-    ensures { result ≡ first_missing held.now (map Extent (filter (is_wanted schema.now named area) (range_with_len 0 (length schema.now.types)))) }
+    ensures { result ≡ first_missing held.now (map CellName.Extent (filter (is_wanted schema.now named area) (range_with_len 0 (length schema.now.types)))) }
 {
     for t in 0..type_count(schema) {
         let rtype = RecordNo::new(t);
