@@ -33,4 +33,6 @@ push_cell-requires c =
     let schema = c.args.schema.now in
     let capacity = c.args.capacity in
     not_yet schema capacity c.loop-name.held.cells c.in-Some.name (into_iter_items c.next.new.self)
-    (ap (λ ns. names_of c.loop-name.held.cells ++ ns) (sym c.in-Some.ensures.steps.0) ∙ c.loop-name.invariant.names ∙ ap (λ cells. names_of cells ++ cells_in_order schema capacity) c.requires)
+    (ap (λ ns. names_of c.loop-name.held.cells ++ ns) (sym c.in-Some.ensures.steps.0) ∙ c.loop-name.invariant.names
+    ∙ ap (λ (h : Hands). names_of h.cells ++ cells_in_order schema capacity) c.reserve_cells.ensures
+    ∙ ap (λ cells. names_of cells ++ cells_in_order schema capacity) c.requires)
