@@ -93,21 +93,24 @@ fn cells_beyond_those_in_place(rt: HostRuntime) {
     assert!(rt; takes_rings(rt.alloc(), &mut held, 20) && finds_what_is_left(&mut held));
 }
 
-// A ring that is absent, under the name of the last one.
+// A ring that is absent, under the name of the last one, which went.
 fn takes_another(alloc: Global, held: &mut Held) -> bool {
     let again = Cell::Ring(Ring::absent(alloc));
     held.push_cell(ring_name(11), again).is_ok()
 }
 
-fn finds_the_first_of_them(held: &mut Held) -> bool {
-    let is_first = is_found(held, 11);
-    let is_left = lets_a_cell_go(held) && is_found(held, 11);
-    is_first && is_left && lets_a_cell_go(held) && !is_found(held, 11)
+fn has_name(held: &Held, number: u32) -> bool {
+    held.cell(&ring_name(number)).is_some()
+}
+
+fn forgets_the_last_of_twelve(held: &mut Held) -> bool {
+    are_found(held, 12) && lets_a_cell_go(held) && !has_name(held, 11)
 }
 
 #[test]
-fn name_that_is_taken_twice(rt: HostRuntime) {
+fn name_that_went_is_taken_again(rt: HostRuntime) {
     let mut held = Held::new(rt.alloc(), Owners::none(1));
-    assert!(rt; takes_rings(rt.alloc(), &mut held, 12) && takes_another(rt.alloc(), &mut held));
-    assert!(rt; finds_the_first_of_them(&mut held));
+    assert!(rt; takes_rings(rt.alloc(), &mut held, 12) && forgets_the_last_of_twelve(&mut held));
+    assert!(rt; takes_another(rt.alloc(), &mut held) && has_name(&held, 11) && are_found(&held, 11));
+    assert!(rt; lets_a_cell_go(&mut held) && !has_name(&held, 11) && are_found(&held, 11));
 }
