@@ -2,6 +2,9 @@ mod Occurrences
 mod Rising
 mod Places
 mod RingReads
+mod RingPlaces
+mod SortedMembers
+mod RingSorted
 mod PlacedLaws
 mod PlaceNumbers
 mod CalcOrder

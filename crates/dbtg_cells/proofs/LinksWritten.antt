@@ -2,7 +2,7 @@
 use Rattle.std.proofs.Common.{◌≡◌, ◌≢◌, ℕ, zero, suc, ◌+◌, List, [], ◌∷◌, ◌++◌, map, reverse, length, Option, Some, None, refl, sym, ap, ◌∙◌, arith, zero-add}
 use Rattle.std.proofs.lemmas.List.{append_assoc, reverse-append, get_or-set_other}
 use Rattle.std.specs.Option.{option_map}
-use Rattle.dbtg_cells.specs.declared.ring.Node.{Node}
+use Rattle.dbtg_cells.specs.declared.links.Node.{Node}
 use Rattle.dbtg_cells.specs.Chain.{Slots, Link, slot, node_of, head_at, last_at, Seg, Avoids, Apart, follow, follow_back}
 use Rattle.dbtg_cells.specs.Links.{put, put_if, with_next, with_prior, as_linked, as_unlinked, linked_in, linked_out}
 

@@ -1,7 +1,8 @@
 -- Places in plain lists of members.
-use Rattle.std.proofs.Common.{ℕ, ◌+◌, List, Option, IsTrue, slice_get}
+use Rattle.std.proofs.Common.{◌≡◌, ℕ, ◌+◌, false, List, [], ◌∷◌, map, Option, IsTrue, slice_get}
 use Rattle.std.specs.List.{list_any, position_or_len, insert, remove}
 use Rattle.dbtg_cells.specs.declared.key.DbKey.{DbKey}
+use Rattle.dbtg_cells.specs.Keys.{is_member}
 use Rattle.dbtg_cells.specs.Members.{Entry, has_key}
 
 -- the place of the key, or the length
@@ -10,6 +11,11 @@ place_of k xs = position_or_len (has_key k) xs
 
 abbrev pub HasMember : List Entry → DbKey → Type 0
 HasMember xs k = IsTrue (list_any (has_key k) xs)
+
+-- no key comes twice
+abbrev pub OnceEach : List Entry → Type 0
+OnceEach [] = Unit {0}
+OnceEach (x ∷ l) = (is_member x.0 (map (λ e. e.0) l) ≡ false) × OnceEach l
 
 abbrev pub placed_after : DbKey → Entry → List Entry → List Entry
 placed_after k m xs = insert xs (place_of k xs + 1) m

@@ -1,5 +1,5 @@
 -- What is read along the links of a ring.
-use Rattle.std.proofs.Common.{◌≡◌, ℕ, zero, suc, ◌+◌, ◌-◌, ◌<◌, ◌≤◌, Bool, true, false, not, cond, ◌||◌, List, [], ◌∷◌, ◌++◌, map, filter, reverse, length, Option, Some, None, Contains, inl, inr, add-one, refl, sym, ap, ◌∙◌, arith, true≢false, subst, slice_get, drop, take}
+use Rattle.std.proofs.Common.{◌≡◌, ℕ, zero, suc, ◌+◌, ◌-◌, ◌<◌, ◌≤◌, Bool, true, false, not, cond, ◌||◌, List, [], ◌∷◌, ◌++◌, map, filter, reverse, length, Option, Some, None, Contains, inl, inr, add-one, refl, sym, ap, ◌∙◌, arith, true≢false, subst, slice_get, drop, take, is_some}
 use Rattle.std.proofs.lemmas.List.{append-nil, append_assoc, length-append, reverse-append, take_at}
 use Rattle.std.proofs.lemmas.List.Elements.{filter-append}
 use Rattle.std.specs.Option.{option_map}
@@ -8,19 +8,19 @@ use Rattle.std.proofs.lemmas.Option.{same_Some}
 use Rattle.dbtg_schema.specs.Lookups.{first, final, behind, in_front}
 use Rattle.dbtg_cells.specs.declared.key.DbKey.{DbKey}
 use Rattle.dbtg_cells.specs.declared.key.Owner.{Owner}
-use Rattle.dbtg_cells.specs.declared.ring.Direction.{Direction}
-use Rattle.dbtg_cells.specs.declared.ring.Direction.TheVariants.{Next, Prior}
-use Rattle.dbtg_cells.specs.declared.ring.Node.{Node}
+use Rattle.dbtg_cells.specs.declared.links.Direction.{Direction}
+use Rattle.dbtg_cells.specs.declared.links.Direction.TheVariants.{Next, Prior}
+use Rattle.dbtg_cells.specs.declared.links.Node.{Node}
 use Rattle.dbtg_cells.specs.declared.ring.Occurrence.{Occurrence}
 use Rattle.dbtg_cells.specs.Keys.{key_eq}
-use Rattle.dbtg_cells.specs.Members.{Entry, members_in, has_key, with_members, without_key}
+use Rattle.dbtg_cells.specs.Members.{Entry, members_in, keys_in, has_key, with_members, without_key}
 use Rattle.dbtg_cells.specs.Placed.{after, before}
 use Rattle.dbtg_cells.specs.Chain.{Slots, Link, slot, neighbour, read, follow, follow_back}
 use Rattle.dbtg_cells.specs.Keys.{is_member}
 use Rattle.dbtg_cells.specs.Chain.{head_at, last_at, Seg, Avoids, Apart, IsRing, unlinked_keys, key_at}
 use Rattle.dbtg_cells.proofs.KeysAlike.{key_eq_refl, same_key}
 use Rattle.dbtg_cells.proofs.PlainLists.{behind_drop, in_front_take, before_insert, after_insert, place_within, map_reverse}
-use Rattle.dbtg_cells.proofs.Places.{place_of}
+use Rattle.dbtg_cells.proofs.Places.{place_of, OnceEach}
 use Rattle.dbtg_cells.proofs.LinksWritten.{Seg_left, Seg_right, follow_back_Seg, Apart_without, Avoids_left, Avoids_right}
 use Rattle.dbtg_cells.proofs.WholeRings.{members, place_here, whole_members, placed_before_here, placed_after_here, found_link, reserved_at, reserved_key}
 use Rattle.slab.proofs.SlabLemmas.{Contains-cons, Contains-cons_cases}
@@ -228,11 +228,7 @@ before_none test m (x ∷ l) h = by (test x) refl (λ p. before_none test m l (r
         clash g = cc
     by false p rest = rw p (ap (λ ys. x ∷ ys) (rest p))
 
--- no key comes twice, so the first that passes is the one with its key
-abbrev pub OnceEach : List Entry → Type 0
-OnceEach [] = Unit {0}
-OnceEach (x ∷ l) = (is_member x.0 (map (λ e. e.0) l) ≡ false) × OnceEach l
-
+-- where no key comes twice, the first that passes is the one with its key
 pub before_found : (test : Entry → Bool) (m : Entry) (k : DbKey) (l : List Entry) → OnceEach l → Some k ≡ option_map (λ e. e.0) (find test l) → before (has_key k) m l ≡ before test m l
 before_found test m k [] once h = absurd (cc)
 before_found test m k (x ∷ l) once h = by (test x) refl (λ p. before_found test m k l once.1 (rw p at h)) (λ p. found_there test k l (rw p at h))
@@ -285,3 +281,8 @@ module _ (find : DbKey → Option ℕ) (s : Slots) (first last : Option ℕ) (le
       by : (p : Option ℕ) (es : List Link) → Seg s p es None → Apart es → OnceEach (members es)
       by p [] h apart = tt
       by p (e ∷ es) h apart = (none (Some e.at) es e.member.0 e.at (R.keyed e.member.0 e.at (ap (option_map (λ n. n.member.0)) h.0)) apart.0 h.1, by (Some e.at) es h.1 apart.1)
+
+-- where there is a member, there is an occurrence
+pub present_with : (k : DbKey) (occ : Option Occurrence) → is_member k (keys_in occ) ≡ true → is_some occ ≡ true
+present_with k None h = absurd (true≢false (sym h))
+present_with k (Some o) h = refl

@@ -14,7 +14,7 @@ use Rattle.dbtg_cells.specs.declared.key.DbKey.{DbKey}
 use Rattle.dbtg_cells.specs.Keys.{key_eq}
 use Rattle.dbtg_cells.proofs.KeysAlike.{key_eq_refl, same_key}
 use Rattle.dbtg_cells.specs.Members.{Entry}
-use Rattle.dbtg_cells.specs.declared.ring.Node.{Node}
+use Rattle.dbtg_cells.specs.declared.links.Node.{Node}
 use Rattle.dbtg_cells.specs.Chain.{Slots, Link, slot, key_at, linked_at, node_of, head_at, last_at, Seg, Avoids, Apart, LiesAt, follow, follow_back, end_or, unlinked_keys, IsRing}
 use Rattle.dbtg_cells.specs.Links.{put, put_if, with_next, with_prior, as_linked, as_unlinked, linked_in, linked_out}
 use Rattle.dbtg_cells.specs.Members.{has_key}
@@ -582,6 +582,10 @@ module _ (find find' : DbKey → Option ℕ) (s s' : Slots) (first last : Option
       found_by q i h false p =
           let old : key_at s i ≡ Some q = R.found q i (sym (finds q ∙ ap (λ b. cond b (Some at) (find q)) p) ∙ h) in
           ap (option_map (λ n. n.member.0)) (others i (keyed_taken i q old)) ∙ old
+
+  pub reserving_chain : reserving.chain ≡ R.chain
+  unfolding reserving
+  reserving_chain = refl
 
   pub reserving_list : follow len s' first ≡ follow len s first
   reserving_list = rw (R.counted, R.starts) (follow_Seg s' None R.chain None (Seg_kept None R.chain None R.links) ∙ sym (follow_Seg s None R.chain None R.links))

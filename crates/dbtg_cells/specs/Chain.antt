@@ -2,9 +2,9 @@
 use Rattle.std.specs.Prelude.{◌≡◌, ◌≢◌, ℕ, zero, suc, Bool, true, false, List, [], ◌∷◌, length, Option, Some, None, slice_index_or, ⊤, ◌⊎◌, if◌then◌else◌}
 use Rattle.std.specs.Option.{option_map, option_map_or}
 use Rattle.dbtg_cells.specs.declared.key.DbKey.{DbKey}
-use Rattle.dbtg_cells.specs.declared.ring.Direction.{Direction}
-use Rattle.dbtg_cells.specs.declared.ring.Direction.TheVariants.{Next, Prior}
-use Rattle.dbtg_cells.specs.declared.ring.Node.{Node}
+use Rattle.dbtg_cells.specs.declared.links.Direction.{Direction}
+use Rattle.dbtg_cells.specs.declared.links.Direction.TheVariants.{Next, Prior}
+use Rattle.dbtg_cells.specs.declared.links.Node.{Node}
 use Rattle.dbtg_cells.specs.Members.{Entry}
 
 -- the places of a ring in memory, each with a node or none

@@ -13,3 +13,6 @@ pub mod Names
 pub mod Chain
 pub mod Links
 pub mod CellNumbers
+pub mod SortedMembers
+pub mod Ordered
+pub mod RingOrder

@@ -1,7 +1,7 @@
 -- What the code writes into nodes.
 use Rattle.std.specs.Prelude.{ℕ, true, false, Option, Some, None, slice_set}
 use Rattle.std.specs.Option.{option_map}
-use Rattle.dbtg_cells.specs.declared.ring.Node.{Node}
+use Rattle.dbtg_cells.specs.declared.links.Node.{Node}
 use Rattle.dbtg_cells.specs.Members.{Entry}
 use Rattle.dbtg_cells.specs.Chain.{Slots, slot}
 

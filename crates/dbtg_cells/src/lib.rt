@@ -6,11 +6,14 @@ mod cell;
 mod extent;
 mod key;
 mod laws;
+mod links;
 mod name;
 mod numbering;
+mod order;
 mod plain;
 mod ring;
 mod slot;
+mod sorted;
 mod usage;
 mod value;
 

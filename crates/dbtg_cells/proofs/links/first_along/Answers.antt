@@ -4,7 +4,7 @@ use Rattle.dbtg_schema.specs.Lookups.{first}
 use Rattle.dbtg_cells.specs.Keys.{has_type}
 use Rattle.dbtg_cells.specs.Chain.{slot, read}
 use Rattle.dbtg_cells.proofs.RingReads.{read_one, first_later}
-use Rattle.dbtg_cells.proofs.ring.first_along.Goals as goal
+use Rattle.dbtg_cells.proofs.links.first_along.Goals as goal
 
 pub loop-turn-preserved : goal.loop-turn-preserved
 loop-turn-preserved c =

@@ -3,7 +3,7 @@ use Rattle.std.specs.Option.{option_copied}
 use Rattle.dbtg_cells.specs.Keys.{has_type}
 use Rattle.dbtg_cells.specs.Chain.{slot, neighbour, read}
 use Rattle.dbtg_cells.proofs.RingReads.{read_one, nth_here, nth_later}
-use Rattle.dbtg_cells.proofs.ring.nth_along.Goals as goal
+use Rattle.dbtg_cells.proofs.links.nth_along.Goals as goal
 
 pub returns-then-left-counted : goal.returns-then-left-counted
 returns-then-left-counted c =

@@ -2,7 +2,7 @@ use Rattle.std.proofs.Common.{◌≡◌, ◌-◌, ◌+◌, ◌++◌, ◌∷◌, 
 use Rattle.std.specs.Option.{option_copied}
 use Rattle.dbtg_cells.specs.Chain.{slot, read}
 use Rattle.dbtg_cells.proofs.RingReads.{read_one, read_none, read_vacant, keys_later, keys_end}
-use Rattle.dbtg_cells.proofs.ring.keys_along.Goals as goal
+use Rattle.dbtg_cells.proofs.links.keys_along.Goals as goal
 
 pub returns-in-None : goal.returns-in-None
 returns-in-None c =

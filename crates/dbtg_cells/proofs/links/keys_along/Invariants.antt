@@ -1,6 +1,6 @@
 use Rattle.std.proofs.Common.{◌≡◌, ◌-◌, ◌++◌, map}
 use Rattle.dbtg_cells.specs.Chain.{read}
-use Rattle.dbtg_cells.proofs.ring.keys_along.Given as goal
+use Rattle.dbtg_cells.proofs.links.keys_along.Given as goal
 
 abbrev pub invariant-loop-turn : goal.invariant-loop-turn
 invariant-loop-turn l =

@@ -1,0 +1,281 @@
+-- The nodes of a ring by their places in its order.
+use Rattle.std.proofs.Common.{◌≡◌, ◌≢◌, ℕ, zero, suc, ◌+◌, ◌<◌, ◌≤◌, Bool, true, false, not, cond, ◌==◌, ◌||◌, List, [], ◌∷◌, ◌++◌, map, filter, length, reverse, ◌-◌, Option, Some, None, Contains, refl, sym, ap, ◌∙◌, arith, subst, slice_get, true≢false}
+use Rattle.std.proofs.lemmas.Bool.{eq-eqb, ne_eqb}
+use Rattle.std.proofs.lemmas.List.{map-append, length-map, length-append, length-reverse, get_or-reverse}
+use Rattle.std.proofs.lemmas.Option.{same_Some, slice_get_past, slice_get-get_or}
+use Rattle.std.specs.List.{list_any, insert, remove}
+use Rattle.dbtg_cells.specs.declared.key.DbKey.{DbKey}
+use Rattle.dbtg_cells.specs.declared.links.Node.{Node}
+use Rattle.dbtg_cells.specs.declared.sorted.SortedBy.{SortedBy}
+use Rattle.dbtg_cells.specs.Keys.{key_eq, has_type}
+use Rattle.dbtg_cells.specs.Members.{Entry}
+use Rattle.dbtg_cells.specs.Chain.{Slots, Link, slot, node_of, head_at, last_at, Seg, Avoids, Apart, follow, end_or, unlinked_keys, key_at, linked_at, IsRing}
+use Rattle.dbtg_cells.specs.Links.{linked_in, linked_out}
+use Rattle.dbtg_cells.specs.SortedMembers.{KeepsOrder}
+use Rattle.dbtg_cells.specs.Ordered.{OrderView}
+use Rattle.dbtg_cells.specs.RingOrder.{node_in_front, IsOrdered}
+use Rattle.dbtg_cells.proofs.LinksWritten.{Avoids_right}
+use Rattle.dbtg_cells.proofs.WholeRings.{members, Seg_avoids, insert_at, reserved_at, joined, parted, listed}
+
+abbrev pub places : List Link → List ℕ
+places = map (λ e. e.at)
+
+-- the member whose node stands at a place
+pub member_placed : (s : Slots) (p : Option ℕ) (es : List Link) (q : Option ℕ) → Seg s p es q → (n i : ℕ) (node : Node) → slice_get (places es) n ≡ Some i → slot s i ≡ Some node → slice_get (members es) n ≡ Some node.member
+member_placed s p [] q h n i node at there = absurd (cc)
+member_placed s p (e ∷ es) q h zero i node at there = ap Some (ap (λ k. k.member) (same_Some _ _ (sym h.0 ∙ ap (slot s) (same_Some _ _ at) ∙ there)))
+member_placed s p (e ∷ es) q h (suc n) i node at there = member_placed s (Some e.at) es q h.1 n i node at there
+
+-- a node that is listed is there
+pub none_vacant : (s : Slots) (p : Option ℕ) (es : List Link) (q : Option ℕ) → Seg s p es q → (n i : ℕ) → slice_get (places es) n ≡ Some i → slot s i ≡ None → ⊥
+none_vacant s p [] q h n i at there = cc
+none_vacant s p (e ∷ es) q h zero i at there = clash _ (sym h.0 ∙ ap (slot s) (same_Some _ _ at) ∙ there)
+  where
+    clash : (k : Node) → Some k ≡ None → ⊥
+    clash k g = cc
+none_vacant s p (e ∷ es) q h (suc n) i at there = none_vacant s (Some e.at) es q h.1 n i at there
+
+-- past the last node there is no member
+pub none_past : (es : List Link) (n : ℕ) → slice_get (places es) n ≡ None → slice_get (members es) n ≡ None
+none_past [] n at = refl
+none_past (e ∷ es) zero at = absurd (cc)
+none_past (e ∷ es) (suc n) at = none_past es n at
+
+-- a node that none of them is does not stand anywhere
+avoided_place : (i : ℕ) (es : List Link) (n : ℕ) → Avoids i es → slice_get (places es) n ≡ Some i → ⊥
+avoided_place i [] n away at = cc
+avoided_place i (e ∷ es) zero away at = away.0 (same_Some _ _ at)
+avoided_place i (e ∷ es) (suc n) away at = avoided_place i es n away.1 at
+
+pub not_listed : (i : ℕ) (es : List Link) → Avoids i es → list_any (λ n. n == i) (places es) ≡ false
+not_listed i [] away = refl
+not_listed i (e ∷ es) away = rw (ne_eqb e.at i away.0) (not_listed i es away.1)
+
+pub is_listed : (a : List Link) (e : Link) (b : List Link) → list_any (λ n. n == e.at) (places (a ++ e ∷ b)) ≡ true
+is_listed [] e b = ap (λ t. t || list_any (λ n. n == e.at) (places b)) (eq-eqb e.at e.at refl)
+is_listed (f ∷ a) e b = ap (λ t. (f.at == e.at) || t) (is_listed a e b) ∙ or_true (f.at == e.at)
+  where
+    or_true : (t : Bool) → t || true ≡ true
+    or_true true = refl
+    or_true false = refl
+
+-- each node stands at one place
+pub place_of_link : (a : List Link) (e : Link) (b : List Link) (n : ℕ) → Apart (a ++ e ∷ b) → slice_get (places (a ++ e ∷ b)) n ≡ Some e.at → n ≡ length a
+place_of_link [] e b zero apart at = refl
+place_of_link [] e b (suc n) apart at = absurd (avoided_place e.at b n apart.0 at)
+place_of_link (f ∷ a) e b zero apart at = absurd ((Avoids_right f.at a (e ∷ b) apart.0).0 (sym (same_Some _ _ at)))
+place_of_link (f ∷ a) e b (suc n) apart at = ap suc (place_of_link a e b n apart.1 at)
+
+-- a node less
+pub places_without : (a : List Link) (e : Link) (b : List Link) → remove (places (a ++ e ∷ b)) (length a) ≡ places (a ++ b)
+places_without [] e b = refl
+places_without (f ∷ a) e b = ap (λ ns. f.at ∷ ns) (places_without a e b)
+
+-- a node more
+pub places_with : (a : List Link) (e : Link) (b : List Link) (n : ℕ) → n ≡ length a → insert (places (a ++ b)) n e.at ≡ places (a ++ e ∷ b)
+places_with a e b n is =
+    let count : n ≡ length (places a) = is ∙ sym (length-map a (λ e. e.at)) in
+    rw (map-append (λ e. e.at) a b) (insert_at (places a) (places b) e.at n count) ∙ sym (map-append (λ e. e.at) a (e ∷ b))
+
+-- the node in front of a place, or what stands in front of the list
+abbrev before_place : Option ℕ → List ℕ → ℕ → Option ℕ
+before_place p ns zero = p
+before_place p ns (suc n) = slice_get ns n
+
+-- a list of links in two parts, of which the first has so many
+pub record Cut (es : List Link) (n : ℕ) (p : Option ℕ) : Type 0 where
+  pub front : List Link
+  pub back : List Link
+  pub whole : es ≡ front ++ back
+  pub count : n ≡ length front
+  pub next : slice_get (places es) n ≡ head_at back None
+  pub prior : before_place p (places es) n ≡ last_at p front
+
+pub cut : (es : List Link) (n : ℕ) (p : Option ℕ) → n ≤ length es → Cut es n p
+cut es zero p within = record { front = []; back = es; whole = refl; count = refl; next = first es; prior = refl }
+  where
+    first : (es : List Link) → slice_get (places es) 0 ≡ head_at es None
+    first [] = refl
+    first (e ∷ es) = refl
+cut [] (suc n) p within = absurd (omega arith)
+cut (e ∷ es) (suc n) p within =
+    let rest = cut es n (Some e.at) (omega arith) in
+    record {
+      front = e ∷ rest.front;
+      back = rest.back;
+      whole = ap (λ fs. e ∷ fs) rest.whole;
+      count = ap suc rest.count;
+      next = rest.next;
+      prior = beside n ∙ rest.prior;
+    }
+  where
+    beside : (n : ℕ) → slice_get (places (e ∷ es)) n ≡ before_place (Some e.at) (places es) n
+    beside zero = refl
+    beside (suc n) = refl
+
+pub in_front_is : (ns : List ℕ) (n : ℕ) → node_in_front ns n ≡ before_place None ns n
+in_front_is ns zero = refl
+in_front_is ns (suc n) = refl
+
+-- a ring after a node came in at a place or went from it, and the list that is read then
+pub record Stands (find : DbKey → Option ℕ) (s : Slots) (first last : Option ℕ) (len : ℕ) (list : List Entry) (order : OrderView) (sorted : Option SortedBy) : Type 0 where
+  pub ring : IsRing find s first last len
+  pub list_is : follow len s first ≡ list
+  pub ordered : IsOrdered find ring.chain order sorted
+
+module _ (find : DbKey → Option ℕ) (s : Slots) (first last : Option ℕ) (len : ℕ) (R : IsRing find s first last len) (order : OrderView) (sorted : Option SortedBy) (O : IsOrdered find R.chain order sorted) where
+  pub count_of_places : length order.nodes ≡ length (members R.chain)
+  count_of_places = ap length O.listed ∙ length-map R.chain (λ e. e.at) ∙ sym (length-map R.chain (λ e. e.member))
+
+  -- the two nodes beside a place, by the order
+  module _ (n : ℕ) (within : n ≤ length R.chain) where
+    pub cut_here : Cut R.chain n None
+    cut_here = cut R.chain n None within
+
+    pub next_is : slice_get order.nodes n ≡ head_at cut_here.back None
+    next_is = ap (λ ns. slice_get ns n) O.listed ∙ cut_here.next
+
+    pub prior_is : node_in_front order.nodes n ≡ last_at None cut_here.front
+    prior_is = ap (λ ns. node_in_front ns n) O.listed ∙ in_front_is (places R.chain) n ∙ cut_here.prior
+
+    -- a reserved node comes in
+    module _ (m : Entry) (room : Contains (unlinked_keys s) m.0) (at : ℕ) (found : find m.0 ≡ Some at) where
+      pub new_node : list_any (λ i. i == at) order.nodes ≡ false
+      new_node =
+          let r = reserved_at find s first last len R m.0 room at found in
+          ap (list_any (λ i. i == at)) O.listed ∙ not_listed at R.chain (Seg_avoids s at r.node r.there r.off None R.chain None R.links)
+
+      pub come_in : (p q : Option ℕ) → p ≡ node_in_front order.nodes n → q ≡ slice_get order.nodes n
+          → (s' : Slots) (first' last' : Option ℕ) (len' : ℕ) → s' ≡ linked_in at m p q s → first' ≡ end_or p (Some at) first → last' ≡ end_or q (Some at) last → len' ≡ len + 1
+          → (order' : OrderView) → order'.nodes ≡ insert order.nodes n at → order'.room ≡ order.room
+          → Stands find s' first' last' len' (insert (members R.chain) n m) order' None
+      come_in p q is_p is_q s' first' last' len' is_s is_first is_last is_len order' is_nodes is_room =
+          let r = reserved_at find s first last len R m.0 room at found in
+          let c = cut_here in
+          let e : Link = record { at = at; member = m } in
+          let j = joined find s first last len R c.front c.back c.whole at m r.node r.there r.off r.key in
+          let here : insert (members R.chain) n m ≡ members (c.front ++ e ∷ c.back) =
+          ap (λ es. insert (members es) n m) c.whole
+          ∙ ap (λ ms. insert ms n m) (map-append (λ e. e.member) c.front c.back)
+          ∙ insert_at (members c.front) (members c.back) m n (c.count ∙ sym (length-map c.front (λ e. e.member)))
+          ∙ sym (map-append (λ e. e.member) c.front (e ∷ c.back)) in
+          rw (is_s, is_first, is_last, is_len, is_p ∙ prior_is, is_q ∙ next_is) (record {
+            ring = j.0;
+            list_is = listed find _ _ _ _ j.0 ∙ ap members j.1 ∙ sym here;
+            ordered = record {
+              listed = is_nodes ∙ ap (λ ns. insert ns n at) (O.listed ∙ ap places c.whole) ∙ places_with c.front e c.back n c.count ∙ ap places (sym j.1);
+              room = λ k i h. subst (λ more. i < more) (sym is_room) (O.room k i h);
+              keeps = tt;
+            };
+          })
+
+  -- a node goes out
+  module _ (a : List Link) (e : Link) (b : List Link) (split : R.chain ≡ a ++ e ∷ b) where
+    pub in_order_there : list_any (λ i. i == e.at) order.nodes ≡ true
+    in_order_there = ap (list_any (λ i. i == e.at)) (O.listed ∙ ap places split) ∙ is_listed a e b
+
+    pub place_there : (n : ℕ) → slice_get order.nodes n ≡ Some e.at → n ≡ length a
+    place_there n at = place_of_link a e b n (subst Apart split R.apart) (ap (λ ns. slice_get ns n) (sym (O.listed ∙ ap places split)) ∙ at)
+
+    pub go_out : (p q : Option ℕ) → p ≡ last_at None a → q ≡ head_at b None → (x : ℕ) → x ≡ e.at
+        → (s' : Slots) (first' last' : Option ℕ) (len' : ℕ) → s' ≡ linked_out x p q s → first' ≡ end_or p q first → last' ≡ end_or q p last → len' + 1 ≡ len
+        → (n : ℕ) → slice_get order.nodes n ≡ Some x → (order' : OrderView) → order'.nodes ≡ remove order.nodes n → order'.room ≡ order.room
+        → KeepsOrder sorted (members (a ++ b))
+        → Stands find s' first' last' len' (members a ++ members b) order' sorted
+    go_out p q is_p is_q x is_x s' first' last' len' is_s is_first is_last is_len n at order' is_nodes is_room keeps =
+        let j = parted find s first last len R a e b split len' is_len in
+        let place = place_there n (at ∙ ap Some is_x) in
+        rw (is_s, is_first, is_last, is_p, is_q, is_x) (record {
+          ring = j.0;
+          list_is = listed find _ _ _ _ j.0 ∙ ap members j.1 ∙ map-append (λ e. e.member) a b;
+          ordered = record {
+            listed = is_nodes ∙ ap (λ ns. remove ns n) (O.listed ∙ ap places split) ∙ ap (remove (places (a ++ e ∷ b))) place ∙ places_without a e b ∙ ap places (sym j.1);
+            room = λ k i h. subst (λ more. i < more) (sym is_room) (O.room k i h);
+            keeps = subst (λ es. KeepsOrder sorted (members es)) (sym j.1) keeps;
+          };
+        })
+
+-- where no type is named, all count
+pub all_of_any_type : (ks : List DbKey) → ks ≡ filter (has_type None) ks
+all_of_any_type [] = refl
+all_of_any_type (k ∷ ks) = ap (λ l. k ∷ l) (all_of_any_type ks)
+
+-- counted from the end
+pub from_the_end : (ks : List DbKey) (len n : ℕ) → len ≡ length ks → n < len → slice_get ks (len - 1 - n) ≡ slice_get (reverse ks) n
+from_the_end [] len n count within = absurd (omega (arith, count, within))
+from_the_end (k ∷ ks) len n count within =
+    let back : n < length (reverse (k ∷ ks)) = omega (arith, count, within, length-reverse (k ∷ ks)) in
+    let inside : n < length (k ∷ ks) = omega (arith, count, within) in
+    let at : len - 1 - n ≡ length (k ∷ ks) - 1 - n = ap (λ m. m - 1 - n) count in
+    ap (slice_get (k ∷ ks)) at
+    ∙ slice_get-get_or (k ∷ ks) (length (k ∷ ks) - 1 - n) k (omega arith)
+    ∙ ap Some (sym (get_or-reverse (k ∷ ks) n k inside))
+    ∙ sym (slice_get-get_or (reverse (k ∷ ks)) n k back)
+
+pub past_the_front : (ks : List DbKey) (len n : ℕ) → len ≡ length ks → len ≤ n → None ≡ slice_get (reverse ks) n
+past_the_front ks len n count past = sym (slice_get_past (reverse ks) n (omega (arith, count, length-reverse ks)))
+
+-- a ring with no nodes
+pub empty : (find : DbKey → Option ℕ) (s : Slots) (order : OrderView) → s ≡ [] → ((k : DbKey) → find k ≡ None) → order.nodes ≡ [] → Stands find s None None 0 [] order None
+empty find s order is_s none is_nodes = record {
+  ring = record {
+    chain = [];
+    links = tt;
+    starts = refl;
+    ends = refl;
+    counted = refl;
+    apart = tt;
+    marked = λ i on. absurd (true≢false (sym on ∙ ap (λ t. linked_at t i) is_s));
+    found = λ k i h. absurd (clash i (sym h ∙ none k));
+    keyed = λ k i h. absurd (clash k (sym h ∙ ap (λ t. key_at t i) is_s));
+  };
+  list_is = refl;
+  ordered = record {
+    listed = is_nodes;
+    room = λ k i h. absurd (clash i (sym h ∙ none k));
+    keeps = tt;
+  };
+}
+  where
+    clash : {A : Type 0} (x : A) → Some x ≡ None → ⊥
+    clash x h = cc
+
+-- more room changes nothing else
+pub roomier : (find : DbKey → Option ℕ) (chain : List Link) (order order' : OrderView) (sorted : Option SortedBy) → IsOrdered find chain order sorted → order'.nodes ≡ order.nodes → order.room ≤ order'.room → IsOrdered find chain order' sorted
+roomier find chain order order' sorted O nodes more = record {
+  listed = nodes ∙ O.listed;
+  room = λ k i h. let low = O.room k i h in omega arith;
+  keeps = O.keeps;
+}
+
+-- a ring whose parts are written anew as they were, but for room in its order
+pub as_it_was : (find find' : DbKey → Option ℕ) (s s' : Slots) (first last : Option ℕ) (len : ℕ) (R : IsRing find s first last len) (order order' : OrderView) (sorted : Option SortedBy) (O : IsOrdered find R.chain order sorted)
+    → ((k : DbKey) → find' k ≡ find k) → s' ≡ s → order'.nodes ≡ order.nodes → order.room ≤ order'.room
+    → Stands find' s' first last len (follow len s first) order' sorted
+as_it_was find find' s s' first last len R order order' sorted O same is_s nodes more = rw is_s (record {
+  ring = record {
+    chain = R.chain;
+    links = R.links;
+    starts = R.starts;
+    ends = R.ends;
+    counted = R.counted;
+    apart = R.apart;
+    marked = R.marked;
+    found = λ k i h. R.found k i (sym (same k) ∙ h);
+    keyed = λ k i h. same k ∙ R.keyed k i h;
+  };
+  list_is = refl;
+  ordered = record {
+    listed = nodes ∙ O.listed;
+    room = λ k i h. let low = O.room k i (sym (same k) ∙ h) in omega arith;
+    keeps = O.keeps;
+  };
+})
+
+-- a node that comes in for a key has room
+pub room_for_new : (find find' : DbKey → Option ℕ) (k : DbKey) (at room more : ℕ) → ((q : DbKey) → find' q ≡ cond (key_eq k q) (Some at) (find q)) → ((q : DbKey) (i : ℕ) → find q ≡ Some i → i < room) → room ≤ more → at < more → (q : DbKey) (i : ℕ) → find' q ≡ Some i → i < more
+room_for_new find find' k at room more finds had wider here q i h = by (key_eq k q) refl
+  where
+    by : (b : Bool) → key_eq k q ≡ b → i < more
+    by true p = subst (λ n. n < more) (same_Some _ _ (sym (finds q ∙ ap (λ b. cond b (Some at) (find q)) p) ∙ h)) here
+    by false p = let low = had q i (sym (finds q ∙ ap (λ b. cond b (Some at) (find q)) p) ∙ h) in omega arith

@@ -1,0 +1,42 @@
+-- The nodes of a ring by their places: their order, where they stand by sort key, and what is known of all of them.
+use Rattle.std.specs.Prelude.{◌≡◌, ℕ, zero, suc, ◌<◌, Bool, true, false, not, List, map, Option, Some, None, slice_get}
+use Rattle.std.specs.List.{position_or_len}
+use Rattle.std.specs.Option.{option_map_or}
+use Rattle.dbtg_schema.specs.declared.shape.Duplicates.{Duplicates}
+use Rattle.dbtg_cells.specs.declared.key.DbKey.{DbKey}
+use Rattle.dbtg_cells.specs.declared.key.Value.{Value}
+use Rattle.dbtg_cells.specs.declared.sorted.SortedBy.{SortedBy}
+use Rattle.dbtg_cells.specs.Orders.{key_below, comes_before}
+use Rattle.dbtg_cells.specs.Members.{Entry}
+use Rattle.dbtg_cells.specs.Chain.{Slots, Link, slot}
+use Rattle.dbtg_cells.specs.SortedMembers.{is_of_kind, is_sorted, KeepsOrder}
+use Rattle.dbtg_cells.specs.Ordered.{OrderView}
+
+-- the member of a node stands before a new one with sort key m
+abbrev pub stands_at : Bool → Duplicates → Option Value → Slots → ℕ → Bool
+stands_at ascending duplicates m s at = option_map_or (λ n. comes_before ascending duplicates n.member.1 m) (slot s at) false
+
+-- the member of a node has a sort key that comes before m
+abbrev pub is_below_at : Bool → Option Value → Slots → ℕ → Bool
+is_below_at ascending m s at = option_map_or (λ n. key_below ascending n.member.1 m) (slot s at) false
+
+-- the node in front of a place in the order
+abbrev pub node_in_front : List ℕ → ℕ → Option ℕ
+node_in_front nodes zero = None
+node_in_front nodes (suc place) = slice_get nodes place
+
+-- the place of the first member whose sort key does not come before v, where members are sorted by keys of the kind of v
+pub record IsPlaceFrom (v : Value) (ms : List Entry) (place : ℕ) : Type 0 where
+  pub order : SortedBy
+  pub sorted : is_sorted order ms ≡ true
+  pub kind : is_of_kind order.kind (Some v) ≡ true
+  pub at : place ≡ position_or_len (λ e. not (key_below order.ascending e.1 (Some v))) ms
+
+-- the order lists the links of a ring, and what is known of the members holds
+pub record IsOrdered (find : DbKey → Option ℕ) (chain : List Link) (order : OrderView) (sorted : Option SortedBy) : Type 0 where
+  -- the nodes of the chain, in order
+  pub listed : order.nodes ≡ map (λ e. e.at) chain
+  -- every node of the ring has room
+  pub room : (k : DbKey) (i : ℕ) → find k ≡ Some i → i < order.room
+  -- what is known of the members' order
+  pub keeps : KeepsOrder sorted (map (λ e. e.member) chain)

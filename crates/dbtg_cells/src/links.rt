@@ -1,0 +1,322 @@
+//! The nodes of an occurrence, each linked to the one before it and the one behind it, and what is read along the links.
+//!
+//! A node is either linked, and then its member is in the list, or it is a place that is kept for its key. The owner
+//! is both ends of the list.
+ghost use Rattle.std.specs.Prelude.{◌≡◌, ◌+◌, ◌<◌, ◌^◌, Option, Some, None, IfOk, IfSome, cond, option_map, map, filter, slice_get};
+ghost use Rattle.std.specs.List.{list_any, find};
+ghost use Rattle.slab.specs.Slab.{ContainsKey};
+ghost use Rattle.dbtg_schema.specs.Lookups.{first as first_in, some_and};
+ghost use Rattle.dbtg_cells.specs.Keys.{has_type, value_eq};
+ghost use Rattle.dbtg_cells.specs.Members.{has_sort_key as is_taken_by};
+ghost use Rattle.dbtg_cells.specs.Chain.{end_or, follow, neighbour, read};
+ghost use Rattle.dbtg_cells.specs.Links.{put_if, with_next, with_prior, linked_in, linked_out};
+
+use crate::key::{DbKey, Value, is_of_type, is_other};
+use crate::value::{same_sort_key, same_value};
+use dbtg_schema::RecordNo;
+use slab::Slab;
+use std::alloc::{AllocError, Global};
+
+#[derive(Drop)]
+pub(crate) struct Node {
+    pub(crate) member: (DbKey, Option<Value>),
+    pub(crate) linked: bool,
+    pub(crate) next: Option<usize>,
+    pub(crate) prior: Option<usize>,
+}
+
+/// The two ways along the list.
+#[derive(Clone, Copy)]
+pub(crate) enum Direction {
+    Next,
+    Prior,
+}
+
+impl Node {
+    // The node beside this one.
+    fn neighbour(&self, direction: Direction) -> Option<usize>
+        ensures { result ≡ neighbour direction self.now }
+    {
+        match direction {
+            Direction::Next => self.next,
+            Direction::Prior => self.prior,
+        }
+    }
+}
+
+fn set_next(nodes: &mut Slab<Node>, at: Option<usize>, next: Option<usize>)
+    requires { IfSome at (ContainsKey nodes.old) }
+    ensures { nodes.new ≡ record nodes.old { slots = put_if at (with_next next) nodes.old.slots } }
+{
+    if let Some(i) = at {
+        nodes[i].next = next;
+    }
+}
+
+fn set_prior(nodes: &mut Slab<Node>, at: Option<usize>, prior: Option<usize>)
+    requires { IfSome at (ContainsKey nodes.old) }
+    ensures { nodes.new ≡ record nodes.old { slots = put_if at (with_prior prior) nodes.old.slots } }
+{
+    if let Some(i) = at {
+        nodes[i].prior = prior;
+    }
+}
+
+// Links a node in between two ends, each a node or the owner.
+fn link_in(
+    nodes: &mut Slab<Node>,
+    at: usize,
+    member: (DbKey, Option<Value>),
+    prior: Option<usize>,
+    next: Option<usize>,
+)
+    requires node { ContainsKey nodes.old at }
+    requires prior { IfSome prior (ContainsKey nodes.old) }
+    requires next { IfSome next (ContainsKey nodes.old) }
+    ensures { nodes.new ≡ record nodes.old { slots = linked_in at member prior next nodes.old.slots } }
+{
+    nodes[at] = Node {
+        member,
+        linked: true,
+        next,
+        prior,
+    };
+    set_next(nodes, prior, Some(at));
+    set_prior(nodes, next, Some(at));
+}
+
+// Takes a node from between two ends.
+fn link_out(nodes: &mut Slab<Node>, at: usize, prior: Option<usize>, next: Option<usize>)
+    requires node { ContainsKey nodes.old at }
+    requires prior { IfSome prior (ContainsKey nodes.old) }
+    requires next { IfSome next (ContainsKey nodes.old) }
+    ensures { nodes.new ≡ record nodes.old { slots = linked_out at prior next nodes.old.slots } }
+{
+    set_next(nodes, prior, next);
+    set_prior(nodes, next, prior);
+    nodes[at].linked = false;
+}
+
+/// The nodes, and the ends of the list.
+#[derive(Drop)]
+pub(crate) struct Links {
+    pub(crate) nodes: Slab<Node>,
+    pub(crate) first: Option<usize>,
+    pub(crate) last: Option<usize>,
+    pub(crate) len: usize,
+}
+
+impl Links {
+    // Links a node in between two ends, each a node or the owner.
+    pub(crate) fn join(
+        &mut self,
+        at: usize,
+        member: (DbKey, Option<Value>),
+        prior: Option<usize>,
+        next: Option<usize>,
+    )
+        requires node { ContainsKey self.old.nodes at }
+        requires prior { IfSome prior (ContainsKey self.old.nodes) }
+        requires next { IfSome next (ContainsKey self.old.nodes) }
+        requires len { self.old.len + 1 < 2 ^ 64 }
+        ensures slots { self.new.nodes.slots ≡ linked_in at member prior next self.old.nodes.slots }
+        ensures first { self.new.first ≡ end_or prior (Some at) self.old.first }
+        ensures last { self.new.last ≡ end_or next (Some at) self.old.last }
+        ensures len { self.new.len ≡ self.old.len + 1 }
+    {
+        link_in(&mut self.nodes, at, member, prior, next);
+        if prior.is_none() {
+            self.first = Some(at);
+        }
+        if next.is_none() {
+            self.last = Some(at);
+        }
+        self.len += 1;
+    }
+
+    // Takes a node from between two ends.
+    pub(crate) fn part(&mut self, at: usize, prior: Option<usize>, next: Option<usize>)
+        requires node { ContainsKey self.old.nodes at }
+        requires prior { IfSome prior (ContainsKey self.old.nodes) }
+        requires next { IfSome next (ContainsKey self.old.nodes) }
+        requires len { 0 < self.old.len }
+        ensures slots { self.new.nodes.slots ≡ linked_out at prior next self.old.nodes.slots }
+        ensures first { self.new.first ≡ end_or prior next self.old.first }
+        ensures last { self.new.last ≡ end_or next prior self.old.last }
+        ensures len { self.new.len + 1 ≡ self.old.len }
+    {
+        link_out(&mut self.nodes, at, prior, next);
+        if prior.is_none() {
+            self.first = next;
+        }
+        if next.is_none() {
+            self.last = prior;
+        }
+        self.len -= 1;
+    }
+}
+
+// The first of a record type, or of any, read from a node on in this direction.
+pub(crate) fn first_along(
+    links: &Links,
+    start: Option<usize>,
+    direction: Direction,
+    rtype: &Option<RecordNo>,
+) -> Option<DbKey>
+    ensures { result ≡ first_in (filter (has_type rtype.now) (map (λ e. e.0) (read direction links.now.len links.now.nodes.slots start))) }
+{
+    let mut at = start;
+    for turn in 0..links.len {
+        match at {
+            None => return None,
+            Some(i) => match links.nodes.get(i) {
+                None => return None,
+                Some(node) => {
+                    if is_of_type(rtype, node.member.0) {
+                        return Some(node.member.0);
+                    }
+                    at = node.neighbour(direction);
+                }
+            },
+        }
+    }
+    None
+}
+
+// 1 where the key is of the record type, and else 0.
+fn count_of(rtype: &Option<RecordNo>, key: DbKey) -> u32
+    ensures { result ≡ cond (has_type rtype.now key) 1 0 }
+{
+    if is_of_type(rtype, key) { 1 } else { 0 }
+}
+
+// The n-th of a record type, or of any, from 0, read from a node on in this direction.
+pub(crate) fn nth_along(
+    links: &Links,
+    start: Option<usize>,
+    direction: Direction,
+    rtype: &Option<RecordNo>,
+    n: u32,
+) -> Option<DbKey>
+    ensures { result ≡ slice_get (filter (has_type rtype.now) (map (λ e. e.0) (read direction links.now.len links.now.nodes.slots start))) n }
+{
+    let mut at = start;
+    let mut left = n;
+    for turn in 0..links.len {
+        match at {
+            None => return None,
+            Some(i) => match links.nodes.get(i) {
+                None => return None,
+                Some(node) => {
+                    let counted = count_of(rtype, node.member.0);
+                    if left < counted {
+                        return Some(node.member.0);
+                    }
+                    left -= counted;
+                    at = node.neighbour(direction);
+                }
+            },
+        }
+    }
+    None
+}
+
+// The first with a sort key, read by `next`.
+pub(crate) fn find_along(
+    nodes: &Slab<Node>,
+    start: Option<usize>,
+    limit: usize,
+    sort: &Value,
+) -> Option<DbKey>
+    ensures { result ≡ option_map (λ e. e.0) (find (λ e. some_and (value_eq sort.now) e.1) (follow limit nodes.now.slots start)) }
+{
+    let mut at = start;
+    for turn in 0..limit {
+        match at {
+            None => return None,
+            Some(i) => match nodes.get(i) {
+                None => return None,
+                Some(node) => {
+                    if has_sort_key(&node.member.1, sort) {
+                        return Some(node.member.0);
+                    }
+                    at = node.next;
+                }
+            },
+        }
+    }
+    None
+}
+
+pub(crate) fn has_sort_key(own: &Option<Value>, sort: &Value) -> bool
+    ensures { result ≡ some_and (value_eq sort.now) own.now }
+{
+    match own {
+        Some(own) => same_value(sort, own),
+        None => false,
+    }
+}
+
+// Whether one has this sort key, other than the one that is left out.
+pub(crate) fn is_taken_along(
+    nodes: &Slab<Node>,
+    start: Option<usize>,
+    limit: usize,
+    sort: &Option<Value>,
+    left_out: &Option<DbKey>,
+) -> bool
+    ensures { result ≡ list_any (is_taken_by left_out.now sort.now) (follow limit nodes.now.slots start) }
+{
+    let mut at = start;
+    for turn in 0..limit {
+        match at {
+            None => return false,
+            Some(i) => match nodes.get(i) {
+                None => return false,
+                Some(node) => {
+                    if takes(&node.member, sort, left_out) {
+                        return true;
+                    }
+                    at = node.next;
+                }
+            },
+        }
+    }
+    false
+}
+
+pub(crate) fn takes(
+    member: &(DbKey, Option<Value>),
+    sort: &Option<Value>,
+    left_out: &Option<DbKey>,
+) -> bool
+    ensures { result ≡ is_taken_by left_out.now sort.now member.now }
+{
+    is_other(left_out, member.0) && same_sort_key(&member.1, sort)
+}
+
+// The keys, read from a node on in this direction.
+pub(crate) fn keys_along(
+    links: &Links,
+    start: Option<usize>,
+    direction: Direction,
+    alloc: Global,
+) -> Result<Vec<DbKey>, AllocError>
+    ensures { IfOk result (λ keys. keys.items ≡ map (λ e. e.0) (read direction links.now.len links.now.nodes.slots start)) }
+{
+    let mut keys = Vec::with_capacity(alloc, links.len)?;
+    let mut at = start;
+    for turn in 0..links.len {
+        match at {
+            None => return Ok(keys),
+            Some(i) => match links.nodes.get(i) {
+                None => return Ok(keys),
+                Some(node) => {
+                    keys.push(node.member.0)?;
+                    at = node.neighbour(direction);
+                }
+            },
+        }
+    }
+    Ok(keys)
+}
