@@ -5,6 +5,7 @@ mod RingReads
 mod RingPlaces
 mod SortedMembers
 mod RingSorted
+mod PlacesOfNodes
 mod PlacedLaws
 mod PlaceNumbers
 mod CalcOrder

@@ -13,7 +13,7 @@ use Rattle.dbtg_cells.specs.Chain.{Slots, Link, slot, node_of, head_at, last_at,
 use Rattle.dbtg_cells.specs.Links.{linked_in, linked_out}
 use Rattle.dbtg_cells.specs.SortedMembers.{KeepsOrder}
 use Rattle.dbtg_cells.specs.Ordered.{OrderView}
-use Rattle.dbtg_cells.specs.RingOrder.{node_in_front, IsOrdered}
+use Rattle.dbtg_cells.specs.RingOrder.{node_in_front, IsOrderOf}
 use Rattle.dbtg_cells.proofs.LinksWritten.{Avoids_right}
 use Rattle.dbtg_cells.proofs.WholeRings.{members, Seg_avoids, insert_at, reserved_at, joined, parted, listed}
 
@@ -121,9 +121,9 @@ in_front_is ns (suc n) = refl
 pub record Stands (find : DbKey → Option ℕ) (s : Slots) (first last : Option ℕ) (len : ℕ) (list : List Entry) (order : OrderView) (sorted : Option SortedBy) : Type 0 where
   pub ring : IsRing find s first last len
   pub list_is : follow len s first ≡ list
-  pub ordered : IsOrdered find ring.chain order sorted
+  pub ordered : IsOrderOf find ring.chain order sorted
 
-module _ (find : DbKey → Option ℕ) (s : Slots) (first last : Option ℕ) (len : ℕ) (R : IsRing find s first last len) (order : OrderView) (sorted : Option SortedBy) (O : IsOrdered find R.chain order sorted) where
+module _ (find : DbKey → Option ℕ) (s : Slots) (first last : Option ℕ) (len : ℕ) (R : IsRing find s first last len) (order : OrderView) (sorted : Option SortedBy) (O : IsOrderOf find R.chain order sorted) where
   pub count_of_places : length order.nodes ≡ length (members R.chain)
   count_of_places = ap length O.listed ∙ length-map R.chain (λ e. e.at) ∙ sym (length-map R.chain (λ e. e.member))
 
@@ -241,7 +241,7 @@ empty find s order is_s none is_nodes = record {
     clash x h = cc
 
 -- more room changes nothing else
-pub roomier : (find : DbKey → Option ℕ) (chain : List Link) (order order' : OrderView) (sorted : Option SortedBy) → IsOrdered find chain order sorted → order'.nodes ≡ order.nodes → order.room ≤ order'.room → IsOrdered find chain order' sorted
+pub roomier : (find : DbKey → Option ℕ) (chain : List Link) (order order' : OrderView) (sorted : Option SortedBy) → IsOrderOf find chain order sorted → order'.nodes ≡ order.nodes → order.room ≤ order'.room → IsOrderOf find chain order' sorted
 roomier find chain order order' sorted O nodes more = record {
   listed = nodes ∙ O.listed;
   room = λ k i h. let low = O.room k i h in omega arith;
@@ -249,7 +249,7 @@ roomier find chain order order' sorted O nodes more = record {
 }
 
 -- a ring whose parts are written anew as they were, but for room in its order
-pub as_it_was : (find find' : DbKey → Option ℕ) (s s' : Slots) (first last : Option ℕ) (len : ℕ) (R : IsRing find s first last len) (order order' : OrderView) (sorted : Option SortedBy) (O : IsOrdered find R.chain order sorted)
+pub as_it_was : (find find' : DbKey → Option ℕ) (s s' : Slots) (first last : Option ℕ) (len : ℕ) (R : IsRing find s first last len) (order order' : OrderView) (sorted : Option SortedBy) (O : IsOrderOf find R.chain order sorted)
     → ((k : DbKey) → find' k ≡ find k) → s' ≡ s → order'.nodes ≡ order.nodes → order.room ≤ order'.room
     → Stands find' s' first last len (follow len s first) order' sorted
 as_it_was find find' s s' first last len R order order' sorted O same is_s nodes more = rw is_s (record {

@@ -33,7 +33,7 @@ pub record IsPlaceFrom (v : Value) (ms : List Entry) (place : ℕ) : Type 0 wher
   pub at : place ≡ position_or_len (λ e. not (key_below order.ascending e.1 (Some v))) ms
 
 -- the order lists the links of a ring, and what is known of the members holds
-pub record IsOrdered (find : DbKey → Option ℕ) (chain : List Link) (order : OrderView) (sorted : Option SortedBy) : Type 0 where
+pub record IsOrderOf (find : DbKey → Option ℕ) (chain : List Link) (order : OrderView) (sorted : Option SortedBy) : Type 0 where
   -- the nodes of the chain, in order
   pub listed : order.nodes ≡ map (λ e. e.at) chain
   -- every node of the ring has room

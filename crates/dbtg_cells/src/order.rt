@@ -1,10 +1,23 @@
-//! The order of a ring's nodes, by their numbers (stand-in).
-ghost use Rattle.std.specs.Prelude.{◌≡◌, ◌<◌, ◌≤◌, ◌==◌, true, false, length, [], Some, slice_get, OnOk, OnErr, IsOk};
+//! The order of a ring's nodes, by their numbers: the n-th is at hand, and where a node stands is found by halving.
+//!
+//! Each node has a label, and labels rise from the first node to the last. A node that comes in gets a label between those
+//! beside it; where none is left, all get new ones.
+ghost use Rattle.std.specs.Prelude.{◌≡◌, ◌-◌, ◌*◌, ◌<◌, ◌≤◌, ◌^◌, true, false, ◌==◌, Some, None, option_map, if◌then◌else◌, length, slice_get, slice_set, slice_index, [], IsOk, OnOk, OnErr, vec_capacity};
 ghost use Rattle.std.specs.List.{list_any, insert, remove};
+ghost use Rattle.std.specs.Option.{IfSome};
+ghost use Rattle.dbtg_cells.specs.ByCalc.{is_rising};
+ghost use Rattle.dbtg_cells.specs.Ordered.{label_below, are_below, are_distinct, Fits};
 
 use std::alloc::{AllocError, Global};
 use std::marker::Model;
 
+// The label of a node that is alone.
+const MIDDLE: u64 = 1 << 63;
+
+// How far labels are apart where there is space.
+const STEP: u64 = 1 << 32;
+
+/// The nodes of a ring in their order, and the label of each node by its number.
 #[derive(Drop)]
 pub(crate) struct Order {
     nodes: Vec<usize>,
@@ -12,17 +25,142 @@ pub(crate) struct Order {
 }
 
 impl Model for Order {
-    ghost use Rattle.std.specs.Prelude.{length, ◌≤◌};
-    ghost use Rattle.dbtg_cells.specs.Ordered.{OrderView};
+    ghost use Rattle.std.specs.Prelude.{length, vec_capacity};
+    ghost use Rattle.dbtg_cells.specs.Ordered.{OrderView, IsOrdered};
 
     ghost Value = { OrderView };
 
     ghost view = { λ o. record { nodes = o.nodes.items; room = length o.labels.items } };
 
-    ghost invariant = { λ o. length o.labels.items ≤ length o.labels.items };
+    ghost invariant = { λ o. IsOrdered o.nodes.items o.labels.items (vec_capacity o.nodes) };
+}
+
+fn label_of(labels: &[u64], node: usize) -> u64
+    ensures { result ≡ slice_index labels.now node }
+{
+    match labels.get(node) {
+        Some(label) => *label,
+        None => 0,
+    }
+}
+
+fn is_label_below(labels: &[u64], node: usize, other: usize) -> bool
+    ensures { result ≡ label_below labels.now node other }
+{
+    label_of(labels, node) < label_of(labels, other)
+}
+
+// Where a node of the list stands.
+fn place_among(nodes: &[usize], labels: &[u64], node: usize) -> usize
+    requires rising { is_rising (label_below labels.now) nodes.now ≡ true }
+    requires listed { list_any (λ n. n == node) nodes.now ≡ true }
+    ensures { slice_get nodes.now result ≡ Some node }
+{
+    nodes.partition_point(|other| is_label_below(labels, *other, node))
+}
+
+// The label of the node at a place, if there is one.
+fn label_at(nodes: &[usize], labels: &[u64], place: usize) -> Option<u64>
+    ensures { result ≡ option_map (slice_index labels.now) (slice_get nodes.now place) }
+{
+    match nodes.get(place) {
+        Some(node) => Some(label_of(labels, *node)),
+        None => None,
+    }
+}
+
+// The label of the node in front of a place, if there is one.
+fn label_in_front(nodes: &[usize], labels: &[u64], place: usize) -> Option<u64>
+    ensures { result ≡ (if place == 0 then None else option_map (slice_index labels.now) (slice_get nodes.now (place - 1))) }
+{
+    if place == 0 {
+        None
+    } else {
+        label_at(nodes, labels, place - 1)
+    }
+}
+
+// A label halfway between two others.
+fn label_inside(below: u64, above: u64) -> Option<u64>
+    ensures { IfSome result (λ label. (below < label) × (label < above)) }
+{
+    if below < above && above - below >= 2 {
+        Some(below + (above - below) / 2)
+    } else {
+        None
+    }
+}
+
+// A label above the one and below the other, where they are given.
+fn label_between(below: Option<u64>, above: Option<u64>) -> Option<u64>
+    ensures low { IfSome result (λ label. IfSome below (λ b. b < label)) }
+    ensures high { IfSome result (λ label. IfSome above (λ a. label < a)) }
+{
+    match (below, above) {
+        (None, None) => Some(MIDDLE),
+        (Some(b), None) => b.checked_add(STEP),
+        (None, Some(a)) => a.checked_sub(STEP),
+        (Some(b), Some(a)) => label_inside(b, a),
+    }
+}
+
+// A label for a node that comes in at a place, if one is left.
+fn free_label(nodes: &[usize], labels: &[u64], place: usize) -> Option<u64>
+    requires rising { is_rising (label_below labels.now) nodes.now ≡ true }
+    requires place { place ≤ length nodes.now }
+    ensures { IfSome result (Fits nodes.now labels.now place) }
+{
+    label_between(
+        label_in_front(nodes, labels, place),
+        label_at(nodes, labels, place),
+    )
+}
+
+// Puts a node into the list.
+fn insert_node(nodes: &mut Vec<usize>, place: usize, node: usize)
+    requires room { length nodes.old.items < vec_capacity nodes.old }
+    requires place { place ≤ length nodes.old.items }
+    ensures items { nodes.new.items ≡ insert nodes.old.items place node }
+    ensures capacity { vec_capacity nodes.new ≡ vec_capacity nodes.old }
+{
+    let _ = nodes.insert(place, node);
+}
+
+fn set_label(labels: &mut Vec<u64>, node: usize, label: u64)
+    requires { node < length labels.old.items }
+    ensures { labels.new.items ≡ slice_set labels.old.items node label }
+{
+    labels[node] = label;
+}
+
+// How far the new labels of so many nodes are apart.
+fn step_for(count: u64) -> u64
+    requires { 0 < count }
+    ensures some { 0 < result }
+    ensures fits { result * count < 2 ^ 64 }
+{
+    let most = u64::MAX / count;
+    if most < STEP { most } else { STEP }
+}
+
+// Gives each node a new label, evenly spaced around the middle.
+fn relabel(nodes: &[usize], labels: &mut Vec<u64>)
+    requires some { 0 < length nodes.now }
+    requires distinct { are_distinct nodes.now ≡ true }
+    requires below { are_below (length labels.old.items) nodes.now ≡ true }
+    ensures rising { is_rising (label_below labels.new.items) nodes.now ≡ true }
+    ensures len { length labels.new.items ≡ length labels.old.items }
+{
+    let step = step_for(nodes.len() as u64);
+    let mut label = (u64::MAX - step * nodes.len() as u64) / 2;
+    for node in nodes {
+        set_label(labels, *node, label);
+        label += step;
+    }
 }
 
 impl Order {
+    /// No node, and no memory.
     pub(crate) fn new(alloc: Global) -> Self
         ensures nodes { result.nodes ≡ [] }
         ensures room { result.room ≡ 0 }
@@ -33,19 +171,22 @@ impl Order {
         }
     }
 
+    /// The numbers of the nodes, in their order.
     pub(crate) fn as_slice(&self) -> &[usize]
         ensures { result.now ≡ self.now.nodes }
     {
         self.nodes.as_slice()
     }
 
+    /// Where a node stands.
     pub(crate) fn place_of(&self, node: usize) -> usize
         requires { list_any (λ n. n == node) self.now.nodes ≡ true }
         ensures { slice_get self.now.nodes result ≡ Some node }
     {
-        self.nodes.iter().position(|n| *n == node).unwrap_or(0)
+        place_among(self.nodes.as_slice(), self.labels.as_slice(), node)
     }
 
+    /// Makes room, so that this node can come in without memory.
     pub(crate) fn reserve(&mut self, node: usize) -> Result<(), AllocError>
         ensures ok { OnOk result (node < self.new.room) }
         ensures nodes { self.new.nodes ≡ self.old.nodes }
@@ -53,11 +194,27 @@ impl Order {
         ensures err { OnErr result (self.new ≡ self.old) }
         ensures had_room { node < self.old.room → IsOk result × (self.new ≡ self.old) }
     {
-        self.nodes.reserve(1)?;
-        self.labels.push(0)?;
-        Ok(())
+        if node < self.labels.len() {
+            return Ok(());
+        }
+        match node.checked_add(1) {
+            Some(room) => self.reserve_labels(room),
+            None => Err(AllocError),
+        }
     }
 
+    // Makes room for so many labels, and to list as many nodes.
+    fn reserve_labels(&mut self, room: usize) -> Result<(), AllocError>
+        requires { self.old.room ≤ room }
+        ensures nodes { self.new.nodes ≡ self.old.nodes }
+        ensures ok { OnOk result (self.new.room ≡ room) }
+        ensures err { OnErr result (self.new ≡ self.old) }
+    {
+        self.nodes.reserve(room - self.nodes.len())?;
+        self.labels.resize(room, 0)
+    }
+
+    /// Puts a node that is not listed in at a place.
     pub(crate) fn insert(&mut self, place: usize, node: usize)
         requires place { place ≤ length self.old.nodes }
         requires room { node < self.old.room }
@@ -65,9 +222,19 @@ impl Order {
         ensures nodes { self.new.nodes ≡ insert self.old.nodes place node }
         ensures room { self.new.room ≡ self.old.room }
     {
-        let _ = self.nodes.insert(place, node);
+        match free_label(self.nodes.as_slice(), self.labels.as_slice(), place) {
+            Some(label) => {
+                insert_node(&mut self.nodes, place, node);
+                set_label(&mut self.labels, node, label);
+            }
+            None => {
+                insert_node(&mut self.nodes, place, node);
+                relabel(self.nodes.as_slice(), &mut self.labels);
+            }
+        }
     }
 
+    /// Takes the node at a place out.
     pub(crate) fn remove(&mut self, place: usize)
         requires { place < length self.old.nodes }
         ensures nodes { self.new.nodes ≡ remove self.old.nodes place }
@@ -76,6 +243,7 @@ impl Order {
         let _ = self.nodes.remove(place);
     }
 
+    /// Takes all nodes out.
     pub(crate) fn clear(&mut self)
         ensures nodes { self.new.nodes ≡ [] }
         ensures room { self.new.room ≡ self.old.room }
