@@ -1,5 +1,5 @@
 -- The order of nodes by their labels: what comes in, goes out, or gets another label.
-use Rattle.std.proofs.Common.{◌≡◌, ℕ, zero, suc, ◌+◌, ◌-◌, ◌*◌, ◌<◌, ◌≤◌, Bool, true, false, not, cond, ◌||◌, ◌==◌, eqb, List, [], ◌∷◌, ◌++◌, length, take, drop, set, get_or, Option, Some, None, refl, sym, ap, ◌∙◌, arith, inl, inr, nat_lt, slice_get, length-set, subst}
+use Rattle.std.proofs.Common.{◌≡◌, ◌^◌, ℕ, zero, suc, ◌+◌, ◌-◌, ◌*◌, ◌<◌, ◌≤◌, Bool, true, false, not, cond, ◌||◌, ◌==◌, eqb, List, [], ◌∷◌, ◌++◌, length, take, drop, set, get_or, Option, Some, None, refl, sym, ap, ◌∙◌, arith, inl, inr, nat_lt, slice_get, length-set, subst}
 use Rattle.std.proofs.lemmas.Bool.{and_parts, and_from, eqb-true, eq-eqb, false_from_ne_true, ltb-true, lt-ltb, not-true, or_left, or_from}
 use Rattle.std.proofs.lemmas.List.{get_or-set_same, get_or-set_other, take_more}
 use Rattle.std.proofs.lemmas.Map.Steps.{length-le_from_distinct_below}
@@ -198,6 +198,7 @@ fitted nodes labels capacity place node label O within other F = record {
       (all_from (label_below (set labels node label) node) (drop place nodes) (λ y r. stays_over nodes labels node label other within y (in_drop y nodes place r) (all_at (λ n. nat_lt label (get_or labels n 0)) (drop place nodes) y F.behind r)));
   below = ap (λ k. are_below k (insert nodes place node)) (length-set labels node label) ∙ all_insert (λ n. nat_lt n (length labels)) nodes place node O.below (lt-ltb node _ within);
   room = omega (arith, O.room, length-set labels node label);
+  numbers = omega (arith, O.numbers, length-set labels node label);
 }
 
 -- an order whose list lost one node
@@ -206,11 +207,12 @@ ordered_without nodes labels capacity place O = record {
   rising = rising_remove (label_below labels) nodes place O.rising;
   below = all_remove (λ n. nat_lt n (length labels)) nodes place O.below;
   room = O.room;
+  numbers = O.numbers;
 }
 
 -- the same order, with other room
 pub same_order : (nodes nodes' labels labels' : List ℕ) (capacity capacity' : ℕ) → nodes' ≡ nodes → labels' ≡ labels → capacity ≤ capacity' → IsOrdered nodes labels capacity → IsOrdered nodes' labels' capacity'
-same_order nodes nodes' labels labels' capacity capacity' is_nodes is_labels more O = rw (is_nodes, is_labels) (record { rising = O.rising; below = O.below; room = omega (arith, O.room) })
+same_order nodes nodes' labels labels' capacity capacity' is_nodes is_labels more O = rw (is_nodes, is_labels) (record { rising = O.rising; below = O.below; room = omega (arith, O.room); numbers = O.numbers })
 
 pub few_nodes : (nodes labels : List ℕ) (capacity : ℕ) → IsOrdered nodes labels capacity → length nodes ≤ length labels
 few_nodes nodes labels capacity O = few (length labels) nodes (distinct labels nodes O.rising) O.below
@@ -219,11 +221,12 @@ pub has_room : (nodes labels : List ℕ) (capacity node : ℕ) → IsOrdered nod
 has_room nodes labels capacity node O within other = omega (arith, O.room, fewer (length labels) node nodes (distinct labels nodes O.rising) O.below within other)
 
 -- labels that are added change none that was there
-pub added : (nodes labels labels' : List ℕ) (capacity capacity' : ℕ) → length labels ≤ length labels' → ((n : ℕ) → n < length labels → get_or labels' n 0 ≡ get_or labels n 0) → length labels' ≤ capacity' → IsOrdered nodes labels capacity → IsOrdered nodes labels' capacity'
-added nodes labels labels' capacity capacity' more kept room O = record {
+pub added : (nodes labels labels' : List ℕ) (capacity capacity' : ℕ) → length labels ≤ length labels' → ((n : ℕ) → n < length labels → get_or labels' n 0 ≡ get_or labels n 0) → length labels' ≤ capacity' → length labels' < 2 ^ 32 → IsOrdered nodes labels capacity → IsOrdered nodes labels' capacity'
+added nodes labels labels' capacity capacity' more kept room numbers O = record {
   rising = rising_same (label_below labels) (label_below labels') nodes (λ x y r s. ap (λ k. nat_lt k (get_or labels' y 0)) (there x r) ∙ ap (nat_lt (get_or labels x 0)) (there y s)) O.rising;
   below = all_more (λ n. nat_lt n (length labels)) (λ n. nat_lt n (length labels')) (λ y low. lt-ltb y _ (omega (arith, more, ltb-true _ _ low))) nodes O.below;
   room = room;
+  numbers = numbers;
 }
   where
     there : (y : ℕ) → is_in y nodes ≡ true → get_or labels' y 0 ≡ get_or labels y 0
@@ -273,11 +276,12 @@ labelled_more nodes labels i label step low apart below some L =
 pub left_more : (step rest more : ℕ) → more ≡ rest + 1 → step * more ≡ step + step * rest
 left_more step rest more e = rw e (omega arith)
 
-pub relabelled : (listed nodes labels labels' : List ℕ) (capacity capacity' : ℕ) → listed ≡ nodes → is_rising (label_below labels') listed ≡ true → length labels' ≡ length labels → are_below (length labels) listed ≡ true → length labels ≤ capacity → capacity' ≡ capacity → IsOrdered nodes labels' capacity'
-relabelled listed nodes labels labels' capacity capacity' is rising len below room same = record {
+pub relabelled : (listed nodes labels labels' : List ℕ) (capacity capacity' : ℕ) → listed ≡ nodes → is_rising (label_below labels') listed ≡ true → length labels' ≡ length labels → are_below (length labels) listed ≡ true → length labels ≤ capacity → length labels < 2 ^ 32 → capacity' ≡ capacity → IsOrdered nodes labels' capacity'
+relabelled listed nodes labels labels' capacity capacity' is rising len below room numbers same = record {
   rising = ap (is_rising (label_below labels')) (sym is) ∙ rising;
   below = ap (λ k. are_below k nodes) len ∙ ap (are_below (length labels)) (sym is) ∙ below;
   room = omega (arith, len, room, same);
+  numbers = omega (arith, len, numbers);
 }
 
 -- a length after an attempt to add

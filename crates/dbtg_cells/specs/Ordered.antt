@@ -1,5 +1,5 @@
 -- The order of a ring's nodes, and the labels by which the place of a node is found.
-use Rattle.std.specs.Prelude.{◌≡◌, ℕ, ◌≤◌, Bool, true, not, ◌==◌, nat_lt, List, length, slice_index, take, drop}
+use Rattle.std.specs.Prelude.{◌≡◌, ℕ, ◌<◌, ◌≤◌, ◌^◌, Bool, true, not, ◌==◌, nat_lt, List, length, slice_index, take, drop}
 use Rattle.std.specs.List.{list_all}
 use Rattle.dbtg_cells.specs.ByCalc.{is_rising}
 
@@ -25,8 +25,9 @@ pub record Fits (nodes labels : List ℕ) (place label : ℕ) : Type 0 where
   pub front : list_all (λ n. nat_lt (slice_index labels n) label) (take place nodes) ≡ true
   pub behind : list_all (λ n. nat_lt label (slice_index labels n)) (drop place nodes) ≡ true
 
--- the labels rise, each node has one, and there is room to list every node that has one
+-- the labels rise, each node has one, there is room to list every node that has one, and its number fits 32 bits
 pub record IsOrdered (nodes labels : List ℕ) (capacity : ℕ) : Type 0 where
   pub rising : is_rising (label_below labels) nodes ≡ true
   pub below : are_below (length labels) nodes ≡ true
   pub room : length labels ≤ capacity
+  pub numbers : length labels < 2 ^ 32

@@ -17,10 +17,13 @@ const MIDDLE: u64 = 1 << 63;
 // How far labels are apart where there is space.
 const STEP: u64 = 1 << 32;
 
+// A node's number is listed in 32 bits: so many nodes have room.
+const MOST: usize = 0xffff_ffff;
+
 /// The nodes of a ring in their order, and the label of each node by its number.
 #[derive(Drop)]
 pub(crate) struct Order {
-    nodes: Vec<usize>,
+    nodes: Vec<u32>,
     labels: Vec<u64>,
 }
 
@@ -51,26 +54,26 @@ fn is_label_below(labels: &[u64], node: usize, other: usize) -> bool
 }
 
 // Where a node of the list stands.
-fn place_among(nodes: &[usize], labels: &[u64], node: usize) -> usize
+fn place_among(nodes: &[u32], labels: &[u64], node: usize) -> usize
     requires rising { is_rising (label_below labels.now) nodes.now ≡ true }
     requires listed { list_any (λ n. n == node) nodes.now ≡ true }
     ensures { slice_get nodes.now result ≡ Some node }
 {
-    nodes.partition_point(|other| is_label_below(labels, *other, node))
+    nodes.partition_point(|other| is_label_below(labels, *other as usize, node))
 }
 
 // The label of the node at a place, if there is one.
-fn label_at(nodes: &[usize], labels: &[u64], place: usize) -> Option<u64>
+fn label_at(nodes: &[u32], labels: &[u64], place: usize) -> Option<u64>
     ensures { result ≡ option_map (slice_index labels.now) (slice_get nodes.now place) }
 {
     match nodes.get(place) {
-        Some(node) => Some(label_of(labels, *node)),
+        Some(node) => Some(label_of(labels, *node as usize)),
         None => None,
     }
 }
 
 // The label of the node in front of a place, if there is one.
-fn label_in_front(nodes: &[usize], labels: &[u64], place: usize) -> Option<u64>
+fn label_in_front(nodes: &[u32], labels: &[u64], place: usize) -> Option<u64>
     ensures { result ≡ (if place == 0 then None else option_map (slice_index labels.now) (slice_get nodes.now (place - 1))) }
 {
     if place == 0 {
@@ -105,7 +108,7 @@ fn label_between(below: Option<u64>, above: Option<u64>) -> Option<u64>
 }
 
 // A label for a node that comes in at a place, if one is left.
-fn free_label(nodes: &[usize], labels: &[u64], place: usize) -> Option<u64>
+fn free_label(nodes: &[u32], labels: &[u64], place: usize) -> Option<u64>
     requires rising { is_rising (label_below labels.now) nodes.now ≡ true }
     requires place { place ≤ length nodes.now }
     ensures { IfSome result (Fits nodes.now labels.now place) }
@@ -117,13 +120,14 @@ fn free_label(nodes: &[usize], labels: &[u64], place: usize) -> Option<u64>
 }
 
 // Puts a node into the list.
-fn insert_node(nodes: &mut Vec<usize>, place: usize, node: usize)
+fn insert_node(nodes: &mut Vec<u32>, place: usize, node: usize)
     requires room { length nodes.old.items < vec_capacity nodes.old }
     requires place { place ≤ length nodes.old.items }
+    requires number { node < 2 ^ 32 }
     ensures items { nodes.new.items ≡ insert nodes.old.items place node }
     ensures capacity { vec_capacity nodes.new ≡ vec_capacity nodes.old }
 {
-    let _ = nodes.insert(place, node);
+    let _ = nodes.insert(place, node as u32);
 }
 
 fn set_label(labels: &mut Vec<u64>, node: usize, label: u64)
@@ -144,7 +148,7 @@ fn step_for(count: u64) -> u64
 }
 
 // Gives each node a new label, evenly spaced around the middle.
-fn relabel(nodes: &[usize], labels: &mut Vec<u64>)
+fn relabel(nodes: &[u32], labels: &mut Vec<u64>)
     requires some { 0 < length nodes.now }
     requires distinct { are_distinct nodes.now ≡ true }
     requires below { are_below (length labels.old.items) nodes.now ≡ true }
@@ -154,7 +158,7 @@ fn relabel(nodes: &[usize], labels: &mut Vec<u64>)
     let step = step_for(nodes.len() as u64);
     let mut label = (u64::MAX - step * nodes.len() as u64) / 2;
     for node in nodes {
-        set_label(labels, *node, label);
+        set_label(labels, *node as usize, label);
         label += step;
     }
 }
@@ -172,7 +176,7 @@ impl Order {
     }
 
     /// The numbers of the nodes, in their order.
-    pub(crate) fn as_slice(&self) -> &[usize]
+    pub(crate) fn as_slice(&self) -> &[u32]
         ensures { result.now ≡ self.now.nodes }
     {
         self.nodes.as_slice()
@@ -197,15 +201,16 @@ impl Order {
         if node < self.labels.len() {
             return Ok(());
         }
-        match node.checked_add(1) {
-            Some(room) => self.reserve_labels(room),
-            None => Err(AllocError),
+        if node >= MOST {
+            return Err(AllocError);
         }
+        self.reserve_labels(node + 1)
     }
 
     // Makes room for so many labels, and to list as many nodes.
     fn reserve_labels(&mut self, room: usize) -> Result<(), AllocError>
-        requires { self.old.room ≤ room }
+        requires more { self.old.room ≤ room }
+        requires numbers { room < 2 ^ 32 }
         ensures nodes { self.new.nodes ≡ self.old.nodes }
         ensures ok { OnOk result (self.new.room ≡ room) }
         ensures err { OnErr result (self.new ≡ self.old) }

@@ -11,6 +11,12 @@ insert_node-requires-clause-room c =
     let other = subst (λ v. is_in c.args.node v.nodes ≡ false) (sym c.self.view_is) c.requires.new in
     has_room _ _ _ c.args.node c.self.invariant within other
 
+pub insert_node-requires-clause-number : goal.insert_node-requires-clause-number
+insert_node-requires-clause-number c = omega (arith, c.requires.room, ap (λ v. v.room) c.self.view_is, c.self.invariant.numbers)
+
+pub insert_node-requires-in-None-clause-number : goal.insert_node-requires-in-None-clause-number
+insert_node-requires-in-None-clause-number c = omega (arith, c.requires.room, ap (λ v. v.room) c.self.view_is, c.self.invariant.numbers)
+
 pub invariant_of-self : goal.invariant_of-self
 invariant_of-self c =
     let within = subst (λ v. c.args.node < v.room) (sym c.self.view_is) c.requires.room in
@@ -42,4 +48,4 @@ invariant_of-self-in-None c =
     let within = subst (λ v. c.args.node < v.room) (sym c.self.view_is) c.requires.room in
     let len = length c.self.inside.labels.items in
     let below = ap (are_below len) (c.as_slice-in-None.ensures.value ∙ c.insert_node-in-None.ensures.items) ∙ all_insert (λ n. nat_lt n len) c.self.inside.nodes.items c.args.place c.args.node c.self.invariant.below (lt-ltb _ _ within) in
-    relabelled _ _ c.self.inside.labels.items _ _ _ c.as_slice-in-None.ensures.value c.relabel.ensures.rising c.relabel.ensures.len below c.self.invariant.room c.insert_node-in-None.ensures.capacity
+    relabelled _ _ c.self.inside.labels.items _ _ _ c.as_slice-in-None.ensures.value c.relabel.ensures.rising c.relabel.ensures.len below c.self.invariant.room c.self.invariant.numbers c.insert_node-in-None.ensures.capacity
