@@ -67,11 +67,10 @@ pub fn is_named(words: &[Labelled], role: Role, text: &[u8]) -> bool
 pub fn since<'a, 'b>(words: &'a [Labelled<'b>], role: Role) -> &'a [Labelled<'b>]
     ensures { views result.now ≡ since role (views words.now) }
 {
-    for (i, word) in words.iter().enumerate() {
-        if has_role(word, role) {
-            if !any(&words[i + 1..], role) {
-                return &words[i..];
-            }
+    for behind in 0..words.len() {
+        let at = words.len() - 1 - behind;
+        if has_role(&words[at], role) {
+            return &words[at..];
         }
     }
     &words[words.len()..]

@@ -1,7 +1,8 @@
-use Rattle.std.proofs.Common.{◌≡◌, drop}
-use Rattle.dbtg_schema.specs.Texts.Labels.{since}
+use Rattle.std.proofs.Common.{◌≡◌, ◌-◌, false, drop, length}
+use Rattle.std.specs.List.{list_any}
+use Rattle.dbtg_schema.specs.Texts.Labels.{is}
 use Rattle.dbtg_schema.specs.Texts.Views.{views}
 use Rattle.dbtg_schema.proofs.queries.since.Given as goal
 
-abbrev pub invariant-loop-i : goal.invariant-loop-i
-invariant-loop-i l = since l.role (views (drop l.i l.words)) ≡ since l.role (views l.words)
+abbrev pub invariant-loop-behind : goal.invariant-loop-behind
+invariant-loop-behind l = list_any (is l.role) (views (drop (length l.words - l.behind) l.words)) ≡ false
