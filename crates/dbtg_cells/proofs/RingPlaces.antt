@@ -12,8 +12,8 @@ use Rattle.dbtg_cells.specs.Members.{Entry}
 use Rattle.dbtg_cells.specs.Chain.{Slots, Link, slot, node_of, head_at, last_at, Seg, Avoids, Apart, follow, end_or, unlinked_keys, key_at, linked_at, IsRing}
 use Rattle.dbtg_cells.specs.Links.{linked_in, linked_out}
 use Rattle.dbtg_cells.specs.SortedMembers.{KeepsOrder}
-use Rattle.dbtg_cells.specs.Ordered.{OrderView}
-use Rattle.dbtg_cells.specs.RingOrder.{node_in_front, IsOrderOf}
+use Rattle.dbtg_cells.specs.Ordered.{OrderView, node_in_front, last_node}
+use Rattle.dbtg_cells.specs.RingOrder.{IsOrderOf}
 use Rattle.dbtg_cells.proofs.LinksWritten.{Avoids_right}
 use Rattle.dbtg_cells.proofs.WholeRings.{members, Seg_avoids, insert_at, reserved_at, joined, parted, listed}
 
@@ -123,6 +123,30 @@ pub record Stands (find : DbKey → Option ℕ) (s : Slots) (first last : Option
   pub list_is : follow len s first ≡ list
   pub ordered : IsOrderOf find ring.chain order sorted
 
+first_place : (es : List Link) → slice_get (places es) 0 ≡ head_at es None
+first_place [] = refl
+first_place (e ∷ es) = refl
+
+last_place : (p : Option ℕ) (es : List Link) → before_place p (places es) (length es) ≡ last_at p es
+last_place p [] = refl
+last_place p (e ∷ es) = beside (length es) ∙ last_place (Some e.at) es
+  where
+    beside : (n : ℕ) → slice_get (places (e ∷ es)) n ≡ before_place (Some e.at) (places es) n
+    beside zero = refl
+    beside (suc n) = refl
+
+-- the ends of the list are those of the order, and it has as many members
+pub by_order : (find : DbKey → Option ℕ) (s : Slots) (first last : Option ℕ) (len : ℕ) (list : List Entry) (order : OrderView) (sorted : Option SortedBy) → Stands find s first last len list order sorted → Stands find s (slice_get order.nodes 0) (last_node order.nodes) (length order.nodes) list order sorted
+by_order find s first last len list order sorted S =
+    let es = S.ring.chain in
+    let is = sym S.ordered.listed in
+    let starts : first ≡ slice_get order.nodes 0 = S.ring.starts ∙ sym (first_place es) ∙ ap (λ ns. slice_get ns 0) is in
+    let ends : last ≡ last_node order.nodes = S.ring.ends ∙ sym (last_place None es) ∙ ap (before_place None (places es)) (sym (length-map es (λ e. e.at))) ∙ sym (in_front_is (places es) (length (places es))) ∙ ap last_node is in
+    let count : len ≡ length order.nodes = S.ring.counted ∙ sym (length-map es (λ e. e.at)) ∙ ap length is in
+    subst (λ n. Stands find s (slice_get order.nodes 0) (last_node order.nodes) n list order sorted) count
+    (subst (λ l. Stands find s (slice_get order.nodes 0) l len list order sorted) ends
+    (subst (λ f. Stands find s f last len list order sorted) starts S))
+
 module _ (find : DbKey → Option ℕ) (s : Slots) (first last : Option ℕ) (len : ℕ) (R : IsRing find s first last len) (order : OrderView) (sorted : Option SortedBy) (O : IsOrderOf find R.chain order sorted) where
   pub count_of_places : length order.nodes ≡ length (members R.chain)
   count_of_places = ap length O.listed ∙ length-map R.chain (λ e. e.at) ∙ sym (length-map R.chain (λ e. e.member))
@@ -146,10 +170,9 @@ module _ (find : DbKey → Option ℕ) (s : Slots) (first last : Option ℕ) (le
           ap (list_any (λ i. i == at)) O.listed ∙ not_listed at R.chain (Seg_avoids s at r.node r.there r.off None R.chain None R.links)
 
       pub come_in : (p q : Option ℕ) → p ≡ node_in_front order.nodes n → q ≡ slice_get order.nodes n
-          → (s' : Slots) (first' last' : Option ℕ) (len' : ℕ) → s' ≡ linked_in at m p q s → first' ≡ end_or p (Some at) first → last' ≡ end_or q (Some at) last → len' ≡ len + 1
-          → (order' : OrderView) → order'.nodes ≡ insert order.nodes n at → order'.room ≡ order.room
-          → Stands find s' first' last' len' (insert (members R.chain) n m) order' None
-      come_in p q is_p is_q s' first' last' len' is_s is_first is_last is_len order' is_nodes is_room =
+          → (s' : Slots) → s' ≡ linked_in at m p q s → (order' : OrderView) → order'.nodes ≡ insert order.nodes n at → order'.room ≡ order.room
+          → Stands find s' (slice_get order'.nodes 0) (last_node order'.nodes) (length order'.nodes) (insert (members R.chain) n m) order' None
+      come_in p q is_p is_q s' is_s order' is_nodes is_room =
           let r = reserved_at find s first last len R m.0 room at found in
           let c = cut_here in
           let e : Link = record { at = at; member = m } in
@@ -159,7 +182,7 @@ module _ (find : DbKey → Option ℕ) (s : Slots) (first last : Option ℕ) (le
           ∙ ap (λ ms. insert ms n m) (map-append (λ e. e.member) c.front c.back)
           ∙ insert_at (members c.front) (members c.back) m n (c.count ∙ sym (length-map c.front (λ e. e.member)))
           ∙ sym (map-append (λ e. e.member) c.front (e ∷ c.back)) in
-          rw (is_s, is_first, is_last, is_len, is_p ∙ prior_is, is_q ∙ next_is) (record {
+          let placed : Stands find (linked_in at m (last_at None c.front) (head_at c.back None) s) (end_or (last_at None c.front) (Some at) first) (end_or (head_at c.back None) (Some at) last) (len + 1) (insert (members R.chain) n m) order' None = record {
             ring = j.0;
             list_is = listed find _ _ _ _ j.0 ∙ ap members j.1 ∙ sym here;
             ordered = record {
@@ -167,7 +190,8 @@ module _ (find : DbKey → Option ℕ) (s : Slots) (first last : Option ℕ) (le
               room = λ k i h. subst (λ more. i < more) (sym is_room) (O.room k i h);
               keeps = tt;
             };
-          })
+          } in
+          rw (is_s, is_p ∙ prior_is, is_q ∙ next_is) (by_order find _ _ _ _ _ order' None placed)
 
   -- a node goes out
   module _ (a : List Link) (e : Link) (b : List Link) (split : R.chain ≡ a ++ e ∷ b) where
@@ -178,14 +202,15 @@ module _ (find : DbKey → Option ℕ) (s : Slots) (first last : Option ℕ) (le
     place_there n at = place_of_link a e b n (subst Apart split R.apart) (ap (λ ns. slice_get ns n) (sym (O.listed ∙ ap places split)) ∙ at)
 
     pub go_out : (p q : Option ℕ) → p ≡ last_at None a → q ≡ head_at b None → (x : ℕ) → x ≡ e.at
-        → (s' : Slots) (first' last' : Option ℕ) (len' : ℕ) → s' ≡ linked_out x p q s → first' ≡ end_or p q first → last' ≡ end_or q p last → len' + 1 ≡ len
+        → (s' : Slots) → s' ≡ linked_out x p q s
         → (n : ℕ) → slice_get order.nodes n ≡ Some x → (order' : OrderView) → order'.nodes ≡ remove order.nodes n → order'.room ≡ order.room
         → KeepsOrder sorted (members (a ++ b))
-        → Stands find s' first' last' len' (members a ++ members b) order' sorted
-    go_out p q is_p is_q x is_x s' first' last' len' is_s is_first is_last is_len n at order' is_nodes is_room keeps =
-        let j = parted find s first last len R a e b split len' is_len in
+        → Stands find s' (slice_get order'.nodes 0) (last_node order'.nodes) (length order'.nodes) (members a ++ members b) order' sorted
+    go_out p q is_p is_q x is_x s' is_s n at order' is_nodes is_room keeps =
+        let fewer : length (a ++ b) + 1 ≡ len = omega (arith, R.counted, ap length split, length-append a b, length-append a (e ∷ b)) in
+        let j = parted find s first last len R a e b split (length (a ++ b)) fewer in
         let place = place_there n (at ∙ ap Some is_x) in
-        rw (is_s, is_first, is_last, is_p, is_q, is_x) (record {
+        let less : Stands find (linked_out e.at (last_at None a) (head_at b None) s) (end_or (last_at None a) (head_at b None) first) (end_or (head_at b None) (last_at None a) last) (length (a ++ b)) (members a ++ members b) order' sorted = record {
           ring = j.0;
           list_is = listed find _ _ _ _ j.0 ∙ ap members j.1 ∙ map-append (λ e. e.member) a b;
           ordered = record {
@@ -193,7 +218,8 @@ module _ (find : DbKey → Option ℕ) (s : Slots) (first last : Option ℕ) (le
             room = λ k i h. subst (λ more. i < more) (sym is_room) (O.room k i h);
             keeps = subst (λ es. KeepsOrder sorted (members es)) (sym j.1) keeps;
           };
-        })
+        } in
+        rw (is_s, is_p, is_q, is_x) (by_order find _ _ _ _ _ order' sorted less)
 
 -- where no type is named, all count
 pub all_of_any_type : (ks : List DbKey) → ks ≡ filter (has_type None) ks
@@ -216,8 +242,8 @@ pub past_the_front : (ks : List DbKey) (len n : ℕ) → len ≡ length ks → l
 past_the_front ks len n count past = sym (slice_get_past (reverse ks) n (omega (arith, count, length-reverse ks)))
 
 -- a ring with no nodes
-pub empty : (find : DbKey → Option ℕ) (s : Slots) (order : OrderView) → s ≡ [] → ((k : DbKey) → find k ≡ None) → order.nodes ≡ [] → Stands find s None None 0 [] order None
-empty find s order is_s none is_nodes = record {
+pub empty : (find : DbKey → Option ℕ) (s : Slots) (order : OrderView) → s ≡ [] → ((k : DbKey) → find k ≡ None) → order.nodes ≡ [] → Stands find s (slice_get order.nodes 0) (last_node order.nodes) (length order.nodes) [] order None
+empty find s order is_s none is_nodes = by_order find s None None 0 [] order None (record {
   ring = record {
     chain = [];
     links = tt;
@@ -235,7 +261,7 @@ empty find s order is_s none is_nodes = record {
     room = λ k i h. absurd (clash i (sym h ∙ none k));
     keeps = tt;
   };
-}
+})
   where
     clash : {A : Type 0} (x : A) → Some x ≡ None → ⊥
     clash x h = cc
@@ -248,29 +274,34 @@ roomier find chain order order' sorted O nodes more = record {
   keeps = O.keeps;
 }
 
+pub listing : (find : DbKey → Option ℕ) (s : Slots) (first last : Option ℕ) (len : ℕ) (R : IsRing find s first last len) (order : OrderView) (sorted : Option SortedBy) → IsOrderOf find R.chain order sorted → Stands find s first last len (follow len s first) order sorted
+listing find s first last len R order sorted O = record { ring = R; list_is = refl; ordered = O }
+
 -- a ring whose parts are written anew as they were, but for room in its order
 pub as_it_was : (find find' : DbKey → Option ℕ) (s s' : Slots) (first last : Option ℕ) (len : ℕ) (R : IsRing find s first last len) (order order' : OrderView) (sorted : Option SortedBy) (O : IsOrderOf find R.chain order sorted)
     → ((k : DbKey) → find' k ≡ find k) → s' ≡ s → order'.nodes ≡ order.nodes → order.room ≤ order'.room
-    → Stands find' s' first last len (follow len s first) order' sorted
-as_it_was find find' s s' first last len R order order' sorted O same is_s nodes more = rw is_s (record {
-  ring = record {
-    chain = R.chain;
-    links = R.links;
-    starts = R.starts;
-    ends = R.ends;
-    counted = R.counted;
-    apart = R.apart;
-    marked = R.marked;
-    found = λ k i h. R.found k i (sym (same k) ∙ h);
-    keyed = λ k i h. same k ∙ R.keyed k i h;
-  };
-  list_is = refl;
-  ordered = record {
-    listed = nodes ∙ O.listed;
-    room = λ k i h. let low = O.room k i (sym (same k) ∙ h) in omega arith;
-    keeps = O.keeps;
-  };
-})
+    → Stands find' s' (slice_get order'.nodes 0) (last_node order'.nodes) (length order'.nodes) (follow len s first) order' sorted
+as_it_was find find' s s' first last len R order order' sorted O same is_s nodes more =
+    let anew : Stands find' s first last len (follow len s first) order' sorted = record {
+      ring = record {
+        chain = R.chain;
+        links = R.links;
+        starts = R.starts;
+        ends = R.ends;
+        counted = R.counted;
+        apart = R.apart;
+        marked = R.marked;
+        found = λ k i h. R.found k i (sym (same k) ∙ h);
+        keyed = λ k i h. same k ∙ R.keyed k i h;
+      };
+      list_is = refl;
+      ordered = record {
+        listed = nodes ∙ O.listed;
+        room = λ k i h. let low = O.room k i (sym (same k) ∙ h) in omega arith;
+        keeps = O.keeps;
+      };
+    } in
+    rw is_s (by_order find' s first last len _ order' sorted anew)
 
 -- a node that comes in for a key has room
 pub room_for_new : (find find' : DbKey → Option ℕ) (k : DbKey) (at room more : ℕ) → ((q : DbKey) → find' q ≡ cond (key_eq k q) (Some at) (find q)) → ((q : DbKey) (i : ℕ) → find q ≡ Some i → i < room) → room ≤ more → at < more → (q : DbKey) (i : ℕ) → find' q ≡ Some i → i < more

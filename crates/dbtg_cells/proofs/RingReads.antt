@@ -30,6 +30,10 @@ use Rattle.dbtg_cells.proofs.Occurrences.{shown_as}
 pub read_one : (d : Direction) (m n : ℕ) (s : Slots) (at : Option ℕ) (i : ℕ) (node : Node) → m ≡ suc n → at ≡ Some i → slot s i ≡ Some node → read d m s at ≡ node.member ∷ read d n s (neighbour d node)
 read_one d m n s at i node is here there = rw (is, here) (rw there refl)
 
+-- the same is read from the same node on, as far
+pub same_reading : (d : Direction) (s : Slots) (m n : ℕ) (at to : Option ℕ) → m ≡ n → at ≡ to → read d m s at ≡ read d n s to
+same_reading d s m n at to far start = ap (λ k. read d k s at) far ∙ ap (read d n s) start
+
 -- nothing more is read
 pub read_end : (d : Direction) (m : ℕ) (s : Slots) (at : Option ℕ) → m ≡ 0 → read d m s at ≡ []
 read_end d m s at is = ap (λ n. read d n s at) is

@@ -358,34 +358,6 @@ module _ (find : DbKey → Option ℕ) (s : Slots) (first last : Option ℕ) (le
               by true p = let same : i ≡ x = eqb-true i x p in rw same (within_slots s x n there)
               by false p = ats_within s None es None h i (rw p at found)
 
--- a ring after its code has linked or taken out a node, and the list that is read then
-pub record Gives (find : DbKey → Option ℕ) (s : Slots) (first last : Option ℕ) (len : ℕ) (list : List Entry) : Type 0 where
-  pub ring : IsRing find s first last len
-  pub list_is : follow len s first ≡ list
-
-pub placing : (find : DbKey → Option ℕ) (s : Slots) (first last : Option ℕ) (len : ℕ) (R : IsRing find s first last len) (m : Entry) → Contains (unlinked_keys s) m.0 → (at : ℕ) → find m.0 ≡ Some at
-    → (a b : List Link) → R.chain ≡ a ++ b → (p q : Option ℕ) → p ≡ last_at None a → q ≡ head_at b None
-    → (s' : Slots) (first' last' : Option ℕ) (len' : ℕ) → s' ≡ linked_in at m p q s → first' ≡ end_or p (Some at) first → last' ≡ end_or q (Some at) last → len' ≡ len + 1
-    → Gives find s' first' last' len' (members a ++ m ∷ members b)
-placing find s first last len R m room at found a b split p q is_p is_q s' first' last' len' is_s is_first is_last is_len =
-    let r = reserved_at find s first last len R m.0 room at found in
-    let j = joined find s first last len R a b split at m r.node r.there r.off r.key in
-    rw (is_s, is_first, is_last, is_len, is_p, is_q) (record {
-      ring = j.0;
-      list_is = listed find _ _ _ _ j.0 ∙ ap members j.1 ∙ map-append (λ e. e.member) a (record { at = at; member = m } ∷ b);
-    })
-
-pub parting : (find : DbKey → Option ℕ) (s : Slots) (first last : Option ℕ) (len : ℕ) (R : IsRing find s first last len)
-    → (a : List Link) (e : Link) (b : List Link) → R.chain ≡ a ++ e ∷ b → (p q : Option ℕ) → p ≡ last_at None a → q ≡ head_at b None
-    → (x : ℕ) → x ≡ e.at → (s' : Slots) (first' last' : Option ℕ) (len' : ℕ) → s' ≡ linked_out x p q s → first' ≡ end_or p q first → last' ≡ end_or q p last → len' + 1 ≡ len
-    → Gives find s' first' last' len' (members a ++ members b)
-parting find s first last len R a e b split p q is_p is_q x is_x s' first' last' len' is_s is_first is_last is_len =
-    let j = parted find s first last len R a e b split len' is_len in
-    rw (is_s, is_first, is_last, is_p, is_q, is_x) (record {
-      ring = j.0;
-      list_is = listed find _ _ _ _ j.0 ∙ ap members j.1 ∙ map-append (λ e. e.member) a b;
-    })
-
 pub found_some : {A : Type 0} (o : Option A) (x : A) → o ≡ Some x → IsSome o
 found_some o x h = rw h refl
 

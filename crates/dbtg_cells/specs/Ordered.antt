@@ -1,5 +1,5 @@
 -- The order of a ring's nodes, and the labels by which the place of a node is found.
-use Rattle.std.specs.Prelude.{◌≡◌, ℕ, ◌<◌, ◌≤◌, ◌^◌, Bool, true, not, ◌==◌, nat_lt, List, length, slice_index, take, drop}
+use Rattle.std.specs.Prelude.{◌≡◌, ℕ, zero, suc, ◌<◌, ◌≤◌, ◌^◌, Bool, true, not, ◌==◌, nat_lt, List, length, Option, None, slice_get, slice_index, take, drop}
 use Rattle.std.specs.List.{list_all}
 use Rattle.dbtg_cells.specs.ByCalc.{is_rising}
 
@@ -7,6 +7,15 @@ use Rattle.dbtg_cells.specs.ByCalc.{is_rising}
 pub record OrderView : Type 0 where
   pub nodes : List ℕ
   pub room : ℕ
+
+-- the node in front of a place, if there is one
+abbrev pub node_in_front : List ℕ → ℕ → Option ℕ
+node_in_front nodes zero = None
+node_in_front nodes (suc place) = slice_get nodes place
+
+-- the last node
+abbrev pub last_node : List ℕ → Option ℕ
+last_node nodes = node_in_front nodes (length nodes)
 
 -- the label of node i is below that of node j
 abbrev pub label_below : List ℕ → ℕ → ℕ → Bool

@@ -1,5 +1,5 @@
 -- The nodes of a ring by their places: their order, where they stand by sort key, and what is known of all of them.
-use Rattle.std.specs.Prelude.{◌≡◌, ℕ, zero, suc, ◌<◌, Bool, true, false, not, List, map, Option, Some, None, slice_get}
+use Rattle.std.specs.Prelude.{◌≡◌, ℕ, ◌<◌, Bool, true, false, not, List, map, Option, Some, None}
 use Rattle.std.specs.List.{position_or_len}
 use Rattle.std.specs.Option.{option_map_or}
 use Rattle.dbtg_schema.specs.declared.shape.Duplicates.{Duplicates}
@@ -19,11 +19,6 @@ stands_at ascending duplicates m s at = option_map_or (λ n. comes_before ascend
 -- the member of a node has a sort key that comes before m
 abbrev pub is_below_at : Bool → Option Value → Slots → ℕ → Bool
 is_below_at ascending m s at = option_map_or (λ n. key_below ascending n.member.1 m) (slot s at) false
-
--- the node in front of a place in the order
-abbrev pub node_in_front : List ℕ → ℕ → Option ℕ
-node_in_front nodes zero = None
-node_in_front nodes (suc place) = slice_get nodes place
 
 -- the place of the first member whose sort key does not come before v, where members are sorted by keys of the kind of v
 pub record IsPlaceFrom (v : Value) (ms : List Entry) (place : ℕ) : Type 0 where

@@ -2,13 +2,13 @@
 //!
 //! A node is either linked, and then its member is in the list, or it is a place that is kept for its key. The owner
 //! is both ends of the list.
-ghost use Rattle.std.specs.Prelude.{◌≡◌, ◌+◌, ◌<◌, ◌^◌, Option, Some, None, IfOk, IfSome, cond, option_map, map, filter, slice_get};
+ghost use Rattle.std.specs.Prelude.{◌≡◌, Option, Some, None, IfOk, IfSome, cond, option_map, map, filter, slice_get};
 ghost use Rattle.std.specs.List.{list_any, find};
 ghost use Rattle.slab.specs.Slab.{ContainsKey};
 ghost use Rattle.dbtg_schema.specs.Lookups.{first as first_in, some_and};
 ghost use Rattle.dbtg_cells.specs.Keys.{has_type, value_eq};
 ghost use Rattle.dbtg_cells.specs.Members.{has_sort_key as is_taken_by};
-ghost use Rattle.dbtg_cells.specs.Chain.{end_or, follow, neighbour, read};
+ghost use Rattle.dbtg_cells.specs.Chain.{follow, neighbour, read};
 ghost use Rattle.dbtg_cells.specs.Links.{put_if, with_next, with_prior, linked_in, linked_out};
 
 use crate::key::{DbKey, Value, is_of_type, is_other};
@@ -63,7 +63,7 @@ fn set_prior(nodes: &mut Slab<Node>, at: Option<usize>, prior: Option<usize>)
 }
 
 // Links a node in between two ends, each a node or the owner.
-fn link_in(
+pub(crate) fn link_in(
     nodes: &mut Slab<Node>,
     at: usize,
     member: (DbKey, Option<Value>),
@@ -86,7 +86,7 @@ fn link_in(
 }
 
 // Takes a node from between two ends.
-fn link_out(nodes: &mut Slab<Node>, at: usize, prior: Option<usize>, next: Option<usize>)
+pub(crate) fn link_out(nodes: &mut Slab<Node>, at: usize, prior: Option<usize>, next: Option<usize>)
     requires node { ContainsKey nodes.old at }
     requires prior { IfSome prior (ContainsKey nodes.old) }
     requires next { IfSome next (ContainsKey nodes.old) }
@@ -97,79 +97,21 @@ fn link_out(nodes: &mut Slab<Node>, at: usize, prior: Option<usize>, next: Optio
     nodes[at].linked = false;
 }
 
-/// The nodes, and the ends of the list.
-#[derive(Drop)]
-pub(crate) struct Links {
-    pub(crate) nodes: Slab<Node>,
-    pub(crate) first: Option<usize>,
-    pub(crate) last: Option<usize>,
-    pub(crate) len: usize,
-}
-
-impl Links {
-    // Links a node in between two ends, each a node or the owner.
-    pub(crate) fn join(
-        &mut self,
-        at: usize,
-        member: (DbKey, Option<Value>),
-        prior: Option<usize>,
-        next: Option<usize>,
-    )
-        requires node { ContainsKey self.old.nodes at }
-        requires prior { IfSome prior (ContainsKey self.old.nodes) }
-        requires next { IfSome next (ContainsKey self.old.nodes) }
-        requires len { self.old.len + 1 < 2 ^ 64 }
-        ensures slots { self.new.nodes.slots ≡ linked_in at member prior next self.old.nodes.slots }
-        ensures first { self.new.first ≡ end_or prior (Some at) self.old.first }
-        ensures last { self.new.last ≡ end_or next (Some at) self.old.last }
-        ensures len { self.new.len ≡ self.old.len + 1 }
-    {
-        link_in(&mut self.nodes, at, member, prior, next);
-        if prior.is_none() {
-            self.first = Some(at);
-        }
-        if next.is_none() {
-            self.last = Some(at);
-        }
-        self.len += 1;
-    }
-
-    // Takes a node from between two ends.
-    pub(crate) fn part(&mut self, at: usize, prior: Option<usize>, next: Option<usize>)
-        requires node { ContainsKey self.old.nodes at }
-        requires prior { IfSome prior (ContainsKey self.old.nodes) }
-        requires next { IfSome next (ContainsKey self.old.nodes) }
-        requires len { 0 < self.old.len }
-        ensures slots { self.new.nodes.slots ≡ linked_out at prior next self.old.nodes.slots }
-        ensures first { self.new.first ≡ end_or prior next self.old.first }
-        ensures last { self.new.last ≡ end_or next prior self.old.last }
-        ensures len { self.new.len + 1 ≡ self.old.len }
-    {
-        link_out(&mut self.nodes, at, prior, next);
-        if prior.is_none() {
-            self.first = next;
-        }
-        if next.is_none() {
-            self.last = prior;
-        }
-        self.len -= 1;
-    }
-}
-
 // The first of a record type, or of any, read from a node on in this direction.
 pub(crate) fn first_along(
-    links: &Links,
+    nodes: &Slab<Node>,
     start: Option<usize>,
+    limit: usize,
     direction: Direction,
     rtype: &Option<RecordNo>,
 ) -> Option<DbKey>
-    ensures { result ≡ first_in (filter (has_type rtype.now) (map (λ e. e.0) (read direction links.now.len links.now.nodes.slots start))) }
+    ensures { result ≡ first_in (filter (has_type rtype.now) (map (λ e. e.0) (read direction limit nodes.now.slots start))) }
 {
     let mut at = start;
-    for turn in 0..links.len {
+    for turn in 0..limit {
         match at {
             None => return None,
-            Some(i) => match links.nodes.get(i) {
+            Some(i) => match nodes.get(i) {
                 None => return None,
                 Some(node) => {
                     if is_of_type(rtype, node.member.0) {
@@ -192,20 +134,21 @@ fn count_of(rtype: &Option<RecordNo>, key: DbKey) -> u32
 
 // The n-th of a record type, or of any, from 0, read from a node on in this direction.
 pub(crate) fn nth_along(
-    links: &Links,
+    nodes: &Slab<Node>,
     start: Option<usize>,
+    limit: usize,
     direction: Direction,
     rtype: &Option<RecordNo>,
     n: u32,
 ) -> Option<DbKey>
-    ensures { result ≡ slice_get (filter (has_type rtype.now) (map (λ e. e.0) (read direction links.now.len links.now.nodes.slots start))) n }
+    ensures { result ≡ slice_get (filter (has_type rtype.now) (map (λ e. e.0) (read direction limit nodes.now.slots start))) n }
 {
     let mut at = start;
     let mut left = n;
-    for turn in 0..links.len {
+    for turn in 0..limit {
         match at {
             None => return None,
-            Some(i) => match links.nodes.get(i) {
+            Some(i) => match nodes.get(i) {
                 None => return None,
                 Some(node) => {
                     let counted = count_of(rtype, node.member.0);
@@ -297,19 +240,20 @@ pub(crate) fn takes(
 
 // The keys, read from a node on in this direction.
 pub(crate) fn keys_along(
-    links: &Links,
+    nodes: &Slab<Node>,
     start: Option<usize>,
+    limit: usize,
     direction: Direction,
     alloc: Global,
 ) -> Result<Vec<DbKey>, AllocError>
-    ensures { IfOk result (λ keys. keys.items ≡ map (λ e. e.0) (read direction links.now.len links.now.nodes.slots start)) }
+    ensures { IfOk result (λ keys. keys.items ≡ map (λ e. e.0) (read direction limit nodes.now.slots start)) }
 {
-    let mut keys = Vec::with_capacity(alloc, links.len)?;
+    let mut keys = Vec::with_capacity(alloc, limit)?;
     let mut at = start;
-    for turn in 0..links.len {
+    for turn in 0..limit {
         match at {
             None => return Ok(keys),
-            Some(i) => match links.nodes.get(i) {
+            Some(i) => match nodes.get(i) {
                 None => return Ok(keys),
                 Some(node) => {
                     keys.push(node.member.0)?;

@@ -6,7 +6,7 @@ ghost use Rattle.std.specs.Prelude.{◌≡◌, ◌-◌, ◌*◌, ◌<◌, ◌≤
 ghost use Rattle.std.specs.List.{list_any, insert, remove};
 ghost use Rattle.std.specs.Option.{IfSome};
 ghost use Rattle.dbtg_cells.specs.ByCalc.{is_rising};
-ghost use Rattle.dbtg_cells.specs.Ordered.{label_below, are_below, are_distinct, Fits};
+ghost use Rattle.dbtg_cells.specs.Ordered.{node_in_front, last_node, label_below, are_below, are_distinct, Fits};
 
 use std::alloc::{AllocError, Global};
 use std::marker::Model;
@@ -60,6 +60,15 @@ fn place_among(nodes: &[u32], labels: &[u64], node: usize) -> usize
     ensures { slice_get nodes.now result ≡ Some node }
 {
     nodes.partition_point(|other| is_label_below(labels, *other as usize, node))
+}
+
+fn node_at(nodes: &[u32], place: usize) -> Option<usize>
+    ensures { result ≡ slice_get nodes.now place }
+{
+    match nodes.get(place).copied() {
+        Some(node) => Some(node as usize),
+        None => None,
+    }
 }
 
 // The label of the node at a place, if there is one.
@@ -180,6 +189,38 @@ impl Order {
         ensures { result.now ≡ self.now.nodes }
     {
         self.nodes.as_slice()
+    }
+
+    /// How many nodes are listed.
+    pub(crate) fn len(&self) -> usize
+        ensures { result ≡ length self.now.nodes }
+    {
+        self.nodes.len()
+    }
+
+    /// The node at a place, from 0.
+    pub(crate) fn get(&self, place: usize) -> Option<usize>
+        ensures { result ≡ slice_get self.now.nodes place }
+    {
+        node_at(self.nodes.as_slice(), place)
+    }
+
+    /// The node in front of a place.
+    pub(crate) fn in_front(&self, place: usize) -> Option<usize>
+        ensures { result ≡ node_in_front self.now.nodes place }
+    {
+        if place == 0 {
+            None
+        } else {
+            node_at(self.nodes.as_slice(), place - 1)
+        }
+    }
+
+    /// The last node.
+    pub(crate) fn last(&self) -> Option<usize>
+        ensures { result ≡ last_node self.now.nodes }
+    {
+        self.in_front(self.len())
     }
 
     /// Where a node stands.

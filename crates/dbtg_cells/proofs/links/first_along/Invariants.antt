@@ -6,5 +6,5 @@ use Rattle.dbtg_cells.proofs.links.first_along.Given as goal
 
 abbrev pub invariant-loop-turn : goal.invariant-loop-turn
 invariant-loop-turn l =
-    first (filter (has_type l.rtype) (map (λ e. e.0) (read l.direction (l.links.len - l.turn) l.links.nodes.slots l.at)))
-    ≡ first (filter (has_type l.rtype) (map (λ e. e.0) (read l.direction l.links.len l.links.nodes.slots l.fn.start)))
+    first (filter (has_type l.rtype) (map (λ e. e.0) (read l.direction (l.limit - l.turn) l.nodes.slots l.at)))
+    ≡ first (filter (has_type l.rtype) (map (λ e. e.0) (read l.direction l.limit l.nodes.slots l.fn.start)))

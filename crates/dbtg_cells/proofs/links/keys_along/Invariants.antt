@@ -4,5 +4,5 @@ use Rattle.dbtg_cells.proofs.links.keys_along.Given as goal
 
 abbrev pub invariant-loop-turn : goal.invariant-loop-turn
 invariant-loop-turn l =
-    l.keys.items ++ map (λ e. e.0) (read l.direction (l.links.len - l.turn) l.links.nodes.slots l.at)
-    ≡ map (λ e. e.0) (read l.direction l.links.len l.links.nodes.slots l.fn.start)
+    l.keys.items ++ map (λ e. e.0) (read l.direction (l.limit - l.turn) l.nodes.slots l.at)
+    ≡ map (λ e. e.0) (read l.direction l.limit l.nodes.slots l.fn.start)

@@ -8,10 +8,10 @@ use Rattle.dbtg_cells.proofs.links.nth_along.Goals as goal
 pub returns-then-left-counted : goal.returns-then-left-counted
 returns-then-left-counted c =
     let d = c.args.direction in
-    let slots = c.args.links.now.nodes.slots in
+    let slots = c.args.nodes.now.slots in
     let node = c.in-Some-get.node.now in
-    let less = c.args.links.now.len - (c.loop-turn.turn + 1) in
-    let e : c.args.links.now.len - c.loop-turn.turn ≡ suc less = omega (arith, c.loop-turn-test.true) in
+    let less = c.args.limit - (c.loop-turn.turn + 1) in
+    let e : c.args.limit - c.loop-turn.turn ≡ suc less = omega (arith, c.loop-turn-test.true) in
     let there : slot slots c.in-Some.i ≡ Some node = sym c.get.ensures ∙ ap option_copied c.in-Some-get.is in
     let cut = read_one d _ less slots c.loop-turn.at c.in-Some.i node e c.in-Some.is there in
     nth_here (has_type c.args.rtype.now) node.member (read d less slots (neighbour d node)) c.loop-turn.left (subst (λ m. c.loop-turn.left < m) c.count_of-counted.ensures c.if-left-counted.true) ∙ ap (λ l. slice_get (filter (has_type c.args.rtype.now) (map (λ e. e.0) l)) c.loop-turn.left) (sym cut) ∙ c.loop-turn.invariant
@@ -19,10 +19,10 @@ returns-then-left-counted c =
 pub loop-turn-preserved : goal.loop-turn-preserved
 loop-turn-preserved c =
     let d = c.args.direction in
-    let slots = c.args.links.now.nodes.slots in
+    let slots = c.args.nodes.now.slots in
     let node = c.in-Some-get.node.now in
-    let less = c.args.links.now.len - (c.loop-turn.turn + 1) in
-    let e : c.args.links.now.len - c.loop-turn.turn ≡ suc less = omega (arith, c.loop-turn-test.true) in
+    let less = c.args.limit - (c.loop-turn.turn + 1) in
+    let e : c.args.limit - c.loop-turn.turn ≡ suc less = omega (arith, c.loop-turn-test.true) in
     let there : slot slots c.in-Some.i ≡ Some node = sym c.get.ensures ∙ ap option_copied c.in-Some-get.is in
     let cut = read_one d _ less slots c.loop-turn.at c.in-Some.i node e c.in-Some.is there ∙ ap (λ at. node.member ∷ read d less slots at) (sym c.neighbour-at.ensures) in
     let t = has_type c.args.rtype.now in
