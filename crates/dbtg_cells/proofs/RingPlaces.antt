@@ -1,21 +1,22 @@
 -- The nodes of a ring by their places in its order.
-use Rattle.std.proofs.Common.{◌≡◌, ◌≢◌, ℕ, zero, suc, ◌+◌, ◌<◌, ◌≤◌, Bool, true, false, not, cond, ◌==◌, ◌||◌, List, [], ◌∷◌, ◌++◌, map, filter, length, reverse, ◌-◌, Option, Some, None, Contains, refl, sym, ap, ◌∙◌, arith, subst, slice_get, true≢false}
-use Rattle.std.proofs.lemmas.Bool.{eq-eqb, ne_eqb}
+use Rattle.std.proofs.Common.{◌≡◌, ℕ, zero, suc, ◌+◌, ◌<◌, ◌≤◌, Bool, true, false, cond, ◌==◌, ◌||◌, List, [], ◌∷◌, ◌++◌, map, filter, length, reverse, ◌-◌, Option, Some, None, Contains, refl, sym, ap, ◌∙◌, arith, subst, slice_get, true≢false}
+use Rattle.std.proofs.lemmas.Bool.{eq-eqb, ne_eqb, and_parts, and_from}
 use Rattle.std.proofs.lemmas.List.{map-append, length-map, length-append, length-reverse, get_or-reverse}
 use Rattle.std.proofs.lemmas.Option.{same_Some, slice_get_past, slice_get-get_or}
-use Rattle.std.specs.List.{list_any, insert, remove}
+use Rattle.std.specs.List.{list_any, list_all, insert, remove}
+use Rattle.std.specs.Option.{IsSome, IfSome}
 use Rattle.dbtg_cells.specs.declared.key.DbKey.{DbKey}
 use Rattle.dbtg_cells.specs.declared.links.Node.{Node}
-use Rattle.dbtg_cells.specs.declared.sorted.SortedBy.{SortedBy}
+use Rattle.dbtg_cells.specs.declared.sorted.Known.{Known}
 use Rattle.dbtg_cells.specs.Keys.{key_eq, has_type}
 use Rattle.dbtg_cells.specs.Members.{Entry}
-use Rattle.dbtg_cells.specs.Chain.{Slots, Link, slot, node_of, head_at, last_at, Seg, Avoids, Apart, follow, end_or, unlinked_keys, key_at, linked_at, IsRing}
+use Rattle.dbtg_cells.specs.Chain.{Slots, Link, slot, head_at, last_at, Seg, Avoids, Apart, follow, end_or, unlinked_keys, key_at, linked_at, IsRing}
 use Rattle.dbtg_cells.specs.Links.{linked_in, linked_out}
-use Rattle.dbtg_cells.specs.SortedMembers.{KeepsOrder}
 use Rattle.dbtg_cells.specs.Ordered.{OrderView, node_in_front, last_node}
-use Rattle.dbtg_cells.specs.RingOrder.{IsOrderOf}
+use Rattle.dbtg_cells.specs.RingOrder.{Holds, IsOrderOf}
+use Rattle.dbtg_cells.proofs.SortedMembers.{keeps_around}
 use Rattle.dbtg_cells.proofs.LinksWritten.{Avoids_right}
-use Rattle.dbtg_cells.proofs.WholeRings.{members, Seg_avoids, insert_at, reserved_at, joined, parted, listed}
+use Rattle.dbtg_cells.proofs.WholeRings.{members, Seg_avoids, insert_at, reserved_at, joined, parted, listed, next_exists, prior_exists}
 
 abbrev pub places : List Link → List ℕ
 places = map (λ e. e.at)
@@ -118,10 +119,10 @@ in_front_is ns zero = refl
 in_front_is ns (suc n) = refl
 
 -- a ring after a node came in at a place or went from it, and the list that is read then
-pub record Stands (find : DbKey → Option ℕ) (s : Slots) (first last : Option ℕ) (len : ℕ) (list : List Entry) (order : OrderView) (sorted : Option SortedBy) : Type 0 where
+pub record Stands (find : DbKey → Option ℕ) (s : Slots) (first last : Option ℕ) (len : ℕ) (list : List Entry) (order : OrderView) (known : Known) : Type 0 where
   pub ring : IsRing find s first last len
   pub list_is : follow len s first ≡ list
-  pub ordered : IsOrderOf find ring.chain order sorted
+  pub ordered : IsOrderOf find ring.chain order known
 
 first_place : (es : List Link) → slice_get (places es) 0 ≡ head_at es None
 first_place [] = refl
@@ -136,18 +137,18 @@ last_place p (e ∷ es) = beside (length es) ∙ last_place (Some e.at) es
     beside (suc n) = refl
 
 -- the ends of the list are those of the order, and it has as many members
-pub by_order : (find : DbKey → Option ℕ) (s : Slots) (first last : Option ℕ) (len : ℕ) (list : List Entry) (order : OrderView) (sorted : Option SortedBy) → Stands find s first last len list order sorted → Stands find s (slice_get order.nodes 0) (last_node order.nodes) (length order.nodes) list order sorted
-by_order find s first last len list order sorted S =
+pub by_order : (find : DbKey → Option ℕ) (s : Slots) (first last : Option ℕ) (len : ℕ) (list : List Entry) (order : OrderView) (known : Known) → Stands find s first last len list order known → Stands find s (slice_get order.nodes 0) (last_node order.nodes) (length order.nodes) list order known
+by_order find s first last len list order known S =
     let es = S.ring.chain in
     let is = sym S.ordered.listed in
     let starts : first ≡ slice_get order.nodes 0 = S.ring.starts ∙ sym (first_place es) ∙ ap (λ ns. slice_get ns 0) is in
     let ends : last ≡ last_node order.nodes = S.ring.ends ∙ sym (last_place None es) ∙ ap (before_place None (places es)) (sym (length-map es (λ e. e.at))) ∙ sym (in_front_is (places es) (length (places es))) ∙ ap last_node is in
     let count : len ≡ length order.nodes = S.ring.counted ∙ sym (length-map es (λ e. e.at)) ∙ ap length is in
-    subst (λ n. Stands find s (slice_get order.nodes 0) (last_node order.nodes) n list order sorted) count
-    (subst (λ l. Stands find s (slice_get order.nodes 0) l len list order sorted) ends
-    (subst (λ f. Stands find s f last len list order sorted) starts S))
+    subst (λ n. Stands find s (slice_get order.nodes 0) (last_node order.nodes) n list order known) count
+    (subst (λ l. Stands find s (slice_get order.nodes 0) l len list order known) ends
+    (subst (λ f. Stands find s f last len list order known) starts S))
 
-module _ (find : DbKey → Option ℕ) (s : Slots) (first last : Option ℕ) (len : ℕ) (R : IsRing find s first last len) (order : OrderView) (sorted : Option SortedBy) (O : IsOrderOf find R.chain order sorted) where
+module _ (find : DbKey → Option ℕ) (s : Slots) (first last : Option ℕ) (len : ℕ) (R : IsRing find s first last len) (order : OrderView) (known : Known) (O : IsOrderOf find R.chain order known) where
   pub count_of_places : length order.nodes ≡ length (members R.chain)
   count_of_places = ap length O.listed ∙ length-map R.chain (λ e. e.at) ∙ sym (length-map R.chain (λ e. e.member))
 
@@ -162,6 +163,13 @@ module _ (find : DbKey → Option ℕ) (s : Slots) (first last : Option ℕ) (le
     pub prior_is : node_in_front order.nodes n ≡ last_at None cut_here.front
     prior_is = ap (λ ns. node_in_front ns n) O.listed ∙ in_front_is (places R.chain) n ∙ cut_here.prior
 
+    -- and they are there
+    pub next_there : IfSome (slice_get order.nodes n) (λ i. IsSome (slot s i))
+    next_there = rw next_is (next_exists find s first last len R cut_here.front cut_here.back cut_here.whole)
+
+    pub prior_there : IfSome (node_in_front order.nodes n) (λ i. IsSome (slot s i))
+    prior_there = rw prior_is (prior_exists find s first last len R cut_here.front cut_here.back cut_here.whole)
+
     -- a reserved node comes in
     module _ (m : Entry) (room : Contains (unlinked_keys s) m.0) (at : ℕ) (found : find m.0 ≡ Some at) where
       pub new_node : list_any (λ i. i == at) order.nodes ≡ false
@@ -171,8 +179,9 @@ module _ (find : DbKey → Option ℕ) (s : Slots) (first last : Option ℕ) (le
 
       pub come_in : (p q : Option ℕ) → p ≡ node_in_front order.nodes n → q ≡ slice_get order.nodes n
           → (s' : Slots) → s' ≡ linked_in at m p q s → (order' : OrderView) → order'.nodes ≡ insert order.nodes n at → order'.room ≡ order.room
-          → Stands find s' (slice_get order'.nodes 0) (last_node order'.nodes) (length order'.nodes) (insert (members R.chain) n m) order' None
-      come_in p q is_p is_q s' is_s order' is_nodes is_room =
+          → (known' : Known) → Holds known' (insert (members R.chain) n m)
+          → Stands find s' (slice_get order'.nodes 0) (last_node order'.nodes) (length order'.nodes) (insert (members R.chain) n m) order' known'
+      come_in p q is_p is_q s' is_s order' is_nodes is_room known' holds =
           let r = reserved_at find s first last len R m.0 room at found in
           let c = cut_here in
           let e : Link = record { at = at; member = m } in
@@ -182,16 +191,16 @@ module _ (find : DbKey → Option ℕ) (s : Slots) (first last : Option ℕ) (le
           ∙ ap (λ ms. insert ms n m) (map-append (λ e. e.member) c.front c.back)
           ∙ insert_at (members c.front) (members c.back) m n (c.count ∙ sym (length-map c.front (λ e. e.member)))
           ∙ sym (map-append (λ e. e.member) c.front (e ∷ c.back)) in
-          let placed : Stands find (linked_in at m (last_at None c.front) (head_at c.back None) s) (end_or (last_at None c.front) (Some at) first) (end_or (head_at c.back None) (Some at) last) (len + 1) (insert (members R.chain) n m) order' None = record {
+          let placed : Stands find (linked_in at m (last_at None c.front) (head_at c.back None) s) (end_or (last_at None c.front) (Some at) first) (end_or (head_at c.back None) (Some at) last) (len + 1) (insert (members R.chain) n m) order' known' = record {
             ring = j.0;
             list_is = listed find _ _ _ _ j.0 ∙ ap members j.1 ∙ sym here;
             ordered = record {
               listed = is_nodes ∙ ap (λ ns. insert ns n at) (O.listed ∙ ap places c.whole) ∙ places_with c.front e c.back n c.count ∙ ap places (sym j.1);
               room = λ k i h. subst (λ more. i < more) (sym is_room) (O.room k i h);
-              keeps = tt;
+              keeps = subst (Holds known') (here ∙ ap members (sym j.1)) holds;
             };
           } in
-          rw (is_s, is_p ∙ prior_is, is_q ∙ next_is) (by_order find _ _ _ _ _ order' None placed)
+          rw (is_s, is_p ∙ prior_is, is_q ∙ next_is) (by_order find _ _ _ _ _ order' known' placed)
 
   -- a node goes out
   module _ (a : List Link) (e : Link) (b : List Link) (split : R.chain ≡ a ++ e ∷ b) where
@@ -204,27 +213,55 @@ module _ (find : DbKey → Option ℕ) (s : Slots) (first last : Option ℕ) (le
     pub go_out : (p q : Option ℕ) → p ≡ last_at None a → q ≡ head_at b None → (x : ℕ) → x ≡ e.at
         → (s' : Slots) → s' ≡ linked_out x p q s
         → (n : ℕ) → slice_get order.nodes n ≡ Some x → (order' : OrderView) → order'.nodes ≡ remove order.nodes n → order'.room ≡ order.room
-        → KeepsOrder sorted (members (a ++ b))
-        → Stands find s' (slice_get order'.nodes 0) (last_node order'.nodes) (length order'.nodes) (members a ++ members b) order' sorted
+        → Holds known (members (a ++ b))
+        → Stands find s' (slice_get order'.nodes 0) (last_node order'.nodes) (length order'.nodes) (members a ++ members b) order' known
     go_out p q is_p is_q x is_x s' is_s n at order' is_nodes is_room keeps =
         let fewer : length (a ++ b) + 1 ≡ len = omega (arith, R.counted, ap length split, length-append a b, length-append a (e ∷ b)) in
         let j = parted find s first last len R a e b split (length (a ++ b)) fewer in
         let place = place_there n (at ∙ ap Some is_x) in
-        let less : Stands find (linked_out e.at (last_at None a) (head_at b None) s) (end_or (last_at None a) (head_at b None) first) (end_or (head_at b None) (last_at None a) last) (length (a ++ b)) (members a ++ members b) order' sorted = record {
+        let less : Stands find (linked_out e.at (last_at None a) (head_at b None) s) (end_or (last_at None a) (head_at b None) first) (end_or (head_at b None) (last_at None a) last) (length (a ++ b)) (members a ++ members b) order' known = record {
           ring = j.0;
           list_is = listed find _ _ _ _ j.0 ∙ ap members j.1 ∙ map-append (λ e. e.member) a b;
           ordered = record {
             listed = is_nodes ∙ ap (λ ns. remove ns n) (O.listed ∙ ap places split) ∙ ap (remove (places (a ++ e ∷ b))) place ∙ places_without a e b ∙ ap places (sym j.1);
             room = λ k i h. subst (λ more. i < more) (sym is_room) (O.room k i h);
-            keeps = subst (λ es. KeepsOrder sorted (members es)) (sym j.1) keeps;
+            keeps = subst (λ es. Holds known (members es)) (sym j.1) keeps;
           };
         } in
-        rw (is_s, is_p, is_q, is_x) (by_order find _ _ _ _ _ order' sorted less)
+        rw (is_s, is_p, is_q, is_x) (by_order find _ _ _ _ _ order' known less)
 
 -- where no type is named, all count
 pub all_of_any_type : (ks : List DbKey) → ks ≡ filter (has_type None) ks
 all_of_any_type [] = refl
 all_of_any_type (k ∷ ks) = ap (λ l. k ∷ l) (all_of_any_type ks)
+
+-- a test of all members that a new one passes too
+pub all_with : (test : Entry → Bool) (ms : List Entry) (n : ℕ) (m : Entry) → list_all test ms ≡ true → test m ≡ true → list_all test (insert ms n m) ≡ true
+all_with test ms zero m h g = and_from _ _ g h
+all_with test [] (suc n) m h g = and_from _ _ g refl
+all_with test (e ∷ ms) (suc n) m h g = and_from _ _ (and_parts _ _ h).0 (all_with test ms n m (and_parts _ _ h).1 g)
+
+pub all_around : (test : Entry → Bool) (front : List Entry) (m : Entry) (back : List Entry) → list_all test (front ++ m ∷ back) ≡ true → list_all test (front ++ back) ≡ true
+all_around test [] m back h = (and_parts _ _ h).1
+all_around test (e ∷ front) m back h = and_from _ _ (and_parts _ _ h).0 (all_around test front m back (and_parts _ _ h).1)
+
+pub all_more : (p q : Entry → Bool) → ((e : Entry) → p e ≡ true → q e ≡ true) → (ms : List Entry) → list_all p ms ≡ true → list_all q ms ≡ true
+all_more p q more [] h = refl
+all_more p q more (e ∷ ms) h = and_from _ _ (more e (and_parts _ _ h).0) (all_more p q more ms (and_parts _ _ h).1)
+
+-- where all members have a record type, those of the type are all
+pub all_of_type : (t : Option ℕ) (ms : List Entry) → list_all (λ e. has_type t e.0) ms ≡ true → map (λ e. e.0) ms ≡ filter (has_type t) (map (λ e. e.0) ms)
+all_of_type t [] h = refl
+all_of_type t (e ∷ ms) h =
+    let here : has_type t e.0 ≡ true = (and_parts _ _ h).0 in
+    rw here (ap (λ l. e.0 ∷ l) (all_of_type t ms (and_parts _ _ h).1))
+
+-- what is known holds of fewer
+pub holds_around : (known : Known) (m : Entry) (front back : List Entry) → Holds known (front ++ m ∷ back) → Holds known (front ++ back)
+holds_around known m front back h = record {
+  sorted = keeps_around known.sorted m front back h.sorted;
+  types = all_around (λ e. has_type known.rtype e.0) front m back h.types;
+}
 
 -- counted from the end
 pub from_the_end : (ks : List DbKey) (len n : ℕ) → len ≡ length ks → n < len → slice_get ks (len - 1 - n) ≡ slice_get (reverse ks) n
@@ -241,9 +278,13 @@ from_the_end (k ∷ ks) len n count within =
 pub past_the_front : (ks : List DbKey) (len n : ℕ) → len ≡ length ks → len ≤ n → None ≡ slice_get (reverse ks) n
 past_the_front ks len n count past = sym (slice_get_past (reverse ks) n (omega (arith, count, length-reverse ks)))
 
+-- what is known of nothing
+abbrev pub nothing : Known
+nothing = record { sorted = None; rtype = None }
+
 -- a ring with no nodes
-pub empty : (find : DbKey → Option ℕ) (s : Slots) (order : OrderView) → s ≡ [] → ((k : DbKey) → find k ≡ None) → order.nodes ≡ [] → Stands find s (slice_get order.nodes 0) (last_node order.nodes) (length order.nodes) [] order None
-empty find s order is_s none is_nodes = by_order find s None None 0 [] order None (record {
+pub empty : (find : DbKey → Option ℕ) (s : Slots) (order : OrderView) → s ≡ [] → ((k : DbKey) → find k ≡ None) → order.nodes ≡ [] → Stands find s (slice_get order.nodes 0) (last_node order.nodes) (length order.nodes) [] order nothing
+empty find s order is_s none is_nodes = by_order find s None None 0 [] order nothing (record {
   ring = record {
     chain = [];
     links = tt;
@@ -259,7 +300,7 @@ empty find s order is_s none is_nodes = by_order find s None None 0 [] order Non
   ordered = record {
     listed = is_nodes;
     room = λ k i h. absurd (clash i (sym h ∙ none k));
-    keeps = tt;
+    keeps = record { sorted = tt; types = refl };
   };
 })
   where
@@ -267,22 +308,22 @@ empty find s order is_s none is_nodes = by_order find s None None 0 [] order Non
     clash x h = cc
 
 -- more room changes nothing else
-pub roomier : (find : DbKey → Option ℕ) (chain : List Link) (order order' : OrderView) (sorted : Option SortedBy) → IsOrderOf find chain order sorted → order'.nodes ≡ order.nodes → order.room ≤ order'.room → IsOrderOf find chain order' sorted
-roomier find chain order order' sorted O nodes more = record {
+pub roomier : (find : DbKey → Option ℕ) (chain : List Link) (order order' : OrderView) (known : Known) → IsOrderOf find chain order known → order'.nodes ≡ order.nodes → order.room ≤ order'.room → IsOrderOf find chain order' known
+roomier find chain order order' known O nodes more = record {
   listed = nodes ∙ O.listed;
   room = λ k i h. let low = O.room k i h in omega arith;
   keeps = O.keeps;
 }
 
-pub listing : (find : DbKey → Option ℕ) (s : Slots) (first last : Option ℕ) (len : ℕ) (R : IsRing find s first last len) (order : OrderView) (sorted : Option SortedBy) → IsOrderOf find R.chain order sorted → Stands find s first last len (follow len s first) order sorted
-listing find s first last len R order sorted O = record { ring = R; list_is = refl; ordered = O }
+pub listing : (find : DbKey → Option ℕ) (s : Slots) (first last : Option ℕ) (len : ℕ) (R : IsRing find s first last len) (order : OrderView) (known : Known) → IsOrderOf find R.chain order known → Stands find s first last len (follow len s first) order known
+listing find s first last len R order known O = record { ring = R; list_is = refl; ordered = O }
 
 -- a ring whose parts are written anew as they were, but for room in its order
-pub as_it_was : (find find' : DbKey → Option ℕ) (s s' : Slots) (first last : Option ℕ) (len : ℕ) (R : IsRing find s first last len) (order order' : OrderView) (sorted : Option SortedBy) (O : IsOrderOf find R.chain order sorted)
+pub as_it_was : (find find' : DbKey → Option ℕ) (s s' : Slots) (first last : Option ℕ) (len : ℕ) (R : IsRing find s first last len) (order order' : OrderView) (known : Known) (O : IsOrderOf find R.chain order known)
     → ((k : DbKey) → find' k ≡ find k) → s' ≡ s → order'.nodes ≡ order.nodes → order.room ≤ order'.room
-    → Stands find' s' (slice_get order'.nodes 0) (last_node order'.nodes) (length order'.nodes) (follow len s first) order' sorted
-as_it_was find find' s s' first last len R order order' sorted O same is_s nodes more =
-    let anew : Stands find' s first last len (follow len s first) order' sorted = record {
+    → Stands find' s' (slice_get order'.nodes 0) (last_node order'.nodes) (length order'.nodes) (follow len s first) order' known
+as_it_was find find' s s' first last len R order order' known O same is_s nodes more =
+    let anew : Stands find' s first last len (follow len s first) order' known = record {
       ring = record {
         chain = R.chain;
         links = R.links;
@@ -301,7 +342,7 @@ as_it_was find find' s s' first last len R order order' sorted O same is_s nodes
         keeps = O.keeps;
       };
     } in
-    rw is_s (by_order find' s first last len _ order' sorted anew)
+    rw is_s (by_order find' s first last len _ order' known anew)
 
 -- a node that comes in for a key has room
 pub room_for_new : (find find' : DbKey → Option ℕ) (k : DbKey) (at room more : ℕ) → ((q : DbKey) → find' q ≡ cond (key_eq k q) (Some at) (find q)) → ((q : DbKey) (i : ℕ) → find q ≡ Some i → i < room) → room ≤ more → at < more → (q : DbKey) (i : ℕ) → find' q ≡ Some i → i < more

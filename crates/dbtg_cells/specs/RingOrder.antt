@@ -1,11 +1,13 @@
 -- The nodes of a ring by their places: their order, where they stand by sort key, and what is known of all of them.
-use Rattle.std.specs.Prelude.{◌≡◌, ℕ, ◌<◌, Bool, true, false, not, List, map, Option, Some, None}
-use Rattle.std.specs.List.{position_or_len}
+use Rattle.std.specs.Prelude.{◌≡◌, ℕ, ◌<◌, Bool, true, false, not, List, map, Option, Some}
+use Rattle.std.specs.List.{position_or_len, list_all}
 use Rattle.std.specs.Option.{option_map_or}
 use Rattle.dbtg_schema.specs.declared.shape.Duplicates.{Duplicates}
 use Rattle.dbtg_cells.specs.declared.key.DbKey.{DbKey}
 use Rattle.dbtg_cells.specs.declared.key.Value.{Value}
 use Rattle.dbtg_cells.specs.declared.sorted.SortedBy.{SortedBy}
+use Rattle.dbtg_cells.specs.declared.sorted.Known.{Known}
+use Rattle.dbtg_cells.specs.Keys.{has_type}
 use Rattle.dbtg_cells.specs.Orders.{key_below, comes_before}
 use Rattle.dbtg_cells.specs.Members.{Entry}
 use Rattle.dbtg_cells.specs.Chain.{Slots, Link, slot}
@@ -27,11 +29,16 @@ pub record IsPlaceFrom (v : Value) (ms : List Entry) (place : ℕ) : Type 0 wher
   pub kind : is_of_kind order.kind (Some v) ≡ true
   pub at : place ≡ position_or_len (λ e. not (key_below order.ascending e.1 (Some v))) ms
 
+-- what is known of all members holds: how they are sorted, and that they have one record type
+pub record Holds (known : Known) (ms : List Entry) : Type 0 where
+  pub sorted : KeepsOrder known.sorted ms
+  pub types : list_all (λ e. has_type known.rtype e.0) ms ≡ true
+
 -- the order lists the links of a ring, and what is known of the members holds
-pub record IsOrderOf (find : DbKey → Option ℕ) (chain : List Link) (order : OrderView) (sorted : Option SortedBy) : Type 0 where
+pub record IsOrderOf (find : DbKey → Option ℕ) (chain : List Link) (order : OrderView) (known : Known) : Type 0 where
   -- the nodes of the chain, in order
   pub listed : order.nodes ≡ map (λ e. e.at) chain
   -- every node of the ring has room
   pub room : (k : DbKey) (i : ℕ) → find k ≡ Some i → i < order.room
-  -- what is known of the members' order
-  pub keeps : KeepsOrder sorted (map (λ e. e.member) chain)
+  -- what is known of all members
+  pub keeps : Holds known (map (λ e. e.member) chain)

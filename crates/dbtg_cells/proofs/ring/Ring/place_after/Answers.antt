@@ -1,4 +1,4 @@
-use Rattle.std.proofs.Common.{◌≡◌, ◌+◌, suc, ap, ◌∙◌, add-one, subst, length, ◌<◌}
+use Rattle.std.proofs.Common.{◌+◌, ap, ◌∙◌, add-one, subst, length, ◌<◌}
 use Rattle.std.specs.List.{insert}
 use Rattle.dbtg_cells.specs.Members.{Entry, members_in, has_key}
 use Rattle.dbtg_cells.specs.Placed.{after}

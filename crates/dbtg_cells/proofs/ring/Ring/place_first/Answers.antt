@@ -1,4 +1,4 @@
-use Rattle.std.proofs.Common.{◌∷◌, ◌≤◌, ◌∙◌, arith, refl}
+use Rattle.std.proofs.Common.{◌∷◌, ◌∙◌, refl}
 use Rattle.std.specs.List.{insert}
 use Rattle.dbtg_cells.proofs.RingReads.{same_change}
 use Rattle.dbtg_cells.proofs.ring.Ring.place_first.Goals as goal

@@ -1,4 +1,4 @@
-use Rattle.std.proofs.Common.{◌≡◌, ◌∷◌, [], ◌++◌, sym, ap, ◌∙◌, length}
+use Rattle.std.proofs.Common.{◌∷◌, [], ◌++◌, sym, ap, ◌∙◌}
 use Rattle.std.specs.List.{insert}
 use Rattle.std.proofs.lemmas.List.{append-nil}
 use Rattle.dbtg_cells.specs.Members.{Entry, members_in}
