@@ -6,7 +6,8 @@
 
 mod hands;
 
-use check::check_bytes;
+use dbtg_command::check::check_bytes;
+use dbtg_command::{Fault, Order};
 use dbtg_schema::{Row, Schema, SchemaFault};
 use dbtg_script::{
     MovesFault, ScriptFault, answers_text, image_text, moves_text, push_run, read_moves,
@@ -14,9 +15,7 @@ use dbtg_script::{
 };
 use dbtg_step::{Core, Run, audit, run, run_serial};
 use dbtg_unit::{Move, Statement, Stepped};
-use fault::Fault;
 use hands::by_hand;
-use order::Order;
 use replay::replay_bytes;
 use std::alloc::{AllocError, Global};
 use std::io::{self, Write};

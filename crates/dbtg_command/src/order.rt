@@ -20,6 +20,7 @@ pub enum OrderKind {
 }
 
 impl<T> Order<T> {
+    /// The order without what says it.
     pub fn kind(&self) -> OrderKind
         ensures { result ≡ kind_of self.now }
     {

@@ -24,9 +24,11 @@ pub trait Source {
     /// The source cannot give the text in this place, and tells this fault.
     ghost fails: { Self → Place → Fault → Type 0 };
 
+    /// How many scripts there are.
     fn count(&self) -> usize
         ensures { result ≡ count self.now };
 
+    /// What says the order.
     fn order(&self) -> OrderKind
         ensures { result ≡ order self.now };
 
