@@ -1,7 +1,7 @@
 -- The texts that a source gives a command, and which fault it tells: the first, in the order in which they are read and judged:
 -- number of scripts, schema, scripts from 1 on, moves or turns. `holds` says that the source gives a text in a place, `fails` that it
 -- cannot, and tells a fault.
-use Rattle.std.specs.Prelude.{ℕ, ◌≡◌, ◌+◌, ◌-◌, ◌≤◌, ◌<◌, Bool, true, false, List, [], ◌∷◌, Some, None, ◌⊎◌, length, map, slice_get}
+use Rattle.std.specs.Prelude.{ℕ, ◌≡◌, ◌+◌, ◌-◌, ◌≤◌, ◌<◌, true, false, List, [], ◌∷◌, Some, None, ◌⊎◌, length, slice_get}
 use Rattle.dbtg_schema.specs.Lists.{Lists}
 use Rattle.dbtg_schema.specs.Texts.SchemaFaults.{refusal as schema_refusal}
 use Rattle.dbtg_script.specs.Moves.{refusal as moves_refusal}

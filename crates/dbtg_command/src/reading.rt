@@ -1,4 +1,4 @@
-//! Reading what the program is given; the readers' faults become the program's.
+//! Reading what a command is given; the readers' faults become the program's.
 ghost use Rattle.std.specs.Prelude.{◌≡◌, ◌++◌, ◌∷◌, [], None, IfErr, IfOk, OnOk, true};
 ghost use Rattle.std.specs.List.{list_all};
 ghost use Rattle.dbtg_schema.specs.Texts.SchemaFaults.{refusal as schema_refusal};
