@@ -6,7 +6,8 @@
 
 mod hands;
 
-use check::check_bytes;
+use dbtg_command::check::check_bytes;
+use dbtg_command::{Fault, Order};
 use dbtg_schema::{Row, Schema, SchemaFault};
 use dbtg_script::{
     MovesFault, ScriptFault, answers_text, image_text, moves_text, push_run, read_moves,
@@ -14,9 +15,7 @@ use dbtg_script::{
 };
 use dbtg_step::{Core, Run, audit, run, run_serial};
 use dbtg_unit::{Move, Statement, Stepped};
-use fault::Fault;
 use hands::by_hand;
-use order::Order;
 use replay::replay_bytes;
 use std::alloc::{AllocError, Global};
 use std::io::{self, Write};
@@ -75,7 +74,7 @@ fn moves(rt: &HostRuntime) -> Option<Vec<Move>> {
 }
 
 // The statements of both scripts. What finds no room is read again.
-fn scripts(rt: &HostRuntime, schema: &Schema) -> Option<Row<Row<Statement>>> {
+fn both_scripts(rt: &HostRuntime, schema: &Schema) -> Option<Row<Row<Statement>>> {
     let one = file(rt, "script.1")?;
     let two = file(rt, "script.2")?;
     for _ in 0..2 {
@@ -92,7 +91,7 @@ fn scripts(rt: &HostRuntime, schema: &Schema) -> Option<Row<Row<Statement>>> {
 
 fn core(rt: &HostRuntime, schema: &Schema) -> Option<Core> {
     for _ in 0..2 {
-        match Core::new(rt.alloc(), schema, CAPACITY, scripts(rt, schema)?) {
+        match Core::new(rt.alloc(), schema, CAPACITY, both_scripts(rt, schema)?) {
             Ok(core) => return Some(core),
             Err(_) => tell(rt, "Core::new"),
         }
@@ -212,7 +211,7 @@ fn stepped(rt: &HostRuntime, schema: &Schema, moves: &[Move]) -> Option<Run> {
 
 fn run_whole(rt: &HostRuntime, schema: &Schema, moves: &[Move]) -> Option<Run> {
     for _ in 0..2 {
-        match run(rt.alloc(), schema, CAPACITY, scripts(rt, schema)?, moves) {
+        match run(rt.alloc(), schema, CAPACITY, both_scripts(rt, schema)?, moves) {
             Ok(run) => return Some(run),
             Err(_) => tell(rt, "run"),
         }
@@ -222,7 +221,7 @@ fn run_whole(rt: &HostRuntime, schema: &Schema, moves: &[Move]) -> Option<Run> {
 
 fn run_in_turn(rt: &HostRuntime, schema: &Schema) -> Option<Run> {
     for _ in 0..2 {
-        match run_serial(rt.alloc(), schema, CAPACITY, scripts(rt, schema)?) {
+        match run_serial(rt.alloc(), schema, CAPACITY, both_scripts(rt, schema)?) {
             Ok(run) => return Some(run),
             Err(_) => tell(rt, "run_serial"),
         }

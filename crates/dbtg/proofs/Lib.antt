@@ -1,6 +1,4 @@
-mod InTurn
-mod TextsRead
-mod BytesAtHand
+mod ReplaysRead
 mod UnitEntries
 mod ScriptLength
 mod UnitsOfTurns

@@ -23,15 +23,15 @@ use Rattle.dbtg_script.specs.Printing.WordTexts.{moves_words_text, turns_text}
 use Rattle.dbtg_step.specs.declared.results.Run.{Run}
 use Rattle.dbtg_step.specs.Core.Turns.{IsRunByTurns}
 use Rattle.dbtg_unit.specs.declared.moves.Move.{Move}
-use Rattle.dbtg.specs.declared.fault.Fault.{Fault}
-use Rattle.dbtg.specs.declared.fault.Fault.TheVariants.{Memory, MovesOver}
-use Rattle.dbtg.specs.declared.order.Order.TheVariants.{Serial}
-use Rattle.dbtg.specs.declared.place.Place.{Place}
+use Rattle.dbtg_command.specs.declared.fault.Fault.{Fault}
+use Rattle.dbtg_command.specs.declared.fault.Fault.TheVariants.{Memory, MovesOver}
+use Rattle.dbtg_command.specs.declared.order.Order.TheVariants.{Serial}
+use Rattle.dbtg_command.specs.declared.place.Place.{Place}
 use Rattle.dbtg.specs.Listing.{AreResultTexts, AreTold, IsListing, IsLong, IsOver, IsResultText, IsUntold, OutcomesHeld, ToldOfOutcomes, are_short, result_line, result_text, summary_text, worded}
 use Rattle.dbtg.specs.Replaying.{given_text}
-use Rattle.dbtg.specs.Refusals.{is_count}
-use Rattle.dbtg.specs.Sources.{ReadSchema, ReadScripts}
-use Rattle.dbtg.proofs.TextsRead.{all_accepted, read_texts}
+use Rattle.dbtg_command.specs.Refusals.{is_count}
+use Rattle.dbtg_command.specs.Sources.{ReadSchema, ReadScripts}
+use Rattle.dbtg_command.proofs.Public.{all_accepted, read_texts}
 
 -- STATUSES
 

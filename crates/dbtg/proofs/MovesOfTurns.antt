@@ -17,15 +17,14 @@ use Rattle.dbtg_script.specs.Moves.{refusal as moves_refusal}
 use Rattle.dbtg_script.specs.Statements.{script}
 use Rattle.dbtg_script.specs.Printing.WordTexts.{moves_words_text}
 use Rattle.dbtg_script.proofs.Public.{moves_read_back}
-use Rattle.dbtg.specs.declared.fault.Fault.{Fault}
-use Rattle.dbtg.specs.declared.order.Order.TheVariants.{Turns}
-use Rattle.dbtg.specs.declared.place.Place.{Place}
-use Rattle.dbtg.specs.ByTurns.{AreMoreMoves, AreMovesOf}
-use Rattle.dbtg.specs.Refusals.{is_count}
-use Rattle.dbtg.specs.Replaying.{moves_in, turns_in}
-use Rattle.dbtg.specs.Sources.{MovesHeld, ReadSchema, ReadScripts, ReadTurns, ToldOfMoves}
+use Rattle.dbtg_command.specs.declared.fault.Fault.{Fault}
+use Rattle.dbtg_command.specs.declared.order.Order.TheVariants.{Turns}
+use Rattle.dbtg_command.specs.declared.place.Place.{Place}
+use Rattle.dbtg.specs.ByTurns.{AreMoreMoves, AreMovesOf, MovesHeld, ToldOfMoves}
+use Rattle.dbtg_command.specs.Refusals.{is_count, moves_in, turns_in}
+use Rattle.dbtg_command.specs.Sources.{ReadSchema, ReadScripts, ReadTurns}
 use Rattle.dbtg.proofs.SameRun.{replayed_same}
-use Rattle.dbtg.proofs.TextsRead.{all_accepted, read_texts}
+use Rattle.dbtg_command.proofs.Public.{all_accepted, read_texts}
 
 module _ (D : SequentialDatabase) (opening : SequentialState D) where
   events_named : (u : ℕ) → is_unit_number u ≡ true → (ms : List Move) (s t : State D) → AreEvents D opening u s ms t → list_all has_unit_number ms ≡ true

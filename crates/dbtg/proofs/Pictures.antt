@@ -8,15 +8,15 @@ use Rattle.dbtg_script.specs.Statements.{script}
 use Rattle.dbtg_step.specs.declared.results.Run.{Run}
 use Rattle.dbtg_step.specs.Core.Turns.{IsRunByTurns}
 use Rattle.dbtg_timeline.specs.Watching.{events_of_run}
-use Rattle.dbtg.specs.declared.place.Place.{Place}
-use Rattle.dbtg.specs.declared.order.Order.{Order}
-use Rattle.dbtg.specs.declared.order.Order.TheVariants.{Serial, Moves, Turns}
-use Rattle.dbtg.specs.declared.order.OrderKind.TheVariants as kind
+use Rattle.dbtg_command.specs.declared.place.Place.{Place}
+use Rattle.dbtg_command.specs.declared.order.Order.{Order}
+use Rattle.dbtg_command.specs.declared.order.Order.TheVariants.{Moves, Serial, Turns}
+use Rattle.dbtg_command.specs.declared.order.OrderKind.TheVariants as kind
 use Rattle.dbtg.specs.ByTurns.{StandFor}
 use Rattle.dbtg.specs.Picturing.{AreInOrder, IsPictured, TimelineHeld, picture, serial_turns}
-use Rattle.dbtg.specs.Refusals.{AcceptsOrder, is_count}
-use Rattle.dbtg.specs.Sources.{HoldsOrder, ReadMoves, ReadSchema, ReadScripts, ReadTurns, kind_of}
-use Rattle.dbtg.proofs.TextsRead.{all_accepted, read_texts}
+use Rattle.dbtg_command.specs.Refusals.{AcceptsOrder, is_count}
+use Rattle.dbtg_command.specs.Sources.{HoldsOrder, ReadMoves, ReadSchema, ReadScripts, ReadTurns, kind_of}
+use Rattle.dbtg_command.proofs.Public.{all_accepted, read_texts}
 
 -- these moves are those of a run by turns
 pub stands_for : (lists : Lists) (capacity : ℕ) (scripts : List (List Statement)) (turns : List ℕ) (moves said : List Move) (given : Run) → said ≡ moves → IsRunByTurns lists capacity scripts turns moves given → StandFor lists capacity scripts turns said

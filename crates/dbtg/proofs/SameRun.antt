@@ -11,10 +11,10 @@ use Rattle.dbtg_unit.proofs.Public.{opening_length}
 use Rattle.dbtg_step.specs.Machine.Headline.{IsSequential}
 use Rattle.dbtg_script.specs.Statements.{script}
 use Rattle.dbtg_script.specs.Printing.Texts.{moves_text, run_text}
-use Rattle.dbtg.specs.declared.order.Order.TheVariants.{Moves, Turns}
+use Rattle.dbtg_command.specs.declared.order.Order.TheVariants.{Moves, Turns}
 use Rattle.dbtg.specs.ByTurns.{StandFor}
-use Rattle.dbtg.specs.Refusals.{schema_in}
-use Rattle.dbtg.specs.Replaying.{IsReplay, moves_in, turns_in}
+use Rattle.dbtg_command.specs.Refusals.{moves_in, schema_in, turns_in}
+use Rattle.dbtg.specs.Replaying.{IsReplay}
 use Rattle.dbtg.proofs.UnitEntries.{same_history}
 
 pub same_text : (lists : Lists) (capacity : ℕ) (scripts : List (List Statement)) (es fs : List Entry) (image other : Image) (units others : List Unit)

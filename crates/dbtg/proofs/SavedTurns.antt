@@ -20,15 +20,15 @@ use Rattle.dbtg_script.specs.Statements.{script}
 use Rattle.dbtg_script.specs.Turns.{turns_refusal}
 use Rattle.dbtg_script.specs.Printing.WordTexts.{turns_text}
 use Rattle.dbtg_script.proofs.Public.{turns_read_back}
-use Rattle.dbtg.specs.declared.order.Order.TheVariants.{Serial, Turns}
-use Rattle.dbtg.specs.declared.place.Place.{Place}
-use Rattle.dbtg.specs.Refusals.{AcceptsTexts, AllAccepted, is_count, schema_in}
-use Rattle.dbtg.specs.Replaying.{IsReplay, turns_in}
-use Rattle.dbtg.specs.Sources.{ReadSchema, ReadScripts, ThreadsHeld}
-use Rattle.dbtg.specs.Threading.{IsHistoryOfAll, IsPrintedOnThreads, audit_line}
+use Rattle.dbtg_command.specs.declared.order.Order.TheVariants.{Serial, Turns}
+use Rattle.dbtg_command.specs.declared.place.Place.{Place}
+use Rattle.dbtg_command.specs.Refusals.{AcceptsTexts, AllAccepted, is_count, schema_in, turns_in}
+use Rattle.dbtg.specs.Replaying.{IsReplay}
+use Rattle.dbtg_command.specs.Sources.{ReadSchema, ReadScripts}
+use Rattle.dbtg.specs.Threading.{IsHistoryOfAll, IsPrintedOnThreads, ThreadsHeld, audit_line}
 use Rattle.dbtg.proofs.SameRun.{same_text}
 use Rattle.dbtg.proofs.ScriptLength.{few_statements}
-use Rattle.dbtg.proofs.TextsRead.{all_accepted, read_texts}
+use Rattle.dbtg_command.proofs.Public.{all_accepted, read_texts}
 use Rattle.dbtg.proofs.UnitEntries.{AllWithin, Begins, Few, all_made, all_within, total, total_few}
 
 -- A HISTORY OF ALL SCRIPTS

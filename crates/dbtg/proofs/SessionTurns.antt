@@ -16,9 +16,9 @@ use Rattle.dbtg_script.specs.Statements.{script}
 use Rattle.dbtg_script.specs.Printing.Texts.{run_text}
 use Rattle.dbtg_script.specs.Turns.{turns_refusal}
 use Rattle.dbtg_script.specs.Printing.WordTexts.{turns_text}
-use Rattle.dbtg.specs.declared.order.Order.TheVariants.{Turns}
+use Rattle.dbtg_command.specs.declared.order.Order.TheVariants.{Turns}
 use Rattle.dbtg.specs.declared.shell.session.Script.{Script}
-use Rattle.dbtg.specs.Refusals.{AllAccepted, is_count, schema_in}
+use Rattle.dbtg_command.specs.Refusals.{AllAccepted, is_count, schema_in}
 use Rattle.dbtg.specs.Replaying.{IsReplay}
 use Rattle.dbtg.specs.Sessions.{AreTurnsOf, IsSession}
 use Rattle.dbtg.specs.Threading.{AreOf, IsPrintedOnThreads, audit_line}

@@ -1,15 +1,6 @@
-pub mod Refusals
-pub mod Telling
-pub mod Checking
 pub mod Replaying
 pub mod ByTurns
-pub mod Capacity
 pub mod Threading
-pub mod Sources
-pub mod Files
-pub mod Explaining
-pub mod FaultyWord
-pub mod Drawing
 pub mod Asking
 pub mod Sessions
 pub mod Picturing

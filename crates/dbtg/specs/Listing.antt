@@ -16,14 +16,14 @@ use Rattle.dbtg_script.specs.Printing.Texts.{four_digits}
 use Rattle.dbtg_script.specs.Printing.WordTexts.{moves_words_text, turns_text}
 use Rattle.dbtg_step.specs.declared.results.Run.{Run}
 use Rattle.dbtg_step.specs.Core.Turns.{IsRunByTurns}
-use Rattle.dbtg.specs.declared.fault.Fault.{Fault}
-use Rattle.dbtg.specs.declared.fault.Fault.TheVariants as fault
-use Rattle.dbtg.specs.declared.order.OrderKind.TheVariants as kind
-use Rattle.dbtg.specs.declared.place.Place.{Place}
+use Rattle.dbtg_command.specs.declared.fault.Fault.{Fault}
+use Rattle.dbtg_command.specs.declared.fault.Fault.TheVariants as fault
+use Rattle.dbtg_command.specs.declared.order.OrderKind.TheVariants as kind
+use Rattle.dbtg_command.specs.declared.place.Place.{Place}
 use Rattle.dbtg.specs.ByTurns.{StandFor}
-use Rattle.dbtg.specs.Refusals.{schema_in, is_count, AcceptsTexts}
+use Rattle.dbtg_command.specs.Refusals.{AcceptsTexts, is_count, schema_in}
 use Rattle.dbtg.specs.Replaying.{given_text}
-use Rattle.dbtg.specs.Sources.{ReadSchema, ReadScripts, Texts, ToldOfRun}
+use Rattle.dbtg_command.specs.Sources.{ReadSchema, ReadScripts, Texts, ToldOfRun}
 
 -- a number of orders, in digits where 64 bits can count it
 abbrev pub orders_text : Option ℕ → List ℕ

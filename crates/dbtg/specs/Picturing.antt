@@ -10,14 +10,13 @@ use Rattle.dbtg_timeline.specs.declared.event.Event.{Event}
 use Rattle.dbtg_timeline.specs.Svg.{timeline_svg}
 use Rattle.dbtg_timeline.specs.Text.{timeline_text}
 use Rattle.dbtg_timeline.specs.Watching.{events_of_run}
-use Rattle.dbtg.specs.declared.order.Order.{Order}
-use Rattle.dbtg.specs.declared.order.Order.TheVariants.{Serial, Moves, Turns}
-use Rattle.dbtg.specs.declared.order.OrderKind.{OrderKind}
-use Rattle.dbtg.specs.declared.place.Place.{Place}
+use Rattle.dbtg_command.specs.declared.order.Order.{Order}
+use Rattle.dbtg_command.specs.declared.order.Order.TheVariants.{Moves, Serial, Turns}
+use Rattle.dbtg_command.specs.declared.order.OrderKind.{OrderKind}
+use Rattle.dbtg_command.specs.declared.place.Place.{Place}
 use Rattle.dbtg.specs.ByTurns.{StandFor}
-use Rattle.dbtg.specs.Refusals.{schema_in, is_count, AcceptsOrder, AcceptsTexts}
-use Rattle.dbtg.specs.Replaying.{moves_in, turns_in}
-use Rattle.dbtg.specs.Sources.{Texts}
+use Rattle.dbtg_command.specs.Refusals.{AcceptsOrder, AcceptsTexts, is_count, moves_in, schema_in, turns_in}
+use Rattle.dbtg_command.specs.Sources.{Texts}
 
 -- as SVG, or as plain text
 abbrev pub picture : Bool → List (List (List ℕ)) → List Event → List ℕ

@@ -9,21 +9,14 @@ use Rattle.dbtg_step.specs.Machine.Headline.{RunIs}
 use Rattle.dbtg_step.specs.Core.Serial.{SerialRunIs}
 use Rattle.dbtg_step.specs.Core.Turns.{IsRunByTurns}
 use Rattle.dbtg_script.specs.Printing.Echo.{echoed_run_text}
-use Rattle.dbtg_script.specs.Moves.{moves_of, words}
 use Rattle.dbtg_script.specs.Statements.{script}
 use Rattle.dbtg_script.specs.Printing.Texts.{moves_text, run_text}
-use Rattle.dbtg_script.specs.Turns.{turns_of}
-use Rattle.dbtg.specs.declared.order.Order.{Order}
-use Rattle.dbtg.specs.declared.order.Order.TheVariants.{Serial, Moves, Turns}
-use Rattle.dbtg.specs.Refusals.{schema_in, is_count, AcceptsTexts, AcceptsOrder}
-
--- the moves that a text says
-abbrev pub moves_in : List ℕ → List Move
-moves_in text = moves_of (words text)
-
--- the turns that a text says
-abbrev pub turns_in : List ℕ → List ℕ
-turns_in text = turns_of (words text)
+use Rattle.dbtg_command.specs.declared.order.Order.{Order}
+use Rattle.dbtg_command.specs.declared.order.Order.TheVariants.{Moves, Serial, Turns}
+use Rattle.dbtg_command.specs.declared.order.OrderKind.{OrderKind}
+use Rattle.dbtg_command.specs.declared.place.Place.{Place}
+use Rattle.dbtg_command.specs.Refusals.{AcceptsOrder, AcceptsTexts, is_count, moves_in, schema_in, turns_in}
+use Rattle.dbtg_command.specs.Sources.{Texts}
 
 -- the run by these turns, whatever moves they stand for
 abbrev pub RunByTurnsIs : Lists → ℕ → List (List Statement) → List ℕ → Run → Type 0
@@ -76,3 +69,7 @@ pub record IsShownReplay (echo : Bool) (text : List ℕ) (scripts : List (List �
 -- the same of the answers alone
 abbrev pub IsReplay : List ℕ → List (List ℕ) → Order (List ℕ) → ℕ → List ℕ → Type 0
 IsReplay text scripts order capacity out = IsShownReplay false text scripts order capacity out
+
+-- what `replay` prints of texts that are held
+abbrev pub ReplaysHeld : (Place → List ℕ → Type 0) → ℕ → OrderKind → Bool → ℕ → List ℕ → Type 0
+ReplaysHeld holds count which echo capacity out = (texts : Texts holds count which) × IsShownReplay echo texts.schema texts.scripts texts.order capacity out

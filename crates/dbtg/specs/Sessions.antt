@@ -19,7 +19,7 @@ use Rattle.dbtg_script.specs.Printing.Texts.{answer_text, named_answer_text, run
 use Rattle.dbtg_script.specs.Turns.{turns_refusal}
 use Rattle.dbtg_script.specs.declared.fault.Cause.{Cause}
 use Rattle.dbtg_script.specs.declared.fault.Cause.TheVariants.{TooMuch}
-use Rattle.dbtg.specs.declared.order.Order.TheVariants.{Turns}
+use Rattle.dbtg_command.specs.declared.order.Order.TheVariants.{Turns}
 use Rattle.dbtg.specs.declared.shell.session.Refusal.{Refusal}
 use Rattle.dbtg.specs.declared.shell.session.Refusal.TheVariants.{Fault, Memory}
 use Rattle.dbtg.specs.declared.shell.session.Script.{Script}
@@ -27,9 +27,9 @@ use Rattle.dbtg.specs.declared.shell.asked.Asked.{Asked}
 use Rattle.dbtg.specs.declared.shell.asked.Asked.TheVariants as asked
 use Rattle.dbtg.specs.declared.shell.commands.Reply.{Reply}
 use Rattle.dbtg.specs.declared.shell.commands.Reply.TheVariants as reply
-use Rattle.dbtg.specs.Explaining.{code_in}
-use Rattle.dbtg.specs.FaultyWord.{behind_all}
-use Rattle.dbtg.specs.Refusals.{is_count, schema_in}
+use Rattle.dbtg_command.specs.Explaining.{code_in}
+use Rattle.dbtg_command.specs.FaultyWord.{behind_all}
+use Rattle.dbtg_command.specs.Refusals.{is_count, schema_in}
 use Rattle.dbtg.specs.Replaying.{IsReplay}
 
 -- WHAT A CALLER SEES

@@ -12,8 +12,11 @@ use Rattle.dbtg_script.specs.Statements.{script}
 use Rattle.dbtg_script.specs.Printing.Texts.{run_text}
 use Rattle.dbtg_script.specs.Turns.{turns_refusal}
 use Rattle.dbtg_script.specs.Printing.WordTexts.{turns_text}
-use Rattle.dbtg.specs.declared.order.Order.TheVariants.{Turns}
-use Rattle.dbtg.specs.Refusals.{schema_in, is_count, AcceptsTexts}
+use Rattle.dbtg_command.specs.declared.order.Order.TheVariants.{Turns}
+use Rattle.dbtg_command.specs.declared.order.OrderKind.TheVariants as kind
+use Rattle.dbtg_command.specs.declared.place.Place.{Place}
+use Rattle.dbtg_command.specs.Refusals.{AcceptsTexts, is_count, schema_in}
+use Rattle.dbtg_command.specs.Sources.{Texts}
 use Rattle.dbtg.specs.Replaying.{IsReplay}
 
 -- the entries are those of the script's statements, in order: of all, or of as many as a journal has room for
@@ -50,3 +53,7 @@ pub record IsThreads (text : List ℕ) (scripts : List (List ℕ)) (capacity : �
   pub run : IsPrintedOnThreads (schema_in text) capacity (map (script (schema_in text)) scripts) out turns
   pub turns_too : turns_refusal turns ≡ None
   pub again : (printed : List ℕ) → IsReplay text scripts (Turns turns) capacity printed → out ≡ printed ++ audit_line
+
+-- what `threads` prints of texts that are held, and the turns that it saves
+abbrev pub ThreadsHeld : (Place → List ℕ → Type 0) → ℕ → ℕ → List ℕ → List ℕ → Type 0
+ThreadsHeld holds count capacity out turns = (texts : Texts holds count kind.Serial) × IsThreads texts.schema texts.scripts capacity out turns

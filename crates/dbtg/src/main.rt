@@ -3,44 +3,27 @@
 
 ghost use Rattle.std.specs.Prelude.{◌≡◌, true};
 ghost use Rattle.dbtg_schema.specs.Sound.{IsSound};
-ghost use Rattle.dbtg.specs.Refusals.{is_count};
+ghost use Rattle.dbtg_command.specs.Refusals.{is_count};
 
-mod at_hand;
-mod capacity;
-mod check;
-mod command;
-mod copies;
-mod draw;
-mod explain;
-mod fault;
-mod files;
-mod order;
 mod outcomes;
-mod place;
-mod reading;
-mod reason;
 mod replay;
+mod scripts;
 mod shell;
-mod source;
-mod texts;
 mod threads;
 mod timeline;
 mod turns;
 
-use check::check;
 use clap::error::ErrorKind;
-use command::{
-    Call, CheckCall, DrawCall, OutcomesCall, ReplayCall, ShellCall, ThreadsCall, TimelineCall,
-    TurnsCall, call_of,
+use dbtg_command::check::check;
+use dbtg_command::draw::draw;
+use dbtg_command::explain::{Topic, explained};
+use dbtg_command::reason::reason;
+use dbtg_command::{
+    Call, CheckCall, DrawCall, Fault, Files, Order, OutcomesCall, Paths, ReplayCall, ShellCall,
+    ThreadsCall, TimelineCall, TurnsCall, call_of, read_schema, status_of,
 };
 use dbtg_schema::Schema;
-use draw::draw;
-use explain::{Topic, explained};
-use fault::{Fault, status_of};
-use files::{Files, Paths};
-use order::Order;
 use outcomes::print_outcomes;
-use reason::reason;
 use replay::{check_count, replay};
 use shell::session::Session;
 use shell::{Broken, converse};
@@ -49,7 +32,6 @@ use std::process::ExitCode;
 use std::sync::Wait;
 use std::thread::Threads;
 use std::{env, fs};
-use texts::read_schema;
 use threads::{OnThreads, run_on_threads};
 use timeline::timeline;
 use turns::moves_for_turns;

@@ -3,15 +3,14 @@ ghost use Rattle.std.specs.Prelude.{◌≡◌, IfErr, IfOk, true, length, nat_le
 ghost use Rattle.std.specs.List.{list_all};
 ghost use Rattle.dbtg_schema.specs.Sound.{IsSound};
 ghost use Rattle.dbtg_step.specs.Laws.{scripts_fit};
-ghost use Rattle.dbtg.specs.ByTurns.{AreMoreMoves, AreMovesOf};
-ghost use Rattle.dbtg.specs.Refusals.{is_count};
-ghost use Rattle.dbtg.specs.Sources.{MovesHeld, ReadSchema, ToldOfTurns};
-ghost use Rattle.dbtg.specs.declared.order.OrderKind.TheVariants.{Turns};
+ghost use Rattle.dbtg.specs.ByTurns.{AreMoreMoves, AreMovesOf, MovesHeld, ToldOfTurns};
+ghost use Rattle.dbtg_command.specs.Refusals.{is_count};
+ghost use Rattle.dbtg_command.specs.Sources.{ReadSchema};
+ghost use Rattle.dbtg_command.specs.declared.order.OrderKind.TheVariants.{Turns};
 
-use crate::fault::Fault;
 use crate::replay::schema_for_run;
-use crate::source::Source;
-use crate::texts::{read_scripts, read_turns};
+use crate::scripts::read_scripts;
+use dbtg_command::{Fault, Source, read_turns};
 use dbtg_schema::{Row, Schema};
 use dbtg_script::moves_words_text;
 use dbtg_step::{Turned, run_turns};

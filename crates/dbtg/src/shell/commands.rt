@@ -5,10 +5,10 @@ ghost use Rattle.dbtg.specs.Asking.{asked_of, behind_spaces, turn_after, turn_be
 ghost use Rattle.dbtg.specs.Sessions.{IsLastAnswer, IsNoUnit, IsTold, TakesAsked, TakesLine};
 ghost use Rattle.dbtg.specs.declared.shell.asked.Asked.{Asked as AskedOf};
 
-use crate::explain::{Kind, Topic, explained, fault_topic, status_topic, topic_of};
 use crate::shell::asked::{Asked, behind_spaces, read_asked};
 use crate::shell::replies::{answer_reply, database_reply, fault_reply, unit_reply, units_reply};
 use crate::shell::session::{Refusal, Session};
+use dbtg_command::explain::{Kind, Topic, explained, fault_topic, status_topic, topic_of};
 use dbtg_script::{Cause, behind, in_front, is_number, number};
 use std::alloc::{AllocError, Global};
 

@@ -1,9 +1,9 @@
 //! The dialogue of the shell: lines come from standard input, and what each comes to goes to standard output at once.
 
-use crate::command::ShellCall;
 use crate::shell::commands::{Reply, Shell};
 use crate::shell::saved::save;
 use crate::shell::session::Session;
+use dbtg_command::ShellCall;
 use std::alloc::AllocError;
 use std::io::{self, BufRead, Input, IsTerminal, Read, Write};
 

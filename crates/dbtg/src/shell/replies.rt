@@ -5,8 +5,8 @@ ghost use Rattle.dbtg_step.specs.Core.Whole.{state_now};
 ghost use Rattle.dbtg_unit.specs.Database.State.Image.{image_of};
 ghost use Rattle.dbtg.specs.Sessions.{IsAnswerReply, IsCauseName};
 
-use crate::explain::{CAUSES, Kind, field, line_of, meaning_of, row_with, said_of_word};
 use crate::shell::session::Session;
+use dbtg_command::explain::{CAUSES, Kind, field, line_of, meaning_of, row_with, said_of_word};
 use dbtg_schema::Schema;
 use dbtg_script::{Cause, image_text, push_answer, push_named_answer, push_unit, units_text};
 use dbtg_unit::Entry;

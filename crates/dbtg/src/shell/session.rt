@@ -4,7 +4,7 @@ ghost use Rattle.dbtg_schema.specs.Sound.{IsSound};
 ghost use Rattle.dbtg_unit.specs.Database.Statements.Fits.{fits};
 ghost use Rattle.dbtg_unit.specs.Database.State.Image.{image_of};
 ghost use Rattle.dbtg_step.specs.Core.Whole.{HasMade, state_now};
-ghost use Rattle.dbtg.specs.Refusals.{is_count};
+ghost use Rattle.dbtg_command.specs.Refusals.{is_count};
 ghost use Rattle.dbtg.specs.Sessions.{AreTurnsOf, HasEntered, HasNoRoom, IsAsBefore, MakesLine, RefusesBehind, RefusesLine, Takes};
 ghost use Rattle.dbtg.specs.declared.shell.session.Refusal.TheVariants.{Fault, Memory};
 

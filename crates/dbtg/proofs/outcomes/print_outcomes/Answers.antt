@@ -1,6 +1,6 @@
 use Rattle.std.proofs.Common.{inl}
 use Rattle.std.proofs.lemmas.Result.{err_from_is_err_and}
-use Rattle.dbtg.specs.declared.order.OrderKind.TheVariants.{Serial}
+use Rattle.dbtg_command.specs.declared.order.OrderKind.TheVariants.{Serial}
 use Rattle.dbtg.proofs.outcomes.print_outcomes.Goals as goal
 
 pub returns-in_err-known-clause-refused : goal.returns-in_err-known-clause-refused

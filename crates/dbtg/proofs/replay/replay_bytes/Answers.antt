@@ -1,9 +1,10 @@
 use Rattle.std.proofs.Common.{false, length}
 use Rattle.std.proofs.lemmas.Result.{IfErr-weaker, IfOk-weaker}
-use Rattle.dbtg.specs.Refusals.{RefusesReplay}
-use Rattle.dbtg.specs.Replaying.{IsReplay}
-use Rattle.dbtg.specs.Sources.{StandsIn, ReplaysHeld, ToldOfRun, kind_of, order_map}
-use Rattle.dbtg.proofs.BytesAtHand.{OnlyMemory, at_hand_replay, run_told, same_kind}
+use Rattle.dbtg_command.specs.Refusals.{RefusesReplay}
+use Rattle.dbtg.specs.Replaying.{IsReplay, ReplaysHeld}
+use Rattle.dbtg_command.specs.Sources.{StandsIn, ToldOfRun, kind_of, order_map}
+use Rattle.dbtg_command.proofs.Public.{OnlyMemory, run_told, same_kind}
+use Rattle.dbtg.proofs.ReplaysRead.{at_hand_replay}
 use Rattle.dbtg.proofs.replay.replay_bytes.Goals as goal
 
 pub returns-clause-done : goal.returns-clause-done

@@ -1,7 +1,7 @@
 use Rattle.std.proofs.Common.{◌≡◌, sym, ap, ◌∙◌}
 use Rattle.dbtg.specs.Replaying.{echo_of}
-use Rattle.dbtg.specs.declared.order.OrderKind.TheVariants as kind
-use Rattle.dbtg.proofs.TextsRead.{replays_moves, replays_serially, replays_turns}
+use Rattle.dbtg_command.specs.declared.order.OrderKind.TheVariants as kind
+use Rattle.dbtg.proofs.ReplaysRead.{replays_moves, replays_serially, replays_turns}
 use Rattle.dbtg.proofs.replay.replay_read.Goals as goal
 
 pub returns-in_ok-serial_text-in-Serial-clause-done : goal.returns-in_ok-serial_text-in-Serial-clause-done

@@ -1,6 +1,6 @@
 use Rattle.std.proofs.Common.{inl, inr, sym, ◌∙◌}
 use Rattle.std.proofs.lemmas.Result.{err_from_is_err_and}
-use Rattle.dbtg.specs.declared.order.OrderKind.TheVariants.{Serial}
+use Rattle.dbtg_command.specs.declared.order.OrderKind.TheVariants.{Serial}
 use Rattle.dbtg.proofs.SavedTurns.{runs_on_threads}
 use Rattle.dbtg.proofs.threads.run_on_threads.Goals as goal
 

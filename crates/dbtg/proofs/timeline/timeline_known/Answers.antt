@@ -1,6 +1,6 @@
 use Rattle.std.proofs.Common.{◌≡◌, sym, ap, ◌∙◌}
 use Rattle.dbtg.specs.Picturing.{serial_turns}
-use Rattle.dbtg.specs.declared.order.OrderKind.TheVariants as kind
+use Rattle.dbtg_command.specs.declared.order.OrderKind.TheVariants as kind
 use Rattle.dbtg.proofs.Pictures.{pictures_moves, pictures_serially, pictures_turns}
 use Rattle.dbtg.proofs.timeline.timeline_known.Goals as goal
 

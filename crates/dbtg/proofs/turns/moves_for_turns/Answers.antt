@@ -1,6 +1,6 @@
 use Rattle.std.proofs.Common.{inl}
 use Rattle.std.proofs.lemmas.Result.{err_from_is_err_and}
-use Rattle.dbtg.specs.declared.order.OrderKind.TheVariants.{Turns}
+use Rattle.dbtg_command.specs.declared.order.OrderKind.TheVariants.{Turns}
 use Rattle.dbtg.proofs.turns.moves_for_turns.Goals as goal
 
 pub returns-in_err-known-clause-refused : goal.returns-in_err-known-clause-refused

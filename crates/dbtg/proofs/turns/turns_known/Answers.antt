@@ -2,8 +2,7 @@ use Rattle.std.proofs.Common.{ap, ◌∙◌, inr, nat_le}
 use Rattle.std.specs.List.{list_all}
 use Rattle.std.proofs.lemmas.Result.{IfErr-weaker, IfOk-weaker}
 use Rattle.dbtg_script.specs.Moves.{words}
-use Rattle.dbtg.specs.ByTurns.{AreMoreMoves, AreMovesOf}
-use Rattle.dbtg.specs.Sources.{MovesHeld, ToldOfTurns}
+use Rattle.dbtg.specs.ByTurns.{AreMoreMoves, AreMovesOf, MovesHeld, ToldOfTurns}
 use Rattle.dbtg.proofs.MovesOfTurns.{more_told, moves_held}
 use Rattle.dbtg.proofs.UnitsOfTurns.{turns_small}
 use Rattle.dbtg.proofs.turns.turns_known.Goals as goal

@@ -1,0 +1,4 @@
+mod InTurn
+mod TextsRead
+mod BytesAtHand
+pub mod Public

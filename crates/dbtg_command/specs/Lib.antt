@@ -1,0 +1,9 @@
+pub mod Refusals
+pub mod Telling
+pub mod Checking
+pub mod Capacity
+pub mod Sources
+pub mod Files
+pub mod Explaining
+pub mod FaultyWord
+pub mod Drawing

@@ -1,0 +1,56 @@
+//! Texts whose bytes are at hand.
+ghost use Rattle.std.specs.Prelude.{◌≡◌, length};
+ghost use Rattle.dbtg_command.specs.Sources.{HasPlace, StandsIn, kind_of, order_map};
+ghost use Rattle.dbtg_command.specs.declared.fault.Fault.TheVariants.{Memory};
+
+use crate::fault::Fault;
+use crate::order::{Order, OrderKind};
+use crate::place::Place;
+use crate::source::Source;
+use dbtg_schema::Row;
+use std::alloc::Global;
+
+/// A schema, scripts, and moves or turns where there are any.
+#[derive(Drop)]
+pub struct AtHand<'a> {
+    pub schema: &'a [u8],
+    pub scripts: &'a [Row<u8>],
+    pub order: Order<&'a [u8]>,
+}
+
+impl<'a> AtHand<'a> {
+    fn text(&self, place: Place) -> &'a [u8]
+        requires { HasPlace (length self.now.scripts.now) (kind_of self.now.order) place }
+        ensures { StandsIn self.now.schema.now self.now.scripts.now (order_map (λ t. t.now) self.now.order) place result.now }
+    {
+        match (place, self.order) {
+            (Place::Schema, _) => self.schema,
+            (Place::Script(number), _) => self.scripts[number - 1].as_slice(),
+            (Place::Moves, Order::Moves(text)) => text,
+            (Place::Turns, Order::Turns(text)) => text,
+            _ => unreachable!(),
+        }
+    }
+}
+
+impl<'a> Source for AtHand<'a> {
+    ghost count = { λ s. length s.scripts.now };
+
+    ghost order = { λ s. kind_of s.order };
+
+    ghost holds = { λ s place text. StandsIn s.schema.now s.scripts.now (order_map (λ t. t.now) s.order) place text };
+
+    ghost fails = { λ s place fault. fault ≡ Memory };
+
+    fn count(&self) -> usize {
+        self.scripts.len()
+    }
+
+    fn order(&self) -> OrderKind {
+        self.order.kind()
+    }
+
+    fn read(&self, alloc: Global, place: Place) -> Result<Vec<u8>, Fault> {
+        Ok(Vec::from_slice(alloc, self.text(place))?)
+    }
+}

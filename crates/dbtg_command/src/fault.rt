@@ -1,0 +1,134 @@
+//! What stops the program, and the status with which it then ends.
+ghost use Rattle.std.specs.Prelude.{◌≡◌};
+ghost use Rattle.dbtg_command.specs.declared.fault.Fault.TheVariants.{Memory};
+ghost use Rattle.dbtg_command.specs.Refusals.{status_of};
+ghost use Rattle.dbtg_command.specs.Telling.{moves_fault, schema_fault, script_fault, turns_fault};
+
+use dbtg_schema::{Cause as SchemaCause, SchemaFault};
+use dbtg_script::{Cause as ScriptCause, MovesCause, MovesFault, ScriptFault, TurnsFault};
+use std::alloc::{AllocError, AllocFailed};
+use thiserror::Error;
+
+/// Why a command is not carried out. Its text is the line on standard error.
+#[derive(Debug, Drop, Error)]
+pub enum Fault {
+    /// The schema has a fault; this is its first.
+    #[error("schema fault {} line {line}", .cause.number())]
+    Schema {
+        line: u64,
+        cause: SchemaCause,
+    },
+    /// The script of this number, from 1, has a fault; it is the first of the first script that has one.
+    #[error("script {number} fault {} line {line}", .cause.number())]
+    Script {
+        number: usize,
+        line: u64,
+        cause: ScriptCause,
+    },
+    /// The moves have a fault; this is their first.
+    #[error("moves fault {} word {word}", .cause.number())]
+    Moves {
+        word: u64,
+        cause: MovesCause,
+    },
+    /// The turns have a fault; this is their first.
+    #[error("turns fault {} word {word}", .cause.number())]
+    Turns {
+        word: u64,
+        cause: MovesCause,
+    },
+    /// The moves that the turns stand for are more than a text of moves may have.
+    #[error("moves over 1000000")]
+    MovesOver,
+    /// The orders of the scripts lead to more states than are wanted.
+    #[error("states over {limit}")]
+    StatesOver {
+        limit: u64,
+    },
+    /// A file cannot be read.
+    #[error("cannot read {path}")]
+    Unreadable {
+        path: String,
+    },
+    /// There are no scripts, or more than 8.
+    #[error("scripts wanted: 1 to 8")]
+    ScriptCount,
+    /// Memory was refused before a fault was met.
+    #[error("want of memory")]
+    Memory,
+}
+
+impl From<AllocError> for Fault {
+    ghost from_gives = { λ _ e. e ≡ Memory };
+
+    fn from(_error: AllocError) -> Fault {
+        Fault::Memory
+    }
+}
+
+impl<T: Drop> From<AllocFailed<T>> for Fault {
+    ghost from_gives = { λ _ e. e ≡ Memory };
+
+    fn from(_error: AllocFailed<T>) -> Fault {
+        Fault::Memory
+    }
+}
+
+impl Fault {
+    /// The fault of a schema.
+    pub fn of_schema(fault: SchemaFault) -> Fault
+        ensures { result ≡ schema_fault fault }
+    {
+        match fault {
+            SchemaFault::Refused { line, cause } => Fault::Schema { line, cause },
+            SchemaFault::Memory => Fault::Memory,
+        }
+    }
+
+    /// The fault of the script of this number.
+    pub fn of_script(number: usize, fault: ScriptFault) -> Fault
+        ensures { result ≡ script_fault number fault }
+    {
+        match fault {
+            ScriptFault::Refused { line, cause } => {
+                Fault::Script {
+                    number,
+                    line,
+                    cause,
+                }
+            }
+            ScriptFault::Memory => Fault::Memory,
+        }
+    }
+
+    /// The fault of moves.
+    pub fn of_moves(fault: MovesFault) -> Fault
+        ensures { result ≡ moves_fault fault }
+    {
+        match fault {
+            MovesFault::Refused { word, cause } => Fault::Moves { word, cause },
+            MovesFault::Memory => Fault::Memory,
+        }
+    }
+
+    /// The fault of turns.
+    pub fn of_turns(fault: TurnsFault) -> Fault
+        ensures { result ≡ turns_fault fault }
+    {
+        match fault {
+            TurnsFault::Refused { word, cause } => Fault::Turns { word, cause },
+            TurnsFault::Memory => Fault::Memory,
+        }
+    }
+}
+
+/// The exit status: 1 for what is given to read, too many moves and too many states, 2 for a wrong number of scripts, 3 for want of memory.
+pub fn status_of(fault: &Fault) -> u8
+    ensures { result ≡ status_of fault.now }
+{
+    match fault {
+        Fault::ScriptCount => 2,
+        Fault::Memory => 3,
+        _ => 1,
+    }
+}

@@ -1,0 +1,141 @@
+//! Files as the source of the texts. No contract can say what a file has: that is what the reader of files says, and all that is
+//! proved here holds for each reader.
+ghost use Rattle.std.specs.Prelude.{◌≡◌, ℕ, List, IfErr, IfOk, length, map};
+ghost use Rattle.dbtg_command.specs.Files.{FileFails, FileHolds, IsUnread, most_of};
+ghost use Rattle.dbtg_command.specs.Sources.{HasPlace, StandsIn, kind_of, order_map};
+
+use crate::fault::Fault;
+use crate::order::{Order, OrderKind};
+use crate::place::Place;
+use crate::source::Source;
+use std::alloc::Global;
+use std::fs::File;
+use std::io::{self, Input, Read};
+
+// A text that has a byte more than its kind may have is refused, whatever follows: so much of a file is read and no more.
+const SCHEMA_BYTES: u64 = 65_537;
+
+pub const SCRIPT_BYTES: u64 = 1_048_577;
+// Moves and turns may be of any length.
+const MOVES_BYTES: u64 = u64::MAX;
+
+/// The path that stands for standard input.
+pub const STANDARD_INPUT: &str = "-";
+
+/// What reads files.
+pub trait FileReader {
+    /// So many bytes of the file with this path, or all where it has fewer, were this text.
+    ghost has: { Self → List ℕ → ℕ → List ℕ → Type 0 };
+
+    /// So many bytes of the file with this path could not be read.
+    ghost lacks: { Self → List ℕ → ℕ → Type 0 };
+
+    /// The first bytes of a file, so many where it has them, or the system's reason why it cannot be read.
+    fn read(&self, path: &str, most: u64) -> io::Result<Vec<u8>>
+        ensures read { IfOk result (λ text. has self.now path.now most text.items) }
+        ensures unread { IfErr result (λ _. lacks self.now path.now most) };
+}
+
+fn read_input(rt: &HostRuntime, most: u64) -> io::Result<Vec<u8>> {
+    let mut bytes = Vec::new(rt.alloc());
+    rt.reader().take(most).read_to_end(&mut bytes)?;
+    Ok(bytes)
+}
+
+fn read_path(rt: &HostRuntime, path: &str, most: u64) -> io::Result<Vec<u8>> {
+    let mut bytes = Vec::new(rt.alloc());
+    File::open(rt, path)?.take(most).read_to_end(&mut bytes)?;
+    Ok(bytes)
+}
+
+impl FileReader for HostRuntime {
+    ghost has = { λ rt path most text. Unit {0} };
+
+    ghost lacks = { λ rt path most. Unit {0} };
+
+    fn read(&self, path: &str, most: u64) -> io::Result<Vec<u8>> {
+        if path == STANDARD_INPUT {
+            read_input(self, most)
+        } else {
+            read_path(self, path, most)
+        }
+    }
+}
+
+/// The paths that a command names, as they were given.
+#[derive(Drop)]
+pub struct Paths<'a> {
+    pub schema: &'a str,
+    pub scripts: &'a [&'a str],
+    pub order: Order<&'a str>,
+}
+
+impl<'a> Paths<'a> {
+    fn path(&self, place: Place) -> &'a str
+        requires { HasPlace (length self.now.scripts.now) (kind_of self.now.order) place }
+        ensures { StandsIn self.now.schema.now (map (λ path. path.now) self.now.scripts.now) (order_map (λ path. path.now) self.now.order) place result.now }
+    {
+        match (place, self.order) {
+            (Place::Schema, _) => self.schema,
+            (Place::Script(number), _) => self.scripts[number - 1],
+            (Place::Moves, Order::Moves(path)) => path,
+            (Place::Turns, Order::Turns(path)) => path,
+            _ => unreachable!(),
+        }
+    }
+}
+
+/// Files, and what reads them.
+#[derive(Drop)]
+pub struct Files<'a, F> {
+    pub reader: &'a F,
+    pub paths: &'a Paths<'a>,
+}
+
+fn most_of(place: Place) -> u64
+    ensures { result ≡ most_of place }
+{
+    match place {
+        Place::Schema => SCHEMA_BYTES,
+        Place::Script(_) => SCRIPT_BYTES,
+        Place::Moves | Place::Turns => MOVES_BYTES,
+    }
+}
+
+fn unread(alloc: Global, path: &str, error: &io::Error) -> Fault
+    ensures { IsUnread path.now result }
+{
+    if error.kind() == io::ErrorKind::OutOfMemory {
+        return Fault::Memory;
+    }
+    match String::from_str(alloc, path) {
+        Ok(path) => Fault::Unreadable { path },
+        Err(_) => Fault::Memory,
+    }
+}
+
+impl<'a, F: FileReader> Source for Files<'a, F> {
+    ghost count = { λ s. length s.paths.now.scripts.now };
+
+    ghost order = { λ s. kind_of s.paths.now.order };
+
+    ghost holds = { λ s place text. FileHolds (F.has s.reader.now) s.paths.now.schema.now (map (λ path. path.now) s.paths.now.scripts.now) (order_map (λ path. path.now) s.paths.now.order) place text };
+
+    ghost fails = { λ s place fault. FileFails (F.lacks s.reader.now) s.paths.now.schema.now (map (λ path. path.now) s.paths.now.scripts.now) (order_map (λ path. path.now) s.paths.now.order) place fault };
+
+    fn count(&self) -> usize {
+        self.paths.scripts.len()
+    }
+
+    fn order(&self) -> OrderKind {
+        self.paths.order.kind()
+    }
+
+    fn read(&self, alloc: Global, place: Place) -> Result<Vec<u8>, Fault> {
+        let path = self.paths.path(place);
+        match self.reader.read(path, most_of(place)) {
+            Ok(text) => Ok(text),
+            Err(error) => Err(unread(alloc, path, &error)),
+        }
+    }
+}

@@ -1,0 +1,34 @@
+//! What the command is given, and what it says of it: its words, the files that they name, the texts in these, faults, and what
+//! faults and statuses mean; with `check` and `draw`, which run nothing. It may read files and standard input, and writes nothing.
+//! Nothing in it knows of steps, runs and threads: it stands beside the crates that have them, not above.
+#![tactic(auto)]
+
+mod at_hand;
+mod capacity;
+pub mod check;
+mod command;
+mod copies;
+pub mod draw;
+pub mod explain;
+mod fault;
+mod files;
+mod order;
+mod place;
+mod reading;
+pub mod reason;
+mod source;
+mod texts;
+
+pub use at_hand::AtHand;
+pub use command::{
+    Call, CheckCall, DrawCall, OutcomesCall, ReplayCall, ShellCall, ThreadsCall, TimelineCall,
+    TurnsCall, call_of,
+};
+pub use copies::copy_scripts;
+pub use fault::{Fault, status_of};
+pub use files::{FileReader, Files, Paths};
+pub use order::{Order, OrderKind};
+pub use place::Place;
+pub use reading::take_script;
+pub use source::Source;
+pub use texts::{read_moves, read_schema, read_turns};

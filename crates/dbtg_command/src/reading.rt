@@ -1,0 +1,90 @@
+//! Reading what a command is given; the readers' faults become the program's.
+ghost use Rattle.std.specs.Prelude.{◌≡◌, ◌++◌, ◌∷◌, [], None, IfErr, IfOk, OnOk, true};
+ghost use Rattle.std.specs.List.{list_all};
+ghost use Rattle.dbtg_schema.specs.Texts.SchemaFaults.{refusal as schema_refusal};
+ghost use Rattle.dbtg_schema.specs.Sound.{IsSound};
+ghost use Rattle.dbtg_script.specs.Moves.{refusal as moves_refusal};
+ghost use Rattle.dbtg_script.specs.StatementFaults.{refusal as script_refusal};
+ghost use Rattle.dbtg_script.specs.Statements.{script};
+ghost use Rattle.dbtg_script.specs.Turns.{turns_refusal};
+ghost use Rattle.dbtg_unit.specs.Database.Statements.Fits.{fits};
+ghost use Rattle.dbtg_command.specs.Refusals.{RefusesMoves, RefusesSchema, RefusesScript, RefusesTurns, moves_in, schema_in, turns_in};
+
+use crate::fault::Fault;
+use dbtg_schema::{Row, Schema};
+use dbtg_script::{read_moves, read_script, read_turns};
+use dbtg_unit::{Move, Statement};
+use std::alloc::Global;
+
+/// The schema of a text.
+pub fn schema_of(alloc: Global, text: &[u8]) -> Result<Schema, Fault>
+    ensures accepted { OnOk result (schema_refusal text.now ≡ None) }
+    ensures lists { IfOk result (λ schema. schema ≡ schema_in text.now) }
+    ensures sound { IfOk result (λ schema. IsSound schema) }
+    ensures refused { IfErr result (λ fault. RefusesSchema fault (schema_refusal text.now)) }
+{
+    match Schema::read(alloc, text) {
+        Ok(schema) => Ok(schema),
+        Err(fault) => Err(Fault::of_schema(fault)),
+    }
+}
+
+/// The statements of the script of this number.
+pub fn statements_of(
+    alloc: Global,
+    schema: &Schema,
+    number: usize,
+    text: &[u8],
+) -> Result<Vec<Statement>, Fault>
+    ensures accepted { OnOk result (script_refusal schema.now text.now ≡ None) }
+    ensures statements { IfOk result (λ statements. statements.items ≡ script schema.now text.now) }
+    ensures fitting { IsSound schema.now → OnOk result (list_all (fits schema.now) (script schema.now text.now) ≡ true) }
+    ensures refused { IfErr result (λ fault. RefusesScript fault number (script_refusal schema.now text.now)) }
+{
+    match read_script(alloc, schema, text) {
+        Ok(statements) => Ok(statements),
+        Err(fault) => Err(Fault::of_script(number, fault)),
+    }
+}
+
+/// Puts the statements of the script of this number behind those of the scripts before it.
+pub fn take_script(
+    alloc: Global,
+    scripts: &mut Row<Row<Statement>>,
+    schema: &Schema,
+    number: usize,
+    text: &[u8],
+) -> Result<(), Fault>
+    ensures accepted { OnOk result (script_refusal schema.now text.now ≡ None) }
+    ensures taken { OnOk result (scripts.new ≡ scripts.old ++ script schema.now text.now ∷ []) }
+    ensures fitting { IsSound schema.now → OnOk result (list_all (fits schema.now) (script schema.now text.now) ≡ true) }
+    ensures refused { IfErr result (λ fault. RefusesScript fault number (script_refusal schema.now text.now)) }
+{
+    let statements = statements_of(alloc, schema, number, text)?;
+    scripts.push(Row::of(statements))?;
+    Ok(())
+}
+
+/// The moves of a text.
+pub fn moves_of(alloc: Global, text: &[u8]) -> Result<Vec<Move>, Fault>
+    ensures accepted { OnOk result (moves_refusal text.now ≡ None) }
+    ensures moves { IfOk result (λ moves. moves.items ≡ moves_in text.now) }
+    ensures refused { IfErr result (λ fault. RefusesMoves fault (moves_refusal text.now)) }
+{
+    match read_moves(alloc, text) {
+        Ok(moves) => Ok(moves),
+        Err(fault) => Err(Fault::of_moves(fault)),
+    }
+}
+
+/// The turns of a text.
+pub fn turns_of(alloc: Global, text: &[u8]) -> Result<Row<u8>, Fault>
+    ensures accepted { OnOk result (turns_refusal text.now ≡ None) }
+    ensures turns { IfOk result (λ turns. turns ≡ turns_in text.now) }
+    ensures refused { IfErr result (λ fault. RefusesTurns fault (turns_refusal text.now)) }
+{
+    match read_turns(alloc, text) {
+        Ok(turns) => Ok(turns),
+        Err(fault) => Err(Fault::of_turns(fault)),
+    }
+}

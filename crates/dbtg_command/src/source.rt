@@ -1,0 +1,40 @@
+//! Where the texts come from that a command is given: bytes at hand, or files. A command reads through it alone.
+ghost use Rattle.std.specs.Prelude.{◌≡◌, ℕ, List, IfErr, IfOk};
+ghost use Rattle.dbtg_command.specs.Sources.{HasPlace};
+ghost use Rattle.dbtg_command.specs.declared.fault.Fault.{Fault};
+ghost use Rattle.dbtg_command.specs.declared.order.OrderKind.{OrderKind};
+ghost use Rattle.dbtg_command.specs.declared.place.Place.{Place};
+
+use crate::fault::Fault;
+use crate::order::OrderKind;
+use crate::place::Place;
+use std::alloc::Global;
+
+/// What gives a command its texts, one for each place.
+pub trait Source {
+    /// How many scripts there are.
+    ghost count: { Self → ℕ };
+
+    /// What says the order.
+    ghost order: { Self → OrderKind };
+
+    /// The source has this text in this place.
+    ghost holds: { Self → Place → List ℕ → Type 0 };
+
+    /// The source cannot give the text in this place, and tells this fault.
+    ghost fails: { Self → Place → Fault → Type 0 };
+
+    /// How many scripts there are.
+    fn count(&self) -> usize
+        ensures { result ≡ count self.now };
+
+    /// What says the order.
+    fn order(&self) -> OrderKind
+        ensures { result ≡ order self.now };
+
+    /// The text in a place, as far as its kind may be long.
+    fn read(&self, alloc: Global, place: Place) -> Result<Vec<u8>, Fault>
+        requires { HasPlace (count self.now) (order self.now) place }
+        ensures held { IfOk result (λ text. holds self.now place text.items) }
+        ensures failed { IfErr result (λ fault. fails self.now place fault) };
+}
