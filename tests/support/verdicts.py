@@ -32,8 +32,9 @@ class Said:
         self.lines = dict(re.findall(r"(?m)^fn (\S+): (.*)", text))
         self.is_whole = bool(re.search(r"(?m)^(logic=(proved|not-proved)|only=\d+ proved=\d+)", text))
         self.errors = {}
-        for place, error in re.findall(r"(?m)^(?:\./)?proofs/(\S+)/\w+\.antt:\d+:\d+: error: (.*)", text):
-            self.errors.setdefault("::".join([crate, *place.split("/")]), []).append(error)
+        # An error may go on in lines that are indented.
+        for place, error in re.findall(r"(?m)^(?:\./)?proofs/(\S+)/\w+\.antt:\d+:\d+: error: (.*(?:\n  .*)*)", text):
+            self.errors.setdefault("::".join([crate, *place.split("/")]), []).append(error.replace("\n ", ""))
 
     def front_errors(self):
         """The places in source files where the text does not parse, or its types or borrows are wrong."""
