@@ -6,7 +6,6 @@ mod RingPlaces
 mod SortedMembers
 mod RingSorted
 mod PlacesOfNodes
-mod PlacedLaws
 mod PlaceNumbers
 mod CalcOrder
 mod LinksWritten

@@ -1,6 +1,6 @@
 -- Places in plain lists of members.
-use Rattle.std.proofs.Common.{◌≡◌, ℕ, ◌+◌, false, List, [], ◌∷◌, map, Option, IsTrue, slice_get}
-use Rattle.std.specs.List.{list_any, position_or_len, insert, remove}
+use Rattle.std.proofs.Common.{◌≡◌, ℕ, false, List, [], ◌∷◌, map, IsTrue}
+use Rattle.std.specs.List.{list_any, position_or_len}
 use Rattle.dbtg_cells.specs.declared.key.DbKey.{DbKey}
 use Rattle.dbtg_cells.specs.Keys.{is_member}
 use Rattle.dbtg_cells.specs.Members.{Entry, has_key}
@@ -16,15 +16,3 @@ HasMember xs k = IsTrue (list_any (has_key k) xs)
 abbrev pub OnceEach : List Entry → Type 0
 OnceEach [] = Unit {0}
 OnceEach (x ∷ l) = (is_member x.0 (map (λ e. e.0) l) ≡ false) × OnceEach l
-
-abbrev pub placed_after : DbKey → Entry → List Entry → List Entry
-placed_after k m xs = insert xs (place_of k xs + 1) m
-
-abbrev pub placed_before : DbKey → Entry → List Entry → List Entry
-placed_before k m xs = insert xs (place_of k xs) m
-
-abbrev pub taken_out : DbKey → List Entry → List Entry
-taken_out k xs = remove xs (place_of k xs)
-
-abbrev pub next_key : DbKey → List Entry → Option Entry
-next_key k xs = slice_get xs (place_of k xs + 1)

@@ -307,14 +307,6 @@ empty find s order is_s none is_nodes = by_order find s None None 0 [] order not
     clash : {A : Type 0} (x : A) → Some x ≡ None → ⊥
     clash x h = cc
 
--- more room changes nothing else
-pub roomier : (find : DbKey → Option ℕ) (chain : List Link) (order order' : OrderView) (known : Known) → IsOrderOf find chain order known → order'.nodes ≡ order.nodes → order.room ≤ order'.room → IsOrderOf find chain order' known
-roomier find chain order order' known O nodes more = record {
-  listed = nodes ∙ O.listed;
-  room = λ k i h. let low = O.room k i h in omega arith;
-  keeps = O.keeps;
-}
-
 pub listing : (find : DbKey → Option ℕ) (s : Slots) (first last : Option ℕ) (len : ℕ) (R : IsRing find s first last len) (order : OrderView) (known : Known) → IsOrderOf find R.chain order known → Stands find s first last len (follow len s first) order known
 listing find s first last len R order known O = record { ring = R; list_is = refl; ordered = O }
 

@@ -1,9 +1,9 @@
 -- What is read along the links of a ring.
-use Rattle.std.proofs.Common.{◌≡◌, ℕ, zero, suc, ◌+◌, ◌-◌, ◌<◌, ◌≤◌, Bool, true, false, not, cond, ◌||◌, List, [], ◌∷◌, ◌++◌, map, filter, reverse, length, Option, Some, None, Contains, inl, inr, add-one, refl, sym, ap, ◌∙◌, arith, true≢false, subst, slice_get, drop, take, is_some}
+use Rattle.std.proofs.Common.{◌≡◌, ℕ, zero, suc, ◌+◌, ◌-◌, ◌<◌, ◌≤◌, Bool, true, false, not, cond, ◌||◌, List, [], ◌∷◌, ◌++◌, map, filter, reverse, length, Option, Some, None, Contains, inl, inr, refl, sym, ap, ◌∙◌, arith, true≢false, subst, slice_get, drop, take, is_some}
 use Rattle.std.proofs.lemmas.List.{append-nil, append_assoc, length-append, reverse-append, take_at}
 use Rattle.std.proofs.lemmas.List.Elements.{filter-append}
 use Rattle.std.specs.Option.{option_map}
-use Rattle.std.specs.List.{list_any, find, insert}
+use Rattle.std.specs.List.{list_any, find}
 use Rattle.std.proofs.lemmas.Option.{same_Some}
 use Rattle.dbtg_schema.specs.Lookups.{first, final, behind, in_front}
 use Rattle.dbtg_cells.specs.declared.key.DbKey.{DbKey}
@@ -14,15 +14,14 @@ use Rattle.dbtg_cells.specs.declared.links.Node.{Node}
 use Rattle.dbtg_cells.specs.declared.ring.Occurrence.{Occurrence}
 use Rattle.dbtg_cells.specs.Keys.{key_eq}
 use Rattle.dbtg_cells.specs.Members.{Entry, members_in, keys_in, has_key, with_members, without_key}
-use Rattle.dbtg_cells.specs.Placed.{after, before}
 use Rattle.dbtg_cells.specs.Chain.{Slots, Link, slot, neighbour, read, follow, follow_back}
 use Rattle.dbtg_cells.specs.Keys.{is_member}
 use Rattle.dbtg_cells.specs.Chain.{head_at, last_at, Seg, Avoids, Apart, IsRing, unlinked_keys, key_at}
 use Rattle.dbtg_cells.proofs.KeysAlike.{key_eq_refl, same_key}
-use Rattle.dbtg_cells.proofs.PlainLists.{behind_drop, in_front_take, before_insert, after_insert, place_within, map_reverse}
+use Rattle.dbtg_cells.proofs.PlainLists.{behind_drop, in_front_take, map_reverse}
 use Rattle.dbtg_cells.proofs.Places.{place_of, OnceEach}
 use Rattle.dbtg_cells.proofs.LinksWritten.{Seg_left, Seg_right, follow_back_Seg, Apart_without, Avoids_left, Avoids_right}
-use Rattle.dbtg_cells.proofs.WholeRings.{members, place_here, whole_members, placed_before_here, placed_after_here, found_link, reserved_at, reserved_key}
+use Rattle.dbtg_cells.proofs.WholeRings.{members, place_here, whole_members, found_link, reserved_at, reserved_key}
 use Rattle.slab.proofs.SlabLemmas.{Contains-cons, Contains-cons_cases}
 use Rattle.dbtg_cells.proofs.Occurrences.{shown_as}
 
@@ -191,61 +190,6 @@ module _ (find : DbKey → Option ℕ) (s : Slots) (first last : Option ℕ) (le
           let rest = without_none find s R.keyed (Some e.at) b None k e.at at (Avoids_right e.at a b away) (Seg_right None s None a (e ∷ b) links).1 in
           let gone : without_key k (e.member ∷ members b) ≡ without_key k (members b) = ap (λ t. cond (not t) (e.member ∷ without_key k (members b)) (without_key k (members b))) (ap (key_eq k) key ∙ key_eq_refl k) in
           ap (without_key k) whole ∙ filter-append (λ x. not (has_key k x)) (members a) (e.member ∷ members b) ∙ ap (λ l. without_key k (members a) ++ l) (gone ∙ rest) ∙ ap (λ l. l ++ members b) front
-
-      pub before_here : (m : Entry) → members a ++ m ∷ members (e ∷ b) ≡ before (has_key k) m (members R.chain)
-      before_here m = sym (placed_before_here find s first last len R a e b split k key m) ∙ before_insert (has_key k) m (members R.chain)
-
-      pub after_here : (m : Entry) → members (a ++ e ∷ []) ++ m ∷ members b ≡ after (has_key k) m (members R.chain)
-      after_here m =
-          let there : list_any (has_key k) (members R.chain) ≡ true = ap (list_any (has_key k)) whole ∙ any_at (members a) in
-          sym (placed_after_here find s first last len R a e b split k key m) ∙ ap (λ n. insert (members R.chain) n m) (add-one (place_of k (members R.chain))) ∙ after_insert (has_key k) m (members R.chain) (place_within (has_key k) (members R.chain) there)
-        where
-          any_at : (xs : List Entry) → list_any (has_key k) (xs ++ e.member ∷ members b) ≡ true
-          any_at [] = ap (λ t. t || list_any (has_key k) (members b)) (ap (key_eq k) key ∙ key_eq_refl k)
-          any_at (x ∷ xs) = ap (λ t. has_key k x || t) (any_at xs) ∙ or_true (has_key k x)
-            where
-              or_true : (b : Bool) → b || true ≡ true
-              or_true true = refl
-              or_true false = refl
-
--- sorted places
-pub found_there : (test : Entry → Bool) (k : DbKey) (l : List Entry) → Some k ≡ option_map (λ e. e.0) (find test l) → is_member k (map (λ e. e.0) l) ≡ true
-found_there test k [] h = absurd (cc)
-found_there test k (x ∷ l) h = by (test x) refl (λ p. found_there test k l (rw p at h))
-  where
-    or_true : (b : Bool) → b || true ≡ true
-    or_true true = refl
-    or_true false = refl
-
-    by : (b : Bool) → test x ≡ b → (test x ≡ false → is_member k (map (λ e. e.0) l) ≡ true) → is_member k (map (λ e. e.0) (x ∷ l)) ≡ true
-    by true p rest = ap (λ b. b || is_member k (map (λ e. e.0) l)) (ap (key_eq k) (sym (same_Some k x.0 (rw p at h))) ∙ key_eq_refl k)
-    by false p rest = ap (λ b. key_eq k x.0 || b) (rest p) ∙ or_true (key_eq k x.0)
-
-pub before_none : (test : Entry → Bool) (m : Entry) (l : List Entry) → None ≡ option_map (λ e. e.0) (find test l) → l ++ m ∷ [] ≡ before test m l
-before_none test m [] h = refl
-before_none test m (x ∷ l) h = by (test x) refl (λ p. before_none test m l (rw p at h))
-  where
-    by : (b : Bool) → test x ≡ b → (test x ≡ false → l ++ m ∷ [] ≡ before test m l) → (x ∷ l) ++ m ∷ [] ≡ before test m (x ∷ l)
-    by true p rest = absurd (clash (rw p at h))
-      where
-        clash : None ≡ Some x.0 → ⊥
-        clash g = cc
-    by false p rest = rw p (ap (λ ys. x ∷ ys) (rest p))
-
--- where no key comes twice, the first that passes is the one with its key
-pub before_found : (test : Entry → Bool) (m : Entry) (k : DbKey) (l : List Entry) → OnceEach l → Some k ≡ option_map (λ e. e.0) (find test l) → before (has_key k) m l ≡ before test m l
-before_found test m k [] once h = absurd (cc)
-before_found test m k (x ∷ l) once h = by (test x) refl (λ p. before_found test m k l once.1 (rw p at h)) (λ p. found_there test k l (rw p at h))
-  where
-    by : (b : Bool) → test x ≡ b → (test x ≡ false → before (has_key k) m l ≡ before test m l) → (test x ≡ false → is_member k (map (λ e. e.0) l) ≡ true) → before (has_key k) m (x ∷ l) ≡ before test m (x ∷ l)
-    by true p rest there =
-        let same : key_eq k x.0 ≡ true = ap (key_eq k) (sym (same_Some k x.0 (rw p at h))) ∙ key_eq_refl k in
-        rw (p, same) refl
-    by false p rest there = other (key_eq k x.0) refl
-      where
-        other : (b : Bool) → key_eq k x.0 ≡ b → before (has_key k) m (x ∷ l) ≡ before test m (x ∷ l)
-        other true q = absurd (true≢false (sym (there p) ∙ ap (λ j. is_member j (map (λ e. e.0) l)) (same_key k x.0 q) ∙ once.0))
-        other false q = rw (p, q) (ap (λ ys. x ∷ ys) (rest p))
 
 -- the same change of the members that are there
 pub same_change : (f g : List Entry → List Entry) (occ : Option Occurrence) → f (members_in occ) ≡ g (members_in occ) → with_members f occ ≡ with_members g occ

@@ -1,12 +1,10 @@
 -- What the code's steps do to a whole ring.
-use Rattle.std.proofs.Common.{◌≡◌, ◌≢◌, ℕ, zero, suc, ◌+◌, ◌<◌, ◌≤◌, Bool, true, false, cond, List, [], ◌∷◌, ◌++◌, map, reverse, length, Option, Some, None, Contains, refl, sym, ap, ◌∙◌, arith, inl, inr, true≢false, subst}
-use Rattle.std.proofs.lemmas.Bool.{cases_eq, eqb-true, ne_eqb}
-use Rattle.std.proofs.lemmas.List.{append_assoc, map-append, length-map, length-append, take_at, drop_at, append-nil, length_push}
-use Rattle.std.proofs.Common.{add-zero, eqb, ◌||◌}
-use Rattle.std.specs.List.{IsDistinct, AllByRecursion}
-use Rattle.std.proofs.lemmas.Map.Steps.{length-le_from_distinct_below}
+use Rattle.std.proofs.Common.{◌≡◌, ◌≢◌, ℕ, zero, suc, ◌+◌, Bool, true, false, cond, List, [], ◌∷◌, ◌++◌, map, reverse, length, Option, Some, None, Contains, refl, sym, ap, ◌∙◌, arith, inl, inr, true≢false, subst}
+use Rattle.std.proofs.lemmas.Bool.{cases_eq}
+use Rattle.std.proofs.lemmas.List.{map-append, length-map, length-append, take_at, drop_at, append-nil}
+use Rattle.std.proofs.Common.{add-zero, ◌||◌}
 use Rattle.slab.proofs.SlabLemmas.{Contains-cons, Contains-cons_cases}
-use Rattle.std.specs.List.{list_any, insert}
+use Rattle.std.specs.List.{insert}
 use Rattle.std.specs.Option.{option_map, option_map_or, IsSome, IfSome}
 use Rattle.std.proofs.Common.{Result, Ok, Err, IsOk, OnOk}
 use Rattle.std.proofs.lemmas.Option.{same_Some}
@@ -18,7 +16,7 @@ use Rattle.dbtg_cells.specs.declared.links.Node.{Node}
 use Rattle.dbtg_cells.specs.Chain.{Slots, Link, slot, key_at, linked_at, node_of, head_at, last_at, Seg, Avoids, Apart, LiesAt, follow, follow_back, end_or, unlinked_keys, IsRing}
 use Rattle.dbtg_cells.specs.Links.{put, put_if, with_next, with_prior, as_linked, as_unlinked, linked_in, linked_out}
 use Rattle.dbtg_cells.specs.Members.{has_key}
-use Rattle.dbtg_cells.proofs.Places.{place_of, HasMember, placed_after, placed_before}
+use Rattle.dbtg_cells.proofs.Places.{place_of, HasMember}
 use Rattle.dbtg_cells.proofs.LinksWritten.{slot_put_other, slot_put_at, Avoids_right, Seg_left, Seg_right, Seg_linked_in, Seg_linked_out, Apart_with, Apart_without, follow_Seg, follow_back_Seg}
 
 abbrev pub members : List Link → List Entry
@@ -305,29 +303,6 @@ reserving_earlier s s' x vacant others k kept =
         some_none : (m : Node) → Some m ≡ None → ⊥
         some_none m h = cc
 
--- numbers of slots, each at most once, are at most as many as there are slots
-pub within_slots : (s : Slots) (i : ℕ) (n : Node) → slot s i ≡ Some n → i < length s
-within_slots [] i n h = absurd (cc)
-within_slots (x ∷ s) zero n h = omega arith
-within_slots (x ∷ s) (suc i) n h = omega (arith, within_slots s i n h)
-
-ats_distinct : (es : List Link) → Apart es → IsDistinct eqb (map (λ e. e.at) es)
-unfolding IsDistinct
-ats_distinct [] h = tt
-ats_distinct (e ∷ es) h = (others es h.0, ats_distinct es h.1)
-  where
-    others : (fs : List Link) → Avoids e.at fs → AllByRecursion (λ y. eqb e.at y ≡ false) (map (λ f. f.at) fs)
-    others [] away = tt
-    others (f ∷ fs) away = (ne_eqb e.at f.at (λ same. away.0 (sym same)), others fs away.1)
-
-ats_within : (s : Slots) (p : Option ℕ) (es : List Link) (q : Option ℕ) → Seg s p es q → (i : ℕ) → list_any (eqb i) (map (λ e. e.at) es) ≡ true → i < length s
-ats_within s p [] q h i found = absurd (true≢false (sym found))
-ats_within s p (e ∷ es) q h i found = by (eqb i e.at) refl (λ later. ats_within s (Some e.at) es q h.1 i later)
-  where
-    by : (b : Bool) → eqb i e.at ≡ b → (list_any (eqb i) (map (λ e. e.at) es) ≡ true → i < length s) → i < length s
-    by true p _ = let same : i ≡ e.at = eqb-true i e.at p in rw same (within_slots s e.at _ h.0)
-    by false p rest = rest (rw p at found)
-
 -- what a placing needs to know of the new node
 module _ (find : DbKey → Option ℕ) (s : Slots) (first last : Option ℕ) (len : ℕ) (R : IsRing find s first last len) (k : DbKey) (room : Contains (unlinked_keys s) k) where
   pub reserved_found : find k ≡ Some (reserved_node s k room).0
@@ -339,24 +314,6 @@ module _ (find : DbKey → Option ℕ) (s : Slots) (first last : Option ℕ) (le
   reserved_at at h =
       let r = reserved_node s k room in
       subst (Reserved s k) (same_Some _ _ (sym reserved_found ∙ h)) r.1
-
-  pub len_fits : len + 1 ≤ length s
-  len_fits =
-      let r = reserved_node s k room in
-      let away = Seg_avoids s r.0 r.1.node r.1.there r.1.off None R.chain None R.links in
-      more s R.chain R.links R.apart R.counted r.0 r.1.node r.1.there away
-    where
-      more : (s : Slots) (es : List Link) → Seg s None es None → Apart es → len ≡ length es → (x : ℕ) (n : Node) → slot s x ≡ Some n → Avoids x es → len + 1 ≤ length s
-      more s es h apart counted x n there away =
-          let at_most = rw length-map at (length-le_from_distinct_below (map (λ e. e.at) (record { at = x; member = n.member } ∷ es)) (length s) (ats_distinct (record { at = x; member = n.member } ∷ es) (away, apart)) below) in
-          omega (arith, at_most, counted)
-        where
-          below : (i : ℕ) → list_any (eqb i) (x ∷ map (λ e. e.at) es) ≡ true → i < length s
-          below i found = by (eqb i x) refl
-            where
-              by : (b : Bool) → eqb i x ≡ b → i < length s
-              by true p = let same : i ≡ x = eqb-true i x p in rw same (within_slots s x n there)
-              by false p = ats_within s None es None h i (rw p at found)
 
 pub found_some : {A : Type 0} (o : Option A) (x : A) → o ≡ Some x → IsSome o
 found_some o x h = rw h refl
@@ -426,15 +383,6 @@ module _ (find : DbKey → Option ℕ) (s : Slots) (first last : Option ℕ) (le
 
     pub whole_members : members R.chain ≡ members a ++ e.member ∷ members b
     whole_members = ap members split ∙ map-append (λ e. e.member) a (e ∷ b)
-
-    pub placed_before_here : (m : Entry) → placed_before k m (members R.chain) ≡ members a ++ m ∷ members (e ∷ b)
-    placed_before_here m = rw (place_here, whole_members) (insert_at (members a) (e.member ∷ members b) m (length (members a)) refl)
-
-    pub placed_after_here : (m : Entry) → placed_after k m (members R.chain) ≡ members (a ++ e ∷ []) ++ m ∷ members b
-    placed_after_here m =
-        let front : members (a ++ e ∷ []) ≡ members a ++ e.member ∷ [] = map-append (λ e. e.member) a (e ∷ []) in
-        let cut : members a ++ e.member ∷ members b ≡ (members a ++ e.member ∷ []) ++ members b = sym (append_assoc (members a) (e.member ∷ []) (members b)) in
-        rw (place_here, whole_members, cut, front) (insert_at (members a ++ e.member ∷ []) (members b) m (length (members a) + 1) (sym (length_push (members a) e.member)))
 
   -- a node is linked exactly where its key is a member
   pub linked_member : (k : DbKey) (at : ℕ) → find k ≡ Some at → linked_at s at ≡ true → HasMember (members R.chain) k
