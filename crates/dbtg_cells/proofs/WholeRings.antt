@@ -62,6 +62,54 @@ linked_at_map s i = by (slot s i)
     by None = refl
     by (Some n) = refl
 
+-- what linking a node in keeps: each node's key, and whether another node is linked
+in_keys : (s : Slots) (x : ℕ) (m : Entry) (p q : Option ℕ) (n : Node) → slot s x ≡ Some n → n.member.0 ≡ m.0 → (i : ℕ) → key_at (linked_in x m p q s) i ≡ key_at s i
+in_keys s x m p q n there key i =
+    let s1 = put x (as_linked m p q) s in
+    let s2 = put_if p (with_next (Some x)) s1 in
+    kept_put_if (λ k. k.member.0) q i (with_prior (Some x)) s2 (λ _. refl)
+    ∙ kept_put_if (λ k. k.member.0) p i (with_next (Some x)) s1 (λ _. refl)
+    ∙ kept_put (λ k. k.member.0) x i (as_linked m p q) s (λ k h. sym key ∙ ap (λ k. k.member.0) (same_Some n k (sym there ∙ h)))
+
+in_marks : (s : Slots) (x : ℕ) (m : Entry) (p q : Option ℕ) (i : ℕ) → i ≢ x → linked_at (linked_in x m p q s) i ≡ linked_at s i
+in_marks s x m p q i ne =
+    let s1 = put x (as_linked m p q) s in
+    let s2 = put_if p (with_next (Some x)) s1 in
+    linked_at_map (linked_in x m p q s) i ∙ ap (λ o. option_map_or (λ b. b) o false) (
+    kept_put_if (λ k. k.linked) q i (with_prior (Some x)) s2 (λ _. refl)
+    ∙ kept_put_if (λ k. k.linked) p i (with_next (Some x)) s1 (λ _. refl)
+    ∙ ap (option_map (λ k. k.linked)) (slot_put_other x i (as_linked m p q) s ne)
+    ) ∙ sym (linked_at_map s i)
+
+-- the same of taking one out, which is then not linked
+out_keys : (s : Slots) (x : ℕ) (p q : Option ℕ) (i : ℕ) → key_at (linked_out x p q s) i ≡ key_at s i
+out_keys s x p q i =
+    let s1 = put_if p (with_next q) s in
+    let s2 = put_if q (with_prior p) s1 in
+    kept_put (λ k. k.member.0) x i as_unlinked s2 (λ k h. refl)
+    ∙ kept_put_if (λ k. k.member.0) q i (with_prior p) s1 (λ _. refl)
+    ∙ kept_put_if (λ k. k.member.0) p i (with_next q) s (λ _. refl)
+
+out_marks : (s : Slots) (x : ℕ) (p q : Option ℕ) (i : ℕ) → i ≢ x → linked_at (linked_out x p q s) i ≡ linked_at s i
+out_marks s x p q i ne =
+    let s1 = put_if p (with_next q) s in
+    let s2 = put_if q (with_prior p) s1 in
+    linked_at_map (linked_out x p q s) i ∙ ap (λ o. option_map_or (λ b. b) o false) (
+    ap (option_map (λ k. k.linked)) (slot_put_other x i as_unlinked s2 ne)
+    ∙ kept_put_if (λ k. k.linked) q i (with_prior p) s1 (λ _. refl)
+    ∙ kept_put_if (λ k. k.linked) p i (with_next q) s (λ _. refl)
+    ) ∙ sym (linked_at_map s i)
+
+out_mark : (s : Slots) (x : ℕ) (p q : Option ℕ) → linked_at (linked_out x p q s) x ≡ false
+out_mark s x p q = off (put_if q (with_prior p) (put_if p (with_next q) s))
+  where
+    off : (t : Slots) → linked_at (put x as_unlinked t) x ≡ false
+    off t = rw (slot_put_at x as_unlinked t) (by (slot t x))
+      where
+        by : (o : Option Node) → option_map_or (λ n. n.linked) (option_map as_unlinked o) false ≡ false
+        by None = refl
+        by (Some n) = refl
+
 pub Seg_key : (s : Slots) (p : Option ℕ) (a : List Link) (e : Link) (b : List Link) (q : Option ℕ) → Seg s p (a ++ e ∷ b) q → slot s e.at ≡ Some (node_of e (last_at p a) (head_at b q))
 Seg_key s p a e b q h = (Seg_right q s p a (e ∷ b) h).0
 
@@ -127,22 +175,10 @@ module _ (find : DbKey → Option ℕ) (s : Slots) (first last : Option ℕ) (le
         let e : Link = record { at = x; member = m } in
         let p = last_at None a in
         let q = head_at b None in
-        let s1 = put x (as_linked m p q) s in
-        let s2 = put_if p (with_next (Some x)) s1 in
-        let s3 = put_if q (with_prior (Some x)) s2 in
         let links0 : Seg s None (a ++ b) None = rw split at R.links in
         let apart0 : Apart (a ++ b) = rw split at R.apart in
         let away : Avoids x (a ++ b) = Seg_avoids s x n there off None (a ++ b) None links0 in
-        let keys : (i : ℕ) → key_at s3 i ≡ key_at s i = λ i.
-        kept_put_if (λ k. k.member.0) q i (with_prior (Some x)) s2 (λ _. refl)
-        ∙ kept_put_if (λ k. k.member.0) p i (with_next (Some x)) s1 (λ _. refl)
-        ∙ kept_put (λ k. k.member.0) x i (as_linked m p q) s (λ k h. sym key ∙ ap (λ k. k.member.0) (same_Some n k (sym there ∙ h))) in
-        let marks : (i : ℕ) → i ≢ x → linked_at s3 i ≡ linked_at s i = λ i ne.
-        linked_at_map s3 i ∙ ap (λ o. option_map_or (λ b. b) o false) (
-        kept_put_if (λ k. k.linked) q i (with_prior (Some x)) s2 (λ _. refl)
-        ∙ kept_put_if (λ k. k.linked) p i (with_next (Some x)) s1 (λ _. refl)
-        ∙ ap (option_map (λ k. k.linked)) (slot_put_other x i (as_linked m p q) s ne)
-        ) ∙ sym (linked_at_map s i) in (
+        let keys = in_keys s x m p q n there key in (
           record {
             chain = a ++ e ∷ b;
             links = Seg_linked_in s a b e n there apart0 away links0;
@@ -152,7 +188,7 @@ module _ (find : DbKey → Option ℕ) (s : Slots) (first last : Option ℕ) (le
             apart = Apart_with a e b apart0 away;
             marked = λ i on. elim (cases_eq i x) [
               | inl same ↦ LiesAt_here i a e b (sym same)
-              | inr ne ↦ LiesAt_insert i a e b (rw split at (R.marked i (sym (marks i ne) ∙ on)))
+              | inr ne ↦ LiesAt_insert i a e b (rw split at (R.marked i (sym (in_marks s x m p q i ne) ∙ on)))
             ];
             found = λ k i h. keys i ∙ R.found k i h;
             keyed = λ k i h. R.keyed k i (sym (keys i) ∙ h);
@@ -166,23 +202,11 @@ module _ (find : DbKey → Option ℕ) (s : Slots) (first last : Option ℕ) (le
     parted less fewer =
         let p = last_at None a in
         let q = head_at b None in
-        let s1 = put_if p (with_next q) s in
-        let s2 = put_if q (with_prior p) s1 in
-        let s3 = put e.at as_unlinked s2 in
         let links0 : Seg s None (a ++ e ∷ b) None = rw split at R.links in
         let apart0 : Apart (a ++ e ∷ b) = rw split at R.apart in
         let parts = Apart_without a e b apart0 in
-        let keys : (i : ℕ) → key_at s3 i ≡ key_at s i = λ i.
-        kept_put (λ k. k.member.0) e.at i as_unlinked s2 (λ k h. refl)
-        ∙ kept_put_if (λ k. k.member.0) q i (with_prior p) s1 (λ _. refl)
-        ∙ kept_put_if (λ k. k.member.0) p i (with_next q) s (λ _. refl) in
-        let marks : (i : ℕ) → i ≢ e.at → linked_at s3 i ≡ linked_at s i = λ i ne.
-        linked_at_map s3 i ∙ ap (λ o. option_map_or (λ b. b) o false) (
-        ap (option_map (λ k. k.linked)) (slot_put_other e.at i as_unlinked s2 ne)
-        ∙ kept_put_if (λ k. k.linked) q i (with_prior p) s1 (λ _. refl)
-        ∙ kept_put_if (λ k. k.linked) p i (with_next q) s (λ _. refl)
-        ) ∙ sym (linked_at_map s i) in
-        let gone : (i : ℕ) → i ≡ e.at → linked_at s3 i ≡ false = λ i same. unlinked_after i s2 same in (
+        let keys = out_keys s e.at p q in
+        let gone : (i : ℕ) → i ≡ e.at → linked_at (linked_out e.at p q s) i ≡ false = λ i same. ap (linked_at (linked_out e.at p q s)) same ∙ out_mark s e.at p q in (
           record {
             chain = a ++ b;
             links = Seg_linked_out s a b e apart0 links0;
@@ -192,20 +216,13 @@ module _ (find : DbKey → Option ℕ) (s : Slots) (first last : Option ℕ) (le
             apart = parts.0;
             marked = λ i on. elim (cases_eq i e.at) [
               | inl same ↦ absurd (true≢false (sym on ∙ gone i same))
-              | inr ne ↦ LiesAt_without i a e b (λ h. ne (sym h)) (rw split at (R.marked i (sym (marks i ne) ∙ on)))
+              | inr ne ↦ LiesAt_without i a e b (λ h. ne (sym h)) (rw split at (R.marked i (sym (out_marks s e.at p q i ne) ∙ on)))
             ];
             found = λ k i h. keys i ∙ R.found k i h;
             keyed = λ k i h. R.keyed k i (sym (keys i) ∙ h);
           },
           refl,
         )
-      where
-        unlinked_after : (i : ℕ) (t : Slots) → i ≡ e.at → linked_at (put e.at as_unlinked t) i ≡ false
-        unlinked_after i t same = rw same (rw (slot_put_at e.at as_unlinked t) (by (slot t e.at)))
-          where
-            by : (o : Option Node) → option_map_or (λ n. n.linked) (option_map as_unlinked o) false ≡ false
-            by None = refl
-            by (Some n) = refl
 
   -- a link of the chain is found under its key
   pub found_link : (a : List Link) (e : Link) (b : List Link) → R.chain ≡ a ++ e ∷ b → find e.member.0 ≡ Some e.at
@@ -404,7 +421,7 @@ module _ (find : DbKey → Option ℕ) (s : Slots) (first last : Option ℕ) (le
         | inr later ↦ rw (by (Some e.at) es h.1 later) (or_true (has_key k e.member))
       ]
 
--- a node that was taken out keeps its key
+-- a node that has a key and is not linked is reserved for the key
 reserved_from : (t : Slots) (x : ℕ) (k : DbKey) → key_at t x ≡ Some k → linked_at t x ≡ false → Reserved t k x
 reserved_from t x k key off = by (slot t x) refl
   where
@@ -420,22 +437,32 @@ reserved_from t x k key off = by (slot t x) refl
       key = same_Some _ _ (sym (ap (option_map (λ n. n.member.0)) h) ∙ key);
     }
 
+-- a node that was taken out keeps its key
 pub out_reserved : (s : Slots) (x : ℕ) (p q : Option ℕ) (n : Node) (k : DbKey) (s' : Slots) → s' ≡ linked_out x p q s → slot s x ≡ Some n → n.member.0 ≡ k → Contains (unlinked_keys s') k
 out_reserved s x p q n k s' is there key =
-    let s1 = put_if p (with_next q) s in
-    let s2 = put_if q (with_prior p) s1 in
-    let keys : key_at (put x as_unlinked s2) x ≡ key_at s x =
-    kept_put (λ k. k.member.0) x x as_unlinked s2 (λ k h. refl)
-    ∙ kept_put_if (λ k. k.member.0) q x (with_prior p) s1 (λ _. refl)
-    ∙ kept_put_if (λ k. k.member.0) p x (with_next q) s (λ _. refl) in
-    rw is (reserved_key _ k x (reserved_from (put x as_unlinked s2) x k (keys ∙ ap (option_map (λ n. n.member.0)) there ∙ ap Some key) (off s2)))
-  where
-    off : (t : Slots) → linked_at (put x as_unlinked t) x ≡ false
-    off t = rw (slot_put_at x as_unlinked t) (by (slot t x))
-      where
-        by : (o : Option Node) → option_map_or (λ n. n.linked) (option_map as_unlinked o) false ≡ false
-        by None = refl
-        by (Some n) = refl
+    rw is (reserved_key _ k x (reserved_from (linked_out x p q s) x k (out_keys s x p q x ∙ ap (option_map (λ n. n.member.0)) there ∙ ap Some key) (out_mark s x p q)))
+
+-- a reserved node that keeps its key, and is still not linked
+still_reserved : (s s' : Slots) (k : DbKey) (i : ℕ) (r : Reserved s k i) → key_at s' i ≡ key_at s i → (linked_at s i ≡ false → linked_at s' i ≡ false) → Contains (unlinked_keys s') k
+still_reserved s s' k i r keys off =
+    let key : key_at s' i ≡ Some k = keys ∙ ap (option_map (λ n. n.member.0)) r.there ∙ ap Some r.key in
+    reserved_key s' k i (reserved_from s' i k key (off (ap (λ o. option_map_or (λ n. n.linked) o false) r.there ∙ r.off)))
+
+-- a node that comes into the list takes no place away that was kept for another key, and one that goes from it takes none away
+pub in_earlier : (s : Slots) (x : ℕ) (m : Entry) (p q : Option ℕ) → Reserved s m.0 x → (s' : Slots) → s' ≡ linked_in x m p q s → (k : DbKey) → k ≢ m.0 → Contains (unlinked_keys s) k → Contains (unlinked_keys s') k
+in_earlier s x m p q new s' is k differs kept =
+    let r = reserved_node s k kept in
+    let apart : r.0 ≢ x = λ same. differs (sym r.1.key ∙ ap (λ n. n.member.0) (same_Some r.1.node new.node (sym r.1.there ∙ ap (slot s) same ∙ new.there)) ∙ new.key) in
+    rw is (still_reserved s (linked_in x m p q s) k r.0 r.1 (in_keys s x m p q new.node new.there new.key r.0) (λ off. in_marks s x m p q r.0 apart ∙ off))
+
+pub out_earlier : (s : Slots) (x : ℕ) (p q : Option ℕ) (s' : Slots) → s' ≡ linked_out x p q s → (k : DbKey) → Contains (unlinked_keys s) k → Contains (unlinked_keys s') k
+out_earlier s x p q s' is k kept =
+    let r = reserved_node s k kept in
+    let off : linked_at s r.0 ≡ false → linked_at (linked_out x p q s) r.0 ≡ false = λ was. elim (cases_eq r.0 x) [
+      | inl same ↦ ap (linked_at (linked_out x p q s)) same ∙ out_mark s x p q
+      | inr ne ↦ out_marks s x p q r.0 ne ∙ was
+    ] in
+    rw is (still_reserved s (linked_out x p q s) k r.0 r.1 (out_keys s x p q r.0) off)
 
 -- a node comes in for a key that had none
 module _ (find find' : DbKey → Option ℕ) (s s' : Slots) (first last : Option ℕ) (len : ℕ) (R : IsRing find s first last len) (k : DbKey) (at : ℕ) (n : Node)

@@ -9,9 +9,9 @@ use Rattle.dbtg_cells.proofs.ring.Ring.place_after.Goals as goal
 pub put_at-requires-clause-present : goal.put_at-requires-clause-present
 put_at-requires-clause-present c = present_with c.args.other c.args.self.now.occurrence c.requires.there
 
-pub returns : goal.returns
-returns c =
+pub returns-clause-occurrence : goal.returns-clause-occurrence
+returns-clause-occurrence c =
     let m : Entry = (c.args.key, c.args.sort) in
     let ms = members_in c.args.self.now.occurrence in
     let within = subst (λ n. n < length ms) c.place_of-place.ensures.at c.place_of-place.ensures.within in
-    c.put_at.ensures ∙ same_change (λ l. insert l (c.place_of-place.result + 1) m) (after (has_key c.args.other) m) c.args.self.now.occurrence (ap (λ n. insert ms (n + 1) m) c.place_of-place.ensures.at ∙ ap (λ n. insert ms n m) (add-one _) ∙ after_insert (has_key c.args.other) m ms within)
+    c.put_at.ensures.occurrence ∙ same_change (λ l. insert l (c.place_of-place.result + 1) m) (after (has_key c.args.other) m) c.args.self.now.occurrence (ap (λ n. insert ms (n + 1) m) c.place_of-place.ensures.at ∙ ap (λ n. insert ms n m) (add-one _) ∙ after_insert (has_key c.args.other) m ms within)
