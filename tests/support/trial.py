@@ -86,6 +86,9 @@ class Lanes:
 class Trial:
     """The edits of one crate, and what became of each."""
 
+    # A trial of so many edits, of a crate with so many libraries below it, is among the last to begin and the longest.
+    MANY, FAR_UP = 60, 5
+
     def __init__(self, crate, lanes, log, libraries=None):
         """Over the libraries of the repository and over what the crate's own check kept; or over those in another folder, and
         over nothing."""
@@ -124,15 +127,24 @@ class Trial:
             self.stand_ins = StandIns(self.folder, self.sources, edits, self.is_partial)
             self.words = kit.check_words(kit.crates_of(), self.crate, self.libraries, self.stand_ins.links())
             if self.is_partial:
-                # The first check proves all functions that some edit changes, and the others begin with that.
-                self.kept = f"{self.room}/kept"
-                os.mkdir(self.kept)
-                again = self.judged(batches.pop(0), self.kept)
+                again = self.judged_first(batches.pop(0))
             again += self.side_by_side(batches)
             for it in again:
                 it.twin = None
             self.side_by_side([[it] for it in again])
         return self
+
+    def judged_first(self, batch):
+        """Judges the first batch over nothing: its check proves all functions that some edit changes, and the others begin with
+        that. Where it would be the last of all to end it is judged in two halves, side by side, and the others begin with the first's."""
+        halves = 2 if len(batch) > self.MANY and libraries_below(self.crate) > self.FAR_UP else 1
+        parts = [(batch[it::halves], f"{self.room}/kept{it}") for it in range(halves)]
+        for _, kept in parts:
+            os.mkdir(kept)
+        with ThreadPoolExecutor(halves) as pool:
+            again = [it for part in pool.map(lambda part: self.judged(*part), parts) for it in part]
+        self.kept = parts[0][1]
+        return again
 
     def read(self, path):
         try:

@@ -16,7 +16,7 @@ from zero xs = xs
 from (suc i) [] = []
 from (suc i) (x ∷ xs) = from i xs
 
-from_at : {X : Type 0} (i : ℕ) (xs : List X) (x : X) → slice_get xs i ≡ Some x → from i xs ≡ x ∷ from (suc i) xs
+pub from_at : {X : Type 0} (i : ℕ) (xs : List X) (x : X) → slice_get xs i ≡ Some x → from i xs ≡ x ∷ from (suc i) xs
 from_at i [] x h = absurd (none-some x h)
 from_at zero (y ∷ ys) x h = cc
 from_at (suc i) (y ∷ ys) x h = from_at i ys x h
@@ -32,14 +32,14 @@ past i [] h = omega arith
 past zero (x ∷ xs) h = absurd (none-some x (sym h))
 past (suc i) (x ∷ xs) h = let rest = past i xs h in omega arith
 
-none_past : {X : Type 0} (i : ℕ) (xs : List X) → length xs ≤ i → slice_get xs i ≡ None
+pub none_past : {X : Type 0} (i : ℕ) (xs : List X) → length xs ≤ i → slice_get xs i ≡ None
 none_past i [] h = refl
 none_past zero (x ∷ xs) h = absurd (omega arith)
 none_past (suc i) (x ∷ xs) h = none_past i xs (omega arith)
 
 -- THE FIRST THAT PASSES
 
-find_first : {X : Type 0} (p : X → Bool) (xs ys : List X) (x : X) → find p xs ≡ Some x → find p (xs ++ ys) ≡ Some x
+pub find_first : {X : Type 0} (p : X → Bool) (xs ys : List X) (x : X) → find p xs ≡ Some x → find p (xs ++ ys) ≡ Some x
 find_first p [] ys x h = absurd (none-some x h)
 find_first p (z ∷ xs) ys x h =
     elim (p z) as (λ b. cond b (Some z) (find p xs) ≡ Some x → cond b (Some z) (find p (xs ++ ys)) ≡ Some x) [ true ↦ λ e. e | false ↦ λ e. find_first p xs ys x e ] h
@@ -51,7 +51,7 @@ find_second p (z ∷ xs) ys h =
 
 -- WORK LISTS
 
-still_at : (order news : List DbKey) (i : ℕ) (d : DbKey) → slice_get order i ≡ Some d → slice_get (with_those order news) i ≡ Some d
+pub still_at : (order news : List DbKey) (i : ℕ) (d : DbKey) → slice_get order i ≡ Some d → slice_get (with_those order news) i ≡ Some d
 still_at order news i d e =
     let r = with_those_extends order news in
     ap (λ zs. slice_get zs i) r.1 ∙ slice_get_front order r.0 i (slice_get_within order i d e) ∙ e
@@ -68,7 +68,7 @@ module _ (taken : DbKey → List DbKey) where
         (those.0 ++ rest.0, rest.1 ∙ ap (λ xs. xs ++ rest.0) those.1 ∙ append_assoc order those.0 rest.0)
 
   -- what stands in the list stays in its place
-  kept_at : (n i j : ℕ) (order : List DbKey) (d : DbKey) → slice_get order j ≡ Some d → slice_get (brought taken n i order) j ≡ Some d
+  pub kept_at : (n i j : ℕ) (order : List DbKey) (d : DbKey) → slice_get order j ≡ Some d → slice_get (brought taken n i order) j ≡ Some d
   kept_at n i j order d h =
       let r = prefix n i order in
       ap (λ xs. slice_get xs j) r.1 ∙ slice_get_front order r.0 j (slice_get_within order j d h) ∙ h
@@ -83,6 +83,15 @@ module _ (taken : DbKey → List DbKey) where
   pub stable : (n i : ℕ) (order : List DbKey) → length order ≤ i → brought taken n i order ≡ order
   stable zero i order h = refl
   stable (suc n) i order h = ap (λ d. brought taken n (suc i) (brought_from taken order d)) (none_past i order h) ∙ stable n (suc i) order (omega arith)
+
+  -- so many steps, and then so many more
+  pub in_two : (m n t i j : ℕ) (order : List DbKey) → t ≡ m + n → j ≡ i + m → brought taken t i order ≡ brought taken n j (brought taken m i order)
+  in_two zero n t i j order e f =
+      let same : t ≡ n = omega arith in
+      let here : i ≡ j = omega arith in
+      ap (λ u. brought taken u i order) same ∙ ap (λ u. brought taken n u order) here
+  in_two (suc m) n zero i j order e f = absurd (omega arith)
+  in_two (suc m) n (suc t) i j order e f = in_two m n t (suc i) j (brought_from taken order (slice_get order i)) (omega arith) (omega arith)
 
 module _ (taken taken' : DbKey → List DbKey) (cells cells' : DbKey → List CellName) (wanting : CellName → Bool)
     (finds : (d : DbKey) → find wanting (cells d) ≡ find wanting (cells' d)) (brings : (d : DbKey) → find wanting (cells d) ≡ None → taken d ≡ taken' d) where

@@ -23,7 +23,7 @@ edits_of_next edits new goal f p n i set below is new_is h =
     ∙ h
 
 -- past the last number none is left
-pub edits_of_end : (edits goal : List CellEdit) (f : List ℕ → List CellEdit) (n i : ℕ) → n ≤ i → f [] ≡ []
+pub edits_of_end : {X : Type 0} (edits goal : List X) (f : List ℕ → List X) (n i : ℕ) → n ≤ i → f [] ≡ []
     → edits ++ (f (drop i (range_with_len 0 n))) ≡ goal → edits ≡ goal
 edits_of_end edits goal f n i past none h =
     sym (append-nil edits) ∙ ap (λ es. edits ++ es) (sym (ap f (numbers_end n i past) ∙ none)) ∙ h

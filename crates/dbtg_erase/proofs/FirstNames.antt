@@ -1,16 +1,18 @@
 -- The first of some names that passes, as they are gone through.
-use Rattle.std.proofs.Common.{◌≡◌, refl, sym, ◌∙◌, ap, arith, get_or, length, ℕ, suc, ◌+◌, ◌<◌, ◌≤◌, Bool, true, false, cond, List, [], ◌∷◌, ◌++◌, Option, Some, None, drop, map}
+use Rattle.std.proofs.Common.{◌≡◌, refl, sym, ◌∙◌, add-one, ap, append_assoc, arith, get_or, length, ℕ, zero, suc, ◌+◌, ◌<◌, ◌≤◌, Bool, true, false, cond, List, [], ◌∷◌, ◌++◌, Option, Some, None, drop, map, take}
 use Rattle.std.proofs.Math.Seq.{drop-cons}
-use Rattle.std.specs.Prelude.{filter, is_some}
+use Rattle.std.specs.Prelude.{filter, is_some, slice_get}
 use Rattle.std.specs.List.{find, flat_map, range_with_len}
 use Rattle.std.specs.Option.{option_or}
-use Rattle.std.proofs.lemmas.List.{map-append}
+use Rattle.std.proofs.lemmas.List.{map-append, take-append-drop, take_all}
+use Rattle.std.proofs.lemmas.Option.{slice_get_past, slice_get_read}
 use Rattle.dbtg_cells.specs.declared.cell.Cell.{Cell}
 use Rattle.dbtg_cells.specs.declared.key.DbKey.{DbKey}
 use Rattle.dbtg_cells.specs.declared.name.CellName.{CellName}
 use Rattle.dbtg_unit.specs.Hands.Hands.{Hands, cell_of}
 use Rattle.dbtg_unit.specs.Hands.Local.{holds}
 use Rattle.dbtg_unit.proofs.Public.{holds_there, numbers_end, numbers_next}
+use Rattle.dbtg_erase.proofs.Bringing.{find_second}
 use Rattle.dbtg_erase.proofs.KeyLists.{append_nil}
 
 -- a cell is held where one is found by its name
@@ -74,3 +76,35 @@ module _ (p : CellName → Bool) (names : DbKey → List CellName) (keys : List 
   -- one does
   pub found_key : (c : CellName) → Some c ≡ find p (names key) → find p (flat_map names (drop i keys)) ≡ goal → Some c ≡ goal
   found_key c found h = ap (λ o. option_or o (find p (flat_map names (drop (i + 1) keys)))) found ∙ sym key_is ∙ h
+
+-- one name more of those in front
+take_next : (i : ℕ) (names : List CellName) (name : CellName) → i < length names → name ≡ get_or names i name → take (i + 1) names ≡ take i names ++ name ∷ []
+take_next i [] name below at = absurd (omega arith)
+take_next zero (x ∷ names) name below at = ap (λ c. c ∷ []) (sym at)
+take_next (suc i) (x ∷ names) name below at =
+    let next : suc i + 1 ≡ suc (i + 1) = omega arith in
+    ap (λ n. take n (x ∷ names)) next ∙ ap (λ cs. x ∷ cs) (take_next i names name (omega arith) at)
+
+-- names that are gone through one by one, where those before a place don't pass
+module _ (p : CellName → Bool) (names : List CellName) (i : ℕ) (name : CellName) (below : i < length names) (at : name ≡ get_or names i name) (none : find p (take i names) ≡ None) where
+  parts : find p names ≡ cond (p name) (Some name) (find p (drop (i + 1) names))
+  parts =
+      ap (find p) (sym (take-append-drop i names)) ∙ find_second p (take i names) (drop i names) none
+      ∙ ap (find p) (drop-cons names i name below) ∙ ap (λ c. find p (c ∷ drop (suc i) names)) (sym at) ∙ ap (λ j. cond (p name) (Some name) (find p (drop j names))) (sym (add-one i))
+
+  -- the one there doesn't pass either
+  pub none_further : p name ≡ false → find p (take (i + 1) names) ≡ None
+  none_further fails =
+      ap (find p) (take_next i names name below at) ∙ find_second p (take i names) (name ∷ []) none ∙ ap (λ b. cond b (Some name) None) fails
+
+  -- the one there is the first that passes
+  pub first_there : p name ≡ true → slice_get names i ≡ find p names
+  first_there passes = slice_get_read names (length names) i name refl below at ∙ sym (parts ∙ ap (λ b. cond b (Some name) (find p (drop (i + 1) names))) passes)
+
+-- none passes
+pub none_there : (p : CellName → Bool) (names : List CellName) (i : ℕ) → length names ≤ i → find p (take i names) ≡ None → slice_get names (length names) ≡ find p names
+none_there p names i past none = slice_get_past names (length names) (omega arith) ∙ sym (ap (find p) (sym (take_all i names past)) ∙ none)
+
+-- one list of names behind two others, in whatever brackets
+pub names_append : (xs ys zs : List CellName) → (xs ++ ys) ++ zs ≡ xs ++ (ys ++ zs)
+names_append xs ys zs = append_assoc xs ys zs

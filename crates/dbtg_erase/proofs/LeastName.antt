@@ -1,29 +1,18 @@
 -- The first of some names in the order of cells that passes.
-use Rattle.std.proofs.Common.{◌≡◌, ◌⊎◌, refl, sym, ◌∙◌, ap, drop, get_or, length, subst, ℕ, ◌+◌, ◌<◌, Bool, true, false, cond, List, [], ◌∷◌, ◌++◌, Option, Some, None, inl, inr}
-use Rattle.std.specs.Prelude.{filter}
-use Rattle.std.specs.List.{find, flat_map}
+use Rattle.std.proofs.Common.{◌≡◌, ◌⊎◌, refl, sym, ◌∙◌, ap, subst, Bool, true, false, cond, List, [], ◌∷◌, Option, Some, None, inl, inr}
+use Rattle.std.specs.Prelude.{filter, ⊤}
+use Rattle.std.specs.List.{find}
 use Rattle.std.proofs.lemmas.Bool.{and_parts, cases_Bool, false≢true, false_from_ne_true}
 use Rattle.std.proofs.lemmas.Option.{none-some, same_Some}
-use Rattle.std.proofs.lemmas.List.Elements.{filter-append}
-use Rattle.dbtg_cells.specs.declared.key.DbKey.{DbKey}
 use Rattle.dbtg_cells.specs.declared.name.CellName.{CellName}
 use Rattle.dbtg_cells.specs.Names.{name_lt}
 use Rattle.dbtg_cells.proofs.Public.{either_way}
 use Rattle.dbtg_unit.specs.Database.State.Legal.{pairwise}
 use Rattle.dbtg_unit.proofs.Public.{In, all_at, in_filter, name_chain, name_never, of_filter}
 use Rattle.dbtg_erase.specs.NextCell.{least_name, nearer}
-use Rattle.dbtg_erase.proofs.FirstNames.{drop_at}
-
-pub least_append : (best : Option CellName) (xs ys : List CellName) → least_name best (xs ++ ys) ≡ least_name (least_name best xs) ys
-least_append best [] ys = refl
-least_append best (x ∷ xs) ys = least_append (Some (nearer best x)) xs ys
-
--- of two lists, those that pass
-pub least_of_both : (p : CellName → Bool) (best : Option CellName) (xs ys : List CellName) → least_name best (filter p (xs ++ ys)) ≡ least_name (least_name best (filter p xs)) (filter p ys)
-least_of_both p best xs ys = ap (least_name best) (filter-append p xs ys) ∙ least_append best (filter p xs) (filter p ys)
 
 -- c, or a name behind it
-abbrev AtOrBehind : CellName → CellName → Type 0
+abbrev pub AtOrBehind : CellName → CellName → Type 0
 AtOrBehind c d = (d ≡ c) ⊎ (name_lt c d ≡ true)
 
 not_before : (c d : CellName) → AtOrBehind c d → name_lt d c ≡ false
@@ -54,8 +43,17 @@ nothing_passes : (p : CellName → Bool) (ys : List CellName) → ((y : CellName
 nothing_passes p [] h = refl
 nothing_passes p (y ∷ ys) h = ap (λ b. cond b (y ∷ filter p ys) (filter p ys)) (h y (inl refl)) ∙ nothing_passes p ys (λ z i. h z (inr i))
 
+-- each name of a list is followed by none that is before it
+abbrev pub Ascends : List CellName → Type 0
+Ascends [] = ⊤
+Ascends (c ∷ cs) = ((d : CellName) → In d cs → AtOrBehind c d) × Ascends cs
+
+pub ascends_of : (cs : List CellName) → pairwise name_lt cs ≡ true → Ascends cs
+ascends_of [] h = tt
+ascends_of (c ∷ cs) h = let parts = and_parts _ _ h in (λ d i. inr (all_at (name_lt c) d cs parts.0 i), ascends_of cs parts.1)
+
 -- the first of an ascending list that passes, as the least of the same names in any order
-pub first_is_least : (p : CellName → Bool) (xs ys : List CellName) → pairwise name_lt xs ≡ true → ((c : CellName) → In c xs → In c ys) → ((c : CellName) → In c ys → In c xs) → find p xs ≡ least_name None (filter p ys)
+pub first_is_least : (p : CellName → Bool) (xs ys : List CellName) → Ascends xs → ((c : CellName) → In c xs → In c ys) → ((c : CellName) → In c ys → In c xs) → find p xs ≡ least_name None (filter p ys)
 first_is_least p xs ys ascends there back = by (find p xs) refl where
   fails : (zs : List CellName) → find p zs ≡ None → (c : CellName) → In c zs → p c ≡ false
   fails [] h c i = absurd i
@@ -65,16 +63,15 @@ first_is_least p xs ys ascends there back = by (find p xs) refl where
         | inr e ↦ elim i [ inl same ↦ ap p (sym same) ∙ e | inr j ↦ fails zs (sym (ap (λ b. cond b (Some z) (find p zs)) e) ∙ h) c j ]
       ]
 
-  found : (zs : List CellName) (c : CellName) → pairwise name_lt zs ≡ true → find p zs ≡ Some c → In c zs × (p c ≡ true) × ((d : CellName) → In d zs → p d ≡ true → AtOrBehind c d)
+  found : (zs : List CellName) (c : CellName) → Ascends zs → find p zs ≡ Some c → In c zs × (p c ≡ true) × ((d : CellName) → In d zs → p d ≡ true → AtOrBehind c d)
   found [] c a h = absurd (none-some c h)
   found (z ∷ zs) c a h =
-      let parts = and_parts _ _ a in
       elim (cases_Bool (p z)) [
         | inl e ↦
             let same : z ≡ c = same_Some z c (sym (ap (λ b. cond b (Some z) (find p zs)) e) ∙ h) in
-            (inl same, ap p (sym same) ∙ e, λ d i q. elim i [ inl f ↦ inl (sym f ∙ same) | inr j ↦ inr (subst (λ (y : CellName). name_lt y d ≡ true) same (all_at (name_lt z) d zs parts.0 j)) ])
+            (inl same, ap p (sym same) ∙ e, λ d i q. elim i [ inl f ↦ inl (sym f ∙ same) | inr j ↦ subst (λ (y : CellName). AtOrBehind y d) same (a.0 d j) ])
         | inr e ↦
-            let rest = found zs c parts.1 (sym (ap (λ b. cond b (Some z) (find p zs)) e) ∙ h) in
+            let rest = found zs c a.1 (sym (ap (λ b. cond b (Some z) (find p zs)) e) ∙ h) in
             (inr rest.0, rest.1, λ d i q. elim i [ inl f ↦ absurd (false≢true (sym e ∙ ap p f ∙ q)) | inr j ↦ rest.2 d j q ])
       ]
 
@@ -83,14 +80,3 @@ first_is_least p xs ys ascends there back = by (find p xs) refl where
   by (Some c) h =
       let f = found xs c ascends h in
       h ∙ sym (becomes_best c None (filter p ys) (λ b e. absurd (none-some b e)) (in_filter p c ys (there c f.0) f.1) (λ d i. let of = of_filter p d ys i in f.2 d (back d of.0) of.1))
-
--- the names of one key after another
-pub least_further : (p : CellName → Bool) (names : DbKey → List CellName) (keys : List DbKey) (i : ℕ) (key : DbKey) (goal best first second : Option CellName) (c : CellName) (cs : List CellName)
-    → i < length keys → key ≡ get_or keys i key → names key ≡ c ∷ cs → first ≡ least_name best (filter p (c ∷ [])) → second ≡ least_name first (filter p cs)
-    → least_name best (filter p (flat_map names (drop i keys))) ≡ goal → least_name second (filter p (flat_map names (drop (i + 1) keys))) ≡ goal
-least_further p names keys i key goal best first second c cs below at names_are first_is second_is h =
-    let rest = flat_map names (drop (i + 1) keys) in
-    ap (λ b. least_name b (filter p rest)) (second_is ∙ ap (λ b. least_name b (filter p cs)) first_is ∙ sym (least_of_both p best (c ∷ []) cs) ∙ ap (λ ns. least_name best (filter p ns)) (sym names_are))
-    ∙ sym (least_of_both p best (names key) rest)
-    ∙ ap (λ ks. least_name best (filter p (flat_map names ks))) (sym (drop_at keys i key below at))
-    ∙ h

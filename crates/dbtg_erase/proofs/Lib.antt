@@ -9,7 +9,10 @@ pub mod KeyLists
 pub mod EditLists
 pub mod FirstNames
 pub mod LeastName
+pub mod SortedNames
 pub mod OuterCells
 pub mod NextCell
 pub mod NextNeed
 pub mod DeleteDetermined
+pub mod CourseKept
+pub mod CourseSteps

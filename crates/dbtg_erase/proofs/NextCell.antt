@@ -34,7 +34,7 @@ use Rattle.dbtg_erase.specs.WorkList.{cells_of_gone, gone_in, list_in, own_sets}
 use Rattle.dbtg_erase.proofs.Bringing.{prefix}
 use Rattle.dbtg_erase.proofs.ErasePlan.{any_filter, any_same}
 use Rattle.dbtg_erase.proofs.FirstNames.{find_or}
-use Rattle.dbtg_erase.proofs.LeastName.{first_is_least}
+use Rattle.dbtg_erase.proofs.LeastName.{ascends_of, first_is_least}
 use Rattle.dbtg_erase.proofs.OuterCells.{named_outer, outer_ascend, outer_named}
 use Rattle.dbtg_erase.proofs.Reading.{gone_agrees, none_wanting, unowned, unowned_in}
 
@@ -219,7 +219,7 @@ module _ (schema : Lists) (capacity : ℕ) (db : Database) (hands : Hands) (unit
     outer_is : find wanting (flat_map (cells_of_doomed schema db) turn) ≡ None
         → find wanting (outer_cells schema capacity db turn) ≡ least_name None (filter wanting (flat_map (outer_names schema hands) (gone_in schema capacity hands option k)))
     outer_is e =
-        first_is_least wanting (outer_cells schema capacity db turn) (flat_map (outer_names schema hands) turn) (outer_ascend schema capacity db turn)
+        first_is_least wanting (outer_cells schema capacity db turn) (flat_map (outer_names schema hands) turn) (ascends_of (outer_cells schema capacity db turn) (outer_ascend schema capacity db turn))
         (outer_named schema capacity db turn agrees.legal hands goes_live (owners_are e)) (named_outer schema capacity db turn agrees.legal hands goes_live (owners_are e))
         ∙ ap (λ ds. least_name None (filter wanting (flat_map (outer_names schema hands) ds))) ((gone_agrees schema capacity db hands unit agrees option k live).1 e)
 

@@ -40,9 +40,9 @@ fn push_list(
     Ok(())
 }
 
-// Adds the members of a record's lists, set by set.
+/// Adds the members of a record's lists, set by set.
 #[tactic(auto, using(crate::proofs::KeyLists::keys_append))]
-fn push_members(
+pub(crate) fn push_members(
     alloc: Global,
     schema: &Schema,
     held: &Held,

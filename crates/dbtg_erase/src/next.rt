@@ -1,247 +1,28 @@
 //! What a DELETE needs next.
-ghost use Rattle.std.specs.Prelude.{◌≡◌, ◌==◌, not, [], ◌∷◌, None, filter, map, if◌then◌else◌, IfOk, OnErr};
-ghost use Rattle.std.specs.List.{find, flat_map, list_any};
-ghost use Rattle.dbtg_schema.specs.Structure.{owns, set_numbers};
+ghost use Rattle.std.specs.Prelude.{◌≡◌, ℕ, ◌==◌, not, None, if◌then◌else◌, IfOk, OnErr};
+ghost use Rattle.std.specs.List.{find, list_any};
+ghost use Rattle.dbtg_schema.specs.Lists.{Lists};
+ghost use Rattle.dbtg_schema.specs.Structure.{set_numbers};
 ghost use Rattle.dbtg_unit.specs.Database.State.Base.{Database};
-ghost use Rattle.dbtg_unit.specs.Database.State.CellNames.{slot_name};
 ghost use Rattle.dbtg_unit.specs.declared.statement.Statement.TheVariants.{Delete};
 ghost use Rattle.dbtg_unit.specs.Database.Statements.Effect.{is_plain};
-ghost use Rattle.dbtg_unit.specs.Hands.Erasing.{own_rings};
-ghost use Rattle.dbtg_unit.specs.Hands.InHand.{owner_in};
-ghost use Rattle.dbtg_unit.specs.Hands.Local.{Agrees, holds};
-ghost use Rattle.dbtg_unit.specs.Hands.Needs.{areas_in_order, need, ring_names};
-ghost use Rattle.dbtg_erase.specs.NextCell.{first_missing, is_missing, least_name, nearer, need_of, next_cell_in, next_cell_of, next_of_gone, next_of_passed, outer_names, ring_of, stops_at};
-ghost use Rattle.dbtg_erase.specs.WorkList.{cells_of_gone, list_in, members_in_hand};
+ghost use Rattle.dbtg_unit.specs.declared.statement.Erase.{Erase};
+ghost use Rattle.dbtg_unit.specs.Hands.Hands.{Hands};
+ghost use Rattle.dbtg_unit.specs.Hands.Local.{Agrees};
+ghost use Rattle.dbtg_unit.specs.Hands.Needs.{areas_in_order, need};
+ghost use Rattle.dbtg_erase.specs.Course.{IsCourse, IsKept, IsKeptFor};
+ghost use Rattle.dbtg_erase.specs.NextCell.{need_of, next_cell_in, next_cell_of, next_of_gone, next_of_passed, stops_at};
+ghost use Rattle.dbtg_erase.specs.WorkList.{gone_in};
 
-use crate::keys::Keys;
+use crate::course::Course;
+use crate::names::{is_held, missing};
 use crate::preparing::has_any;
-use crate::work_list::{gone, list};
-use dbtg_cells::{CellName, DbKey, Owner, name_below};
+use dbtg_cells::{CellName, DbKey};
 use dbtg_schema::{Schema, SetNo};
 use dbtg_unit::{
-    Erase, Held, Need, Statement, Unit, next_area, own_refusal, owner_of, refused_at_once,
-    ring_name, set_count,
+    Erase, Held, Need, Statement, Unit, next_area, own_refusal, refused_at_once, set_count,
 };
 use std::alloc::{AllocError, Global};
-
-fn is_held(held: &Held, name: &CellName) -> bool
-    ensures { result ≡ holds held.now.cells name.now }
-{
-    match held.cell(name) {
-        Some(_cell) => true,
-        None => false,
-    }
-}
-
-// The cell of this name, if it is not in hand.
-fn missing(held: &Held, name: CellName) -> Option<CellName>
-    ensures { result ≡ first_missing held.now (name ∷ []) }
-{
-    if is_held(held, &name) {
-        None
-    } else {
-        Some(name)
-    }
-}
-
-// The ring that a record owns in a set, if it owns one and that is not in hand.
-fn missing_ring(schema: &Schema, held: &Held, key: &DbKey, set: SetNo) -> Option<CellName>
-    ensures { result ≡ first_missing held.now (map (ring_of key.now) (filter (λ s. owns schema.now s key.now.rtype) (set ∷ []))) }
-{
-    if schema.owns(set, key.rtype) {
-        missing(held, CellName::Ring(set, Some((key.rtype, key.number))))
-    } else {
-        None
-    }
-}
-
-// The first ring that a record owns and that is not in hand.
-fn first_ring(schema: &Schema, held: &Held, key: &DbKey) -> Option<CellName>
-    ensures { result ≡ first_missing held.now (own_rings schema.now key.now) }
-{
-    for s in 0..set_count(schema) {
-        let set = SetNo::new(s);
-        match missing_ring(schema, held, key, set) {
-            Some(name) => return Some(name),
-            None => {}
-        }
-    }
-    None
-}
-
-// The first slot of some keys that is not in hand.
-fn first_slot(held: &Held, keys: &[DbKey]) -> Option<CellName>
-    ensures { result ≡ first_missing held.now (map slot_name keys.now) }
-{
-    for key in keys {
-        if let Some(name) = missing(held, CellName::Slot(key.rtype, key.number)) {
-            return Some(name);
-        }
-    }
-    None
-}
-
-// Of the members of a record's list of a set, the first slot that is not in hand.
-fn first_of_list(
-    alloc: Global,
-    schema: &Schema,
-    held: &Held,
-    key: &DbKey,
-    set: SetNo,
-) -> Result<Option<CellName>, AllocError>
-    ensures { IfOk result (λ name. name ≡ first_missing held.now (map slot_name (flat_map (list_in held.now key.now) (filter (λ s. owns schema.now s key.now.rtype) (set ∷ []))))) }
-{
-    if schema.owns(set, key.rtype) {
-        let members = list(alloc, held, key, set)?;
-        Ok(first_slot(held, members.as_slice()))
-    } else {
-        Ok(None)
-    }
-}
-
-// Of the members of all lists of a record, the first slot that is not in hand.
-fn first_member(
-    alloc: Global,
-    schema: &Schema,
-    held: &Held,
-    key: &DbKey,
-) -> Result<Option<CellName>, AllocError>
-    ensures { IfOk result (λ name. name ≡ first_missing held.now (map slot_name (members_in_hand schema.now held.now key.now))) }
-{
-    for s in 0..set_count(schema) {
-        let set = SetNo::new(s);
-        match first_of_list(alloc, schema, held, key, set)? {
-            Some(name) => return Ok(Some(name)),
-            None => {}
-        }
-    }
-    Ok(None)
-}
-
-// Of the cells of a record that goes, the first that is not in hand.
-#[tactic(auto, using(crate::proofs::FirstNames::find_or))]
-fn first_of_gone(
-    alloc: Global,
-    schema: &Schema,
-    held: &Held,
-    key: &DbKey,
-) -> Result<Option<CellName>, AllocError>
-    ensures { IfOk result (λ name. name ≡ first_missing held.now (cells_of_gone schema.now held.now key.now)) }
-{
-    if let Some(name) = missing(held, CellName::Slot(key.rtype, key.number)) {
-        return Ok(Some(name));
-    }
-    if let Some(name) = first_ring(schema, held, key) {
-        return Ok(Some(name));
-    }
-    first_member(alloc, schema, held, key)
-}
-
-// Of the cells of all records that go, the first that is not in hand.
-#[tactic(auto, using(crate::proofs::FirstNames::find_or))]
-fn first_of_all(
-    alloc: Global,
-    schema: &Schema,
-    held: &Held,
-    gone: &[DbKey],
-) -> Result<Option<CellName>, AllocError>
-    ensures { IfOk result (λ name. name ≡ first_missing held.now (flat_map (cells_of_gone schema.now held.now) gone.now)) }
-{
-    for key in gone {
-        match first_of_gone(alloc, schema, held, key)? {
-            Some(name) => return Ok(Some(name)),
-            None => {}
-        }
-    }
-    Ok(None)
-}
-
-fn nearer(best: &Option<CellName>, name: &CellName) -> CellName
-    ensures { result ≡ nearer best.now name.now }
-{
-    match best {
-        Some(other) => {
-            if name_below(*name, *other) {
-                *name
-            } else {
-                *other
-            }
-        }
-        None => *name,
-    }
-}
-
-// A name, or another that is before it and not in hand.
-fn nearest(held: &Held, best: Option<CellName>, name: &CellName) -> Option<CellName>
-    ensures { result ≡ least_name best (filter (is_missing held.now) (name.now ∷ [])) }
-{
-    if is_held(held, name) {
-        best
-    } else {
-        Some(nearer(&best, name))
-    }
-}
-
-// The same of the ring of an owner, where there is one.
-fn nearest_ring(
-    held: &Held,
-    best: Option<CellName>,
-    set: SetNo,
-    owner: Option<Owner>,
-) -> Option<CellName>
-    ensures { result ≡ least_name best (filter (is_missing held.now) (ring_names set owner)) }
-{
-    match owner {
-        Some(owner) => nearest(held, best, &ring_name(set, &owner)),
-        None => best,
-    }
-}
-
-// Of the rings of a record's owners, the first that is not in hand.
-#[tactic(auto, using(dbtg_unit::proofs::Public::numbers_next, dbtg_unit::proofs::Public::numbers_end, crate::proofs::LeastName::least_of_both))]
-fn nearest_rings(
-    schema: &Schema,
-    held: &Held,
-    best: Option<CellName>,
-    key: &DbKey,
-) -> Option<CellName>
-    ensures { result ≡ least_name best (filter (is_missing held.now) (flat_map (λ s. ring_names s (owner_in held.now s key.now)) (set_numbers schema.now))) }
-{
-    let mut nearest = best;
-    for s in 0..set_count(schema) {
-        let set = SetNo::new(s);
-        nearest = nearest_ring(held, nearest, set, owner_of(held, set, key));
-    }
-    nearest
-}
-
-// Of the cells around all records that go, the first that is not in hand.
-#[tactic(auto, using(crate::proofs::LeastName::least_of_both))]
-fn nearest_of_all(schema: &Schema, held: &Held, gone: &[DbKey]) -> Option<CellName>
-    ensures { result ≡ least_name None (filter (is_missing held.now) (flat_map (outer_names schema.now held.now) gone.now)) }
-{
-    let mut best = None;
-    for key in gone {
-        let extent = nearest(held, best, &CellName::Extent(key.rtype));
-        best = nearest_rings(schema, held, extent, key);
-    }
-    best
-}
-
-// Of all cells of what goes, the first that is not in hand.
-fn next_of_gone(
-    alloc: Global,
-    schema: &Schema,
-    held: &Held,
-    gone: &Keys,
-) -> Result<Option<CellName>, AllocError>
-    ensures { IfOk result (λ name. name ≡ next_of_gone schema.now held.now gone.now) }
-{
-    match first_of_all(alloc, schema, held, gone.as_slice())? {
-        Some(name) => Ok(Some(name)),
-        None => Ok(nearest_of_all(schema, held, gone.as_slice())),
-    }
-}
 
 // Does the plain form stop at this set: is its ring not in hand, or has it a member?
 fn stops_at(schema: &Schema, held: &Held, key: &DbKey, set: SetNo) -> bool
@@ -278,6 +59,37 @@ fn stop(schema: &Schema, held: &Held, option: Erase, key: &DbKey) -> Option<SetN
     }
 }
 
+// The course that is kept, taken out, or a new one where none is.
+fn course_of(alloc: Global, key: &DbKey, course: &mut Option<Course>) -> Result<Course, AllocError>
+    ensures course { IfOk result (λ going. (schema : Lists) (capacity : ℕ) (hands : Hands) (option : Erase) → IsKeptFor schema capacity hands option key.now course.old → IsCourse schema capacity hands option key.now going) }
+    ensures out { course.new ≡ None }
+{
+    match course.take() {
+        Some(going) => Ok(going),
+        None => Course::begin(alloc, key),
+    }
+}
+
+// The next cell on the course that is kept, which begins here where there is none. Where memory is refused it is lost.
+fn next_on_course(
+    alloc: Global,
+    schema: &Schema,
+    capacity: u16,
+    held: &Held,
+    option: Erase,
+    key: &DbKey,
+    course: &mut Option<Course>,
+) -> Result<Option<CellName>, AllocError>
+    requires kept { IsKeptFor schema.now capacity held.now option key.now course.old }
+    ensures kept { IsKeptFor schema.now capacity held.now option key.now course.new }
+    ensures next { IfOk result (λ name. name ≡ next_of_gone schema.now held.now (gone_in schema.now capacity held.now option key.now)) }
+{
+    let mut going = course_of(alloc, key, course)?;
+    let next = going.next(alloc, schema, capacity, held, option, key)?;
+    *course = Some(going);
+    Ok(next)
+}
+
 // The next cell of a record that is not refused for itself.
 fn next_of_passed(
     alloc: Global,
@@ -286,15 +98,15 @@ fn next_of_passed(
     held: &Held,
     option: Erase,
     key: &DbKey,
+    course: &mut Option<Course>,
 ) -> Result<Option<CellName>, AllocError>
-    ensures { IfOk result (λ name. name ≡ next_of_passed schema.now capacity held.now option key.now) }
+    requires kept { IsKeptFor schema.now capacity held.now option key.now course.old }
+    ensures kept { IsKeptFor schema.now capacity held.now option key.now course.new }
+    ensures next { IfOk result (λ name. name ≡ next_of_passed schema.now capacity held.now option key.now) }
 {
     match stop(schema, held, option, key) {
         Some(set) => Ok(missing(held, CellName::Ring(set, Some((key.rtype, key.number))))),
-        None => {
-            let gone = gone(alloc, schema, capacity, held, option, key)?;
-            next_of_gone(alloc, schema, held, &gone)
-        }
+        None => next_on_course(alloc, schema, capacity, held, option, key, course),
     }
 }
 
@@ -307,15 +119,18 @@ fn next_cell(
     option: Erase,
     held: &Held,
     key: &DbKey,
+    course: &mut Option<Course>,
 ) -> Result<Option<CellName>, AllocError>
-    ensures { IfOk result (λ name. name ≡ next_cell_in schema.now capacity held.now unit.now option key.now) }
+    requires kept { IsKeptFor schema.now capacity held.now option key.now course.old }
+    ensures kept { IsKeptFor schema.now capacity held.now option key.now course.new }
+    ensures next { IfOk result (λ name. name ≡ next_cell_in schema.now capacity held.now unit.now option key.now) }
 {
     if let Some(name) = missing(held, CellName::Slot(key.rtype, key.number)) {
         return Ok(Some(name));
     }
     match own_refusal(held, unit, key) {
         Some(_cause) => Ok(None),
-        None => next_of_passed(alloc, schema, capacity, held, option, key),
+        None => next_of_passed(alloc, schema, capacity, held, option, key, course),
     }
 }
 
@@ -326,11 +141,14 @@ fn next_cell_of(
     unit: &Unit,
     option: Erase,
     held: &Held,
+    course: &mut Option<Course>,
 ) -> Result<Option<CellName>, AllocError>
-    ensures { IfOk result (λ name. name ≡ next_cell_of schema.now capacity held.now unit.now option unit.now.currency.run_unit) }
+    requires kept { IsKept schema.now capacity held.now unit.now option course.old }
+    ensures kept { IsKept schema.now capacity held.now unit.now option course.new }
+    ensures next { IfOk result (λ name. name ≡ next_cell_of schema.now capacity held.now unit.now option unit.now.currency.run_unit) }
 {
     match &unit.currency.run_unit {
-        Some(key) => next_cell(alloc, schema, capacity, unit, option, held, key),
+        Some(key) => next_cell(alloc, schema, capacity, unit, option, held, key, course),
         None => Ok(None),
     }
 }
@@ -345,7 +163,9 @@ fn need_of(name: Option<CellName>) -> Need
 }
 
 /// What a DELETE needs next, on every database of which these cells may be in hand: its areas, ascending; then its cells in
-/// the order of taking, each record that goes in turn, first in, first out. Memory is refused only once it has its areas.
+/// the order of taking, each record that goes in turn, first in, first out. `course` keeps
+/// how far it has come, from `None` before the first need: it has to be of this DELETE, with all that was in hand before still in
+/// hand. Memory is refused only once it has its areas, and the course is then lost, and found anew at the next need.
 pub fn next_need(
     alloc: Global,
     schema: &Schema,
@@ -353,7 +173,10 @@ pub fn next_need(
     unit: &Unit,
     option: Erase,
     held: &Held,
+    course: &mut Option<Course>,
 ) -> Result<Need, AllocError>
+    requires kept { IsKept schema.now capacity held.now unit.now option course.old }
+    ensures kept { IsKept schema.now capacity held.now unit.now option course.new }
     ensures need { IfOk result (λ next. (db : Database) → Agrees schema.now capacity db held.now unit.now → next ≡ need schema.now capacity db unit.now held.now (Delete option)) }
     ensures refused { OnErr result (find (λ a. not (list_any (λ b. b == a) held.now.areas)) (areas_in_order schema.now unit.now (Delete option)) ≡ None) }
 {
@@ -363,7 +186,7 @@ pub fn next_need(
         None => match next_area(schema, unit, &statement, held) {
             Some(area) => Ok(Need::Area(area)),
             None => {
-                let name = next_cell_of(alloc, schema, capacity, unit, option, held)?;
+                let name = next_cell_of(alloc, schema, capacity, unit, option, held, course)?;
                 Ok(need_of(name))
             }
         },

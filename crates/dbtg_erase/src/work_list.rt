@@ -106,8 +106,8 @@ fn bring_of_set(
     Ok(())
 }
 
-// Brings all members that the option takes with the record, set by set.
-fn bring(
+/// Brings all members that the option takes with the record, set by set.
+pub(crate) fn bring(
     alloc: Global,
     schema: &Schema,
     held: &Held,

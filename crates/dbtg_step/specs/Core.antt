@@ -6,6 +6,7 @@
 pub mod Audit
 pub mod Core
 pub mod CoreSteps
+pub mod Courses
 pub mod Events
 pub mod Imaging
 pub mod Leaves

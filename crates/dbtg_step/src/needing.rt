@@ -40,6 +40,7 @@ fn need_now(
     // Only the contract names the stage.
     let _ = stage.linked;
     let runner = &parts.runners[unit as usize - 1];
+    let mut course = None;
     next_need(
         alloc,
         schema,
@@ -47,6 +48,7 @@ fn need_now(
         &runner.unit,
         statement_of(runner),
         &runner.held,
+        &mut course,
     )
 }
 

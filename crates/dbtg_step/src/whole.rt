@@ -85,7 +85,16 @@ fn guess_owners(
     if !goes_by_guesses(statement) {
         return Ok(());
     }
-    if let Need::Stale(owners) = next_need(alloc, schema, capacity, unit, statement, held)? {
+    let mut course = None;
+    if let Need::Stale(owners) = next_need(
+        alloc,
+        schema,
+        capacity,
+        unit,
+        statement,
+        held,
+        &mut course,
+    )? {
         held.set_guesses(owners);
     }
     Ok(())

@@ -10,7 +10,7 @@ returns-in-Some-clause-need c = λ db agrees.
 pub returns-clause-need : goal.returns-clause-need
 returns-clause-need c = λ db agrees.
     c.need_of.ensures
-    ∙ ap need_of c.in_ok-name-in-None-next_area.ensures
+    ∙ ap need_of c.in_ok-name-in-None-next_area.ensures.next
     ∙ cell_wanted c.args.schema.now c.args.capacity c.args.unit.now c.args.option c.args.held.now db agrees (sym c.refused_at_once.ensures ∙ c.in-None.is) (sym c.next_area.ensures ∙ c.in-None-next_area.is)
 
 pub returns-in-Some-next_area-clause-need : goal.returns-in-Some-next_area-clause-need

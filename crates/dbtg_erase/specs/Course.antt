@@ -1,0 +1,68 @@
+-- How far a DELETE has come with its cells, as it is kept from one need to the next.
+-- k and d are keys, c the name of a cell, p a test of names.
+use Rattle.std.specs.Prelude.{ℕ, ◌≡◌, ◌≤◌, Bool, true, List, [], ◌∷◌, Option, Some, None, filter, length, map, slice_get, take, ⊤}
+use Rattle.std.specs.List.{find, flat_map}
+use Rattle.dbtg_schema.specs.Lists.{Lists}
+use Rattle.dbtg_cells.specs.declared.key.DbKey.{DbKey}
+use Rattle.dbtg_cells.specs.declared.name.CellName.{CellName}
+use Rattle.dbtg_unit.specs.declared.statement.Erase.{Erase}
+use Rattle.dbtg_unit.specs.declared.unit.Unit.{Unit}
+use Rattle.dbtg_unit.specs.Database.State.CellNames.{slot_name}
+use Rattle.dbtg_unit.specs.Hands.Erasing.{brought, own_rings}
+use Rattle.dbtg_unit.specs.Hands.Hands.{Hands, cell_of}
+use Rattle.dbtg_unit.specs.Hands.Local.{holds}
+use Rattle.dbtg_erase.specs.declared.course.Course.{Course}
+use Rattle.dbtg_erase.specs.declared.names.Names.{Names}
+use Rattle.dbtg_erase.specs.NextCell.{first_missing, least_name, outer_names}
+use Rattle.dbtg_erase.specs.WorkList.{cells_of_gone, gone_in, members_in_hand, most_gone, taken_in}
+
+-- each cell in the first hands is in the second, as it is
+abbrev pub HasAllOf : Hands → Hands → Type 0
+HasAllOf hands hands' = (c : CellName) → holds hands.cells c ≡ true → cell_of c hands'.cells ≡ cell_of c hands.cells
+
+-- the names that are passed are in hand
+abbrev pub ArePassed : Hands → Names → Type 0
+ArePassed hands names = first_missing hands (take names.passed names.names.items) ≡ None
+
+-- the slots of d's members, where its own slot and its rings are in hand
+pub record AreOfMembers (schema : Lists) (hands : Hands) (d : DbKey) (names : Names) : Type 0 where
+  pub own : first_missing hands (slot_name d ∷ own_rings schema d) ≡ None
+  pub members : names.names.items ≡ map slot_name (members_in_hand schema hands d)
+  pub passed : ArePassed hands names
+
+-- the cells around the records that go, in such an order that the first that passes a test comes before all others that do
+pub record AreAround (schema : Lists) (hands : Hands) (gone : List DbKey) (names : Names) : Type 0 where
+  pub in_order : (p : CellName → Bool) → find p names.names.items ≡ least_name None (filter p (flat_map (outer_names schema hands) gone))
+  pub passed : ArePassed hands names
+
+-- the names that are kept of the members of the next record
+abbrev pub MembersKept : Lists → Hands → Option DbKey → Option Names → Type 0
+MembersKept schema hands d None = ⊤
+MembersKept schema hands d (Some names) = (k : DbKey) → d ≡ Some k → AreOfMembers schema hands k names
+
+-- the names that are kept of the cells around; all records that go are met, and their cells in hand
+abbrev pub AroundKept : Lists → ℕ → Hands → Erase → DbKey → List DbKey → Option Names → Type 0
+AroundKept schema capacity hands option k gone None = ⊤
+AroundKept schema capacity hands option k gone (Some names) =
+    (gone ≡ gone_in schema capacity hands option k)
+    × (first_missing hands (flat_map (cells_of_gone schema hands) gone) ≡ None)
+    × AreAround schema hands gone names
+
+-- what is kept while a DELETE of k goes on
+pub record IsCourse (schema : Lists) (capacity : ℕ) (hands : Hands) (option : Erase) (k : DbKey) (course : Course) : Type 0 where
+  -- so many records have all their cells in hand, and have brought those that go with them
+  pub few : course.done ≤ most_gone schema capacity
+  pub within : course.done ≤ length course.gone
+  pub gone : course.gone ≡ brought (taken_in schema hands option) course.done 0 (k ∷ [])
+  pub cells : first_missing hands (flat_map (cells_of_gone schema hands) (take course.done course.gone)) ≡ None
+  pub members : MembersKept schema hands (slice_get course.gone course.done) course.members
+  pub around : AroundKept schema capacity hands option k course.gone course.around
+
+-- what is kept of a DELETE of k; nothing before it began
+abbrev pub IsKeptFor : Lists → ℕ → Hands → Erase → DbKey → Option Course → Type 0
+IsKeptFor schema capacity hands option k None = ⊤
+IsKeptFor schema capacity hands option k (Some course) = IsCourse schema capacity hands option k course
+
+-- of a DELETE of the current of run-unit
+abbrev pub IsKept : Lists → ℕ → Hands → Unit → Erase → Option Course → Type 0
+IsKept schema capacity hands unit option course = (k : DbKey) → unit.currency.run_unit ≡ Some k → IsKeptFor schema capacity hands option k course

@@ -1,0 +1,191 @@
+//! How far a DELETE has come with its cells, as it is kept from one need to the next, so that none is looked at anew.
+ghost use Rattle.std.specs.Prelude.{◌≡◌, ℕ, ◌∷◌, ◌+◌, ◌<◌, None, Some, length, map, IfOk, OnOk};
+ghost use Rattle.std.specs.List.{flat_map};
+ghost use Rattle.dbtg_schema.specs.Lists.{Lists};
+ghost use Rattle.dbtg_unit.specs.declared.statement.Erase.{Erase};
+ghost use Rattle.dbtg_unit.specs.Database.State.CellNames.{slot_name};
+ghost use Rattle.dbtg_unit.specs.Hands.Erasing.{own_rings, with_those};
+ghost use Rattle.dbtg_unit.specs.Hands.Hands.{Hands};
+ghost use Rattle.dbtg_erase.specs.Course.{AreOfMembers, IsCourse, MembersKept};
+ghost use Rattle.dbtg_erase.specs.NextCell.{first_missing, next_of_gone};
+ghost use Rattle.dbtg_erase.specs.WorkList.{cells_of_gone, gone_in, taken_in};
+
+use crate::around::around;
+use crate::keys::Keys;
+use crate::left::push_members;
+use crate::names::{Names, add, missing};
+use crate::records::{first_of_all, first_ring};
+use crate::work_list::bring;
+use dbtg_cells::{CellName, DbKey};
+use dbtg_schema::Schema;
+use dbtg_unit::{Erase, Held, type_count};
+use std::alloc::{AllocError, Global};
+
+/// How far a DELETE has come: the records that go, as far as they are met; how many of them have all their cells in hand and have
+/// brought those that go with them; the cells of the members of the next one; and once all are met, the cells around them.
+#[derive(Drop)]
+pub struct Course {
+    pub(crate) gone: Keys,
+    pub(crate) done: usize,
+    pub(crate) members: Option<Names>,
+    pub(crate) around: Option<Names>,
+}
+
+// The slots of some keys.
+#[tactic(auto, using(crate::proofs::FirstNames::names_append))]
+fn slots_of(alloc: Global, keys: &[DbKey]) -> Result<Vec<CellName>, AllocError>
+    ensures { IfOk result (λ names. names.items ≡ map slot_name keys.now) }
+{
+    let mut names = Vec::with_capacity(alloc, keys.len())?;
+    for key in keys {
+        add(&mut names, &CellName::Slot(key.rtype, key.number))?;
+    }
+    Ok(names)
+}
+
+// The slots of a record's members, whose own cells are in hand; none is passed yet.
+fn slots_of_members(
+    alloc: Global,
+    schema: &Schema,
+    held: &Held,
+    key: &DbKey,
+) -> Result<Names, AllocError>
+    requires { first_missing held.now (slot_name key.now ∷ own_rings schema.now key.now) ≡ None }
+    ensures { IfOk result (λ names. AreOfMembers schema.now held.now key.now names) }
+{
+    let mut members = Vec::new(alloc);
+    push_members(alloc, schema, held, key, &mut members)?;
+    Ok(Names::new(slots_of(alloc, members.as_slice())?))
+}
+
+// Of a record's own slot and rings, the first that is not in hand.
+fn first_own(schema: &Schema, held: &Held, key: &DbKey) -> Option<CellName>
+    ensures { result ≡ first_missing held.now (slot_name key.now ∷ own_rings schema.now key.now) }
+{
+    match missing(held, CellName::Slot(key.rtype, key.number)) {
+        Some(name) => Some(name),
+        None => first_ring(schema, held, key),
+    }
+}
+
+// Of the cells of the next record, the first that is not in hand.
+#[tactic(auto, using(crate::proofs::CourseSteps::own_first, crate::proofs::CourseSteps::members_first))]
+fn next_of_record(
+    alloc: Global,
+    schema: &Schema,
+    held: &Held,
+    key: &DbKey,
+    members: &mut Option<Names>,
+) -> Result<Option<CellName>, AllocError>
+    requires { MembersKept schema.now held.now (Some key.now) members.old }
+    ensures next { IfOk result (λ name. name ≡ first_missing held.now (cells_of_gone schema.now held.now key.now)) }
+    ensures kept { OnOk result (MembersKept schema.now held.now (Some key.now) members.new) }
+{
+    if let Some(names) = members {
+        return Ok(names.next(held));
+    }
+    if let Some(name) = first_own(schema, held, key) {
+        return Ok(Some(name));
+    }
+    let mut names = slots_of_members(alloc, schema, held, key)?;
+    let next = names.next(held);
+    *members = Some(names);
+    Ok(next)
+}
+
+impl Course {
+    /// The course of a DELETE of this record, before its first cell beside the record's own slot.
+    pub fn begin(alloc: Global, key: &DbKey) -> Result<Self, AllocError>
+        ensures { IfOk result (λ course. (schema : Lists) (capacity : ℕ) (hands : Hands) (option : Erase) → IsCourse schema capacity hands option key.now course) }
+    {
+        let mut gone = Keys::new(alloc);
+        gone.push(*key)?;
+        Ok(Self {
+            gone,
+            done: 0,
+            members: None,
+            around: None,
+        })
+    }
+
+    // The next record has all its cells in hand: it brings those that go with it.
+    fn pass(
+        &mut self,
+        alloc: Global,
+        schema: &Schema,
+        held: &Held,
+        option: Erase,
+        next: &DbKey,
+    ) -> Result<(), AllocError>
+        requires { self.old.done < length self.old.gone }
+        ensures gone { OnOk result (self.new.gone ≡ with_those self.old.gone (taken_in schema.now held.now option next.now)) }
+        ensures done { OnOk result (self.new.done ≡ self.old.done + 1) }
+        ensures rest { OnOk result (self.new ≡ record self.old { gone = self.new.gone; done = self.new.done; members = None }) }
+    {
+        // The number of keys fits a usize, and so does the next place.
+        let _ = self.gone.as_slice().len();
+        bring(alloc, schema, held, option, next, &mut self.gone)?;
+        self.done += 1;
+        self.members = None;
+        Ok(())
+    }
+
+    // Of the cells of the records that go, one record after another, the first that is not in hand.
+    fn next_of_records(
+        &mut self,
+        alloc: Global,
+        schema: &Schema,
+        capacity: u16,
+        held: &Held,
+        option: Erase,
+        key: &DbKey,
+    ) -> Result<Option<CellName>, AllocError>
+        requires course { IsCourse schema.now capacity held.now option key.now self.old }
+        requires around { self.old.around ≡ None }
+        ensures next { IfOk result (λ name. name ≡ first_missing held.now (flat_map (cells_of_gone schema.now held.now) (gone_in schema.now capacity held.now option key.now))) }
+        ensures all { IfOk result (λ name. name ≡ None → self.new.gone ≡ gone_in schema.now capacity held.now option key.now) }
+        ensures course { OnOk result (IsCourse schema.now capacity held.now option key.now self.new) }
+        ensures around { OnOk result (self.new.around ≡ None) }
+    {
+        let most = type_count(schema) as usize * capacity as usize;
+        for _turn in self.done..most {
+            let Some(next) = self.gone.get(self.done) else {
+                return Ok(None);
+            };
+            let found = next_of_record(alloc, schema, held, &next, &mut self.members)?;
+            if found.is_some() {
+                return Ok(found);
+            }
+            self.pass(alloc, schema, held, option, &next)?;
+        }
+        // No more records go than there are numbers; where they are all met, none is left here.
+        first_of_all(alloc, schema, held, &self.gone.as_slice()[self.done..])
+    }
+
+    /// The next cell of the DELETE that is not in hand: of the records that go, one after another, and then around them.
+    pub fn next(
+        &mut self,
+        alloc: Global,
+        schema: &Schema,
+        capacity: u16,
+        held: &Held,
+        option: Erase,
+        key: &DbKey,
+    ) -> Result<Option<CellName>, AllocError>
+        requires { IsCourse schema.now capacity held.now option key.now self.old }
+        ensures next { IfOk result (λ name. name ≡ next_of_gone schema.now held.now (gone_in schema.now capacity held.now option key.now)) }
+        ensures kept { OnOk result (IsCourse schema.now capacity held.now option key.now self.new) }
+    {
+        if let Some(names) = &mut self.around {
+            return Ok(names.next(held));
+        }
+        let found = self.next_of_records(alloc, schema, capacity, held, option, key)?;
+        if found.is_some() {
+            return Ok(found);
+        }
+        let mut around = around(alloc, schema, held, self.gone.as_slice())?;
+        let next = around.next(held);
+        self.around = Some(around);
+        Ok(next)
+    }
+}

@@ -1,0 +1,83 @@
+//! Names of cells in turn, and how many of them are in hand.
+ghost use Rattle.std.specs.Prelude.{◌≡◌, ◌∷◌, ◌++◌, [], None, slice_get, take, OnOk};
+ghost use Rattle.dbtg_unit.specs.Hands.Local.{holds};
+ghost use Rattle.dbtg_erase.specs.Course.{ArePassed};
+ghost use Rattle.dbtg_erase.specs.NextCell.{first_missing};
+
+use dbtg_cells::CellName;
+use dbtg_unit::Held;
+use std::alloc::AllocError;
+
+/// Names in turn, of which the first `passed` are in hand.
+#[derive(Drop)]
+pub(crate) struct Names {
+    pub(crate) names: Vec<CellName>,
+    pub(crate) passed: usize,
+}
+
+pub(crate) fn is_held(held: &Held, name: &CellName) -> bool
+    ensures { result ≡ holds held.now.cells name.now }
+{
+    match held.cell(name) {
+        Some(_cell) => true,
+        None => false,
+    }
+}
+
+/// The cell of this name, if it is not in hand.
+pub(crate) fn missing(held: &Held, name: CellName) -> Option<CellName>
+    ensures { result ≡ first_missing held.now (name ∷ []) }
+{
+    if is_held(held, &name) {
+        None
+    } else {
+        Some(name)
+    }
+}
+
+/// Adds a name behind the others.
+pub(crate) fn add<T: Copy>(names: &mut Vec<T>, name: &T) -> Result<(), AllocError>
+    ensures { OnOk result (names.new.items ≡ names.old.items ++ name.now ∷ []) }
+{
+    names.push(*name)?;
+    Ok(())
+}
+
+// The place of the first that is not in hand, where those before `passed` are.
+fn place_of_missing(held: &Held, names: &[CellName], passed: usize) -> usize
+    requires { first_missing held.now (take passed names.now) ≡ None }
+    ensures passed { first_missing held.now (take result names.now) ≡ None }
+    ensures first { slice_get names.now result ≡ first_missing held.now names.now }
+{
+    for place in passed..names.len() {
+        if !is_held(held, &names[place]) {
+            return place;
+        }
+    }
+    names.len()
+}
+
+impl Names {
+    /// None of these is passed yet.
+    pub fn new(names: Vec<CellName>) -> Self
+        ensures names { result.names ≡ names }
+        ensures passed { result.passed ≡ 0 }
+    {
+        Self { names, passed: 0 }
+    }
+
+    /// The first that is not in hand; those before it are passed.
+    pub fn next(&mut self, held: &Held) -> Option<CellName>
+        requires { ArePassed held.now self.old }
+        ensures next { result ≡ first_missing held.now self.old.names.items }
+        ensures passed { ArePassed held.now self.new }
+        ensures names { self.new.names ≡ self.old.names }
+    {
+        let place = place_of_missing(held, self.names.as_slice(), self.passed);
+        self.passed = place;
+        match self.names.get(place) {
+            Some(name) => Some(*name),
+            None => None,
+        }
+    }
+}
