@@ -12,6 +12,7 @@ ghost use Rattle.dbtg_unit.specs.Hands.Guesses.{with_owners};
 ghost use Rattle.dbtg_unit.specs.Hands.Local.{Agrees};
 ghost use Rattle.dbtg_unit.specs.Hands.Making.{IsReady};
 ghost use Rattle.dbtg_unit.specs.Hands.Needs.{need};
+ghost use Rattle.dbtg_erase.specs.Course.{HasAllOf};
 ghost use Rattle.dbtg_step.specs.Core.Events.{HaveRings};
 ghost use Rattle.dbtg_run.specs.Posed.{HoldsSo, turns_left};
 ghost use Rattle.dbtg_run.specs.Views.{times};
@@ -195,6 +196,7 @@ impl Work {
         ensures same { IsSameUnit self.old self.new }
         ensures work { IsAtWork self.new }
         ensures so { IfOk result (λ _. HoldsSo exclusive self.new.exclusive self.new.held) }
+        ensures more { IfOk result (λ b. b ≡ true → HasAllOf self.old.held self.new.held) }
         ensures nearer { IfOk result (λ b. b ≡ true → (tries : ℕ) → turns_left self.new.about tries self.new.held < turns_left self.old.about tries self.old.held) }
         ensures alone { self.old.about.units ≡ 1 → IfOk result (λ b. KnowsBetter statement.now self.old self.new b) }
     {
@@ -233,6 +235,8 @@ impl Work {
     {
         let exclusive = takes_alone(statement);
         let mut tries = tries;
+        // How far a DELETE has come, so that its cells are not gone through anew at each need.
+        let mut course = None;
         'needs: loop {
             let wanted = next_need(
                 alloc,
@@ -241,6 +245,7 @@ impl Work {
                 &self.unit,
                 statement,
                 &self.held,
+                &mut course,
             )?;
             if is_ready(&wanted) {
                 return Ok(true);
@@ -252,6 +257,8 @@ impl Work {
                 return Ok(false);
             }
             tries -= 1;
+            // The statement may have turned back: then its cells are home again.
+            course = None;
         }
     }
 }

@@ -1,5 +1,5 @@
 -- What the rule says of the history: it is one of the sequential database, and gives each unit as its view has it.
-use Rattle.std.proofs.Common.{◌≡◌, ℕ, suc, ◌<◌, List, map, Option, Some, sym, ap, ◌∙◌, subst, append-nil}
+use Rattle.std.proofs.Common.{◌≡◌, ℕ, suc, ◌<◌, List, map, Option, Some, sym, ap, ◌∙◌, subst}
 use mathlib.Core.Option as maybe
 use Rattle.dbtg_cells.specs.declared.cell.Cell.{Cell}
 use Rattle.dbtg_unit.specs.Database.Laws.Replay.{AnswersHold, IsHistoryOf, TicketsInOrder, opening_state, replay, unit_of}

@@ -11,7 +11,7 @@ use Rattle.dbtg_cells.specs.declared.name.CellName.{CellName}
 use Rattle.dbtg_cells.specs.Names.{name_eq}
 use Rattle.dbtg_cells.specs.CellNumbers.{cell_number, cells_in_order}
 use Rattle.dbtg_cells.proofs.Public.{stands_at}
-use Rattle.dbtg_unit.specs.declared.held.Need.TheVariants.{Area, Take, Stale, Ready}
+use Rattle.dbtg_unit.specs.declared.held.Need.TheVariants.{Area, Stale, Ready}
 use Rattle.dbtg_unit.specs.declared.statement.Statement.{Statement}
 use Rattle.dbtg_unit.specs.declared.unit.Unit.{Unit}
 use Rattle.dbtg_unit.specs.Database.State.Base.{Database}
@@ -24,7 +24,7 @@ use Rattle.dbtg_unit.proofs.Public.{In as InKeys, find_element}
 use Rattle.dbtg_step.specs.Machine.SequentialDatabase.{In}
 use Rattle.dbtg_step.specs.Machine.Network.{next_need_of}
 use Rattle.dbtg_step.specs.Machine.TurningBack.{count}
-use Rattle.dbtg_step.proofs.Public.{chose_area, count_length, count_up_to, needed_not_in_hand, needs_come_to_an_end, network_names_cells, slice_get_in}
+use Rattle.dbtg_step.proofs.Public.{chose_area, count_length, count_up_to, needs_come_to_an_end, network_names_cells, slice_get_in}
 use Rattle.dbtg_run.specs.declared.view.About.{About}
 use Rattle.dbtg_run.specs.Views.{times, one_if}
 use Rattle.dbtg_run.specs.Kept.{area_count, cells_of_table}

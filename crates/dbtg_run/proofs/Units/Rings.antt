@@ -16,7 +16,7 @@ use Rattle.dbtg_unit.specs.Hands.Hands.{Hands}
 use Rattle.dbtg_unit.specs.Hands.Making.{CanFinish}
 use Rattle.dbtg_unit.specs.Hands.Needs.{cells_of, need}
 use Rattle.dbtg_unit.specs.Hands.Prepared.{Plan, guesses_edited}
-use Rattle.dbtg_unit.proofs.Public.{all_at, effect_step, find_element}
+use Rattle.dbtg_unit.proofs.Public.{all_at, effect_step}
 use Rattle.dbtg_step.specs.Core.Events.{HaveRings}
 use Rattle.dbtg_step.proofs.Public.{cell_wanted, cells_exist, made_have_rings, not_beyond, turned_have_rings}
 use Rattle.dbtg_run.specs.declared.view.About.{About}

@@ -1,4 +1,4 @@
-use Rattle.std.proofs.Common.{◌≡◌, ◌≢◌, ◌⊎◌, ◌<◌, ◌-◌, ◌∙◌, ℕ, Bool, true, false, inl, inr, ap, arith, sym, subst}
+use Rattle.std.proofs.Common.{rules, ◌≡◌, ◌≢◌, ◌⊎◌, ◌<◌, ◌-◌, ◌∙◌, ℕ, Bool, true, false, inl, inr, ap, arith, sym, subst}
 use Rattle.dbtg_schema.specs.Lists.{Lists}
 use Rattle.dbtg_unit.specs.Database.State.Base.{Database}
 use Rattle.dbtg_unit.specs.declared.held.Need.{Need}
@@ -12,8 +12,33 @@ use Rattle.dbtg_run.specs.declared.work.Work.{Work}
 use Rattle.dbtg_run.specs.Kept.{database_after}
 use Rattle.dbtg_run.specs.Posed.{turns_left}
 use Rattle.dbtg_run.specs.Works.{IsAtWork, KnowsBetter}
+use Rattle.dbtg_run.proofs.Units.Courses.{course_stays, nothing_kept}
 use Rattle.dbtg_run.proofs.Units.Needing.{try_nearer}
 use Rattle.dbtg_run.proofs.work.Work.gather.Goals as goal
+
+pub needs-preserved-then-branch : goal.needs-preserved-then-branch
+needs-preserved-then-branch c =
+    let db = c.args.db.now in let old = c.needs.self in let new = c.meet.new.self in record {
+      belongs = search rules;
+      same = search rules;
+      work = search rules;
+      so = search rules;
+      free = search rules;
+      known = search rules;
+      course = course_stays db.schema db.about.capacity old.held new.held old.unit new.unit c.args.statement.now c.next_need.new.course c.meet.ensures.same.unit (c.in_ok-meet.ensures.more c.if-branch.true) c.next_need.ensures.kept;
+    }
+
+pub needs-preserved : goal.needs-preserved
+needs-preserved c =
+    let db = c.args.db.now in let new = c.meet.new.self in record {
+      belongs = search rules;
+      same = search rules;
+      work = search rules;
+      so = search rules;
+      free = search rules;
+      known = search rules;
+      course = nothing_kept db.schema db.about.capacity new.held new.unit c.args.statement.now;
+    }
 
 pub needs-smaller : goal.needs-smaller
 needs-smaller c =

@@ -1,6 +1,7 @@
 use Rattle.std.proofs.Common.{◌≡◌, ◌⊎◌, ◌<◌, false}
 use Rattle.dbtg_unit.specs.Hands.Making.{IsReady}
 use Rattle.dbtg_unit.specs.Hands.Needs.{is_stale}
+use Rattle.dbtg_step.specs.Core.Courses.{IsCourseKept}
 use Rattle.dbtg_run.specs.Kept.{database_after}
 use Rattle.dbtg_run.specs.Posed.{HoldsSo, turns_left}
 use Rattle.dbtg_run.specs.Works.{Belongs, IsAtWork, IsSameUnit}
@@ -15,6 +16,7 @@ invariant-needs l = record {
   so : HoldsSo l.exclusive l.self.exclusive l.self.held;
   free : IsReady l.initial.self.about.schema.value l.initial.self.about.capacity l.initial.self.unit l.initial.self.held l.statement → IsReady l.self.about.schema.value l.self.about.capacity l.self.unit l.self.held l.statement;
   known : l.self.about.units ≡ 1 → 0 < l.initial.tries → (0 < l.tries) ⊎ (is_stale l.self.about.schema.value l.self.about.capacity (database_after l.self.about l.self.journal.items) l.self.unit l.self.held.guesses l.statement ≡ false);
+  course : IsCourseKept l.db.schema l.db.about.capacity l.self.held l.self.unit l.statement l.course;
 }
 
 abbrev pub decreases-needs : goal.decreases-needs

@@ -12,6 +12,7 @@ use Rattle.dbtg_step.proofs.Public.{match_true, need_owners_fit, needed_not_in_h
 use Rattle.dbtg_step.specs.Core.Events.{HaveRings}
 use Rattle.dbtg_run.specs.declared.view.About.{About}
 use Rattle.dbtg_run.specs.Posed.{turns_left}
+use Rattle.dbtg_run.proofs.Units.Courses.{all_with_area, all_with_cell}
 use Rattle.dbtg_run.proofs.Units.Needing.{area_needed, stale_needed, not_stale_then, area_nearer, cell_nearer, no_times}
 use Rattle.dbtg_run.proofs.Units.Rings.{needed_has_number, rings_turned}
 use Rattle.dbtg_run.proofs.work.Work.meet.Goals as goal
@@ -43,6 +44,14 @@ unreachable-requires c =
     let r = c.requires.work.real in
     let number = ap (λ (a : About). cell_number a.schema.value a.capacity c.in-Take.name) c.requires.belongs.about ∙ ap (λ (s : Lists). cell_number s c.args.db.now.about.capacity c.in-Take.name) c.args.db.now.same ∙ sym c.cell_number.ensures ∙ c.in-None.is in
     needed_has_number w.about w.unit w.journal.items w.held c.args.statement.now c.requires.work.ours r c.requires.fits c.requires.work.rings c.in-Take.name (sym c.in-Take.is ∙ c.requires.needed r.db r.agrees) number
+
+pub returns-in-Area-clause-more : goal.returns-in-Area-clause-more
+returns-in-Area-clause-more c =
+    ok_also c.take_area.result _ _ (λ b took. all_with_area b c.args.self.now.held c.take_area.new.self.held c.in-Area.area _ _ took) c.take_area.ensures.took
+
+pub returns-in-Some-clause-more : goal.returns-in-Some-clause-more
+returns-in-Some-clause-more c =
+    ok_also c.take_cell.result _ _ (λ b took. all_with_cell b c.args.self.now.held c.take_cell.new.self.held c.in-Take.name _ took) c.take_cell.ensures.took
 
 pub returns-in-Area-clause-nearer : goal.returns-in-Area-clause-nearer
 returns-in-Area-clause-nearer c =

@@ -1,0 +1,39 @@
+-- What is kept of a statement's course, from one need to the next.
+use Rattle.std.proofs.Common.{◌≡◌, ℕ, Bool, true, false, [], ◌∷◌, ◌++◌, Option, None, ap, sym, subst}
+use Rattle.std.specs.Prelude.{MatchBool}
+use Rattle.dbtg_schema.specs.Lists.{Lists}
+use Rattle.dbtg_cells.specs.declared.cell.Cell.{Cell}
+use Rattle.dbtg_cells.specs.declared.name.CellName.{CellName}
+use Rattle.dbtg_unit.specs.declared.statement.Statement.{Statement}
+use Rattle.dbtg_unit.specs.declared.statement.Statement.TheVariants.{Delete}
+use Rattle.dbtg_unit.specs.declared.unit.Unit.{Unit}
+use Rattle.dbtg_unit.specs.Hands.Hands.{Hands}
+use Rattle.dbtg_erase.specs.declared.course.Course.{Course}
+use Rattle.dbtg_erase.specs.Course.{HasAllOf}
+use Rattle.dbtg_erase.proofs.CourseKept.{kept_stays, one_more_cell, same_cells}
+use Rattle.dbtg_step.specs.Core.Courses.{IsCourseKept}
+
+-- nothing is kept: that is always right
+pub nothing_kept : (schema : Lists) (capacity : ℕ) (hands : Hands) (unit : Unit) (x : Statement) → IsCourseKept schema capacity hands unit x None
+nothing_kept schema capacity hands unit (Delete option) = λ k e. tt
+nothing_kept schema capacity hands unit _ = tt
+
+-- with more in hand, what is kept is right
+more_in_hand : (schema : Lists) (capacity : ℕ) (hands hands' : Hands) (unit : Unit) (x : Statement) (course : Option Course) → HasAllOf hands hands' → IsCourseKept schema capacity hands unit x course → IsCourseKept schema capacity hands' unit x course
+more_in_hand schema capacity hands hands' unit (Delete option) course all kept = kept_stays schema capacity hands hands' unit option course all kept
+more_in_hand schema capacity hands hands' unit _ course all kept = tt
+
+-- of the same unit, with more in hand
+pub course_stays : (schema : Lists) (capacity : ℕ) (hands hands' : Hands) (unit unit' : Unit) (x : Statement) (course : Option Course) → unit' ≡ unit → HasAllOf hands hands' → IsCourseKept schema capacity hands unit x course → IsCourseKept schema capacity hands' unit' x course
+course_stays schema capacity hands hands' unit unit' x course same all kept =
+    subst (λ (u : Unit). IsCourseKept schema capacity hands' u x course) (sym same) (more_in_hand schema capacity hands hands' unit x course all kept)
+
+-- where an area was taken, all cells are still in hand
+pub all_with_area : (taken : Bool) (old new : Hands) (a : ℕ) (P Q : Type 0) → MatchBool taken ((new ≡ record old { areas = old.areas ++ a ∷ [] }) × P) Q → taken ≡ true → HasAllOf old new
+all_with_area true old new a P Q is e = same_cells old new (ap (λ (h : Hands). h.cells) is.0)
+all_with_area false old new a P Q is e = absurd (cc (e))
+
+-- and where a cell was taken
+pub all_with_cell : (taken : Bool) (old new : Hands) (c : CellName) (Q : Type 0) → MatchBool taken ((x : Cell) × (new ≡ record old { cells = old.cells ++ (c, x) ∷ [] })) Q → taken ≡ true → HasAllOf old new
+all_with_cell true old new c Q is e = one_more_cell old new (c, is.0) (ap (λ (h : Hands). h.cells) is.1)
+all_with_cell false old new c Q is e = absurd (cc (e))
