@@ -1,18 +1,19 @@
-pub mod Bringing
-pub mod Reading
-pub mod ErasePlan
-pub mod PlanIsEffect
-pub mod Possible
-pub mod CanErase
-pub mod CanFinish
-pub mod KeyLists
-pub mod EditLists
-pub mod FirstNames
-pub mod LeastName
-pub mod SortedNames
-pub mod OuterCells
-pub mod NextCell
-pub mod NextNeed
-pub mod DeleteDetermined
-pub mod CourseKept
-pub mod CourseSteps
+mod Bringing
+mod Reading
+mod ErasePlan
+mod PlanIsEffect
+mod Possible
+mod CanErase
+mod CanFinish
+mod KeyLists
+mod EditLists
+mod FirstNames
+mod LeastName
+mod SortedNames
+mod OuterCells
+mod NextCell
+mod NextNeed
+mod DeleteDetermined
+mod CourseKept
+mod CourseSteps
+pub mod Public

@@ -4,6 +4,8 @@
 pub mod Alone
 pub mod CellsFound
 pub mod CoreShown
+pub mod CourseAlone
+pub mod CoursesKept
 pub mod DrawnShown
 pub mod EventsShown
 pub mod FollowsShown

@@ -70,6 +70,8 @@ fn draw(
     ensures history { OnErr result (history.new.items ≡ history.old.items) }
     ensures unmade { OnErr result (IsUnmade runner.old runner.new) }
 {
+    // With all in hand the course has come to its end.
+    runner.course = None;
     make_room(history)?;
     let statement = statement_of(runner).copy(alloc)?;
     let answer = make(

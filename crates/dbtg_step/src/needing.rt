@@ -1,19 +1,25 @@
 //! The events of a statement before its ticket: it takes the area or the cell that it needs next, or turns back.
-ghost use Rattle.std.specs.Prelude.{◌≡◌, ℕ, ◌≤◌, ◌<◌, ◌-◌, ◌++◌, ◌∷◌, ◌||◌, [], length, drop, take, slice_get, false, Some, IfOk, OnErr};
+ghost use Rattle.std.specs.Prelude.{◌≡◌, ℕ, ◌≤◌, ◌<◌, ◌-◌, ◌++◌, ◌∷◌, ◌||◌, [], length, drop, take, slice_get, true, false, Some, IfOk, OnErr};
 ghost use Rattle.std.specs.List.{list_any};
 ghost use Rattle.dbtg_cells.specs.Names.{name_eq};
 ghost use Rattle.dbtg_schema.specs.Lists.{Lists};
 ghost use Rattle.dbtg_unit.specs.declared.held.Need.{Need};
 ghost use Rattle.dbtg_unit.specs.declared.statement.Statement.{Statement};
 ghost use Rattle.dbtg_step.specs.declared.parts.Runner.{Runner};
+ghost use Rattle.dbtg_unit.specs.Database.State.Base.{Database};
+ghost use Rattle.dbtg_unit.specs.Database.State.Belongs.{IsUnitOf, IsWithin};
+ghost use Rattle.dbtg_unit.specs.Database.Statements.Fits.{fits};
+ghost use Rattle.dbtg_unit.specs.Hands.Local.{Agrees};
+ghost use Rattle.dbtg_unit.specs.Hands.Needs.{need};
 ghost use Rattle.dbtg_step.specs.Machine.NeedOrder.{HasItsAreas};
+ghost use Rattle.dbtg_step.specs.Core.Courses.{IsCourseKept};
 ghost use Rattle.dbtg_step.specs.Core.Stands.{holds_against, StandsNeeding};
 ghost use Rattle.dbtg_step.specs.Core.Leaves.{IsTaken};
-ghost use Rattle.dbtg_step.specs.Core.Events.{IsStepped, IsWell, NeedsNext};
+ghost use Rattle.dbtg_step.specs.Core.Events.{ChangesCourseAlone, IsStepped, IsWell, NeedsNext};
 
 use crate::drawing::draws;
 use crate::parts::{Parts, Place, Runner, Stage};
-use crate::runner::{statement_of, turn_back};
+use crate::runner::turn_back;
 use crate::statements::next_need;
 use dbtg_cells::{CellName, cell_number};
 use dbtg_schema::{AreaNo, Schema};
@@ -21,34 +27,61 @@ use dbtg_unit::{Held, Need, Owners, Stepped, with_true_owners};
 use std::alloc::{AllocError, Global};
 use std::mem;
 
-/// What the unit needs next.
-fn need_now(
+// What the unit's statement needs next. The unit keeps how far a DELETE has come, so that it goes on from there.
+fn need_of(
     alloc: Global,
     schema: &Schema,
     capacity: u16,
-    parts: &Parts,
-    unit: u8,
-    stage: Stage,
+    runner: &mut Runner,
 ) -> Result<Need, AllocError>
-    requires well { IsWell schema.now capacity parts.now }
-    requires numbered { 0 < unit }
-    requires within { unit ≤ length parts.now.runners.items }
-    requires stands { (r : Runner) → slice_get parts.now.runners.items (unit - 1) ≡ Some r → StandsNeeding r stage }
-    ensures need { IfOk result (λ n. NeedsNext schema.now capacity parts.now unit stage n) }
-    ensures refused { OnErr result ((r : Runner) (x : Statement) → slice_get parts.now.runners.items (unit - 1) ≡ Some r → slice_get r.script r.next ≡ Some x → HasItsAreas schema.now r.unit r.held x) }
+    requires left { runner.old.next < length runner.old.script }
+    requires kept { (x : Statement) → slice_get runner.old.script runner.old.next ≡ Some x → IsCourseKept schema.now capacity runner.old.held runner.old.unit x runner.old.course }
+    requires fits { (x : Statement) → slice_get runner.old.script runner.old.next ≡ Some x → fits schema.now x ≡ true }
+    requires of_schema { IsUnitOf schema.now runner.old.unit }
+    requires within { IsWithin capacity runner.old.unit }
+    ensures rest { runner.new ≡ record runner.old { course = runner.new.course } }
+    ensures kept { (x : Statement) → slice_get runner.old.script runner.old.next ≡ Some x → IsCourseKept schema.now capacity runner.old.held runner.old.unit x runner.new.course }
+    ensures need { IfOk result (λ n. (x : Statement) (db : Database) → slice_get runner.old.script runner.old.next ≡ Some x → Agrees schema.now capacity db runner.old.held runner.old.unit → n ≡ need schema.now capacity db runner.old.unit runner.old.held x) }
+    ensures refused { OnErr result ((x : Statement) → slice_get runner.old.script runner.old.next ≡ Some x → HasItsAreas schema.now runner.old.unit runner.old.held x) }
 {
-    // Only the contract names the stage.
-    let _ = stage.linked;
-    let runner = &parts.runners[unit as usize - 1];
-    let mut course = None;
+    let statement = &runner.script.as_slice()[runner.next];
     next_need(
         alloc,
         schema,
         capacity,
         &runner.unit,
-        statement_of(runner),
+        statement,
         &runner.held,
-        &mut course,
+        &mut runner.course,
+    )
+}
+
+/// What the unit needs next. Nothing is changed but how far its statement has come.
+fn need_now(
+    alloc: Global,
+    schema: &Schema,
+    capacity: u16,
+    parts: &mut Parts,
+    unit: u8,
+    stage: Stage,
+) -> Result<Need, AllocError>
+    requires numbered { 0 < unit }
+    requires within { unit ≤ length parts.old.runners.items }
+    requires well { IsWell schema.now capacity parts.old }
+    requires stands { (r : Runner) → slice_get parts.old.runners.items (unit - 1) ≡ Some r → StandsNeeding r stage }
+    ensures alone { ChangesCourseAlone unit parts.old parts.new }
+    ensures well { IsWell schema.now capacity parts.new }
+    ensures stands { (r : Runner) → slice_get parts.new.runners.items (unit - 1) ≡ Some r → StandsNeeding r stage }
+    ensures need { IfOk result (λ n. NeedsNext schema.now capacity parts.new unit stage n) }
+    ensures refused { OnErr result ((r : Runner) (x : Statement) → slice_get parts.new.runners.items (unit - 1) ≡ Some r → slice_get r.script r.next ≡ Some x → HasItsAreas schema.now r.unit r.held x) }
+{
+    // Only the contract names the stage.
+    let _ = stage.linked;
+    need_of(
+        alloc,
+        schema,
+        capacity,
+        &mut parts.runners[unit as usize - 1],
     )
 }
 

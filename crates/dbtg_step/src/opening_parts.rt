@@ -248,6 +248,7 @@ fn new_runner(
         script,
         next: 0,
         stage: None,
+        course: None,
     })
 }
 

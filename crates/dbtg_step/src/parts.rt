@@ -1,6 +1,7 @@
 //! The parts of the core: where each cell is, the history, and the run-units.
 
 use dbtg_cells::Cell;
+use dbtg_erase::Course;
 use dbtg_schema::Row;
 use dbtg_unit::{Entry, Held, Statement, Unit};
 
@@ -20,7 +21,8 @@ pub struct Stage {
     pub linked: usize,
 }
 
-/// A run-unit: what it holds, its script, how many statements of it have their ticket, and, in mid-statement, its stage.
+/// A run-unit: what it holds, its script, how many statements of it have their ticket, and, in mid-statement, its stage; `course`
+/// is how far a DELETE in mid-statement has come with its needs.
 #[derive(Drop)]
 pub struct Runner {
     pub unit: Unit,
@@ -28,6 +30,7 @@ pub struct Runner {
     pub script: Row<Statement>,
     pub next: usize,
     pub stage: Option<Stage>,
+    pub course: Option<Course>,
 }
 
 /// The cells by number, the statements that drew a ticket, and the units in their order.

@@ -65,10 +65,10 @@ fn is_delete(statement: &Statement) -> bool
     matches!(statement, Statement::Delete(_))
 }
 
-/// Begins the next statement.
+/// Begins the next statement; what is kept of the statement before it is let go.
 pub fn begin(runner: &mut Runner)
     requires { runner.old.next < length runner.old.script }
-    ensures { (x : Statement) → slice_get runner.old.script runner.old.next ≡ Some x → runner.new ≡ record runner.old { stage = Some (record { exclusive = is_delete x; turning_back = false; ticket = None; linked = 0 }) } }
+    ensures { (x : Statement) → slice_get runner.old.script runner.old.next ≡ Some x → runner.new ≡ record runner.old { stage = Some (record { exclusive = is_delete x; turning_back = false; ticket = None; linked = 0 }); course = None } }
 {
     let exclusive = is_delete(statement_of(runner));
     runner.stage = Some(Stage {
@@ -77,6 +77,7 @@ pub fn begin(runner: &mut Runner)
         ticket: None,
         linked: 0,
     });
+    runner.course = None;
 }
 
 /// Links a cell.
@@ -113,9 +114,9 @@ pub fn close(runner: &mut Runner)
     }
 }
 
-/// Turns back as long as a cell is in hand.
+/// Turns back as long as a cell is in hand; what is kept of the cells that were in hand is let go.
 pub fn turn_back(runner: &mut Runner, stage: Stage)
-    ensures { runner.new ≡ record runner.old { stage = Some (record stage { turning_back = nat_lt 0 (length runner.old.held.cells) }) } }
+    ensures { runner.new ≡ record runner.old { stage = Some (record stage { turning_back = nat_lt 0 (length runner.old.held.cells) }); course = None } }
 {
     runner.stage = Some(Stage {
         exclusive: stage.exclusive,
@@ -123,6 +124,7 @@ pub fn turn_back(runner: &mut Runner, stage: Stage)
         ticket: stage.ticket,
         linked: stage.linked,
     });
+    runner.course = None;
 }
 
 /// The units alone, in their order.

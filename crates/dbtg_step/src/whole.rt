@@ -7,6 +7,7 @@ ghost use Rattle.dbtg_unit.specs.Database.State.Belongs.{IsUnitOf, IsWithin};
 ghost use Rattle.dbtg_unit.specs.Database.Statements.Fits.{fits};
 ghost use Rattle.dbtg_unit.specs.Database.State.Image.{image_of};
 ghost use Rattle.dbtg_unit.specs.Hands.Local.{Agrees, AllAgree};
+ghost use Rattle.dbtg_unit.specs.Hands.Needs.{need};
 ghost use Rattle.dbtg_unit.specs.Hands.Making.{HaveNextVersions};
 ghost use Rattle.dbtg_unit.specs.Hands.Prepared.{values_of};
 ghost use Rattle.dbtg_unit.specs.Database.Laws.Replay.{IsHistoryOf};
@@ -62,6 +63,24 @@ fn goes_by_guesses(statement: &Statement) -> bool
     matches!(statement, Statement::Remove(_) | Statement::Modify { .. })
 }
 
+// What the statement needs, where it is asked once: nothing was kept before, and nothing is kept.
+fn need_once(
+    alloc: Global,
+    schema: &Schema,
+    capacity: u16,
+    unit: &Unit,
+    statement: &Statement,
+    held: &Held,
+) -> Result<Need, AllocError>
+    requires fits { fits schema.now statement.now ≡ true }
+    requires of_schema { IsUnitOf schema.now unit.now }
+    requires within { IsWithin capacity unit.now }
+    ensures need { IfOk result (λ n. (db : Database) → Agrees schema.now capacity db held.now unit.now → n ≡ need schema.now capacity db unit.now held.now statement.now) }
+{
+    let mut course = None;
+    next_need(alloc, schema, capacity, unit, statement, held, &mut course)
+}
+
 // Guesses that the statement needs are the true owners; there are no others. With all areas and cells in hand it then needs
 // nothing more.
 fn guess_owners(
@@ -85,16 +104,7 @@ fn guess_owners(
     if !goes_by_guesses(statement) {
         return Ok(());
     }
-    let mut course = None;
-    if let Need::Stale(owners) = next_need(
-        alloc,
-        schema,
-        capacity,
-        unit,
-        statement,
-        held,
-        &mut course,
-    )? {
+    if let Need::Stale(owners) = need_once(alloc, schema, capacity, unit, statement, held)? {
         held.set_guesses(owners);
     }
     Ok(())

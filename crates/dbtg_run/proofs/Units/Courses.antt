@@ -5,28 +5,18 @@ use Rattle.dbtg_schema.specs.Lists.{Lists}
 use Rattle.dbtg_cells.specs.declared.cell.Cell.{Cell}
 use Rattle.dbtg_cells.specs.declared.name.CellName.{CellName}
 use Rattle.dbtg_unit.specs.declared.statement.Statement.{Statement}
-use Rattle.dbtg_unit.specs.declared.statement.Statement.TheVariants.{Delete}
 use Rattle.dbtg_unit.specs.declared.unit.Unit.{Unit}
 use Rattle.dbtg_unit.specs.Hands.Hands.{Hands}
 use Rattle.dbtg_erase.specs.declared.course.Course.{Course}
 use Rattle.dbtg_erase.specs.Course.{HasAllOf}
-use Rattle.dbtg_erase.proofs.CourseKept.{kept_stays, one_more_cell, same_cells}
+use Rattle.dbtg_erase.proofs.Public.{one_more_cell, same_cells}
 use Rattle.dbtg_step.specs.Core.Courses.{IsCourseKept}
-
--- nothing is kept: that is always right
-pub nothing_kept : (schema : Lists) (capacity : ℕ) (hands : Hands) (unit : Unit) (x : Statement) → IsCourseKept schema capacity hands unit x None
-nothing_kept schema capacity hands unit (Delete option) = λ k e. tt
-nothing_kept schema capacity hands unit _ = tt
-
--- with more in hand, what is kept is right
-more_in_hand : (schema : Lists) (capacity : ℕ) (hands hands' : Hands) (unit : Unit) (x : Statement) (course : Option Course) → HasAllOf hands hands' → IsCourseKept schema capacity hands unit x course → IsCourseKept schema capacity hands' unit x course
-more_in_hand schema capacity hands hands' unit (Delete option) course all kept = kept_stays schema capacity hands hands' unit option course all kept
-more_in_hand schema capacity hands hands' unit _ course all kept = tt
+use Rattle.dbtg_step.proofs.Public.{course_stays}
 
 -- of the same unit, with more in hand
-pub course_stays : (schema : Lists) (capacity : ℕ) (hands hands' : Hands) (unit unit' : Unit) (x : Statement) (course : Option Course) → unit' ≡ unit → HasAllOf hands hands' → IsCourseKept schema capacity hands unit x course → IsCourseKept schema capacity hands' unit' x course
-course_stays schema capacity hands hands' unit unit' x course same all kept =
-    subst (λ (u : Unit). IsCourseKept schema capacity hands' u x course) (sym same) (more_in_hand schema capacity hands hands' unit x course all kept)
+pub course_goes_on : (schema : Lists) (capacity : ℕ) (hands hands' : Hands) (unit unit' : Unit) (x : Statement) (course : Option Course) → unit' ≡ unit → HasAllOf hands hands' → IsCourseKept schema capacity hands unit x course → IsCourseKept schema capacity hands' unit' x course
+course_goes_on schema capacity hands hands' unit unit' x course same all kept =
+    subst (λ (u : Unit). IsCourseKept schema capacity hands' u x course) (sym same) (course_stays schema capacity hands unit hands' all x course kept)
 
 -- where an area was taken, all cells are still in hand
 pub all_with_area : (taken : Bool) (old new : Hands) (a : ℕ) (P Q : Type 0) → MatchBool taken ((new ≡ record old { areas = old.areas ++ a ∷ [] }) × P) Q → taken ≡ true → HasAllOf old new

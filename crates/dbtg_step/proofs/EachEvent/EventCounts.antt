@@ -1,6 +1,5 @@
 -- A statement that is never blocked and never turns back has 2 + 2a + 3c events.
 use Rattle.std.proofs.Common.{ℕ, zero, suc, ◌+◌, ◌*◌, ◌≡◌, ◌≤◌, Bool, true, false, ◌||◌, List, [], ◌∷◌, length, Some, None, slice_set, option_and_then, refl, sym, ap, ◌∙◌, subst, arith, lt-ltb, le-ltb, inl, inr}
-use Rattle.std.proofs.lemmas.List.{set-set}
 use Rattle.dbtg_step.specs.Machine.SequentialDatabase.{HeldCell, NextNeed, NeedsArea, NeedsCell, NeedsNothing, SequentialDatabase, NamesCells, NotAmong, unit_at, with_unit_at}
 use Rattle.dbtg_step.specs.Machine.Machine.{Location, Home, HeldBy, Progress, UnitState, State, SequentialState, replay, relocated, begun, unless_over}
 use Rattle.dbtg_step.specs.Machine.Step.{next_need, any_but, any_other, conflicts, updated, with_progress, with_ticket, due_cells, after_ticket, takes_area, takes_cell, follows_need, step, MovedTo}

@@ -45,6 +45,7 @@ use Rattle.dbtg_step.specs.Core.Parts.{held_cells_of, held_of, location_at, note
 use Rattle.dbtg_step.specs.Core.Stands.{StandsNeeding}
 use Rattle.dbtg_step.specs.Core.Leaves.{IsDrawn, IsUnmade}
 use Rattle.dbtg_step.specs.Core.Events.{IsStepped, IsWell, NeedsNext, RunnerFits, RunnersFit, opening_for}
+use Rattle.dbtg_step.proofs.TheCore.CoursesKept.{no_course}
 use Rattle.dbtg_step.proofs.TheCore.EventsShown.{over_is_empty, unit_written, while_held_is, written_fit}
 use Rattle.dbtg_step.proofs.TheCore.FollowsShown.{follows, refused_is, wants}
 use Rattle.dbtg_step.proofs.Runs.Headlines.{replays_same}
@@ -192,7 +193,7 @@ module _ (schema : Lists) (capacity u : ℕ) (old : Parts) (r : Runner) (well : 
         progress = progress_shows schema capacity r.held n.held m.shows.areas cells r.stage i;
       } in
       refused_is schema capacity u old r well numbered at w s (wants schema capacity u old r well numbered at w s _ (follows schema capacity u old r well numbered at w s Ready needs)) new n t h runners (ap (unit_state_of schema capacity) m.rest ∙ state)
-      (subst (RunnerFits schema) (sym m.rest) (record { settled = λ q. absurd (cc (q, s.before.stage)); guesses = ap length m.shows.guesses ∙ (well.runners (u - 1) r at).guesses }))
+      (subst (RunnerFits schema capacity) (sym m.rest) (record { settled = λ q. absurd (cc (q, s.before.stage)); guesses = ap length m.shows.guesses ∙ (well.runners (u - 1) r at).guesses; course = λ v q t x is. no_course schema capacity n.held r.unit x }))
 
   pub drawn_is : (new : Parts) (n : Runner) → new.table.items ≡ old.table.items → new.runners.items ≡ slice_set old.runners.items (u - 1) n → ((x : Statement) (d : Database) → slice_get r.script r.next ≡ Some x → Agrees schema capacity d r.held r.unit → IsDrawn schema capacity d x u w old.history.items new.history.items r n) → IsStepped schema capacity u Moved old new
   unfolding follows_need with_ticket state_from
@@ -214,9 +215,10 @@ module _ (schema : Lists) (capacity u : ℕ) (old : Parts) (r : Runner) (well : 
         tells = follows schema capacity u old r well numbered at w s Ready needs ∙ ap MovedTo (sym (λ i. record { location = location_at schema capacity (t i); history = history i; counter = counter i; units = units i }));
         table = ap length t;
         count = ap length runners ∙ length-set old.runners.items (u - 1) n;
-        runners = subst (RunnersFit schema) (sym runners) (written_fit schema old.runners.items (u - 1) n well.runners
-            (subst (RunnerFits schema) (sym d.rest) (record {
+        runners = subst (RunnersFit schema capacity) (sym runners) (written_fit schema capacity old.runners.items (u - 1) n well.runners
+            (subst (RunnerFits schema capacity) (sym d.rest) (record {
               settled = over_is_empty n.held.areas n.held.cells ticket;
               guesses = ap length d.made.guesses_are ∙ guesses_length schema capacity x.0 r.held.guesses done (well.runners (u - 1) r at).guesses;
+              course = λ v q t y is. no_course schema capacity n.held n.unit y;
             })));
       }

@@ -13,6 +13,7 @@ use Rattle.dbtg_cells.specs.Shown.{CellValue}
 use Rattle.dbtg_cells.proofs.Public.{reverse_more, there_is}
 use Rattle.dbtg_unit.specs.declared.statement.Statement.{Statement}
 use Rattle.dbtg_unit.specs.Hands.Hands.{Hands}
+use Rattle.dbtg_erase.specs.declared.course.Course.{Course}
 use Rattle.dbtg_step.specs.declared.parts.Parts.{Parts}
 use Rattle.dbtg_step.specs.declared.parts.Runner.{Runner}
 use Rattle.dbtg_step.specs.declared.parts.Stage.{Stage}
@@ -21,10 +22,12 @@ use Rattle.dbtg_step.specs.Machine.SequentialDatabase.{HeldCell, In, SequentialD
 use Rattle.dbtg_step.specs.Machine.Machine.{Location, Home, HeldBy, Progress, UnitState, State, begun, held_cells, relocated, unless_over}
 use Rattle.dbtg_step.specs.Machine.Step.{IsIdle, MovedTo, after_ticket, is_nonempty, step, updated, with_progress}
 use Rattle.dbtg_step.specs.Machine.Network.{is_delete, network}
+use Rattle.dbtg_step.specs.Core.Courses.{IsCourseKept}
 use Rattle.dbtg_step.specs.Core.Parts.{held_cells_of, held_of, location_at, progress_of, stage_of, stage_while_held, state_from, state_of, unit_state_of}
 use Rattle.dbtg_step.specs.Core.Stands.{HasStatement, StandsBetween, StandsOver, StandsTicketed, StandsTurning}
 use Rattle.dbtg_step.specs.Core.Leaves.{IsCellGiven}
 use Rattle.dbtg_step.specs.Core.Events.{IsStepped, IsWell, RunnerFits, RunnersFit, opening_for}
+use Rattle.dbtg_step.proofs.TheCore.CoursesKept.{no_course}
 use Rattle.dbtg_step.proofs.TheCore.PlacesOfCells.{held_behind, length_home, updated_is, written_home_is}
 use Rattle.dbtg_step.proofs.EachEvent.StepCases.{step_after_ticket, step_begins, step_no_unit, step_over, step_turns_back}
 use Rattle.dbtg_step.proofs.EachEvent.UnitLists.{map_found}
@@ -78,16 +81,21 @@ unfolding with_unit_at
 unit_written xs zero x l = absurd (omega arith)
 unit_written xs (suc u) x l = ap (λ i. slice_set xs i x) (let back : suc u - 1 ≡ u = omega arith in back)
 
-pub written_fit : (schema : Lists) (runners : List Runner) (i : ℕ) (n : Runner) → RunnersFit schema runners → RunnerFits schema n → RunnersFit schema (slice_set runners i n)
-written_fit schema [] i n fit f j r e = absurd (cc (e))
-written_fit schema (x ∷ xs) zero n fit f zero r e = let same : n ≡ r = cc (e) in subst (RunnerFits schema) same f
-written_fit schema (x ∷ xs) zero n fit f (suc j) r e = fit (suc j) r e
-written_fit schema (x ∷ xs) (suc i) n fit f zero r e = fit zero r e
-written_fit schema (x ∷ xs) (suc i) n fit f (suc j) r e = written_fit schema xs i n (λ k s g. fit (suc k) s g) f j r e
+pub written_fit : (schema : Lists) (capacity : ℕ) (runners : List Runner) (i : ℕ) (n : Runner) → RunnersFit schema capacity runners → RunnerFits schema capacity n → RunnersFit schema capacity (slice_set runners i n)
+written_fit schema capacity [] i n fit f j r e = absurd (cc (e))
+written_fit schema capacity (x ∷ xs) zero n fit f zero r e = let same : n ≡ r = cc (e) in subst (RunnerFits schema capacity) same f
+written_fit schema capacity (x ∷ xs) zero n fit f (suc j) r e = fit (suc j) r e
+written_fit schema capacity (x ∷ xs) (suc i) n fit f zero r e = fit zero r e
+written_fit schema capacity (x ∷ xs) (suc i) n fit f (suc j) r e = written_fit schema capacity xs i n (λ k s g. fit (suc k) s g) f j r e
 
 -- with a stage a unit need not be settled
-pub staged_fits : (schema : Lists) (r : Runner) (held : Hands) (w : Stage) → RunnerFits schema r → held.guesses ≡ r.held.guesses → RunnerFits schema (record r { held = held; stage = Some w })
-staged_fits schema r held w f e = record { settled = λ q. absurd (cc (q)); guesses = ap length e ∙ f.guesses }
+pub staged_fits : (schema : Lists) (capacity : ℕ) (r : Runner) (held : Hands) (w : Stage) (course : Option Course) → RunnerFits schema capacity r → held.guesses ≡ r.held.guesses → (w.ticket ≡ None → (x : Statement) → slice_get r.script r.next ≡ Some x → IsCourseKept schema capacity held r.unit x course) →
+    RunnerFits schema capacity (record r { held = held; stage = Some w; course = course })
+staged_fits schema capacity r held w course f e kept = record {
+  settled = λ q. absurd (cc (q));
+  guesses = ap length e ∙ f.guesses;
+  course = λ v q t x is. (let same : w ≡ v = cc (q) in kept (ap (λ (z : Stage). z.ticket) same ∙ t) x is);
+}
 
 over_some : (schema : Lists) (capacity : ℕ) (w : Progress (network schema capacity)) (areas : List ℕ) (cells : List (HeldCell CellName CellValue)) → 0 < length areas + length cells → unless_over (network schema capacity) w areas cells ≡ Some w
 unfolding unless_over
@@ -113,8 +121,20 @@ over_is_empty [] [] w e = (refl, refl)
 over_is_empty [] (c ∷ cs) w e = absurd (cc (e))
 over_is_empty (a ∷ as_) cs w e = absurd (cc (e))
 
-pub closed_fits : (schema : Lists) (r : Runner) (held : Hands) (w : Stage) → RunnerFits schema r → held.guesses ≡ r.held.guesses → RunnerFits schema (record r { held = held; stage = stage_while_held held.areas held.cells (Some w) })
-closed_fits schema r held w f e = record { settled = over_is_empty held.areas held.cells w; guesses = ap length e ∙ f.guesses }
+-- a stage that is not over is as it was
+still_is : (areas : List ℕ) (cells : List (CellName × Cell)) (w v : Stage) → stage_while_held areas cells (Some w) ≡ Some v → w ≡ v
+still_is [] [] w v e = absurd (cc (e))
+still_is [] (c ∷ cs) w v e = cc (e)
+still_is (a ∷ as_) cs w v e = cc (e)
+
+-- with a ticket nothing is asked of the course
+pub closed_fits : (schema : Lists) (capacity : ℕ) (r : Runner) (held : Hands) (w : Stage) (ticket : ℕ) → w.ticket ≡ Some ticket → RunnerFits schema capacity r → held.guesses ≡ r.held.guesses →
+    RunnerFits schema capacity (record r { held = held; stage = stage_while_held held.areas held.cells (Some w) })
+closed_fits schema capacity r held w ticket has f e = record {
+  settled = over_is_empty held.areas held.cells w;
+  guesses = ap length e ∙ f.guesses;
+  course = λ v q t x is. (let same = still_is held.areas held.cells w v q in let none : w.ticket ≡ None = ap (λ (z : Stage). z.ticket) same ∙ t in absurd (cc (none, has)));
+}
 
 module _ (schema : Lists) (capacity u : ℕ) (old : Parts) (r : Runner) (well : IsWell schema capacity old) (numbered : 0 < u) (at : slice_get old.runners.items (u - 1) ≡ Some r) where
   abbrev D : SequentialDatabase
@@ -130,7 +150,7 @@ module _ (schema : Lists) (capacity u : ℕ) (old : Parts) (r : Runner) (well : 
   unfolding state_from
   found = map_found (unit_state_of schema capacity) old.runners.items u r (unit_there old.runners.items u r numbered at)
 
-  fits_here : RunnerFits schema r
+  fits_here : RunnerFits schema capacity r
   fits_here = well.runners (u - 1) r at
 
   module _ (new : Parts) (n : Runner) (history : new.history.items ≡ old.history.items) (runners : new.runners.items ≡ slice_set old.runners.items (u - 1) n) where
@@ -138,7 +158,7 @@ module _ (schema : Lists) (capacity u : ℕ) (old : Parts) (r : Runner) (well : 
     pub moved_is : (location : CellName → Location CellValue) (guesses : _) (progress : Option (Progress (network schema capacity))) →
         step (network schema capacity) (opening_for schema capacity old) (state_of schema capacity old) u ≡ MovedTo (updated (network schema capacity) (state_of schema capacity old) u (unit_state_of schema capacity r) location guesses progress) →
         length new.table.items ≡ length old.table.items → location_at schema capacity new.table.items ≡ location →
-        unit_state_of schema capacity n ≡ with_progress (network schema capacity) (unit_state_of schema capacity r) guesses progress → RunnerFits schema n →
+        unit_state_of schema capacity n ≡ with_progress (network schema capacity) (unit_state_of schema capacity r) guesses progress → RunnerFits schema capacity n →
         IsStepped schema capacity u Moved old new
     moved_is location guesses progress s t p e f =
         let units = runners ∙ unit_written old.runners.items u n numbered in
@@ -147,10 +167,10 @@ module _ (schema : Lists) (capacity u : ℕ) (old : Parts) (r : Runner) (well : 
           tells = s ∙ ap MovedTo (sym (same ∙ updated_is schema capacity old.table.items new.table.items old.history.items old.runners.items u r n location guesses progress p e));
           table = t;
           count = ap length runners ∙ length-set old.runners.items (u - 1) n;
-          runners = subst (RunnersFit schema) (sym runners) (written_fit schema old.runners.items (u - 1) n well.runners f);
+          runners = subst (RunnersFit schema capacity) (sym runners) (written_fit schema capacity old.runners.items (u - 1) n well.runners f);
         }
 
-    pub begins_is : StandsBetween r → new.table.items ≡ old.table.items → ((x : Statement) → slice_get r.script r.next ≡ Some x → n ≡ record r { stage = Some (record { exclusive = is_delete x; turning_back = false; ticket = None; linked = 0 }) }) → IsStepped schema capacity u Moved old new
+    pub begins_is : StandsBetween r → new.table.items ≡ old.table.items → ((x : Statement) → slice_get r.script r.next ≡ Some x → n ≡ record r { stage = Some (record { exclusive = is_delete x; turning_back = false; ticket = None; linked = 0 }); course = None }) → IsStepped schema capacity u Moved old new
     unfolding begun state_from
     begins_is s t e =
         let x = there_is r.script r.next s.left in
@@ -160,7 +180,7 @@ module _ (schema : Lists) (capacity u : ℕ) (old : Parts) (r : Runner) (well : 
         (step_begins (network schema capacity) (opening_for schema capacity old) (state_of schema capacity old) u (unit_state_of schema capacity r) found x.0 (drop (suc r.next) r.script) (ap (progress_of schema capacity r.held) s.stage) (drop_found r.script r.next x.0 x.1))
         (ap length t) (ap (location_at schema capacity) t)
         (ap (unit_state_of schema capacity) (e x.0 x.1) ∙ (λ i. record { unit = r.unit; guesses = r.held.guesses; script = r.script; remaining = drop r.next r.script; progress = Some (record { exclusive = is_delete x.0; areas = reverse (settled.0 i); cells = held_cells_of (settled.1 i); turning_back = false; ticket = None; linked = 0 }) }))
-        (subst (RunnerFits schema) (sym (e x.0 x.1)) (staged_fits schema r r.held w fits_here refl))
+        (subst (RunnerFits schema capacity) (sym (e x.0 x.1)) (staged_fits schema capacity r r.held w None fits_here refl (λ t y is. no_course schema capacity r.held r.unit y)))
 
     -- a stage with a ticket is the machine's progress with a ticket
     after_step : (w : Stage) → StandsTicketed r w → (b : Bool) → ltb w.linked (length (held_cells_of r.held.cells)) ≡ b → (cells : List (HeldCell CellName CellValue)) → held_cells_of r.held.cells ≡ cells → (areas : List ℕ) → reverse r.held.areas ≡ areas →
@@ -178,7 +198,7 @@ module _ (schema : Lists) (capacity u : ℕ) (old : Parts) (r : Runner) (well : 
         (after_step w s true less (held_cells_of r.held.cells) refl (reverse r.held.areas) refl)
         (ap length t) (ap (location_at schema capacity) t)
         (ap (unit_state_of schema capacity) e ∙ (λ i. record { unit = r.unit; guesses = r.held.guesses; script = r.script; remaining = drop r.next r.script; progress = Some (record (stage_of schema capacity r.held w) { linked = next i }) }))
-        (subst (RunnerFits schema) (sym e) (staged_fits schema r r.held (record w { linked = w.linked + 1 }) fits_here refl))
+        (subst (RunnerFits schema capacity) (sym e) (staged_fits schema capacity r r.held (record w { linked = w.linked + 1 }) r.course fits_here refl (λ t. (let none : w.ticket ≡ None = t in absurd (cc (none, s.has))))))
 
     -- a cell that the unit holds stands with the unit
     held_here : (w : Stage) → r.stage ≡ Some w → (h : HeldCell CellName CellValue) → In h (held_cells_of r.held.cells) → location_at schema capacity old.table.items h.name ≡ HeldBy u
@@ -204,11 +224,11 @@ module _ (schema : Lists) (capacity u : ℕ) (old : Parts) (r : Runner) (well : 
       table_stays : length new.table.items ≡ length old.table.items
       table_stays = ap length given.home ∙ length_home schema capacity old.table.items given.which.0 given.which.1
 
-      pub gives_cell_is : StandsTicketed r w → length r.held.cells ≤ w.linked → n ≡ record { unit = r.unit; held = mid; script = r.script; next = r.next; stage = stage_while_held mid.areas mid.cells r.stage } → IsStepped schema capacity u Moved old new
+      pub gives_cell_is : StandsTicketed r w → length r.held.cells ≤ w.linked → n ≡ record { unit = r.unit; held = mid; script = r.script; next = r.next; stage = stage_while_held mid.areas mid.cells r.stage; course = r.course } → IsStepped schema capacity u Moved old new
       unfolding after_ticket state_from
       gives_cell_is s l e =
           let less : ltb w.linked (length (held_cells_of r.held.cells)) ≡ false = le-ltb _ _ (subst (λ m. m ≤ w.linked) (sym (length_held r.held.cells)) l) in
-          let is : n ≡ record r { held = mid; stage = stage_while_held mid.areas mid.cells (Some w) } = e ∙ ap (λ o. record { unit = r.unit; held = mid; script = r.script; next = r.next; stage = stage_while_held mid.areas mid.cells o }) stage in
+          let is : n ≡ record r { held = mid; stage = stage_while_held mid.areas mid.cells (Some w) } = e ∙ ap (λ o. record { unit = r.unit; held = mid; script = r.script; next = r.next; stage = stage_while_held mid.areas mid.cells o; course = r.course }) stage in
           moved_is (relocated (network schema capacity) (location_at schema capacity old.table.items) given.which.0 (Home (shown given.which.1))) r.held.guesses
           (unless_over (network schema capacity) (record (stage_of schema capacity r.held w) { cells = held_cells_of mid.cells }) (reverse r.held.areas) (held_cells_of mid.cells))
           (after_step w s false less (held_of given.which ∷ held_cells_of mid.cells) newest (reverse r.held.areas) refl)
@@ -216,9 +236,9 @@ module _ (schema : Lists) (capacity u : ℕ) (old : Parts) (r : Runner) (well : 
           (ap (unit_state_of schema capacity) is
           ∙ (λ i. record { unit = r.unit; guesses = guesses_stay i; script = r.script; remaining = drop r.next r.script; progress = while_held_is schema capacity mid w i })
           ∙ (λ i. record { unit = r.unit; guesses = r.held.guesses; script = r.script; remaining = drop r.next r.script; progress = unless_over (network schema capacity) (record (stage_of schema capacity r.held w) { cells = held_cells_of mid.cells; areas = reverse (areas_stay i) }) (reverse (areas_stay i)) (held_cells_of mid.cells) }))
-          (subst (RunnerFits schema) (sym is) (closed_fits schema r mid w fits_here guesses_stay))
+          (subst (RunnerFits schema capacity) (sym is) (closed_fits schema capacity r mid w s.ticket s.has fits_here guesses_stay))
 
-      pub turns_back_is : StandsTurning r w → n ≡ record { unit = r.unit; held = mid; script = r.script; next = r.next; stage = Some (record w { turning_back = nat_lt 0 (length mid.cells) }) } → IsStepped schema capacity u Moved old new
+      pub turns_back_is : StandsTurning r w → n ≡ record { unit = r.unit; held = mid; script = r.script; next = r.next; stage = Some (record w { turning_back = nat_lt 0 (length mid.cells) }); course = None } → IsStepped schema capacity u Moved old new
       unfolding state_from
       turns_back_is s e =
           let x = there_is r.script r.next s.before.left in
@@ -229,11 +249,11 @@ module _ (schema : Lists) (capacity u : ℕ) (old : Parts) (r : Runner) (well : 
           table_stays cell_home
           (ap (unit_state_of schema capacity) e
           ∙ (λ i. record { unit = r.unit; guesses = guesses_stay i; script = r.script; remaining = drop r.next r.script; progress = Some (record { exclusive = w.exclusive; areas = reverse (areas_stay i); cells = held_cells_of mid.cells; turning_back = turning i; ticket = w.ticket; linked = w.linked }) }))
-          (subst (RunnerFits schema) (sym e) (staged_fits schema r mid (record w { turning_back = nat_lt 0 (length mid.cells) }) fits_here guesses_stay))
+          (subst (RunnerFits schema capacity) (sym e) (staged_fits schema capacity r mid (record w { turning_back = nat_lt 0 (length mid.cells) }) None fits_here guesses_stay (λ t y is. no_course schema capacity mid r.unit y)))
 
     -- with all cells at home an area is left, or nothing is held
     pub leaves_area_is : (w : Stage) → StandsTicketed r w → length r.held.cells ≡ 0 → (mid : Hands) (o : Option ℕ) → r.held.areas ≡ mid.areas ++ option_to_list o → IfNone o (r.held.areas ≡ []) → mid ≡ record r.held { areas = mid.areas } → new.table.items ≡ old.table.items →
-        n ≡ record { unit = r.unit; held = mid; script = r.script; next = r.next; stage = stage_while_held mid.areas mid.cells r.stage } → IsStepped schema capacity u Moved old new
+        n ≡ record { unit = r.unit; held = mid; script = r.script; next = r.next; stage = stage_while_held mid.areas mid.cells r.stage; course = r.course } → IsStepped schema capacity u Moved old new
     unfolding after_ticket state_from unless_over
     leaves_area_is w s l mid o areas none rest t e = by o areas none
       where
@@ -250,7 +270,7 @@ module _ (schema : Lists) (capacity u : ℕ) (old : Parts) (r : Runner) (well : 
         less = le-ltb _ _ (let z = length_held r.held.cells in omega (arith, z, l))
 
         is : n ≡ record r { held = mid; stage = stage_while_held mid.areas mid.cells (Some w) }
-        is = e ∙ ap (λ o. record { unit = r.unit; held = mid; script = r.script; next = r.next; stage = stage_while_held mid.areas mid.cells o }) s.stage
+        is = e ∙ ap (λ o. record { unit = r.unit; held = mid; script = r.script; next = r.next; stage = stage_while_held mid.areas mid.cells o; course = r.course }) s.stage
 
         leaves : (progress : Option (Progress (network schema capacity))) → step (network schema capacity) (opening_for schema capacity old) (state_of schema capacity old) u ≡ MovedTo (updated (network schema capacity) (state_of schema capacity old) u (unit_state_of schema capacity r) (location_at schema capacity old.table.items) r.held.guesses progress) →
             unless_over (network schema capacity) (stage_of schema capacity mid w) (reverse mid.areas) (held_cells_of mid.cells) ≡ progress → IsStepped schema capacity u Moved old new
@@ -258,7 +278,7 @@ module _ (schema : Lists) (capacity u : ℕ) (old : Parts) (r : Runner) (well : 
             moved_is (location_at schema capacity old.table.items) r.held.guesses progress q (ap length t) (ap (location_at schema capacity) t)
             (ap (unit_state_of schema capacity) is
             ∙ (λ i. record { unit = r.unit; guesses = guesses_same i; script = r.script; remaining = drop r.next r.script; progress = (while_held_is schema capacity mid w ∙ p) i }))
-            (subst (RunnerFits schema) (sym is) (closed_fits schema r mid w fits_here guesses_same))
+            (subst (RunnerFits schema capacity) (sym is) (closed_fits schema capacity r mid w s.ticket s.has fits_here guesses_same))
 
         by : (o : Option ℕ) → r.held.areas ≡ mid.areas ++ option_to_list o → IfNone o (r.held.areas ≡ []) → IsStepped schema capacity u Moved old new
         by None areas none =

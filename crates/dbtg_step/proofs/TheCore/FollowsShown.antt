@@ -15,6 +15,8 @@ use Rattle.dbtg_unit.specs.declared.held.Need.TheVariants.{Area, Take, Stale}
 use Rattle.dbtg_unit.specs.declared.statement.Statement.{Statement}
 use Rattle.dbtg_unit.specs.Hands.Guesses.{with_owners}
 use Rattle.dbtg_unit.specs.Hands.Hands.{Hands}
+use Rattle.dbtg_erase.specs.Course.{HasAllOf}
+use Rattle.dbtg_erase.proofs.Public.{one_more_cell, same_cells}
 use Rattle.dbtg_step.specs.declared.parts.Parts.{Parts}
 use Rattle.dbtg_step.specs.declared.parts.Place.{Place}
 use Rattle.dbtg_step.specs.declared.parts.Place.TheVariants.{Home as AtHome, HeldBy as WithUnit}
@@ -25,10 +27,12 @@ use Rattle.dbtg_unit.specs.declared.moves.Stepped.TheVariants.{Moved, Blocked, I
 use Rattle.dbtg_step.specs.Machine.Machine.{HeldBy, State, held_areas, holds_exclusively, relocated}
 use Rattle.dbtg_step.specs.Machine.Step.{any_but, any_other, conflicts, follows_need, is_nonempty, step, takes_area, takes_cell, IsBlocked, MovedTo}
 use Rattle.dbtg_step.specs.Machine.Network.{network, next_need_of}
+use Rattle.dbtg_step.specs.Core.Courses.{IsCourseKept}
 use Rattle.dbtg_step.specs.Core.Parts.{held_cells_of, held_of, location_at, location_of, note_of, progress_of, stage_of, state_from, state_of, unit_state_of}
 use Rattle.dbtg_step.specs.Core.Stands.{holds_against, StandsNeeding, stage_holds_against}
 use Rattle.dbtg_step.specs.Core.Leaves.{IsTaken}
 use Rattle.dbtg_step.specs.Core.Events.{IsStepped, IsWell, NeedsNext, RunnerFits, RunnersFit, WantsMemory, opening_for}
+use Rattle.dbtg_step.proofs.TheCore.CoursesKept.{course_stays, no_course}
 use Rattle.dbtg_step.proofs.TheCore.EventsShown.{drop_found, found, length_held, moved_is, nonempty_length, staged_fits, unit_there, unit_written, written_fit}
 use Rattle.dbtg_step.proofs.TheCore.NeedsShown.{any_reverse}
 use Rattle.dbtg_step.proofs.TheCore.PlacesOfCells.{held_behind, location_placed, written_is}
@@ -111,10 +115,14 @@ module _ (schema : Lists) (capacity u : ℕ) (old : Parts) (r : Runner) (well : 
     event = e;
   }
 
-  pub blocked_is : (new : Parts) → step (network schema capacity) (opening_for schema capacity old) (state_of schema capacity old) u ≡ IsBlocked → new.table.items ≡ old.table.items → new.history.items ≡ old.history.items → new.runners.items ≡ old.runners.items → IsStepped schema capacity u Blocked old new
-  blocked_is new e t h n = record { tells = (e, λ i. state_from schema capacity (t i) (h i) (n i)); table = ap length t; count = ap length n; runners = subst (RunnersFit schema) (sym n) well.runners }
+  -- what is kept of its course stays right while more comes to hand
+  goes_on : (held : Hands) → HasAllOf r.held held → w.ticket ≡ None → (x : Statement) → slice_get r.script r.next ≡ Some x → IsCourseKept schema capacity held r.unit x r.course
+  goes_on held all t x is = course_stays schema capacity r.held r.unit held all x r.course ((well.runners (u - 1) r at).course w s.before.stage t x is)
 
-  pub refused_is : WantsMemory (opening_for schema capacity old) (state_of schema capacity old) u → (new : Parts) (n : Runner) → new.table.items ≡ old.table.items → new.history.items ≡ old.history.items → new.runners.items ≡ slice_set old.runners.items (u - 1) n → unit_state_of schema capacity n ≡ unit_state_of schema capacity r → RunnerFits schema n → IsStepped schema capacity u NoMemory old new
+  pub blocked_is : (new : Parts) → step (network schema capacity) (opening_for schema capacity old) (state_of schema capacity old) u ≡ IsBlocked → new.table.items ≡ old.table.items → new.history.items ≡ old.history.items → new.runners.items ≡ old.runners.items → IsStepped schema capacity u Blocked old new
+  blocked_is new e t h n = record { tells = (e, λ i. state_from schema capacity (t i) (h i) (n i)); table = ap length t; count = ap length n; runners = subst (RunnersFit schema capacity) (sym n) well.runners }
+
+  pub refused_is : WantsMemory (opening_for schema capacity old) (state_of schema capacity old) u → (new : Parts) (n : Runner) → new.table.items ≡ old.table.items → new.history.items ≡ old.history.items → new.runners.items ≡ slice_set old.runners.items (u - 1) n → unit_state_of schema capacity n ≡ unit_state_of schema capacity r → RunnerFits schema capacity n → IsStepped schema capacity u NoMemory old new
   unfolding state_from
   refused_is wanting new n t h runners e f =
       let units : map (unit_state_of schema capacity) new.runners.items ≡ map (unit_state_of schema capacity) old.runners.items =
@@ -123,7 +131,7 @@ module _ (schema : Lists) (capacity u : ℕ) (old : Parts) (r : Runner) (well : 
         tells = (wanting, λ i. record { location = location_at schema capacity (t i); history = map note_of (h i); counter = length (h i); units = units i });
         table = ap length t;
         count = ap length runners ∙ length-set old.runners.items (u - 1) n;
-        runners = subst (RunnersFit schema) (sym runners) (written_fit schema old.runners.items (u - 1) n well.runners f);
+        runners = subst (RunnersFit schema capacity) (sym runners) (written_fit schema capacity old.runners.items (u - 1) n well.runners f);
       }
 
   -- an area
@@ -149,13 +157,13 @@ module _ (schema : Lists) (capacity u : ℕ) (old : Parts) (r : Runner) (well : 
         moved_is schema capacity u old r well numbered at new n h runners (location_at schema capacity old.table.items) r.held.guesses (Some (record (stage_of schema capacity r.held w) { areas = a ∷ reverse r.held.areas }))
         (area_step false e) (ap length t) (ap (location_at schema capacity) t)
         (ap (unit_state_of schema capacity) (all ∙ staged) ∙ (λ i. record { unit = r.unit; guesses = r.held.guesses; script = r.script; remaining = drop r.next r.script; progress = Some (record (stage_of schema capacity r.held w) { areas = reverse_more r.held.areas a i }) }))
-        (subst (RunnerFits schema) (sym (all ∙ staged)) (staged_fits schema r (record r.held { areas = r.held.areas ++ a ∷ [] }) w (well.runners (u - 1) r at) refl))
+        (subst (RunnerFits schema capacity) (sym (all ∙ staged)) (staged_fits schema capacity r (record r.held { areas = r.held.areas ++ a ∷ [] }) w r.course (well.runners (u - 1) r at) refl (goes_on (record r.held { areas = r.held.areas ++ a ∷ [] }) (same_cells r.held (record r.held { areas = r.held.areas ++ a ∷ [] }) refl))))
 
     pub area_refused : (new : Parts) (n : Runner) (mid : Hands) → list_any (holds_against w.exclusive a) (take (u - 1) old.runners.items) || list_any (holds_against w.exclusive a) (drop u old.runners.items) ≡ false → new.table.items ≡ old.table.items → new.history.items ≡ old.history.items → new.runners.items ≡ slice_set old.runners.items (u - 1) n → mid ≡ r.held → n ≡ record r { held = mid } → IsStepped schema capacity u NoMemory old new
     unfolding takes_area
     area_refused new n mid e t h runners m is =
         let same : n ≡ r = is ∙ ap (λ (x : Hands). record r { held = x }) m in
-        refused_is (wants _ (area_step false e)) new n t h runners (ap (unit_state_of schema capacity) same) (subst (RunnerFits schema) (sym same) (well.runners (u - 1) r at))
+        refused_is (wants _ (area_step false e)) new n t h runners (ap (unit_state_of schema capacity) same) (subst (RunnerFits schema capacity) (sym same) (well.runners (u - 1) r at))
 
   -- a cell
   module _ (c : CellName) (needs : NeedsNext schema capacity old u w (Take c)) (number : ℕ) (is_number : cell_number schema capacity c ≡ Some number) where
@@ -177,13 +185,13 @@ module _ (schema : Lists) (capacity u : ℕ) (old : Parts) (r : Runner) (well : 
         (ap length m.after_is ∙ length-set old.table.items number (WithUnit u))
         (ap (location_at schema capacity) m.after_is ∙ written_is schema capacity old.table.items c number (WithUnit u) is_number (slice_get_within old.table.items number (AtHome m.taken) m.was))
         (ap (unit_state_of schema capacity) (all ∙ staged) ∙ (λ i. record { unit = r.unit; guesses = r.held.guesses; script = r.script; remaining = drop r.next r.script; progress = Some (record (stage_of schema capacity r.held w) { cells = held_behind r.held.cells (c, m.taken) i }) }))
-        (subst (RunnerFits schema) (sym (all ∙ staged)) (staged_fits schema r (record r.held { cells = r.held.cells ++ (c, m.taken) ∷ [] }) w (well.runners (u - 1) r at) refl))
+        (subst (RunnerFits schema capacity) (sym (all ∙ staged)) (staged_fits schema capacity r (record r.held { cells = r.held.cells ++ (c, m.taken) ∷ [] }) w r.course (well.runners (u - 1) r at) refl (goes_on (record r.held { cells = r.held.cells ++ (c, m.taken) ∷ [] }) (one_more_cell r.held (record r.held { cells = r.held.cells ++ (c, m.taken) ∷ [] }) (c, m.taken) refl))))
     cell_followed new n mid Blocked m h runners is =
         let same : n ≡ r = is ∙ ap (λ (x : Hands). record r { held = x }) m.0.held in
         blocked_is new (cell_step (WithUnit m.1.0) m.1.1) m.0.after_is h (runners ∙ ap (slice_set old.runners.items (u - 1)) same ∙ set_same_at old.runners.items (u - 1) r at)
     cell_followed new n mid NoMemory m h runners is =
         let same : n ≡ r = is ∙ ap (λ (x : Hands). record r { held = x }) m.0.held in
-        refused_is (wants _ (cell_step (AtHome m.1.0) m.1.1)) new n m.0.after_is h runners (ap (unit_state_of schema capacity) same) (subst (RunnerFits schema) (sym same) (well.runners (u - 1) r at))
+        refused_is (wants _ (cell_step (AtHome m.1.0) m.1.1)) new n m.0.after_is h runners (ap (unit_state_of schema capacity) same) (subst (RunnerFits schema capacity) (sym same) (well.runners (u - 1) r at))
     cell_followed new n mid Idle m h runners is = absurd m
 
   -- a turn back
@@ -192,7 +200,7 @@ module _ (schema : Lists) (capacity u : ℕ) (old : Parts) (r : Runner) (well : 
     owners_count = (well.runners (u - 1) r at).guesses ∙ sym (needs r statement.0 at statement.1).owners
 
     pub owners_noted : (new : Parts) (n : Runner) → new.table.items ≡ old.table.items → new.history.items ≡ old.history.items → new.runners.items ≡ slice_set old.runners.items (u - 1) n →
-        n ≡ record r { held = record r.held { guesses = with_owners r.held.guesses owners }; stage = Some (record w { turning_back = nat_lt 0 (length r.held.cells) }) } → IsStepped schema capacity u Moved old new
+        n ≡ record r { held = record r.held { guesses = with_owners r.held.guesses owners }; stage = Some (record w { turning_back = nat_lt 0 (length r.held.cells) }); course = None } → IsStepped schema capacity u Moved old new
     unfolding follows_need state_from
     owners_noted new n t h runners is =
         let turning : nat_lt 0 (length r.held.cells) ≡ is_nonempty (held_cells_of r.held.cells) = ap (nat_lt 0) (sym (length_held r.held.cells)) ∙ sym (nonempty_length (held_cells_of r.held.cells)) in
@@ -200,4 +208,4 @@ module _ (schema : Lists) (capacity u : ℕ) (old : Parts) (r : Runner) (well : 
         (Some (record (stage_of schema capacity r.held w) { turning_back = is_nonempty (held_cells_of r.held.cells) }))
         (follows (Stale owners) needs) (ap length t) (ap (location_at schema capacity) t)
         (ap (unit_state_of schema capacity) is ∙ (λ i. record { unit = r.unit; guesses = with_owners r.held.guesses owners; script = r.script; remaining = drop r.next r.script; progress = Some (record (stage_of schema capacity r.held w) { turning_back = turning i }) }))
-        (subst (RunnerFits schema) (sym is) (record { settled = λ q. absurd (cc (q)); guesses = merged_length r.held.guesses owners owners_count ∙ (well.runners (u - 1) r at).guesses }))
+        (subst (RunnerFits schema capacity) (sym is) (record { settled = λ q. absurd (cc (q)); guesses = merged_length r.held.guesses owners owners_count ∙ (well.runners (u - 1) r at).guesses; course = λ v q t x e. no_course schema capacity _ r.unit x }))

@@ -1,6 +1,6 @@
 -- Memory that is refused where a need is asked for stands in the place of an event: a DELETE that has its areas waits for
 -- nobody.
-use Rattle.std.proofs.Common.{ℕ, ◌≡◌, ◌<◌, ◌-◌, true, false, List, Some, None, drop, slice_get, refl, sym, ap, ◌∙◌, subst, suc}
+use Rattle.std.proofs.Common.{ℕ, ◌≡◌, ◌<◌, ◌-◌, true, false, Some, None, drop, slice_get, refl, sym, ap, ◌∙◌, suc}
 use Rattle.std.specs.Prelude.{is_some, not, ◌==◌, Result, Ok, Err, OnErr}
 use Rattle.std.specs.List.{find, list_any}
 use Rattle.std.proofs.lemmas.Bool.{false≢true}
@@ -75,13 +75,6 @@ module _ (schema : Lists) (capacity u : ℕ) (old : Parts) (r : Runner) (well : 
 pub err_also : {T E : Type 0} (r : Result T E) (P Q : Type 0) → (P → Q) → OnErr r P → OnErr r Q
 err_also (Ok t) P Q f h = tt
 err_also (Err e) P Q f h = f h
-
--- the same of whichever unit and statement are there
-pub has_its_areas : (schema : Lists) (r : Runner) (y : Statement) (runners : List Runner) (i : ℕ) → slice_get runners i ≡ Some r → slice_get r.script r.next ≡ Some y → HasItsAreas schema r.unit r.held y →
-    (s : Runner) (x : Statement) → slice_get runners i ≡ Some s → slice_get s.script s.next ≡ Some x → HasItsAreas schema s.unit s.held x
-has_its_areas schema r y runners i at is has s x at' is' =
-    let same : r ≡ s = cc (at, at') in
-    subst (λ (q : Runner). slice_get q.script q.next ≡ Some x → HasItsAreas schema q.unit q.held x) same (λ e. let also : y ≡ x = cc (is, e) in subst (HasItsAreas schema r.unit r.held) also has) is'
 
 module _ (schema : Lists) (capacity u : ℕ) (old : Parts) (r : Runner) (well : IsWell schema capacity old) (numbered : 0 < u) (at : slice_get old.runners.items (u - 1) ≡ Some r) (w : Stage) (s : StandsNeeding r w) where
   -- a cell that is needed has a number

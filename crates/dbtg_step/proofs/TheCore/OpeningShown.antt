@@ -128,11 +128,11 @@ module _ (schema : Lists) (capacity : ℕ) where
   runners_count n [] = refl
   runners_count n (script ∷ scripts) = ap suc (runners_count (suc n) scripts)
 
-  runners_fit : (n : ℕ) (scripts : List (List Statement)) → RunnersFit schema (runners_from schema n scripts)
+  runners_fit : (n : ℕ) (scripts : List (List Statement)) → RunnersFit schema capacity (runners_from schema n scripts)
   runners_fit n [] i r e = absurd (cc (e))
   runners_fit n (script ∷ scripts) zero r e =
       let same : opening_runner schema n script ≡ r = cc (e) in
-      subst (RunnerFits schema) same (record { settled = λ q. (refl, refl); guesses = length-replicate (length schema.sets) None })
+      subst (RunnerFits schema capacity) same (record { settled = λ q. (refl, refl); guesses = length-replicate (length schema.sets) None; course = λ w q. absurd (cc (q)) })
   runners_fit n (script ∷ scripts) (suc i) r e = runners_fit (suc n) scripts i r e
 
   module _ (parts : Parts) (scripts : List (List Statement)) (table : locations_of parts.table.items ≡ homes_of schema capacity (cells_in_order schema capacity)) (history : parts.history.items ≡ []) (runners : parts.runners.items ≡ runners_from schema 1 scripts) where
@@ -158,7 +158,7 @@ module _ (schema : Lists) (capacity : ℕ) where
         record {
           sound = sound;
           table = table_count parts.table.items table;
-          runners = subst (RunnersFit schema) (sym runners) (runners_fit 1 scripts);
+          runners = subst (RunnersFit schema capacity) (sym runners) (runners_fit 1 scripts);
           lawful = subst (λ n. Lawful (network schema capacity) (opening_of schema capacity n) (state_of schema capacity parts)) (sym count) (subst (Lawful (network schema capacity) (opening_of schema capacity (length scripts))) (sym opens_state) lawful);
           in_turn = subst (AllInTurn (network schema capacity) name_lt) (sym opens_state) in_turn;
           guesses = guessed.each;

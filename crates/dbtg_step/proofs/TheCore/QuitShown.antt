@@ -103,11 +103,11 @@ module _ (schema : Lists) (capacity u : ℕ) (old : Parts) (well : IsWell schema
         ∙ ap (quit_unless_ticket (network schema capacity) (state_of schema capacity old) u (unit_state_of schema capacity r) (stage_of schema capacity r.held w)) f)
 
     pub quits_is : (s : StandsUnticketed r) (new : Parts) (n : Runner) (cells areas : Hands) → new.history.items ≡ old.history.items → new.runners.items ≡ slice_set old.runners.items (u - 1) n → new.table.items ≡ written_homes schema capacity (reverse r.held.cells) old.table.items →
-        cells ≡ record r.held { cells = [] } → areas ≡ record cells { areas = [] } → n ≡ record { unit = r.unit; held = areas; script = r.script; next = r.next; stage = None } → IsQuit schema capacity u Moved old new
+        cells ≡ record r.held { cells = [] } → areas ≡ record cells { areas = [] } → n ≡ record { unit = r.unit; held = areas; script = r.script; next = r.next; stage = None; course = r.course } → IsQuit schema capacity u Moved old new
     unfolding quit_of_unit quit_unless_ticket state_from held_cells
     quits_is s new n cells areas history runners table c a is =
         let held : areas ≡ record r.held { cells = []; areas = [] } = a ∙ ap (λ (h : Hands). record h { areas = [] }) c in
-        let all : n ≡ record r { held = record r.held { cells = []; areas = [] }; stage = None } = is ∙ ap (λ (h : Hands). record { unit = r.unit; held = h; script = r.script; next = r.next; stage = None }) held in
+        let all : n ≡ record r { held = record r.held { cells = []; areas = [] }; stage = None } = is ∙ ap (λ (h : Hands). record { unit = r.unit; held = h; script = r.script; next = r.next; stage = None; course = r.course }) held in
         let units = runners ∙ unit_written old.runners.items u n numbered in
         let holding = (well.lawful.each u (unit_state_of schema capacity r) (found schema capacity u old r well numbered at)).holding in
         let at_stage = ap (λ o. held_cells (network schema capacity) (progress_of schema capacity r.held o)) s.stage in
@@ -125,7 +125,7 @@ module _ (schema : Lists) (capacity u : ℕ) (old : Parts) (well : IsWell schema
               ∙ updated_is schema capacity old.table.items new.table.items old.history.items old.runners.items u r n (all_home (network schema capacity) (location_at schema capacity old.table.items) (held_cells_of r.held.cells)) r.held.guesses None home (ap (unit_state_of schema capacity) all)));
           table = ap length table ∙ length_homes schema capacity (reverse r.held.cells) old.table.items;
           count = ap length runners ∙ length-set old.runners.items (u - 1) n;
-          runners = subst (RunnersFit schema) (sym runners) (written_fit schema old.runners.items (u - 1) n well.runners (subst (RunnerFits schema) (sym all) (record { settled = λ q. (refl, refl); guesses = (well.runners (u - 1) r at).guesses })));
+          runners = subst (RunnersFit schema capacity) (sym runners) (written_fit schema capacity old.runners.items (u - 1) n well.runners (subst (RunnerFits schema capacity) (sym all) (record { settled = λ q. (refl, refl); guesses = (well.runners (u - 1) r at).guesses; course = λ w q. absurd (cc (q)) })));
         }
 
 -- WHAT THE CORE KEEPS
@@ -133,7 +133,7 @@ module _ (schema : Lists) (capacity u : ℕ) (old : Parts) (well : IsWell schema
 guessed : (schema : Lists) (capacity : ℕ) (parts : Parts) → IsWell schema capacity parts → AllGuesses (network schema capacity) (HaveRings schema capacity) (state_of schema capacity parts)
 guessed schema capacity parts well = record { each = well.guesses }
 
-module _ (schema : Lists) (capacity u : ℕ) (old new : Parts) (well : IsWell schema capacity old) (count : length new.runners.items ≡ length old.runners.items) (table : length new.table.items ≡ length old.table.items) (runners : RunnersFit schema new.runners.items) where
+module _ (schema : Lists) (capacity u : ℕ) (old new : Parts) (well : IsWell schema capacity old) (count : length new.runners.items ≡ length old.runners.items) (table : length new.table.items ≡ length old.table.items) (runners : RunnersFit schema capacity new.runners.items) where
   kept : Lawful (network schema capacity) (opening_for schema capacity old) (state_of schema capacity new) → AllInTurn (network schema capacity) name_lt (state_of schema capacity new) → AllGuesses (network schema capacity) (HaveRings schema capacity) (state_of schema capacity new) → IsWell schema capacity new
   kept l o g = record {
     sound = well.sound;
@@ -144,7 +144,7 @@ module _ (schema : Lists) (capacity u : ℕ) (old new : Parts) (well : IsWell sc
     guesses = g.each;
   }
 
-  stayed : state_of schema capacity new ≡ state_of schema capacity old → IsWell schema capacity new
+  pub stayed : state_of schema capacity new ≡ state_of schema capacity old → IsWell schema capacity new
   stayed e =
       kept (subst (Lawful (network schema capacity) (opening_for schema capacity old)) (sym e) well.lawful)
       (subst (AllInTurn (network schema capacity) name_lt) (sym e) well.in_turn)

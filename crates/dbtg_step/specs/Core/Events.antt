@@ -2,7 +2,7 @@
 -- `Stands` has what an event finds, and `Leaves` what it leaves.
 -- r is a runner, w a stage, u the number of a unit, x a statement, n a need.
 use Rattle.std.specs.List.{list_all}
-use Rattle.std.specs.Prelude.{ℕ, ◌≡◌, ◌<◌, ◌-◌, true, List, [], Option, Some, None, length, slice_get, ⊤}
+use Rattle.std.specs.Prelude.{ℕ, ◌≡◌, ◌<◌, ◌-◌, true, List, [], Option, Some, None, length, slice_get, slice_set, ⊤}
 use Rattle.dbtg_schema.specs.Lists.{Lists}
 use Rattle.dbtg_schema.specs.Lookups.{at}
 use Rattle.dbtg_schema.specs.Sound.{IsSound}
@@ -15,6 +15,7 @@ use Rattle.dbtg_unit.specs.declared.statement.Statement.{Statement}
 use Rattle.dbtg_unit.specs.Database.State.Base.{Database}
 use Rattle.dbtg_unit.specs.Hands.Local.{Agrees}
 use Rattle.dbtg_unit.specs.Hands.Needs.{need, ring_names}
+use Rattle.dbtg_erase.specs.declared.course.Course.{Course}
 use Rattle.dbtg_step.specs.declared.parts.Parts.{Parts}
 use Rattle.dbtg_step.specs.declared.parts.Runner.{Runner}
 use Rattle.dbtg_step.specs.declared.parts.Stage.{Stage}
@@ -27,18 +28,21 @@ use Rattle.dbtg_step.specs.Machine.Lawful.{Lawful}
 use Rattle.dbtg_step.specs.Machine.NeverStuck.{AllInTurn}
 use Rattle.dbtg_step.specs.Machine.Network.{network, next_need_of}
 use Rattle.dbtg_step.specs.Machine.Headline.{opening_of}
+use Rattle.dbtg_step.specs.Core.Courses.{IsCourseKept}
 use Rattle.dbtg_step.specs.Core.Parts.{stage_of, state_of, unit_state_of}
 
 -- THE PARTS IN A LAWFUL STATE
 
--- between statements a unit holds nothing; it has a guess for each set
-pub record RunnerFits (schema : Lists) (r : Runner) : Type 0 where
+-- between statements a unit holds nothing; it has a guess for each set; of a statement without a ticket, what is kept of its course is
+-- right of what it has in hand
+pub record RunnerFits (schema : Lists) (capacity : ℕ) (r : Runner) : Type 0 where
   pub settled : r.stage ≡ None → (r.held.areas ≡ []) × (r.held.cells ≡ [])
   pub guesses : length r.held.guesses ≡ length schema.sets
+  pub course : (w : Stage) → r.stage ≡ Some w → w.ticket ≡ None → (x : Statement) → slice_get r.script r.next ≡ Some x → IsCourseKept schema capacity r.held r.unit x r.course
 
 -- so it is with each of these units
-abbrev pub RunnersFit : Lists → List Runner → Type 0
-RunnersFit schema runners = (i : ℕ) (r : Runner) → slice_get runners i ≡ Some r → RunnerFits schema r
+abbrev pub RunnersFit : Lists → ℕ → List Runner → Type 0
+RunnersFit schema capacity runners = (i : ℕ) (r : Runner) → slice_get runners i ≡ Some r → RunnerFits schema capacity r
 
 -- the opening database, with a unit for each runner
 abbrev pub opening_for : (schema : Lists) (capacity : ℕ) → Parts → SequentialState (network schema capacity)
@@ -56,7 +60,7 @@ HaveRings schema capacity guesses = (s : ℕ) → list_all (is_cell schema capac
 pub record IsWell (schema : Lists) (capacity : ℕ) (parts : Parts) : Type 0 where
   pub sound : IsSound schema
   pub table : length parts.table.items ≡ cell_count schema capacity
-  pub runners : RunnersFit schema parts.runners.items
+  pub runners : RunnersFit schema capacity parts.runners.items
   pub lawful : Lawful (network schema capacity) (opening_for schema capacity parts) (state_of schema capacity parts)
   pub in_turn : AllInTurn (network schema capacity) name_lt (state_of schema capacity parts)
   pub guesses : (u : ℕ) (state : UnitState (network schema capacity)) → unit_at (state_of schema capacity parts).units u ≡ Some state → HaveRings schema capacity state.guesses
@@ -77,6 +81,12 @@ pub record IsNext (schema : Lists) (capacity : ℕ) (parts : Parts) (r : Runner)
 abbrev pub NeedsNext : (schema : Lists) (capacity : ℕ) → Parts → ℕ → Stage → Need → Type 0
 NeedsNext schema capacity parts u w n =
     (r : Runner) (x : Statement) → slice_get parts.runners.items (u - 1) ≡ Some r → slice_get r.script r.next ≡ Some x → IsNext schema capacity parts r x w n
+
+-- all is as it was but how far the statement of unit u has come
+pub record ChangesCourseAlone (u : ℕ) (old new : Parts) : Type 0 where
+  pub table : new.table.items ≡ old.table.items
+  pub history : new.history.items ≡ old.history.items
+  pub runners : (r : Runner) → slice_get old.runners.items (u - 1) ≡ Some r → (course : Option Course) × (new.runners.items ≡ slice_set old.runners.items (u - 1) (record r { course = course }))
 
 -- WHAT A STEP COMES TO
 
@@ -108,7 +118,7 @@ pub record IsStepped (schema : Lists) (capacity : ℕ) (u : ℕ) (result : Stepp
   pub tells : Tells schema capacity (opening_for schema capacity old) u result (state_of schema capacity old) (state_of schema capacity new)
   pub table : length new.table.items ≡ length old.table.items
   pub count : length new.runners.items ≡ length old.runners.items
-  pub runners : RunnersFit schema new.runners.items
+  pub runners : RunnersFit schema capacity new.runners.items
 
 -- the machine's quit, which takes no memory and waits for nobody
 abbrev pub TellsQuit : (schema : Lists) (capacity : ℕ) → ℕ → Stepped → State (network schema capacity) → State (network schema capacity) → Type 0
@@ -122,4 +132,4 @@ pub record IsQuit (schema : Lists) (capacity : ℕ) (u : ℕ) (result : Stepped)
   pub tells : TellsQuit schema capacity u result (state_of schema capacity old) (state_of schema capacity new)
   pub table : length new.table.items ≡ length old.table.items
   pub count : length new.runners.items ≡ length old.runners.items
-  pub runners : RunnersFit schema new.runners.items
+  pub runners : RunnersFit schema capacity new.runners.items

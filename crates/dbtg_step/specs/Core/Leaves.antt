@@ -1,7 +1,7 @@
 -- What an event leaves: a cell given, a cell taken or not, and a statement with its ticket or without.
 -- table and after are the table before and after it, old and new what the unit is or holds; u is the number of the unit, w its stage,
 -- n the number of a cell, c its name, x a statement.
-use Rattle.std.specs.Prelude.{ℕ, ◌≡◌, ◌+◌, false, List, [], ◌∷◌, ◌++◌, Some, length, map, slice_get, slice_set}
+use Rattle.std.specs.Prelude.{ℕ, ◌≡◌, ◌+◌, false, List, [], ◌∷◌, ◌++◌, Some, None, length, map, slice_get, slice_set}
 use Rattle.dbtg_schema.specs.Lists.{Lists}
 use Rattle.dbtg_cells.specs.declared.cell.Cell.{Cell}
 use Rattle.dbtg_cells.specs.declared.name.CellName.{CellName}
@@ -62,9 +62,9 @@ pub record IsMadeOn (schema : Lists) (capacity : ℕ) (db : Database) (x : State
 pub record IsDrawn (schema : Lists) (capacity : ℕ) (db : Database) (x : Statement) (u : ℕ) (w : Stage) (history after : List Entry) (old new : Runner) : Type 0 where
   pub history_is : after ≡ history ++ record { ticket = length history; unit = u; statement = x; answer = (effect schema capacity db old.unit x).answer } ∷ []
   pub made : IsMadeOn schema capacity db x old.unit old.held new.unit new.held (effect schema capacity db old.unit x).answer
-  pub rest : new ≡ record { unit = new.unit; held = new.held; script = old.script; next = old.next + 1; stage = stage_while_held new.held.areas new.held.cells (Some (record { exclusive = w.exclusive; turning_back = false; ticket = Some (length history); linked = 0 })) }
+  pub rest : new ≡ record { unit = new.unit; held = new.held; script = old.script; next = old.next + 1; stage = stage_while_held new.held.areas new.held.cells (Some (record { exclusive = w.exclusive; turning_back = false; ticket = Some (length history); linked = 0 })); course = None }
 
--- room alone may differ
+-- room alone may differ, and nothing is kept of how far the statement had come
 pub record IsUnmade (old new : Runner) : Type 0 where
-  pub rest : new ≡ record old { held = new.held }
+  pub rest : new ≡ record old { held = new.held; course = None }
   pub shows : ShowsTheSame old.held new.held

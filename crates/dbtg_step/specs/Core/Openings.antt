@@ -34,6 +34,7 @@ opening_runner schema n script = record {
   script = script;
   next = 0;
   stage = None;
+  course = None;
 }
 
 -- units that stand before their scripts, the first of them with number n

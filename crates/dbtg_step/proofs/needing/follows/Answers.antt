@@ -1,10 +1,19 @@
-use Rattle.std.proofs.Common.{◌-◌, arith}
+use Rattle.std.proofs.Common.{◌≤◌, ◌-◌, length, arith}
 use Rattle.dbtg_cells.proofs.Public.{there_is}
+use Rattle.dbtg_step.proofs.TheCore.CourseAlone.{alone_within, stepped_alone}
 use Rattle.dbtg_step.proofs.TheCore.NeedsRefused.{need_refused}
 use Rattle.dbtg_step.proofs.needing.follows.Goals as goal
 
+pub meets-requires-clause-within : goal.meets-requires-clause-within
+meets-requires-clause-within c = alone_within c.args.schema.now c.args.capacity c.args.unit c.args.parts.now c.need_now.new.parts c.requires.numbered c.requires.within c.need_now.ensures.alone
+
+pub returns-in-Ok : goal.returns-in-Ok
+returns-in-Ok c = stepped_alone c.args.schema.now c.args.capacity c.args.unit c.args.parts.now c.need_now.new.parts c.requires.numbered c.requires.within c.need_now.ensures.alone c.meets.result c.meets.new.parts c.meets.ensures
+
 pub returns-in-Err : goal.returns-in-Err
 returns-in-Err c =
-    let items = c.args.parts.now.runners.items in
-    let it = there_is items (c.args.unit - 1) (omega (arith, c.requires.within, c.requires.numbered)) in
-    need_refused c.args.schema.now c.args.capacity c.args.unit c.args.parts.now it.0 c.requires.well c.requires.numbered it.1 c.args.stage (c.requires.stands it.0 it.1) (λ x. c.in-Err.ensures.refused it.0 x it.1)
+    let asked = c.need_now.new.parts in
+    let within : c.args.unit ≤ length asked.runners.items = alone_within c.args.schema.now c.args.capacity c.args.unit c.args.parts.now asked c.requires.numbered c.requires.within c.need_now.ensures.alone in
+    let it = there_is asked.runners.items (c.args.unit - 1) (omega (arith, within, c.requires.numbered)) in
+    stepped_alone c.args.schema.now c.args.capacity c.args.unit c.args.parts.now asked c.requires.numbered c.requires.within c.need_now.ensures.alone _ asked
+    (need_refused c.args.schema.now c.args.capacity c.args.unit asked it.0 c.need_now.ensures.well c.requires.numbered it.1 c.args.stage (c.need_now.ensures.stands it.0 it.1) (λ x. c.in-Err.ensures.refused it.0 x it.1))

@@ -12,7 +12,8 @@ use Rattle.dbtg_run.specs.declared.work.Work.{Work}
 use Rattle.dbtg_run.specs.Kept.{database_after}
 use Rattle.dbtg_run.specs.Posed.{turns_left}
 use Rattle.dbtg_run.specs.Works.{IsAtWork, KnowsBetter}
-use Rattle.dbtg_run.proofs.Units.Courses.{course_stays, nothing_kept}
+use Rattle.dbtg_step.proofs.Public.{no_course}
+use Rattle.dbtg_run.proofs.Units.Courses.{course_goes_on}
 use Rattle.dbtg_run.proofs.Units.Needing.{try_nearer}
 use Rattle.dbtg_run.proofs.work.Work.gather.Goals as goal
 
@@ -25,7 +26,7 @@ needs-preserved-then-branch c =
       so = search rules;
       free = search rules;
       known = search rules;
-      course = course_stays db.schema db.about.capacity old.held new.held old.unit new.unit c.args.statement.now c.next_need.new.course c.meet.ensures.same.unit (c.in_ok-meet.ensures.more c.if-branch.true) c.next_need.ensures.kept;
+      course = course_goes_on db.schema db.about.capacity old.held new.held old.unit new.unit c.args.statement.now c.next_need.new.course c.meet.ensures.same.unit (c.in_ok-meet.ensures.more c.if-branch.true) c.next_need.ensures.kept;
     }
 
 pub needs-preserved : goal.needs-preserved
@@ -37,7 +38,7 @@ needs-preserved c =
       so = search rules;
       free = search rules;
       known = search rules;
-      course = nothing_kept db.schema db.about.capacity new.held new.unit c.args.statement.now;
+      course = no_course db.schema db.about.capacity new.held new.unit c.args.statement.now;
     }
 
 pub needs-smaller : goal.needs-smaller

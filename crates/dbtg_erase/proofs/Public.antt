@@ -1,0 +1,10 @@
+-- The lemmas that other crates cite. All others are this crate's own, free to change.
+
+-- WHAT IS KEPT OF A COURSE
+
+-- with more in hand, what is kept is right
+pub use Rattle.dbtg_erase.proofs.CourseKept.{kept_stays}
+-- hands with one cell more have all that they had
+pub use Rattle.dbtg_erase.proofs.CourseKept.{one_more_cell}
+-- hands with the same cells have all of them
+pub use Rattle.dbtg_erase.proofs.CourseKept.{same_cells}
