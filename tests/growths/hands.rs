@@ -139,25 +139,23 @@ fn give_cells_back(work: &mut Work) {
     }
 }
 
-fn need(rt: &HostRuntime, work: &Work, statement: &Statement) -> Option<Need> {
-    twice(rt, "next_need", &|| -> Result<Need, AllocError> {
-        next_need(rt.alloc(), &work.schema, CAPACITY, &work.unit, statement, &work.held)
-    })
-}
-
+// Takes what the statement needs, with how far a DELETE has come from one need to the next.
 fn gather(rt: &HostRuntime, work: &mut Work, statement: &Statement) -> Option<()> {
-    for _ in 0..NEEDS {
-        match need(rt, work, statement)? {
-            Need::Area(area) => take_area(rt, &mut work.held, area)?,
-            Need::Take(name) => {
+    let mut course = None;
+    for _ in 0..2 * NEEDS {
+        match next_need(rt.alloc(), &work.schema, CAPACITY, &work.unit, statement, &work.held, &mut course) {
+            Ok(Need::Area(area)) => take_area(rt, &mut work.held, area)?,
+            Ok(Need::Take(name)) => {
                 let cell = cell_of(rt, &mut work.home, &name)?;
                 take(rt, &mut work.held, name, cell)?;
             }
-            Need::Stale(owners) => {
+            Ok(Need::Stale(owners)) => {
                 give_cells_back(work);
                 work.held.set_guesses(owners);
+                course = None;
             }
-            Need::Ready => return Some(()),
+            Ok(Need::Ready) => return Some(()),
+            Err(_) => tell(rt, "next_need"),
         }
     }
     None

@@ -80,8 +80,9 @@ fn taken(alloc: Global, schema: &Schema, option: Erase) -> Result<Vec<CellName>,
     let mut held = Held::new(alloc, Owners::none(1));
     held.push_area(AreaNo::new(0))?;
     let mut names = Vec::new(alloc);
+    let mut course = None;
     for _ in 0..9 {
-        match next_need(alloc, schema, 4, &unit, option, &held)? {
+        match next_need(alloc, schema, 4, &unit, option, &held, &mut course)? {
             Need::Take(name) => {
                 names.push(name)?;
                 held.push_cell(name, cell(alloc, &name)?)?;
