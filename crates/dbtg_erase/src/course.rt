@@ -95,7 +95,7 @@ fn next_of_record(
 
 impl Course {
     /// The course of a DELETE of this record, before its first cell beside the record's own slot.
-    pub fn begin(alloc: Global, key: &DbKey) -> Result<Self, AllocError>
+    pub(crate) fn begin(alloc: Global, key: &DbKey) -> Result<Self, AllocError>
         ensures { IfOk result (λ course. (schema : Lists) (capacity : ℕ) (hands : Hands) (option : Erase) → IsCourse schema capacity hands option key.now course) }
     {
         let mut gone = Keys::new(alloc);
@@ -163,7 +163,7 @@ impl Course {
     }
 
     /// The next cell of the DELETE that is not in hand: of the records that go, one after another, and then around them.
-    pub fn next(
+    pub(crate) fn next(
         &mut self,
         alloc: Global,
         schema: &Schema,

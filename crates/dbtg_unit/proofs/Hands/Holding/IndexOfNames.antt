@@ -71,9 +71,6 @@ place_of_more c n names =
     let e : 0 + length names ≡ length names = omega arith in
     position_more (name_eq c) 0 names n ∙ ap (λ (k : ℕ). option_or (position_from (name_eq c) 0 names) (cond (name_eq c n) (Some k) None)) e
 
-not_under : (n : ℕ) → nat_lt n 8 ≡ false → 8 ≤ n
-not_under n h = grind (arith, nat_tests)
-
 -- one name more that lives in place leaves what is past these
 in_place_more : (o : Option ℕ) (b : Bool) (len : ℕ) → nat_lt len 8 ≡ true → past_in_place (option_or o (cond b (Some len) None)) ≡ past_in_place o
 in_place_more (Some p) b len few = refl
