@@ -80,9 +80,10 @@ class Edit:
 
 
 def calls(body, name):
-    """Whether a body calls a function of this name that may be of the same crate: none that a path names as another crate's."""
-    paths = re.findall(rf"((?:\b\w+::)*)\b{name}(?:\(|::<)", body)
-    return any(it.split("::")[0] not in crates_of() for it in paths)
+    """Whether a body may call the function of this name in which it stands: none that a path names as another crate's, and no method
+    of anything but `self`, which may be of another type."""
+    paths = re.findall(rf"(?<![\w.:])((?:\w+::)*){name}(?:\(|::<)", body)
+    return any(it.split("::")[0] not in crates_of() for it in paths) or bool(re.search(rf"(?<![\w.])self\.{name}(?:\(|::<)", body))
 
 
 class Sources:

@@ -29,6 +29,19 @@ def free_memory():
     return 1024 * int(re.search(r"MemAvailable:\s+(\d+)", text_of("/proc/meminfo"))[1])
 
 
+def urgent():
+    """How many processes run at this moment, on a processor or waiting for one, that are not nice: none that sleeps, nor this one."""
+    return sum(is_urgent(it) for it in os.listdir("/proc") if it.isdigit() and int(it) != os.getpid())
+
+
+def is_urgent(process):
+    try:
+        fields = text_of(f"/proc/{process}/stat").rpartition(")")[2].split()
+    except (OSError, UnicodeDecodeError):
+        return False
+    return fields[0] == "R" and fields[16] == "0"
+
+
 def crates_of(root=ROOT):
     """The repository's crates, each with the libraries that it names, as crates.txt has them."""
     lines = [line.partition("#")[0].partition(":") for line in text_of(f"{root}/crates.txt").splitlines()]

@@ -25,20 +25,20 @@ BY_HAND = ("Answers.antt", "Invariants.antt", "Proof.antt")
 
 
 class StandIns:
-    """Those of one crate, for a trial of these edits; none where an edit changes what is stated or how it is proved."""
+    """Those of one crate, for a trial of these edits; none where an edit changes what is stated or how it is proved. For functions that
+    are said to be `staying` none stand in."""
 
     def __init__(self, folder, sources, edits, are_wanted):
-        self.folder, self.sources = folder, sources
-        self.changed = changed_by(edits)
+        self.folder, self.sources, self.staying = folder, sources, set()
         self.are_none = not are_wanted or any(not file.startswith("src/") for edit in edits for file in edit.texts)
 
     def functions(self, file, batch):
-        """The functions of a file for which others stand in, in a copy with the edits of a batch: none in a file that one of them
-        changes elsewhere than in bodies."""
+        """The functions of a file for which others stand in, in a copy with the edits of a batch: all whose bodies these leave alone, but
+        none in a file that one of them changes elsewhere than in bodies."""
         if self.are_none or any(it.elsewhere and file in it.texts for it in batch):
             return []
-        changed = self.changed | changed_by(batch)
-        return [it for it in self.sources.functions(file) if (file, it) not in changed]
+        own = self.staying | changed_by(batch)
+        return [it for it in self.sources.functions(file) if (file, it) not in own]
 
     def files(self):
         """The source files in which others stand in, as paths in the crate."""

@@ -4,6 +4,7 @@ was proved before, a check proves anew what is changed; over nothing, it is aske
 in for those that no edit changes."""
 
 import contextlib
+import ctypes
 import os
 import shutil
 import signal
@@ -19,19 +20,34 @@ from kept import PARTS, Kept
 from stand_ins import StandIns
 from verdicts import Said, Verdict, names_of
 
+LIBC = ctypes.CDLL(None)
+PR_SET_PDEATHSIG = 1
+
 
 class Lanes:
     """As many processes of checks at a time as there are lanes; counts the processor seconds that they took. A lane that is free goes
     to the crate with the most libraries below it, since its trial begins last and is among the longest; for the same reason a check is
-    as nice as is said, less the number of those libraries. A check waits for memory while others run, and is what the system kills
-    first where memory ends: then it runs again."""
+    as nice as is said, less the number of those libraries. Checks that are nice give way to what is not: they are held while it takes
+    their processors, since what takes turns on a processor finds its caches cold each time. A check waits for memory while others run,
+    and is what the system kills first where memory ends: then it runs again."""
 
     ROOM = 5_000_000_000
     RUNS = 3
 
     def __init__(self, count, nice=0):
         self.nice, self.free, self.waiting, self.turn = nice, count, [], threading.Condition()
-        self.seconds, self.running, self.lock = {}, 0, threading.Lock()
+        self.seconds, self.running, self.lock = {}, {}, threading.Lock()
+        if nice:
+            threading.Thread(target=self.give_way, daemon=True).start()
+
+    def give_way(self):
+        """Each second lets as many checks go on as there are processors left, and holds the others; one always goes on."""
+        while True:
+            time.sleep(1)
+            left = max(1, os.cpu_count() - kit.urgent())
+            with self.lock:
+                for place, process in enumerate(sorted(self.running, key=self.running.get, reverse=True)):
+                    os.kill(process, signal.SIGCONT if place < left else signal.SIGSTOP)
 
     def run(self, crate, words, folder):
         """Runs a check once a lane is free, and gives what it printed. It is one process: several of one check load and prove much twice."""
@@ -68,26 +84,25 @@ class Lanes:
         """Runs a command once, and gives how it ended and what it printed."""
         nice = max(0, self.nice - libraries_below(crate))
         with tempfile.TemporaryFile("w+", errors="replace") as out:
-            process = subprocess.Popen(words, cwd=folder, stdin=subprocess.DEVNULL, stdout=out, stderr=subprocess.STDOUT, preexec_fn=lambda: step_back(nice))
-            self.note(1)
-            _, status, used = os.wait4(process.pid, 0)
-            self.note(-1)
-            process.returncode = os.waitstatus_to_exitcode(status)
             with self.lock:
+                process = subprocess.Popen(words, cwd=folder, stdin=subprocess.DEVNULL, stdout=out, stderr=subprocess.STDOUT, preexec_fn=lambda: step_back(nice))
+                self.running[process.pid] = libraries_below(crate)
+            # Its number is not another's before it is waited for.
+            os.waitid(os.P_PID, process.pid, os.WEXITED | os.WNOWAIT)
+            with self.lock:
+                del self.running[process.pid]
+                _, status, used = os.wait4(process.pid, 0)
                 self.seconds[crate] = self.seconds.get(crate, 0) + used.ru_utime + used.ru_stime
+            process.returncode = os.waitstatus_to_exitcode(status)
             out.seek(0)
             return process.returncode, out.read()
-
-    def note(self, change):
-        with self.lock:
-            self.running += change
 
 
 class Trial:
     """The edits of one crate, and what became of each."""
 
     # A trial of so many edits, of a crate with so many libraries below it, is among the last to begin and the longest.
-    MANY, FAR_UP = 60, 5
+    MANY, FAR_UP = 60, 8
 
     def __init__(self, crate, lanes, log, libraries=None):
         """Over the libraries of the repository and over what the crate's own check kept; or over those in another folder, and
@@ -237,8 +252,10 @@ class Trial:
 
 
 def step_back(nice):
-    """Leaves processors and memory to what is not a check of edits."""
+    """Leaves processors and memory to what is not a check of edits, and has the check end with the run that it is part of, also while it
+    is held."""
     os.nice(nice)
+    LIBC.prctl(PR_SET_PDEATHSIG, signal.SIGKILL)
     with open("/proc/self/oom_score_adj", "w", encoding="ascii") as it:
         it.write("900")
 

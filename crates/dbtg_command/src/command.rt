@@ -593,9 +593,9 @@ fn order_path<'a>(order: Order<&'a str>) -> &'a str {
 
 fn replay_call<'a>(alloc: Global, given: &ArgMatches<'a>) -> Result<Call<'a>, Error> {
     let schema = given.get_str("schema").unwrap_or("");
-    let scripts = words_of(alloc, given, "scripts")?;
     let order = order_wanted(given);
     let capacity = capacity_wanted(alloc, Named::Replay, given)?;
+    let scripts = words_of(alloc, given, "scripts")?;
     check_inputs(
         alloc,
         Named::Replay,
@@ -615,9 +615,9 @@ fn replay_call<'a>(alloc: Global, given: &ArgMatches<'a>) -> Result<Call<'a>, Er
 
 fn turns_call<'a>(alloc: Global, given: &ArgMatches<'a>) -> Result<Call<'a>, Error> {
     let schema = given.get_str("schema").unwrap_or("");
-    let scripts = words_of(alloc, given, "scripts")?;
     let turns = given.get_str("turns").unwrap_or("");
     let capacity = capacity_wanted(alloc, Named::Turns, given)?;
+    let scripts = words_of(alloc, given, "scripts")?;
     check_inputs(alloc, Named::Turns, schema, scripts.as_slice(), turns)?;
     Ok(Call::Turns(TurnsCall {
         explains: given.get_flag("explain"),
@@ -630,9 +630,9 @@ fn turns_call<'a>(alloc: Global, given: &ArgMatches<'a>) -> Result<Call<'a>, Err
 
 fn timeline_call<'a>(alloc: Global, given: &ArgMatches<'a>) -> Result<Call<'a>, Error> {
     let schema = given.get_str("schema").unwrap_or("");
-    let scripts = words_of(alloc, given, "scripts")?;
     let order = order_wanted(given);
     let capacity = capacity_wanted(alloc, Named::Timeline, given)?;
+    let scripts = words_of(alloc, given, "scripts")?;
     check_inputs(
         alloc,
         Named::Timeline,
@@ -652,9 +652,9 @@ fn timeline_call<'a>(alloc: Global, given: &ArgMatches<'a>) -> Result<Call<'a>, 
 
 fn outcomes_call<'a>(alloc: Global, given: &ArgMatches<'a>) -> Result<Call<'a>, Error> {
     let schema = given.get_str("schema").unwrap_or("");
-    let scripts = words_of(alloc, given, "scripts")?;
     let capacity = capacity_wanted(alloc, Named::Outcomes, given)?;
     let limit = limit_wanted(alloc, Named::Outcomes, given)?;
+    let scripts = words_of(alloc, given, "scripts")?;
     check_inputs(alloc, Named::Outcomes, schema, scripts.as_slice(), "")?;
     Ok(Call::Outcomes(OutcomesCall {
         explains: given.get_flag("explain"),
@@ -681,8 +681,8 @@ fn check_saved(alloc: Global, saved: Option<&str>) -> Result<(), Error> {
 
 fn threads_call<'a>(alloc: Global, given: &ArgMatches<'a>) -> Result<Call<'a>, Error> {
     let schema = given.get_str("schema").unwrap_or("");
-    let scripts = words_of(alloc, given, "scripts")?;
     let capacity = capacity_wanted(alloc, Named::Threads, given)?;
+    let scripts = words_of(alloc, given, "scripts")?;
     let saved = given.get_str("save-turns");
     check_inputs(alloc, Named::Threads, schema, scripts.as_slice(), "")?;
     check_saved(alloc, saved)?;

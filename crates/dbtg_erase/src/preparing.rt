@@ -111,8 +111,8 @@ fn erasing(
 {
     let gone = gone(alloc, schema, capacity, held, option, key)?;
     let left = left(alloc, schema, held, &gone)?;
-    let edits = erasing_edits(alloc, schema, held, &gone, &left)?;
     let versions = next_versions(alloc, held, left.as_slice())?;
+    let edits = erasing_edits(alloc, schema, held, &gone, &left)?;
     let answer = Answer {
         status: Status::Done,
         key: None,

@@ -1,9 +1,10 @@
 //! Scripts that run at the same time, and what one order of their statements leads to.
-ghost use Rattle.std.specs.Prelude.{◌≡◌, ◌++◌, ◌∷◌, ◌<◌, ◌≤◌, [], true, length, map, IfOk};
+ghost use Rattle.std.specs.Prelude.{◌≡◌, ◌++◌, ◌∷◌, ◌<◌, ◌≤◌, [], true, length, map, IfOk, OnOk};
 ghost use Rattle.std.specs.List.{range_with_len};
 ghost use Rattle.dbtg_unit.specs.Database.Statements.Fits.{fits};
 ghost use Rattle.dbtg_unit.specs.Database.Laws.Replay.{IsHistoryOf, entries_of};
 ghost use Rattle.dbtg_unit.specs.Database.Laws.Replaying.{statements_of};
+ghost use Rattle.dbtg_step.specs.Core.Whole.{HasMade};
 ghost use Rattle.dbtg_outcomes.specs.Outcomes.{HasStatus, IsMeeting, IsRunOf};
 ghost use Rattle.dbtg_outcomes.specs.Results.{answers_told, result_text, state_key};
 
@@ -61,6 +62,21 @@ fn as_numbers(alloc: Global, bytes: &[u8]) -> Result<Vec<u64>, AllocError>
     Ok(numbers)
 }
 
+// Has a unit of the database make a copy of the statement.
+fn make_copy(
+    alloc: Global,
+    database: &mut WholeDatabase,
+    unit: u8,
+    statement: &Statement,
+) -> Result<(), AllocError>
+    requires numbered { 0 < unit }
+    requires within { unit ≤ database.old.units }
+    requires fitting { fits database.old.schema statement.now ≡ true }
+    ensures { OnOk result (HasMade database.old unit statement.now database.new) }
+{
+    database.make(unit, statement.copy(alloc)?)
+}
+
 impl<'a> Meeting<'a> {
     /// How many units there are.
     pub fn units(&self) -> u8
@@ -79,7 +95,13 @@ impl<'a> Meeting<'a> {
     {
         let mut database = WholeDatabase::opening(alloc, self.schema, self.capacity, self.units())?;
         for entry in history {
-            database.make(entry.unit, entry.statement.copy(alloc)?)?;
+            match make_copy(alloc, &mut database, entry.unit, &entry.statement) {
+                Ok(()) => {}
+                Err(refused) => {
+                    drop(database);
+                    return Err(refused);
+                }
+            }
         }
         Ok(database)
     }
@@ -111,10 +133,17 @@ impl<'a> Meeting<'a> {
     {
         let mut database = self.after(alloc, history)?;
         let before = database.history().len();
-        database.make(unit, statement.copy(alloc)?)?;
-        let made = &database.history()[before];
-        let status = made.answer.status.code(&made.statement);
-        Ok((database.into_run()?, status))
+        match make_copy(alloc, &mut database, unit, statement) {
+            Ok(()) => {
+                let made = &database.history()[before];
+                let status = made.answer.status.code(&made.statement);
+                Ok((database.into_run()?, status))
+            }
+            Err(refused) => {
+                drop(database);
+                Err(refused)
+            }
+        }
     }
 
     /// The answers so far, where they tell results apart.

@@ -14,6 +14,20 @@ use dbtg_unit::{Answer, Prepared, Statement};
 use std::alloc::{AllocError, Global};
 use std::marker::Brand;
 
+// What was prepared, with a copy of its answer for the journal.
+fn with_answer(alloc: Global, prepared: Prepared) -> Result<(Prepared, Answer), AllocError>
+    ensures same { IfOk result (λ made. made.0 ≡ prepared) }
+    ensures noted { IfOk result (λ made. made.1 ≡ prepared.answer) }
+{
+    match prepared.answer().copy(alloc) {
+        Ok(noted) => Ok((prepared, noted)),
+        Err(refused) => {
+            drop(prepared);
+            Err(refused)
+        }
+    }
+}
+
 impl Work {
     // Prepares the statement on what is in hand.
     fn prepare_in_hand(
@@ -61,9 +75,17 @@ impl Work {
         ensures done { IfOk result (λ a. IsDone self.old.about self.old.journal.items self.new.journal.items self.new.unit statement.now a) }
         ensures err { OnErr result ((self.new.unit ≡ self.old.unit) × (self.new.journal.items ≡ self.old.journal.items)) }
     {
-        let prepared = self.prepare_in_hand(alloc, db, statement)?;
-        let noted = prepared.answer().copy(alloc)?;
-        Ok(self.commit::<Brand, G>(db, copy, noted, prepared, gate))
+        let made = match self.prepare_in_hand(alloc, db, statement) {
+            Ok(prepared) => with_answer(alloc, prepared),
+            Err(refused) => Err(refused),
+        };
+        match made {
+            Ok((prepared, noted)) => Ok(self.commit::<Brand, G>(db, copy, noted, prepared, gate)),
+            Err(refused) => {
+                drop(copy);
+                Err(refused)
+            }
+        }
     }
 
     // Takes what the statement needs and makes it, with so many tries more. None where the tries are used up.

@@ -36,10 +36,9 @@ impl Work {
             unreachable!()
         };
         let word = 1 + db.schema.areas().len() + number;
-        db.board.shared.exchange(&mut self.seat, number, Some(cell));
-        db.board
-            .shared
-            .fetch_and::<PutCell>(&mut self.seat, word, 0);
+        let board = &db.board.shared;
+        drop(board.exchange(&mut self.seat, number, Some(cell)));
+        board.fetch_and::<PutCell>(&mut self.seat, word, 0);
     }
 
     // Puts all cells back.

@@ -109,12 +109,25 @@ fn seat_units(
     let last = about.units - 1;
     for place in 0..last {
         let seat = cut_off(&board.shared, &mut rest);
-        let unit = newcomer(alloc, schema, about, place + 1, seat)?;
-        made.push_reserved(unit);
+        match newcomer(alloc, schema, about, place + 1, seat) {
+            Ok(unit) => made.push_reserved(unit),
+            Err(refused) => {
+                drop(rest);
+                drop(made);
+                return Err(refused);
+            }
+        }
     }
-    let unit = newcomer(alloc, schema, about, about.units, rest)?;
-    made.push_reserved(unit);
-    Ok(made)
+    match newcomer(alloc, schema, about, about.units, rest) {
+        Ok(unit) => {
+            made.push_reserved(unit);
+            Ok(made)
+        }
+        Err(refused) => {
+            drop(made);
+            Err(refused)
+        }
+    }
 }
 
 // The table with all cells at home, and the units there.

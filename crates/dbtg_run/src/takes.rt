@@ -1,5 +1,5 @@
 //! A unit at work: each step takes or gives one latch.
-ghost use Rattle.std.specs.Prelude.{◌≡◌, ◌≢◌, ℕ, ◌+◌, ◌-◌, ◌*◌, ◌^◌, ◌<◌, ◌≤◌, List, [], ◌∷◌, ◌++◌, length, vec_len, vec_capacity, true, false, Some, IsTrue, IfOk, OnErr, MatchBool};
+ghost use Rattle.std.specs.Prelude.{◌≡◌, ◌≢◌, ℕ, ◌+◌, ◌-◌, ◌*◌, ◌^◌, ◌<◌, ◌≤◌, List, [], ◌∷◌, ◌++◌, length, vec_len, vec_capacity, true, false, None, Some, IsTrue, IfOk, OnErr, MatchBool};
 ghost use Rattle.dbtg_cells.specs.declared.cell.Cell.{Cell};
 ghost use Rattle.dbtg_cells.specs.declared.name.CellName.{CellName};
 ghost use Rattle.dbtg_cells.specs.CellNumbers.{cell_number};
@@ -23,6 +23,7 @@ use crate::database::Database;
 use crate::plays::{LookAtArea, PutCell, TakeAlone, TakeCell, TakeShared};
 use crate::work::Work;
 use dbtg_cells::{CellName, cell_number};
+use dbtg_erase::Course;
 use dbtg_schema::AreaNo;
 use dbtg_step::next_need;
 use dbtg_unit::{Need, Owners, Statement, with_true_owners};
@@ -158,7 +159,7 @@ impl Work {
         match self.held.push_cell(name, cell) {
             Ok(()) => Ok(true),
             Err(failed) => {
-                board.exchange(&mut self.seat, number, Some(failed.value));
+                drop(board.exchange(&mut self.seat, number, Some(failed.value)));
                 board.fetch_and::<PutCell>(&mut self.seat, word, 0);
                 Err(AllocError)
             }
@@ -215,6 +216,54 @@ impl Work {
         }
     }
 
+    // Takes all that the statement needs, with so many tries more, and keeps how far a DELETE has come. False where the tries are
+    // used up.
+    fn gather_along(
+        &mut self,
+        alloc: Global,
+        db: &Database,
+        statement: &Statement,
+        tries: u32,
+        course: &mut Option<Course>,
+    ) -> Result<bool, AllocError>
+        requires belongs { Belongs db.now self.old }
+        requires work { IsAtWork self.old }
+        requires idle { (self.old.held.areas ≡ []) × (self.old.held.cells ≡ []) }
+        requires fits { fits self.old.about.schema.value statement.now ≡ true }
+        requires course { course.old ≡ None }
+        ensures same { IsSameUnit self.old self.new }
+        ensures work { IsAtWork self.new }
+        ensures ready { IfOk result (λ b. b ≡ true → IsReady self.new.about.schema.value self.new.about.capacity self.new.unit self.new.held statement.now) }
+        ensures free { IsReady self.old.about.schema.value self.old.about.capacity self.old.unit self.old.held statement.now → IfOk result (λ b. b ≡ true) }
+        ensures alone { self.old.about.units ≡ 1 → 0 < tries → IfOk result (λ b. b ≡ true) }
+    {
+        let exclusive = takes_alone(statement);
+        let mut tries = tries;
+        'needs: loop {
+            let wanted = next_need(
+                alloc,
+                &db.schema,
+                db.about.capacity,
+                &self.unit,
+                statement,
+                &self.held,
+                course,
+            )?;
+            if is_ready(&wanted) {
+                return Ok(true);
+            }
+            if self.meet(db, statement, exclusive, wanted)? {
+                continue;
+            }
+            if tries == 0 {
+                return Ok(false);
+            }
+            tries -= 1;
+            // The statement may have turned back: then its cells are home again.
+            drop(course.take());
+        }
+    }
+
     // Takes all that the statement needs, with so many tries more. False where the tries are used up.
     pub(crate) fn gather(
         &mut self,
@@ -233,32 +282,10 @@ impl Work {
         ensures free { IsReady self.old.about.schema.value self.old.about.capacity self.old.unit self.old.held statement.now → IfOk result (λ b. b ≡ true) }
         ensures alone { self.old.about.units ≡ 1 → 0 < tries → IfOk result (λ b. b ≡ true) }
     {
-        let exclusive = takes_alone(statement);
-        let mut tries = tries;
-        // How far a DELETE has come, so that its cells are not gone through anew at each need.
+        // Kept from need to need, so that a DELETE's cells are not gone through anew at each.
         let mut course = None;
-        'needs: loop {
-            let wanted = next_need(
-                alloc,
-                &db.schema,
-                db.about.capacity,
-                &self.unit,
-                statement,
-                &self.held,
-                &mut course,
-            )?;
-            if is_ready(&wanted) {
-                return Ok(true);
-            }
-            if self.meet(db, statement, exclusive, wanted)? {
-                continue;
-            }
-            if tries == 0 {
-                return Ok(false);
-            }
-            tries -= 1;
-            // The statement may have turned back: then its cells are home again.
-            course = None;
-        }
+        let gathered = self.gather_along(alloc, db, statement, tries, &mut course);
+        drop(course);
+        gathered
     }
 }

@@ -1,5 +1,5 @@
 //! Units make their scripts side by side, each on a thread of its own, and the database is settled.
-ghost use Rattle.std.specs.Prelude.{◌≡◌, ◌↔◌, ◌<◌, ◌≤◌, true, length, All, IfOk, IfErr, vec_len, vec_capacity};
+ghost use Rattle.std.specs.Prelude.{◌≡◌, ◌↔◌, ◌<◌, ◌≤◌, true, length, get_or, All, IfOk, IfErr, vec_len, vec_capacity};
 ghost use Rattle.std.specs.Thread.{IsSync};
 ghost use Rattle.dbtg_unit.specs.Database.Statements.Fits.{fits};
 ghost use Rattle.dbtg_run.specs.Running.{HaveMade, HaveRun, IsRun, IsWhole, Ran};
@@ -37,6 +37,14 @@ fn run_one<R: Wait, G: Gate>(
     (unit, ran)
 }
 
+// The script of the unit at this place.
+fn script_at<'a>(scripts: &'a [Row<Statement>], place: usize) -> &'a [Statement]
+    requires { place < length scripts.now }
+    ensures { result.now ≡ get_or scripts.now place result.now }
+{
+    scripts[place].as_slice()
+}
+
 // Each unit makes the script at its place, the last on a thread beside the others, and all come back in their order. The error
 // means that memory was refused to one of them.
 fn run_all<R: Threads + Wait + Sync, G: Gate + Sync>(
@@ -59,7 +67,7 @@ fn run_all<R: Threads + Wait + Sync, G: Gate + Sync>(
     let Some(unit) = units.pop() else {
         return (units, Ok(()));
     };
-    let script = scripts[units.as_slice().len()].as_slice();
+    let script = script_at(scripts, units.as_slice().len());
     let (one, others) = join(
         rt,
         move || -> (RunUnit, Result<(), AllocError>)

@@ -1,10 +1,11 @@
 //! A schema, and what it says of its record types, sets and areas by their numbers. Look-ups take no memory.
 
-ghost use Rattle.std.specs.Prelude.{◌≡◌, ◌==◌, ◌≤◌, length, None, [], IfNone, IfOk, IfSome, filter, map, IfErr, OnOk, option_map, slice_get};
+ghost use Rattle.std.specs.Prelude.{◌≡◌, ◌==◌, ◌≤◌, length, All, None, [], IfNone, IfOk, IfSome, filter, map, IfErr, OnOk, option_map, slice_get};
 ghost use Rattle.dbtg_schema.specs.Connecting.{AreConnecting};
 ghost use Rattle.dbtg_schema.specs.Erasing.{AreErased};
 ghost use Rattle.dbtg_schema.specs.Lookups.{some_and};
-ghost use Rattle.dbtg_schema.specs.SetsOfTypes.{AreSetsOf};
+ghost use Rattle.dbtg_schema.specs.NameIndexes.{IsSchemaIndex};
+ghost use Rattle.dbtg_schema.specs.SetsOfTypes.{AreSetsOf, AreSetsOfEach};
 ghost use Rattle.dbtg_schema.specs.Texts.Words.{text_words};
 ghost use Rattle.dbtg_schema.specs.Texts.Forms.{labels, Derives};
 ghost use Rattle.dbtg_schema.specs.Texts.SchemaGrammar.{fits, schema};
@@ -86,14 +87,45 @@ fn work_out_erased(alloc: Global, schema: &mut Schema) -> Result<(), AllocError>
     Ok(())
 }
 
-/// The schema, with the sets in which STORE connects and the areas of its deletions worked out.
+/// Works out the sets in which STORE connects and the areas of the schema's deletions.
+fn work_out(alloc: Global, schema: &mut Schema) -> Result<(), AllocError>
+    ensures { schema.new ≡ schema.old }
+{
+    work_out_connecting(alloc, schema)?;
+    work_out_erased(alloc, schema)
+}
+
+/// The schema, with all that is worked out of it.
 fn worked_out(alloc: Global, schema: Schema) -> Result<Schema, AllocError>
     ensures { IfOk result (λ s. s ≡ schema) }
 {
     let mut schema = schema;
-    work_out_connecting(alloc, &mut schema)?;
-    work_out_erased(alloc, &mut schema)?;
-    Ok(schema)
+    match work_out(alloc, &mut schema) {
+        Ok(()) => Ok(schema),
+        Err(refused) => {
+            drop(schema);
+            Err(refused)
+        }
+    }
+}
+
+/// What is looked up in a schema's lists: the numbers of its names, and the sets of each record type.
+fn look_ups(
+    alloc: Global,
+    areas: &[Area],
+    types: &[RecordType],
+    sets: &[SetType],
+) -> Result<(SchemaIndex, Row<SetsOfType>), AllocError>
+    requires areas_fit { length areas.now ≤ 8 }
+    requires types_fit { length types.now ≤ 16 }
+    requires sets_fit { length sets.now ≤ 16 }
+    requires items_fit { All (λ r. length r.items ≤ 16) types.now }
+    ensures index { IfOk result (λ found. IsSchemaIndex found.0 areas.now types.now sets.now) }
+    ensures each { IfOk result (λ found. AreSetsOfEach found.1 (length types.now) sets.now) }
+{
+    let sets_of_types = sets_of_each(alloc, sets, types.len() as u8)?;
+    let index = SchemaIndex::of(alloc, areas, types, sets)?;
+    Ok((index, sets_of_types))
 }
 
 /// The schema of these lists, with the indexes of its names and what is worked out of it.
@@ -107,8 +139,12 @@ fn of_lists(
     requires { IsSchema (record { name = name; areas = areas; types = types; sets = sets }) }
     ensures { IfOk result (λ s. s ≡ record { name = name; areas = areas; types = types; sets = sets }) }
 {
-    let index = SchemaIndex::of(alloc, areas.as_slice(), types.as_slice(), sets.as_slice())?;
-    let sets_of_types = sets_of_each(alloc, sets.as_slice(), types.len() as u8)?;
+    let (index, sets_of_types) = look_ups(
+        alloc,
+        areas.as_slice(),
+        types.as_slice(),
+        sets.as_slice(),
+    )?;
     let schema = Schema {
         name,
         areas,

@@ -127,13 +127,30 @@ pub fn turn_back(runner: &mut Runner, stage: Stage)
     runner.course = None;
 }
 
+// The unit alone: all else goes.
+fn unit_of(runner: Runner) -> Unit
+    ensures { result ≡ runner.unit }
+{
+    let Runner {
+        unit,
+        held,
+        script,
+        course,
+        ..
+    } = runner;
+    drop(held);
+    drop(script);
+    drop(course);
+    unit
+}
+
 /// The units alone, in their order.
 pub fn units_of(alloc: Global, runners: Vec<Runner>) -> Result<Row<Unit>, AllocError>
     ensures { IfOk result (λ units. units ≡ map (λ r. r.unit) runners.items) }
 {
     let mut units = Vec::with_capacity(alloc, runners.len())?;
     for runner in runners {
-        units.push(runner.unit)?;
+        units.push(unit_of(runner))?;
     }
     Ok(Row::of(units))
 }

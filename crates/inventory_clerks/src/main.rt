@@ -133,7 +133,10 @@ fn work_day<R: Threads + Wait + Sync>(
     let (house, filled) = fill_orders(rt, alloc, house, first_orders, second_orders);
     match filled {
         Ok(()) => close_house(alloc, house),
-        Err(stop) => Err(stop),
+        Err(stop) => {
+            drop(house);
+            Err(stop)
+        }
     }
 }
 
@@ -227,7 +230,11 @@ fn report(alloc: Global, settled: &Settled) -> Result<Vec<u8>, AllocError>
 // What is printed of the day.
 fn day_text<R: Threads + Wait + Sync>(rt: &R, alloc: Global) -> Result<Vec<u8>, Stop> {
     match day(rt, alloc) {
-        Ok(settled) => Ok(report(alloc, &settled)?),
+        Ok(settled) => {
+            let out = report(alloc, &settled);
+            drop(settled);
+            Ok(out?)
+        }
         Err(stop) => Err(stop),
     }
 }

@@ -206,6 +206,10 @@ pub fn close_house(alloc: Global, house: Warehouse) -> Result<Settled, Stop>
     let Warehouse { db, first, second } = house;
     match Vec::from_array(alloc, [first, second]) {
         Ok(units) => settle_all(alloc, db, units),
-        Err(_) => Err(Stop::NoMemory),
+        Err(refused) => {
+            drop(refused);
+            drop(db);
+            Err(Stop::NoMemory)
+        }
     }
 }

@@ -1,4 +1,4 @@
-use Rattle.std.proofs.Common.{rules, ◌≡◌, List, All, sym, ap, ◌∙◌, subst, length, get_or, arith, true}
+use Rattle.std.proofs.Common.{rules, ◌≡◌, List, All, sym, ap, subst, length, arith, true}
 use Rattle.std.proofs.Crossing.{crosses}
 use Rattle.std.proofs.lemmas.Result.{IfOk-at_ok, IfOk-weaker}
 use denote.Param.Send.{sendable}
@@ -22,7 +22,7 @@ join-one-requires-after_bounds g t c κs within =
     let b = all_less (BelongsTo c.args.db.now) c.pop.new.self.items c.args.units.items c.in-Some.unit c.in-Some.ensures.items c.requires.belong in
     let l = last_place c.pop.new.self.items c.args.units.items c.in-Some.unit c.in-Some.ensures.items in
     let k = ap length c.as_slice.ensures.value in let r = c.requires.scripts in
-    let fit = subst (λ (s : List Statement). All (λ x. fits c.args.db.now.schema x ≡ true) s) (sym (c.as_slice-script.ensures ∙ c.index-scripts-as_slice.is)) (c.requires.fit (length c.as_slice.result.now) c.index-scripts-as_slice.result (omega arith)) in
+    let fit = subst (λ (s : List Statement). All (λ x. fits c.args.db.now.schema x ≡ true) s) (sym c.script_at-script.ensures) (c.requires.fit (length c.as_slice.result.now) c.script_at-script.result.now (omega arith)) in
     ((search rules, search rules, b.1, fit), (search rules, (search rules, (search rules, ((search rules, search rules, b.0, c.requires.fit, omega arith), search rules)))))
 
 pub returns-in-Ok-clause-belong : goal.returns-in-Ok-clause-belong
@@ -37,18 +37,18 @@ pub returns-in-Ok-clause-ran : goal.returns-in-Ok-clause-ran
 returns-in-Ok-clause-ran g t c =
     let l = last_place c.pop.new.self.items c.args.units.items c.in-Some.unit c.in-Some.ensures.items in
     let r = c.requires.scripts in
-    all_back Ran c.args.scripts.now c.args.units.items c.pop.new.self.items c.join-one.result.1.0.items c.push_reserved.new.self.items c.as_slice-script.result.now c.in-Some.unit c.join-one.result.0.0
+    all_back Ran c.args.scripts.now c.args.units.items c.pop.new.self.items c.join-one.result.1.0.items c.push_reserved.new.self.items c.script_at-script.result.now c.in-Some.unit c.join-one.result.0.0
     c.in-Some.ensures.items c.push_reserved.ensures.items
-    (script_at c.args.scripts.now (length c.as_slice.result.now) (length c.pop.new.self.items) c.as_slice-script.result.now (ap length c.as_slice.ensures.value) (omega arith) (subst (λ (s : List Statement). s ≡ get_or c.args.scripts.now (length c.as_slice.result.now) s) (sym c.as_slice-script.ensures) c.index-scripts-as_slice.is))
+    (script_at c.args.scripts.now (length c.as_slice.result.now) (length c.pop.new.self.items) c.script_at-script.result.now (ap length c.as_slice.ensures.value) (omega arith) c.script_at-script.ensures)
     c.join-one.ensures.second.1 c.join-one.ensures.first.1
 
 pub returns-in-Err-clause-ran : goal.returns-in-Err-clause-ran
 returns-in-Err-clause-ran g t c =
     let l = last_place c.pop.new.self.items c.args.units.items c.in-Some.unit c.in-Some.ensures.items in
     let r = c.requires.scripts in
-    all_back Ran c.args.scripts.now c.args.units.items c.pop.new.self.items c.join-one.result.1.0.items c.push_reserved.new.self.items c.as_slice-script.result.now c.in-Some.unit c.join-one.result.0.0
+    all_back Ran c.args.scripts.now c.args.units.items c.pop.new.self.items c.join-one.result.1.0.items c.push_reserved.new.self.items c.script_at-script.result.now c.in-Some.unit c.join-one.result.0.0
     c.in-Some.ensures.items c.push_reserved.ensures.items
-    (script_at c.args.scripts.now (length c.as_slice.result.now) (length c.pop.new.self.items) c.as_slice-script.result.now (ap length c.as_slice.ensures.value) (omega arith) (subst (λ (s : List Statement). s ≡ get_or c.args.scripts.now (length c.as_slice.result.now) s) (sym c.as_slice-script.ensures) c.index-scripts-as_slice.is))
+    (script_at c.args.scripts.now (length c.as_slice.result.now) (length c.pop.new.self.items) c.script_at-script.result.now (ap length c.as_slice.ensures.value) (omega arith) c.script_at-script.ensures)
     c.join-one.ensures.second.1 c.join-one.ensures.first.1
 
 pub returns-in-Ok-clause-made : goal.returns-in-Ok-clause-made
@@ -56,8 +56,8 @@ returns-in-Ok-clause-made g t c =
     let l = last_place c.pop.new.self.items c.args.units.items c.in-Some.unit c.in-Some.ensures.items in
     let r = c.requires.scripts in
     IfOk-weaker c.join-one.result.1.1 (λ _. HaveMade c.args.scripts.now c.pop.new.self.items c.join-one.result.1.0.items) (λ _. HaveMade c.args.scripts.now c.args.units.items c.push_reserved.new.self.items)
-    (λ _ h. all_back (λ s u v. Ran s u v × IsWhole s u v) c.args.scripts.now c.args.units.items c.pop.new.self.items c.join-one.result.1.0.items c.push_reserved.new.self.items c.as_slice-script.result.now c.in-Some.unit c.join-one.result.0.0
+    (λ _ h. all_back (λ s u v. Ran s u v × IsWhole s u v) c.args.scripts.now c.args.units.items c.pop.new.self.items c.join-one.result.1.0.items c.push_reserved.new.self.items c.script_at-script.result.now c.in-Some.unit c.join-one.result.0.0
     c.in-Some.ensures.items c.push_reserved.ensures.items
-    (script_at c.args.scripts.now (length c.as_slice.result.now) (length c.pop.new.self.items) c.as_slice-script.result.now (ap length c.as_slice.ensures.value) (omega arith) (subst (λ (s : List Statement). s ≡ get_or c.args.scripts.now (length c.as_slice.result.now) s) (sym c.as_slice-script.ensures) c.index-scripts-as_slice.is))
-    h (c.join-one.ensures.first.1, IfOk-at_ok (λ _. IsWhole c.as_slice-script.result.now c.in-Some.unit c.join-one.result.0.0) c.in-Ok.is c.join-one.ensures.first.2))
+    (script_at c.args.scripts.now (length c.as_slice.result.now) (length c.pop.new.self.items) c.script_at-script.result.now (ap length c.as_slice.ensures.value) (omega arith) c.script_at-script.ensures)
+    h (c.join-one.ensures.first.1, IfOk-at_ok (λ _. IsWhole c.script_at-script.result.now c.in-Some.unit c.join-one.result.0.0) c.in-Ok.is c.join-one.ensures.first.2))
     c.join-one.ensures.second.2

@@ -5,7 +5,7 @@ use Rattle.dbtg_step.specs.Core.Courses.{IsCourseKept}
 use Rattle.dbtg_run.specs.Kept.{database_after}
 use Rattle.dbtg_run.specs.Posed.{HoldsSo, turns_left}
 use Rattle.dbtg_run.specs.Works.{Belongs, IsAtWork, IsSameUnit}
-use Rattle.dbtg_run.proofs.work.Work.gather.Given as goal
+use Rattle.dbtg_run.proofs.work.Work.gather_along.Given as goal
 
 -- in a database of one unit, whose database does not change, one turn back is enough
 abbrev pub invariant-needs : goal.invariant-needs

@@ -12,10 +12,11 @@ use Rattle.dbtg_run.specs.declared.work.Work.{Work}
 use Rattle.dbtg_run.specs.Kept.{database_after}
 use Rattle.dbtg_run.specs.Posed.{turns_left}
 use Rattle.dbtg_run.specs.Works.{IsAtWork, KnowsBetter}
+use Rattle.dbtg_step.specs.Core.Courses.{IsCourseKept}
 use Rattle.dbtg_step.proofs.Public.{no_course}
 use Rattle.dbtg_run.proofs.Units.Courses.{course_goes_on}
 use Rattle.dbtg_run.proofs.Units.Needing.{try_nearer}
-use Rattle.dbtg_run.proofs.work.Work.gather.Goals as goal
+use Rattle.dbtg_run.proofs.work.Work.gather_along.Goals as goal
 
 pub needs-preserved-then-branch : goal.needs-preserved-then-branch
 needs-preserved-then-branch c =
@@ -38,7 +39,7 @@ needs-preserved c =
       so = search rules;
       free = search rules;
       known = search rules;
-      course = no_course db.schema db.about.capacity new.held new.unit c.args.statement.now;
+      course = subst (IsCourseKept db.schema db.about.capacity new.held new.unit c.args.statement.now) (sym c.take.ensures.after) (no_course db.schema db.about.capacity new.held new.unit c.args.statement.now);
     }
 
 pub needs-smaller : goal.needs-smaller
