@@ -1,6 +1,7 @@
 """What the scripts of tests/ know of the toolchain: where it lies, which crates there are, and the words of rattle's commands."""
 
 import functools
+import glob
 import os
 import re
 import subprocess
@@ -30,13 +31,13 @@ def free_memory():
 
 
 def urgent():
-    """How many processes run at this moment, on a processor or waiting for one, that are not nice: none that sleeps, nor this one."""
-    return sum(is_urgent(it) for it in os.listdir("/proc") if it.isdigit() and int(it) != os.getpid())
+    """How many threads run at this moment, on a processor or waiting for one, that are not nice: none of this process."""
+    return sum(is_urgent(it) for it in glob.glob("/proc/[0-9]*/task/*/stat") if int(it.split("/")[2]) != os.getpid())
 
 
-def is_urgent(process):
+def is_urgent(thread):
     try:
-        fields = text_of(f"/proc/{process}/stat").rpartition(")")[2].split()
+        fields = text_of(thread).rpartition(")")[2].split()
     except (OSError, UnicodeDecodeError):
         return False
     return fields[0] == "R" and fields[16] == "0"
