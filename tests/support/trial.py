@@ -102,7 +102,7 @@ class Trial:
     """The edits of one crate, and what became of each."""
 
     # A trial of so many edits, of a crate with so many libraries below it, is among the last to begin and the longest.
-    MANY, FAR_UP = 60, 8
+    MANY, FAR_UP = 60, 5
 
     def __init__(self, crate, lanes, log, libraries=None):
         """Over the libraries of the repository and over what the crate's own check kept; or over those in another folder, and

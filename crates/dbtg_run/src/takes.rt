@@ -41,6 +41,13 @@ fn is_ready(wanted: &Need) -> bool
     matches!(wanted, Need::Ready)
 }
 
+// Lets go of how far a DELETE has come.
+fn forget(course: &mut Option<Course>)
+    ensures { course.new ≡ None }
+{
+    drop(course.take());
+}
+
 impl Work {
     // Takes an area beside others that share it. False where another unit has it alone, or changed its word meanwhile.
     fn take_shared(&mut self, db: &Database, area: AreaNo) -> Result<bool, AllocError>
@@ -260,7 +267,7 @@ impl Work {
             }
             tries -= 1;
             // The statement may have turned back: then its cells are home again.
-            drop(course.take());
+            forget(course);
         }
     }
 

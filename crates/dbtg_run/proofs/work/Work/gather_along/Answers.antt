@@ -39,7 +39,7 @@ needs-preserved c =
       so = search rules;
       free = search rules;
       known = search rules;
-      course = subst (IsCourseKept db.schema db.about.capacity new.held new.unit c.args.statement.now) (sym c.take.ensures.after) (no_course db.schema db.about.capacity new.held new.unit c.args.statement.now);
+      course = subst (IsCourseKept db.schema db.about.capacity new.held new.unit c.args.statement.now) (sym c.forget.ensures) (no_course db.schema db.about.capacity new.held new.unit c.args.statement.now);
     }
 
 pub needs-smaller : goal.needs-smaller
