@@ -66,9 +66,9 @@ class Edit:
         self.twin = function.twin(number)
 
     def twin_text(self, text):
-        """What stands behind the function that it changes, in the file with this text: its twin."""
+        """What stands behind the function that it changes, in the file with this text: its twin, with the same attributes."""
         (((_, function), body),) = self.bodies.items()
-        head = re.sub(rf"\bfn {function.name}\b", f"fn {self.twin.name}", text[function.start : function.opens], count=1)
+        head = attributes_of(text, function) + re.sub(rf"\bfn {function.name}\b", f"fn {self.twin.name}", text[function.start : function.opens], count=1)
         return f"\n\n{head}" + re.sub(rf"_of_{function.name}\b", f"_of_{self.twin.name}", body)
 
     def enter_twin(self, copy, crate, sources):
@@ -77,6 +77,13 @@ class Edit:
             places = (places_of(it, module_of(file), sources.declared()) for it in (function, self.twin))
             for was, new in zip(*places):
                 copy_proof(f"{copy}/proofs", crate, was, new)
+
+
+def attributes_of(text, function):
+    """The lines of attributes above a function."""
+    above = text[: function.start].splitlines(keepends=True)
+    count = next((n for n, line in enumerate(reversed(above)) if not line.lstrip().startswith("#[")), len(above))
+    return "".join(above[len(above) - count :])
 
 
 def calls(body, name):

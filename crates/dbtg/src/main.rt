@@ -204,7 +204,7 @@ fn open_shell(rt: &HostRuntime, paths: &Paths, call: &ShellCall) -> ExitCode {
     match read_schema(rt.alloc(), &files) {
         Ok(known) => {
             let status = open_units(rt, &known, call);
-            drop(known);
+            known.discard();
             status
         }
         Err(fault) => told_of(rt, &fault, paths, true),

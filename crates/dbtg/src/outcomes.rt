@@ -270,6 +270,6 @@ pub fn print_outcomes<S: Source>(
 {
     let known = schema_for_run(alloc, source)?;
     let said = outcomes_known(alloc, source, &known, capacity, answers, limit);
-    drop(known);
+    known.discard();
     said
 }

@@ -212,7 +212,7 @@ pub fn replay<S: Source>(
 {
     let known = schema_for_run(alloc, source)?;
     let said = replay_known(alloc, source, &known, capacity, echo);
-    drop(known);
+    known.discard();
     said
 }
 

@@ -1,9 +1,12 @@
 //! The scripts that a source gives, each judged before the next is read.
-ghost use Rattle.std.specs.Prelude.{◌≡◌, IfErr, IfOk, length, map, true};
+ghost use Rattle.std.specs.Prelude.{◌≡◌, ◌<◌, ◌≤◌, ◌++◌, ◌∷◌, ℕ, List, [], None, IfErr, IfOk, OnOk, length, map, true};
 ghost use Rattle.dbtg_schema.specs.Sound.{IsSound};
+ghost use Rattle.dbtg_script.specs.StatementFaults.{refusal as script_refusal};
 ghost use Rattle.dbtg_script.specs.Statements.{script};
 ghost use Rattle.dbtg_step.specs.Laws.{scripts_fit};
-ghost use Rattle.dbtg_command.specs.Sources.{ReadScripts, ToldOfScripts};
+ghost use Rattle.dbtg_command.specs.declared.place.Place.TheVariants.{Script};
+ghost use Rattle.dbtg_command.specs.Refusals.{RefusesScript};
+ghost use Rattle.dbtg_command.specs.Sources.{ReadScripts, ToldIn, ToldOfScripts};
 
 use dbtg_command::{Fault, Place, Source, take_script};
 use dbtg_schema::{Row, Schema};
@@ -17,6 +20,32 @@ pub struct Scripts {
     pub texts: Row<Row<u8>>,
 }
 
+// Reads the script of this number, and puts it behind those in front.
+fn take_next<S: Source>(
+    alloc: Global,
+    source: &S,
+    schema: &Schema,
+    number: usize,
+    scripts: &mut Scripts,
+) -> Result<(), Fault>
+    requires numbered { 0 < number }
+    requires within { number ≤ S.count source.now }
+    ensures taken { OnOk result ((text : List ℕ) × S.holds source.now (Script number) text × (script_refusal schema.now text ≡ None) × (scripts.new.statements ≡ scripts.old.statements ++ script schema.now text ∷ []) × (scripts.new.texts ≡ scripts.old.texts ++ text ∷ [])) }
+    ensures fitting { IsSound schema.now → scripts_fit schema.now scripts.old.statements ≡ true → OnOk result (scripts_fit schema.now scripts.new.statements ≡ true) }
+    ensures refused { IfErr result (λ fault. ToldIn (S.holds source.now) (S.fails source.now) fault (Script number) (λ text. RefusesScript fault number (script_refusal schema.now text))) }
+{
+    let text = source.read(alloc, Place::Script(number))?;
+    take_script(
+        alloc,
+        &mut scripts.statements,
+        schema,
+        number,
+        text.as_slice(),
+    )?;
+    scripts.texts.push(Row::of(text))?;
+    Ok(())
+}
+
 pub fn read_scripts_with_texts<S: Source>(
     alloc: Global,
     source: &S,
@@ -27,14 +56,14 @@ pub fn read_scripts_with_texts<S: Source>(
     ensures fitting { IsSound schema.now → IfOk result (λ scripts. scripts_fit schema.now scripts.statements ≡ true) }
     ensures refused { IfErr result (λ fault. ToldOfScripts (S.holds source.now) (S.fails source.now) fault schema.now (S.count source.now)) }
 {
-    let mut statements = Row::of(Vec::new(alloc));
-    let mut texts = Row::of(Vec::new(alloc));
+    let mut scripts = Scripts {
+        statements: Row::of(Vec::new(alloc)),
+        texts: Row::of(Vec::new(alloc)),
+    };
     for i in 0..source.count() {
-        let text = source.read(alloc, Place::Script(i + 1))?;
-        take_script(alloc, &mut statements, schema, i + 1, text.as_slice())?;
-        texts.push(Row::of(text))?;
+        take_next(alloc, source, schema, i + 1, &mut scripts)?;
     }
-    Ok(Scripts { statements, texts })
+    Ok(scripts)
 }
 
 pub fn read_scripts<S: Source>(

@@ -82,7 +82,7 @@ fn run_of<R: Threads + Wait + Sync>(
         Ok(settled) => Ok(settled),
         // All units of the database came, so it was memory that was refused.
         Err(unsettled) => {
-            drop(unsettled);
+            unsettled.discard();
             Err(AllocError)
         }
     }
@@ -103,7 +103,7 @@ fn threads_text<R: Threads + Wait + Sync>(
 {
     let settled = run_of(rt, alloc, schema, capacity, scripts)?;
     let said = said_of(alloc, &settled);
-    drop(settled);
+    settled.discard();
     said
 }
 
@@ -122,7 +122,7 @@ pub fn run_on_threads<R: Threads + Wait + Sync, S: Source>(
     match read_scripts(alloc, source, &known) {
         Ok(scripts) => Ok(threads_text(rt, alloc, known, capacity, scripts.as_slice())?),
         Err(fault) => {
-            drop(known);
+            known.discard();
             Err(fault)
         }
     }

@@ -187,6 +187,6 @@ pub fn timeline<S: Source>(
 {
     let known = schema_for_run(alloc, source)?;
     let said = timeline_known(alloc, source, &known, capacity, svg);
-    drop(known);
+    known.discard();
     said
 }

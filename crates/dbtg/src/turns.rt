@@ -73,6 +73,6 @@ pub fn moves_for_turns<S: Source>(
 {
     let known = schema_for_run(alloc, source)?;
     let said = turns_known(alloc, source, &known, capacity);
-    drop(known);
+    known.discard();
     said
 }

@@ -71,7 +71,7 @@ pub fn check<S: Source>(alloc: Global, source: &S) -> Result<Vec<u8>, Fault>
 {
     let known = read_schema(alloc, source)?;
     let said = check_known(alloc, source, &known);
-    drop(known);
+    known.discard();
     said
 }
 

@@ -1,12 +1,13 @@
 //! The words of the command, read by `clap`.
 
+use crate::arguments::{SCHEMA, SCRIPTS, Word, arg_of};
 use crate::capacity::{capacity_of, limit_of, units_of};
 use crate::draw::Form;
 use crate::explain::{Topic, topic_of};
 use crate::files::STANDARD_INPUT;
 use crate::order::Order;
 use clap::error::ErrorKind;
-use clap::{Arg, ArgAction, ArgMatches, Command, Error};
+use clap::{ArgMatches, Command, Error};
 use std::alloc::{AllocError, Global};
 
 /// What is to be done. Paths are as they were given; `-` stands for standard input. `explains` asks for a second line on a fault.
@@ -102,302 +103,173 @@ pub struct OutcomesCall<'a> {
     pub scripts: Vec<&'a str>,
 }
 
-fn schema_word<'a>(alloc: Global) -> Arg<'a> {
-    Arg::new(alloc, "schema")
-        .value_name("SCHEMA")
-        .required(true)
-        .action(ArgAction::Set)
-        .help("The file of the schema; - for standard input")
+// The command, which can be given this word too.
+fn taking<'a>(
+    alloc: Global,
+    command: Command<'a>,
+    word: Word<'a>,
+) -> Result<Command<'a>, AllocError> {
+    match arg_of(alloc, word) {
+        Ok(arg) => command.arg(arg),
+        Err(refused) => {
+            drop(command);
+            Err(refused)
+        }
+    }
 }
 
-fn script_words<'a>(alloc: Global, help: &'a str) -> Arg<'a> {
-    Arg::new(alloc, "scripts")
-        .value_name("SCRIPT")
-        .num_args(0..)
-        .action(ArgAction::Append)
-        .help(help)
-}
-
-fn explain_option<'a>(alloc: Global) -> Arg<'a> {
-    Arg::new(alloc, "explain")
-        .long("explain")
-        .action(ArgAction::SetTrue)
-        .help(
-            "Tells of a fault also the file, the line, the word and what is wrong [default: the fault's number alone]",
-        )
-}
-
-// What a command does, an example, and what it can be given; its usage shows it by this name.
+// What a command does, an example, and what it can be given, in the order of its help; its usage shows it by this name.
 fn described<'a>(
     alloc: Global,
     name: &'a str,
     about: &'a str,
     example: &'a str,
-    args: Vec<Arg<'a>>,
+    words: &[Word<'a>],
 ) -> Result<Command<'a>, AllocError> {
-    Command::new(alloc, name)
-        .about(about)
-        .after_help(example)
-        .args(args)
+    let mut command = Command::new(alloc, name).about(about).after_help(example);
+    for word in words {
+        command = taking(alloc, command, *word)?;
+    }
+    Ok(command)
 }
 
 // The command `check`, by the name that its usage shows.
 fn check_command<'a>(alloc: Global, name: &'a str) -> Result<Command<'a>, AllocError> {
-    let args = vec![in alloc;
-        explain_option(alloc),
-        schema_word(alloc),
-        script_words(
-            alloc,
-            "Files of scripts of this schema, any number of them; - for standard input, once",
-        ),
-    ]?;
+    let scripts = "Files of scripts of this schema, any number of them; - for standard input, once";
     described(
         alloc,
         name,
         "Reads a schema and scripts, and tells how large they are",
         "Example: dbtg check shop.schema unit1.script unit2.script",
-        args,
+        &[Word::Explain, Word::Schema(SCHEMA), Word::Scripts(scripts)],
     )
-}
-
-fn svg_option<'a>(alloc: Global, help: &'a str) -> Arg<'a> {
-    Arg::new(alloc, "svg")
-        .long("svg")
-        .action(ArgAction::SetTrue)
-        .help(help)
 }
 
 // The command `draw`, by the name that its usage shows.
 fn draw_command<'a>(alloc: Global, name: &'a str) -> Result<Command<'a>, AllocError> {
-    let args = vec![in alloc;
-        svg_option(
-            alloc,
-            "Draws as SVG, with a layout of its own [default: the language of Graphviz]",
-        ),
-        explain_option(alloc),
-        schema_word(alloc),
-    ]?;
+    let svg = "Draws as SVG, with a layout of its own [default: the language of Graphviz]";
     described(
         alloc,
         name,
         "Prints the diagram of a schema: record types, and the sets from owner to member",
         "Examples: dbtg draw --svg shop.schema, dbtg draw shop.schema | dot -Tpng",
-        args,
+        &[Word::Svg(svg), Word::Explain, Word::Schema(SCHEMA)],
     )
 }
 
 // The command `explain`, by the name that its usage shows.
 fn explain_command<'a>(alloc: Global, name: &'a str) -> Result<Command<'a>, AllocError> {
-    let args = vec![in alloc;
-        Arg::new(alloc, "topic")
-            .value_name("TOPIC")
-            .num_args(0..)
-            .action(ArgAction::Append)
-            .help(
-                "A status of four digits, or the number of a fault: schema 1 to 18, script 1 to 14, moves 1 to 2, turns 1 to 2 [default: a list of all]",
-            ),
-    ]?;
     Ok(described(
         alloc,
         name,
         "Tells what a status or a fault means, when it comes and what to do next",
         "Examples: dbtg explain 0505, dbtg explain schema 7",
-        args,
+        &[Word::Topic],
     )?
     .override_usage("dbtg explain [CODE | schema N | script N | moves N | turns N]"))
 }
 
-fn number_option<'a>(alloc: Global, name: &'a str, usual: &'a str, help: &'a str) -> Arg<'a> {
-    Arg::new(alloc, name)
-        .long(name)
-        .value_name("N")
-        .default_value(usual)
-        .action(ArgAction::Set)
-        .help(help)
-}
-
-fn capacity_option<'a>(alloc: Global) -> Arg<'a> {
-    let help = "How many numbers each record type has, 1 to 1000";
-    number_option(alloc, "capacity", "100", help)
-}
-
-fn moves_option<'a>(alloc: Global) -> Arg<'a> {
-    Arg::new(alloc, "moves")
-        .long("moves")
-        .value_name("FILE")
-        .action(ArgAction::Set)
-        .help(
-            "The file of the moves, - for standard input [default: one script runs after the other]",
-        )
-}
-
-fn turns_option<'a>(alloc: Global) -> Result<Arg<'a>, AllocError> {
-    Arg::new(alloc, "turns")
-        .long("turns")
-        .value_name("FILE")
-        .action(ArgAction::Set)
-        .help(
-            "The file of the turns, which say whose next statement is made, - for standard input; not with --moves",
-        )
-        .conflicts_with("moves")
-}
-
-fn echo_option<'a>(alloc: Global) -> Arg<'a> {
-    Arg::new(alloc, "echo")
-        .long("echo")
-        .action(ArgAction::SetTrue)
-        .help("Prints each answer with its statement in front [default: the answers alone]")
-}
-
 // The command `replay`, by the name that its usage shows.
 fn replay_command<'a>(alloc: Global, name: &'a str) -> Result<Command<'a>, AllocError> {
-    let turns = turns_option(alloc)?;
-    let args = vec![in alloc;
-        capacity_option(alloc),
-        moves_option(alloc),
-        turns,
-        echo_option(alloc),
-        explain_option(alloc),
-        schema_word(alloc),
-        script_words(
-            alloc,
-            "Files of the scripts of units 1, 2, ..: 1 to 8 of them; - for standard input, once",
-        ),
-    ]?;
     described(
         alloc,
         name,
         "Runs scripts, and prints the answers, the database and the units",
         "Example: dbtg replay --capacity 10 --moves shop.moves shop.schema unit1.script unit2.script",
-        args,
+        &[
+            Word::Capacity,
+            Word::Moves,
+            Word::TurnsOption,
+            Word::Echo,
+            Word::Explain,
+            Word::Schema(SCHEMA),
+            Word::Scripts(SCRIPTS),
+        ],
     )
 }
 
 // The command `turns`, by the name that its usage shows.
 fn turns_command<'a>(alloc: Global, name: &'a str) -> Result<Command<'a>, AllocError> {
-    let args = vec![in alloc;
-        capacity_option(alloc),
-        explain_option(alloc),
-        Arg::new(alloc, "turns")
-            .value_name("FILE")
-            .required(true)
-            .action(ArgAction::Set)
-            .help("The file of the turns; - for standard input"),
-        schema_word(alloc),
-        script_words(
-            alloc,
-            "Files of the scripts of units 1, 2, ..: 1 to 8 of them; - for standard input, once",
-        ),
-    ]?;
     described(
         alloc,
         name,
         "Prints the moves that turns stand for, as a file of moves",
         "Example: dbtg turns a.turns shop.schema unit1.script unit2.script",
-        args,
+        &[
+            Word::Capacity,
+            Word::Explain,
+            Word::TurnsFile,
+            Word::Schema(SCHEMA),
+            Word::Scripts(SCRIPTS),
+        ],
     )
 }
 
 // The command `timeline`, by the name that its usage shows.
 fn timeline_command<'a>(alloc: Global, name: &'a str) -> Result<Command<'a>, AllocError> {
-    let turns = turns_option(alloc)?;
-    let args = vec![in alloc;
-        capacity_option(alloc),
-        moves_option(alloc),
-        turns,
-        svg_option(alloc, "Draws as SVG [default: plain text]"),
-        explain_option(alloc),
-        schema_word(alloc),
-        script_words(
-            alloc,
-            "Files of the scripts of units 1, 2, ..: 1 to 8 of them; - for standard input, once",
-        ),
-    ]?;
     described(
         alloc,
         name,
         "Prints a picture of an interleaving: a lane for each unit, event by event",
         "Example: dbtg timeline --moves shop.moves shop.schema unit1.script unit2.script",
-        args,
+        &[
+            Word::Capacity,
+            Word::Moves,
+            Word::TurnsOption,
+            Word::Svg("Draws as SVG [default: plain text]"),
+            Word::Explain,
+            Word::Schema(SCHEMA),
+            Word::Scripts(SCRIPTS),
+        ],
     )
 }
 
 // The command `outcomes`, by the name that its usage shows.
 fn outcomes_command<'a>(alloc: Global, name: &'a str) -> Result<Command<'a>, AllocError> {
-    let args = vec![in alloc;
-        capacity_option(alloc),
-        number_option(
-            alloc,
-            "limit",
-            "1000000",
-            "How many states may come before it gives up, 1 to 1000000000",
-        ),
-        Arg::new(alloc, "answers")
-            .long("answers")
-            .action(ArgAction::SetTrue)
-            .help(
-                "Tells results apart also by the answers of each unit [default: by what is printed behind -- alone]",
-            ),
-        explain_option(alloc),
-        schema_word(alloc),
-        script_words(
-            alloc,
-            "Files of the scripts of units 1, 2, ..: 1 to 8 of them; - for standard input, once",
-        ),
-    ]?;
     described(
         alloc,
         name,
         "Prints all that can come out when scripts run at the same time, each with an order that shows it",
         "Example: dbtg outcomes shop.schema unit1.script unit2.script",
-        args,
+        &[
+            Word::Capacity,
+            Word::Limit,
+            Word::Answers,
+            Word::Explain,
+            Word::Schema(SCHEMA),
+            Word::Scripts(SCRIPTS),
+        ],
     )
-}
-
-fn save_turns_option<'a>(alloc: Global) -> Arg<'a> {
-    Arg::new(alloc, "save-turns")
-        .long("save-turns")
-        .value_name("FILE")
-        .action(ArgAction::Set)
-        .help(
-            "The file to write the turns to by which replay --turns prints the same [default: they are not kept]",
-        )
 }
 
 // The command `threads`, by the name that its usage shows.
 fn threads_command<'a>(alloc: Global, name: &'a str) -> Result<Command<'a>, AllocError> {
-    let args = vec![in alloc;
-        capacity_option(alloc),
-        save_turns_option(alloc),
-        explain_option(alloc),
-        schema_word(alloc),
-        script_words(
-            alloc,
-            "Files of the scripts of units 1, 2, ..: 1 to 8 of them, each on a thread of its own; - for standard input, once",
-        ),
-    ]?;
+    let scripts =
+        "Files of the scripts of units 1, 2, ..: 1 to 8 of them, each on a thread of its own; - for standard input, once";
     described(
         alloc,
         name,
         "Runs scripts on threads, and prints the answers, the database, the units and the audit",
         "Example: dbtg threads --capacity 10 shop.schema unit1.script unit2.script",
-        args,
+        &[
+            Word::Capacity,
+            Word::SaveTurns,
+            Word::Explain,
+            Word::Schema(SCHEMA),
+            Word::Scripts(scripts),
+        ],
     )
 }
 
 // The command `shell`, by the name that its usage shows.
 fn shell_command<'a>(alloc: Global, name: &'a str) -> Result<Command<'a>, AllocError> {
-    let args = vec![in alloc;
-        capacity_option(alloc),
-        number_option(alloc, "units", "2", "How many units there are, 1 to 8"),
-        schema_word(alloc).help("The file of the schema"),
-    ]?;
+    let schema = "The file of the schema";
     described(
         alloc,
         name,
         "Reads statements from standard input, and answers each at once",
         "Example: dbtg shell shop.schema; .help shows what can be asked there",
-        args,
+        &[Word::Capacity, Word::Units, Word::Schema(schema)],
     )
 }
 
@@ -456,19 +328,25 @@ fn command_of<'a>(alloc: Global, named: Named, name: &'a str) -> Result<Command<
     }
 }
 
-fn all_commands<'a>(alloc: Global) -> Result<Vec<Command<'a>>, AllocError> {
-    let mut all = Vec::new(alloc);
-    for named in ALL {
-        let (word, _) = names_of(named);
-        all.push(command_of(alloc, named, word)?)?;
+// The command, which can be asked this too.
+fn asked_also<'a>(
+    alloc: Global,
+    command: Command<'a>,
+    named: Named,
+) -> Result<Command<'a>, AllocError> {
+    let (word, _) = names_of(named);
+    match command_of(alloc, named, word) {
+        Ok(subcommand) => command.subcommand(subcommand),
+        Err(refused) => {
+            drop(command);
+            Err(refused)
+        }
     }
-    Ok(all)
 }
 
 /// The command with all that it can be asked.
 pub fn command<'a>(alloc: Global) -> Result<Command<'a>, AllocError> {
-    let all = all_commands(alloc)?;
-    Command::new(alloc, "dbtg")
+    let mut command = Command::new(alloc, "dbtg")
         .version("0.1.0")
         .about(
             "A CODASYL network database: reads its schema, and runs the scripts of its run-units",
@@ -476,8 +354,11 @@ pub fn command<'a>(alloc: Global) -> Result<Command<'a>, AllocError> {
         .propagate_version(true)
         .subcommand_required(true)
         .arg_required_else_help(true)
-        .after_help("Example: dbtg replay card.schema unit1.script")
-        .subcommands(all)
+        .after_help("Example: dbtg replay card.schema unit1.script");
+    for named in &ALL {
+        command = asked_also(alloc, command, *named)?;
+    }
+    Ok(command)
 }
 
 // What the words cannot ask for: the text that answers them, with the usage.

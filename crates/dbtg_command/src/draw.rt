@@ -46,7 +46,7 @@ pub fn draw<S: Source>(alloc: Global, source: &S, form: Form) -> Result<Vec<u8>,
     match read_schema(alloc, source) {
         Ok(known) => {
             let drawn = draw_known(alloc, form, &known);
-            drop(known);
+            known.discard();
             drawn
         }
         Err(fault) => Err(fault),

@@ -3,6 +3,7 @@
 //! Nothing in it knows of steps, runs and threads: it stands beside the crates that have them, not above.
 #![tactic(auto)]
 
+mod arguments;
 mod at_hand;
 mod capacity;
 pub mod check;

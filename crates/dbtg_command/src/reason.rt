@@ -132,7 +132,7 @@ fn word_in(
     match read_schema(alloc, &files) {
         Ok(known) => {
             let said = said_of_word(alloc, &known, line, number, meaning);
-            drop(known);
+            known.discard();
             said
         }
         Err(_) => Ok(Vec::new(alloc)),

@@ -98,7 +98,7 @@ impl<'a> Meeting<'a> {
             match make_copy(alloc, &mut database, entry.unit, &entry.statement) {
                 Ok(()) => {}
                 Err(refused) => {
-                    drop(database);
+                    database.discard();
                     return Err(refused);
                 }
             }
@@ -140,7 +140,7 @@ impl<'a> Meeting<'a> {
                 Ok((database.into_run()?, status))
             }
             Err(refused) => {
-                drop(database);
+                database.discard();
                 Err(refused)
             }
         }

@@ -101,6 +101,7 @@ impl Database {
             if !outcome.is_busy() {
                 return outcome;
             }
+            drop(outcome);
             thread::yield_now();
         }
         unreachable!()

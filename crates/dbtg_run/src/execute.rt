@@ -111,10 +111,10 @@ impl Work {
         ensures alone { self.old.about.units ≡ 1 → 0 < tries → IfOk result (λ o. IsSome o) }
     {
         self.journal.reserve(1)?;
-        let copy = statement.copy(alloc)?;
         if !self.gather(alloc, db, statement, tries)? {
             return Ok(None);
         }
+        let copy = statement.copy(alloc)?;
         match self.make_in_hand(alloc, db, statement, copy, gate) {
             Ok(answer) => Ok(Some(answer)),
             Err(refused) => Err(refused),

@@ -14,6 +14,13 @@ pub struct Settled {
     pub units: Row<Unit>,
 }
 
+impl Settled {
+    /// Lets go of it, and of its memory. Other crates end one by this, so that they need not prove what it is to drop its parts.
+    pub fn discard(self) {
+        drop(self)
+    }
+}
+
 /// Why a database isn't settled.
 #[derive(Clone, Copy, Debug, PartialEq, Eq)]
 pub enum Fault {
@@ -29,4 +36,12 @@ pub struct Unsettled {
     pub fault: Fault,
     pub db: Database,
     pub units: Vec<RunUnit>,
+}
+
+impl Unsettled {
+    /// Lets go of the database and its units, and of their memory. Other crates end them by this, so that they need not prove what it
+    /// is to drop their parts.
+    pub fn discard(self) {
+        drop(self)
+    }
 }

@@ -386,6 +386,11 @@ impl Schema {
         of_lists(alloc, name, areas, types, sets)
     }
 
+    /// Lets go of the schema, and of its memory. Other crates end one by this, so that they need not prove what it is to drop its parts.
+    pub fn discard(self) {
+        drop(self)
+    }
+
     /// The record type of this number, if there is one.
     pub fn record_type(&self, rtype: RecordNo) -> Option<&RecordType>
         ensures { option_map (λ r. r.now) result ≡ slice_get self.now.types rtype }

@@ -214,6 +214,11 @@ impl Core {
         read_image(alloc, &self.schema, self.capacity, source)
     }
 
+    /// Lets go of the core, and of its memory. Other crates end one by this, so that they need not prove what it is to drop its parts.
+    pub fn discard(self) {
+        drop(self)
+    }
+
     /// The core taken apart, with the results of the moves that led to it.
     pub fn into_run(self, results: Vec<Stepped>) -> Result<Run, AllocError>
         ensures { IfOk result (λ given. IsHandedOut self results.items given) }

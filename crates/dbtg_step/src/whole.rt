@@ -244,6 +244,12 @@ impl<'a> WholeDatabase<'a> {
         }
     }
 
+    /// Lets go of the database and its units, and of their memory. Other crates end them by this, so that they need not prove what it is
+    /// to drop their parts.
+    pub fn discard(self) {
+        drop(self)
+    }
+
     // The database taken apart, beside its image.
     fn run_with(self, image: Image) -> Run
         requires { image ≡ image_of self.schema self.capacity (state_now self).database }

@@ -206,5 +206,7 @@ pub fn watch(
     ensures { IfOk result (λ events. events.items ≡ events_of_run schema.now capacity scripts moves.now) }
 {
     let mut core = Core::new(alloc, schema, capacity, scripts)?;
-    watch_moves(alloc, &mut core, moves)
+    let events = watch_moves(alloc, &mut core, moves);
+    core.discard();
+    events
 }

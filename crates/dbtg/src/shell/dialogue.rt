@@ -157,5 +157,7 @@ pub fn converse(
     let mut shell = Shell::new(alloc, session);
     let mut input = rt.reader();
     let mut line = Vec::new(alloc);
-    answer_lines(rt, &mut shell, call, &mut input, &mut line)
+    let ended = answer_lines(rt, &mut shell, call, &mut input, &mut line);
+    shell.session.discard();
+    ended
 }

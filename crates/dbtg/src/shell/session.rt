@@ -210,12 +210,19 @@ impl<'a> Session<'a> {
         requires counted { is_count units ≡ true }
         ensures { IfOk result (λ session. session ≡ record { making = record { schema = schema.now; capacity = capacity; units = units; history = [] }; texts = replicate units [] }) }
     {
+        let scripts = empty_scripts(alloc, units)?;
         Ok(Session {
             alloc,
             schema,
             database: WholeDatabase::opening(alloc, schema, capacity, units)?,
-            scripts: empty_scripts(alloc, units)?,
+            scripts,
         })
+    }
+
+    /// Lets go of the session, and of its memory.
+    pub fn discard(self) {
+        self.database.discard();
+        drop(self.scripts);
     }
 
     /// Makes the statement of a line for the unit of this number, and says whether the line holds one.

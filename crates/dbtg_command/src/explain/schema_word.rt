@@ -78,22 +78,32 @@ fn push_items_of(out: &mut Vec<u8>, words: &[&[u8]], rtype: &[u8]) -> Result<(),
     Ok(())
 }
 
-// The names that a fault of this number asks for: of what is declared in front of the word, of the whole text for sets and items.
-fn names_wanted(
-    alloc: Global,
+// Puts the names that a fault of this number asks for: of what is declared in front of the word, of the whole text for sets and items.
+fn push_names(
+    out: &mut Vec<u8>,
     words: &[&[u8]],
     front: &[&[u8]],
     number: u8,
-) -> Result<Vec<u8>, AllocError> {
-    let mut out = Vec::new(alloc);
+) -> Result<(), AllocError> {
     match number {
-        7 => push_entries(&mut out, front, b"AREA")?,
-        8 => push_entries(&mut out, front, b"RECORD")?,
-        9 => push_items_of(&mut out, words, type_wanted(front))?,
-        10 => push_entries(&mut out, words, b"SET")?,
-        _ => {}
+        7 => push_entries(out, front, b"AREA"),
+        8 => push_entries(out, front, b"RECORD"),
+        9 => push_items_of(out, words, type_wanted(front)),
+        10 => push_entries(out, words, b"SET"),
+        _ => Ok(()),
     }
-    Ok(out)
+}
+
+fn names_wanted(
+    alloc: Global,
+    laid: &[u8],
+    front: &[&[u8]],
+    number: u8,
+) -> Result<Vec<u8>, AllocError> {
+    let words = seen_words(alloc, laid)?;
+    let mut names = Vec::new(alloc);
+    push_names(&mut names, words.as_slice(), front, number)?;
+    Ok(names)
 }
 
 // The words in front of a line.
@@ -114,19 +124,18 @@ pub fn said_of_schema_word(
     meaning: &[u8],
     advice: &[u8],
 ) -> Result<Vec<u8>, AllocError> {
-    let mut out = Vec::new(alloc);
     let laid = laid_out(alloc, text)?;
     let laid = laid.as_slice();
     let line = fault_line(alloc, laid, number)?;
     let word = line_at(laid, faulty_line(laid, line, number));
     if word.is_empty() || word.len() > LONGEST || number <= 2 {
-        return Ok(out);
+        return Ok(Vec::new(alloc));
     }
-    let words = seen_words(alloc, laid)?;
     let front = words_in_front(alloc, laid, line)?;
-    let names = names_wanted(alloc, words.as_slice(), front.as_slice(), number)?;
+    let names = names_wanted(alloc, laid, front.as_slice(), number)?;
     let rtype = type_wanted(front.as_slice());
     let parts = [word, rtype, names.as_slice(), meaning, advice];
+    let mut out = Vec::new(alloc);
     push_said(&mut out, FORMS, number, &parts)?;
     Ok(out)
 }

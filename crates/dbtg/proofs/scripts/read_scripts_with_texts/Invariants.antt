@@ -7,7 +7,7 @@ use Rattle.dbtg.proofs.scripts.read_scripts_with_texts.Given as goal
 
 abbrev pub invariant-loop-i : goal.invariant-loop-i
 invariant-loop-i g l = record {
-  so_far : (read : ReadScripts (g.S.Source.holds l.source) l.schema l.i) × (l.statements ≡ map (script l.schema) read.texts) × (l.texts ≡ read.texts);
-  many : length l.statements ≡ l.i;
-  fit : IsSound l.schema → scripts_fit l.schema l.statements ≡ true;
+  so_far : (read : ReadScripts (g.S.Source.holds l.source) l.schema l.i) × (l.scripts.statements ≡ map (script l.schema) read.texts) × (l.scripts.texts ≡ read.texts);
+  many : length l.scripts.statements ≡ l.i;
+  fit : IsSound l.schema → scripts_fit l.schema l.scripts.statements ≡ true;
 }

@@ -1,0 +1,167 @@
+//! What a command can be given: options, files and other words, as `clap` is told of each.
+
+use clap::{Arg, ArgAction};
+use std::alloc::{AllocError, Global};
+
+/// A word that a command can be given: an option, or what stands for files. `Schema`, `Scripts` and `Svg` have what help says of them.
+#[derive(Clone, Copy)]
+pub enum Word<'a> {
+    Answers,
+    Capacity,
+    Echo,
+    Explain,
+    Limit,
+    Moves,
+    SaveTurns,
+    Schema(&'a str),
+    Scripts(&'a str),
+    Svg(&'a str),
+    Topic,
+    TurnsOption,
+    TurnsFile,
+    Units,
+}
+
+/// What is said of a schema.
+pub const SCHEMA: &str = "The file of the schema; - for standard input";
+
+/// What is said of the scripts of units.
+pub const SCRIPTS: &str =
+    "Files of the scripts of units 1, 2, ..: 1 to 8 of them; - for standard input, once";
+
+// An option that has no value.
+fn flag<'a>(alloc: Global, name: &'a str, help: &'a str) -> Arg<'a> {
+    Arg::new(alloc, name)
+        .long(name)
+        .action(ArgAction::SetTrue)
+        .help(help)
+}
+
+fn file_option<'a>(alloc: Global, name: &'a str, help: &'a str) -> Arg<'a> {
+    Arg::new(alloc, name)
+        .long(name)
+        .value_name("FILE")
+        .action(ArgAction::Set)
+        .help(help)
+}
+
+fn number_option<'a>(alloc: Global, name: &'a str, usual: &'a str, help: &'a str) -> Arg<'a> {
+    Arg::new(alloc, name)
+        .long(name)
+        .value_name("N")
+        .default_value(usual)
+        .action(ArgAction::Set)
+        .help(help)
+}
+
+// A file that has to be named.
+fn file_word<'a>(alloc: Global, name: &'a str, shown: &'a str, help: &'a str) -> Arg<'a> {
+    Arg::new(alloc, name)
+        .value_name(shown)
+        .required(true)
+        .action(ArgAction::Set)
+        .help(help)
+}
+
+// Any number of words.
+fn words<'a>(alloc: Global, name: &'a str, shown: &'a str, help: &'a str) -> Arg<'a> {
+    Arg::new(alloc, name)
+        .value_name(shown)
+        .num_args(0..)
+        .action(ArgAction::Append)
+        .help(help)
+}
+
+fn answers_option<'a>(alloc: Global) -> Arg<'a> {
+    flag(
+        alloc,
+        "answers",
+        "Tells results apart also by the answers of each unit [default: by what is printed behind -- alone]",
+    )
+}
+
+fn capacity_option<'a>(alloc: Global) -> Arg<'a> {
+    let help = "How many numbers each record type has, 1 to 1000";
+    number_option(alloc, "capacity", "100", help)
+}
+
+fn echo_option<'a>(alloc: Global) -> Arg<'a> {
+    let help = "Prints each answer with its statement in front [default: the answers alone]";
+    flag(alloc, "echo", help)
+}
+
+fn explain_option<'a>(alloc: Global) -> Arg<'a> {
+    flag(
+        alloc,
+        "explain",
+        "Tells of a fault also the file, the line, the word and what is wrong [default: the fault's number alone]",
+    )
+}
+
+fn limit_option<'a>(alloc: Global) -> Arg<'a> {
+    let help = "How many states may come before it gives up, 1 to 1000000000";
+    number_option(alloc, "limit", "1000000", help)
+}
+
+fn moves_option<'a>(alloc: Global) -> Arg<'a> {
+    file_option(
+        alloc,
+        "moves",
+        "The file of the moves, - for standard input [default: one script runs after the other]",
+    )
+}
+
+fn save_turns_option<'a>(alloc: Global) -> Arg<'a> {
+    file_option(
+        alloc,
+        "save-turns",
+        "The file to write the turns to by which replay --turns prints the same [default: they are not kept]",
+    )
+}
+
+fn topic_words<'a>(alloc: Global) -> Arg<'a> {
+    words(
+        alloc,
+        "topic",
+        "TOPIC",
+        "A status of four digits, or the number of a fault: schema 1 to 18, script 1 to 14, moves 1 to 2, turns 1 to 2 [default: a list of all]",
+    )
+}
+
+fn turns_option<'a>(alloc: Global) -> Result<Arg<'a>, AllocError> {
+    file_option(
+        alloc,
+        "turns",
+        "The file of the turns, which say whose next statement is made, - for standard input; not with --moves",
+    )
+    .conflicts_with("moves")
+}
+
+fn turns_word<'a>(alloc: Global) -> Arg<'a> {
+    let help = "The file of the turns; - for standard input";
+    file_word(alloc, "turns", "FILE", help)
+}
+
+fn units_option<'a>(alloc: Global) -> Arg<'a> {
+    number_option(alloc, "units", "2", "How many units there are, 1 to 8")
+}
+
+/// What `clap` is told of a word.
+pub fn arg_of<'a>(alloc: Global, word: Word<'a>) -> Result<Arg<'a>, AllocError> {
+    match word {
+        Word::Answers => Ok(answers_option(alloc)),
+        Word::Capacity => Ok(capacity_option(alloc)),
+        Word::Echo => Ok(echo_option(alloc)),
+        Word::Explain => Ok(explain_option(alloc)),
+        Word::Limit => Ok(limit_option(alloc)),
+        Word::Moves => Ok(moves_option(alloc)),
+        Word::SaveTurns => Ok(save_turns_option(alloc)),
+        Word::Schema(help) => Ok(file_word(alloc, "schema", "SCHEMA", help)),
+        Word::Scripts(help) => Ok(words(alloc, "scripts", "SCRIPT", help)),
+        Word::Svg(help) => Ok(flag(alloc, "svg", help)),
+        Word::Topic => Ok(topic_words(alloc)),
+        Word::TurnsOption => turns_option(alloc),
+        Word::TurnsFile => Ok(turns_word(alloc)),
+        Word::Units => Ok(units_option(alloc)),
+    }
+}
