@@ -2,7 +2,9 @@
 
 A line `file: PATH` names the file; pairs of lines `old: TEXT` and `new: TEXT` say what changes, where each old text stands exactly
 once in the file, or, behind a line `in: FUNCTION`, once in that function (`name` or `Type::name`). One that changes more than bodies
-of functions names, in a line `refused: PATH`, the function that has to be refused, as a check names it below the crate."""
+of functions names, in a line `refused: PATH`, the function that has to be refused, as a check names it below the crate. One that
+names, in a line `clause: NAME`, a promise that its body breaks is judged by that alone, beside what the body asks of others: where a
+function promises much, that is done in a third of the time."""
 
 import functools
 import os
@@ -12,6 +14,10 @@ import shutil
 from functions import declared_in, functions_of, module_of, places_of
 from kit import crates_of, text_of
 from stand_ins import BODY
+
+
+# A named promise of a function, with its line.
+CLAUSE = re.compile(r"(?m)^ *ensures (\w+) .*\n")
 
 
 class BadEdit(Exception):
@@ -26,6 +32,7 @@ class Edit:
     def __init__(self, path, crate_folder, sources):
         self.path, self.name = path, os.path.basename(path).removesuffix(".edit")
         self.texts, self.refused = applied(text_of(path), sources), re.findall(r"(?m)^refused: (\S+)$", text_of(path))
+        self.clauses = re.findall(r"(?m)^clause: (\S+)$", text_of(path))
         self.bodies, self.elsewhere, self.twin = {}, False, None
         for file, text in self.texts.items():
             found = changed_bodies(sources.functions(file), sources.text(file), text) if file.startswith("src/") else None
@@ -37,6 +44,15 @@ class Edit:
             raise BadEdit("it names the function that has to be refused if, and only if, it changes more than bodies of functions")
         places = [it for file, function in self.bodies for it in places_of(function, module_of(file), sources.declared())]
         self.is_by_hand = any(os.path.isdir(f"{crate_folder}/proofs/{it}") for it in places)
+        if self.clauses and not self.can_go_by_clauses(crate_folder, sources, places):
+            raise BadEdit("it names a clause, which is none of its function, or this can have no twin, or has goals answered by hand")
+
+    def can_go_by_clauses(self, crate_folder, sources, places):
+        """Whether the function that it changes can have a twin, has the clauses that it names, and no goal that is answered by hand."""
+        if not self.can_have_twin() or any(os.path.isfile(f"{crate_folder}/proofs/{it}/Answers.antt") for it in places):
+            return False
+        ((file, function),) = self.bodies
+        return set(self.clauses) <= set(CLAUSE.findall(sources.text(file)[function.start : function.opens]))
 
     def is_harmless(self):
         """Whether the edit changes no meaning: it stands among the others to show that such a one is told from them."""
@@ -69,7 +85,11 @@ class Edit:
         """What stands behind the function that it changes, in the file with this text: its twin, with the same attributes."""
         (((_, function), body),) = self.bodies.items()
         head = attributes_of(text, function) + re.sub(rf"\bfn {function.name}\b", f"fn {self.twin.name}", text[function.start : function.opens], count=1)
-        return f"\n\n{head}" + re.sub(rf"_of_{function.name}\b", f"_of_{self.twin.name}", body)
+        return f"\n\n{self.with_clauses(head)}" + re.sub(rf"_of_{function.name}\b", f"_of_{self.twin.name}", body)
+
+    def with_clauses(self, head):
+        """A function's head with no other promises than those that the edit is said to break, where it is said."""
+        return CLAUSE.sub(lambda it: it[0] if it[1] in self.clauses else "", head) if self.clauses else head
 
     def enter_twin(self, copy, crate, sources):
         """Gives the twin, in a copy of the crate, what is written by hand of the proof of the function that it is like."""
@@ -237,10 +257,10 @@ def in_batches(edits):
     for it in edits:
         room = next((batch for batch in batches if has_room(batch, it)), None)
         if room is None:
-            batches.append([it])
-            continue
+            room = []
+            batches.append(room)
         number = sum(bool(set(it.bodies) & set(other.bodies)) for other in room)
-        if number:
+        if number or it.clauses:
             it.make_twin(number)
         room.append(it)
     for batch in batches:

@@ -17,8 +17,9 @@ PR_SET_PDEATHSIG = 1
 
 class Lanes:
     """As many processes of checks at a time as there are lanes; counts the processor seconds that they took. A lane that is free goes
-    to the crate with the most libraries below it, since its trial begins last and is among the longest; for the same reason a check is
-    as nice as is said, less the number of those libraries. Checks that are nice give way to what is not: they are held while it takes
+    to the crate with the most libraries below it, since its trial begins last and is among the longest; for the same reason it waits for
+    none while fewer checks of such crates run than there are processors, and a check is as nice as is said, less the number of those
+    libraries. Checks that are nice give way to what is not: they are held while it takes
     their processors, since what takes turns on a processor finds its caches cold each time. A check waits for memory while others run,
     and is what the system kills first where memory ends: then it runs again."""
 
@@ -26,7 +27,7 @@ class Lanes:
     RUNS = 3
 
     def __init__(self, count, nice=0):
-        self.nice, self.free, self.waiting, self.turn = nice, count, [], threading.Condition()
+        self.nice, self.count, self.waiting, self.begun, self.turn = nice, count, [], [], threading.Condition()
         self.seconds, self.running, self.lock = {}, {}, threading.Lock()
         if nice:
             threading.Thread(target=self.give_way, daemon=True).start()
@@ -52,20 +53,25 @@ class Lanes:
 
     @contextlib.contextmanager
     def lane(self, crate):
-        """Has a lane, once one is free and no crate with more libraries below it waits for one."""
+        """Has a lane, once one is free, or would be without the crates with fewer libraries below them, and no crate with more waits."""
         below = libraries_below(crate)
         with self.turn:
             self.waiting.append(below)
-            self.turn.wait_for(lambda: self.free and below == max(self.waiting))
+            self.turn.wait_for(lambda: below == max(self.waiting) and self.has_room(below))
             self.waiting.remove(below)
-            self.free -= 1
+            self.begun.append(below)
             self.turn.notify_all()
         try:
             yield
         finally:
             with self.turn:
-                self.free += 1
+                self.begun.remove(below)
                 self.turn.notify_all()
+
+    def has_room(self, below):
+        """Whether a check of a crate with so many libraries below it can begin: the others that have begun are fewer than the lanes, or
+        those with as many are fewer than the processors."""
+        return len(self.begun) < self.count or sum(it >= below for it in self.begun) < min(self.count, os.cpu_count())
 
     def wait_for_memory(self):
         while self.running and kit.free_memory() < self.ROOM:

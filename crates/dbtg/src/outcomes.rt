@@ -184,7 +184,7 @@ fn push_result(
         MOST_MOVES,
     )?;
     let pushed = push_made(alloc, out, schema, number, one, &turned);
-    drop(turned);
+    turned.discard();
     pushed
 }
 

@@ -103,7 +103,9 @@ pub fn serial_text(
     ensures { IfOk result (λ out. IsPrinted (SerialRunIs schema.now capacity scripts) (shown_text schema.now (option_map (λ t. t.now) echo.entry)) out.items) }
 {
     let given = run_serial(alloc, schema, capacity, scripts)?;
-    text_of(alloc, schema, echo, &given)
+    let text = text_of(alloc, schema, echo, &given);
+    given.discard();
+    text
 }
 
 /// Makes these moves.
@@ -121,7 +123,9 @@ pub fn moved_text(
     ensures { IfOk result (λ out. IsPrinted (RunIs schema.now capacity scripts moves.now) (λ given. moves_text given.results ++ shown_text schema.now (option_map (λ t. t.now) echo.entry) given) out.items) }
 {
     let given = run(alloc, schema, capacity, scripts, moves)?;
-    text_with_moves(alloc, schema, echo, &given)
+    let text = text_with_moves(alloc, schema, echo, &given);
+    given.discard();
+    text
 }
 
 /// Takes these turns. The moves that they stand for are not asked for.
@@ -139,7 +143,9 @@ pub fn turned_text(
     ensures { IfOk result (λ out. IsPrinted (RunByTurnsIs schema.now capacity scripts turns.now) (shown_text schema.now (option_map (λ t. t.now) echo.entry)) out.items) }
 {
     let given = run_turns(alloc, schema, capacity, scripts, turns, 0)?;
-    text_of(alloc, schema, echo, &given.run)
+    let text = text_of(alloc, schema, echo, &given.run);
+    given.discard();
+    text
 }
 
 fn echo_of(echo: bool, texts: &Row<Row<u8>>) -> Option<&[Row<u8>]>

@@ -14,7 +14,7 @@ use crate::scripts::{Scripts, read_scripts_with_texts};
 use dbtg_command::{Fault, OrderKind, Source, copy_scripts, read_moves, read_turns};
 use dbtg_schema::{Row, Schema};
 use dbtg_script::statement_lines;
-use dbtg_step::{Turned, run_turns};
+use dbtg_step::run_turns;
 use dbtg_timeline::{Event, timeline_svg, timeline_text, watch};
 use dbtg_unit::{Move, Statement};
 use std::alloc::{AllocError, Global};
@@ -55,8 +55,8 @@ fn moves_of_turns(
     requires fit { scripts_fit schema.now scripts ≡ true }
     ensures { IfOk result (λ moves. StandFor schema.now capacity scripts turns.now moves) }
 {
-    let Turned { run: _, moves } = run_turns(alloc, schema, capacity, scripts, turns, usize::MAX)?;
-    match moves {
+    let turned = run_turns(alloc, schema, capacity, scripts, turns, usize::MAX)?;
+    match turned.into_moves() {
         Some(moves) => Ok(moves),
         None => Err(AllocError),
     }

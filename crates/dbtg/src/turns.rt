@@ -13,7 +13,7 @@ use crate::scripts::read_scripts;
 use dbtg_command::{Fault, Source, read_turns};
 use dbtg_schema::{Row, Schema};
 use dbtg_script::moves_words_text;
-use dbtg_step::{Turned, run_turns};
+use dbtg_step::run_turns;
 use dbtg_unit::Statement;
 use std::alloc::Global;
 
@@ -35,8 +35,8 @@ fn moves_of(
     ensures done { IfOk result (λ out. AreMovesOf schema.now capacity scripts turns.now out.items) }
     ensures refused { IfErr result (λ fault. AreMoreMoves schema.now capacity scripts turns.now fault) }
 {
-    let Turned { run: _, moves } = run_turns(alloc, schema, capacity, scripts, turns, MOST_MOVES)?;
-    match moves {
+    let turned = run_turns(alloc, schema, capacity, scripts, turns, MOST_MOVES)?;
+    match turned.into_moves() {
         Some(moves) => Ok(moves_words_text(alloc, moves.as_slice())?),
         None => Err(Fault::MovesOver),
     }

@@ -373,11 +373,10 @@ module _ (schema : Lists) (capacity : ℕ) (db : Database) (hands : Hands) (unit
     edits_held = all_in (λ (e : CellEdit). holds hands.cells e.name) (delete_edits schema capacity db option k) edit_held
 
 -- a plan by its parts
-pub plan_from : (schema : Lists) (hands : Hands) (k : DbKey) (target gone behind : List DbKey) (edits : List CellEdit) (versions : List (DbKey × ℕ))
-    → gone ≡ target → behind ≡ left_behind (members_in_hand schema hands) gone → edits ≡ erasing_edits schema (owner_in hands) (members_in_hand schema hands) gone
-    → versions ≡ map (λ x. (x, version_in hands x + 1)) behind
+pub plan_from : (schema : Lists) (hands : Hands) (k : DbKey) (target gone : List DbKey) (edits : List CellEdit) (versions : List (DbKey × ℕ))
+    → gone ≡ target → edits ≡ erasing_edits schema (owner_in hands) (members_in_hand schema hands) gone → versions ≡ raised_versions schema hands gone
     → record { answer = record { status = Done; key = None; items = None }; cells = edits; versions = versions; unit = LoseCurrent k } ≡ erasing_plan schema hands target k
-plan_from schema hands k target gone behind edits versions gone_are left_are edits_are versions_are =
+plan_from schema hands k target gone edits versions gone_are edits_are versions_are =
     let of_gone : Plan = erasing_plan schema hands gone k in
-    (λ i. record { answer = of_gone.answer; cells = edits_are i; versions = (versions_are ∙ ap (map (λ x. (x, version_in hands x + 1))) left_are) i; unit = LoseCurrent k })
+    (λ i. record { answer = of_gone.answer; cells = edits_are i; versions = versions_are i; unit = LoseCurrent k })
     ∙ ap (λ g. erasing_plan schema hands g k) gone_are

@@ -72,6 +72,7 @@ impl Names {
         ensures next { result ≡ first_missing held.now self.old.names.items }
         ensures passed { ArePassed held.now self.new }
         ensures names { self.new.names ≡ self.old.names }
+        ensures place { slice_get self.new.names.items self.new.passed ≡ result }
     {
         let place = place_of_missing(held, self.names.as_slice(), self.passed);
         self.passed = place;

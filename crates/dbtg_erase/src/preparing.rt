@@ -3,19 +3,21 @@ ghost use Rattle.std.specs.Prelude.{◌≡◌, ◌+◌, length, map, nat_lt, IfO
 ghost use Rattle.dbtg_schema.specs.Lookups.{first_cause};
 ghost use Rattle.dbtg_unit.specs.Database.Statements.Checks.{delete_checks};
 ghost use Rattle.dbtg_unit.specs.Database.Statements.Conditions.{has_members};
-ghost use Rattle.dbtg_unit.specs.Hands.InHand.{in_hand, version_in};
+ghost use Rattle.dbtg_unit.specs.Hands.EditsOf.{erasing_edits};
+ghost use Rattle.dbtg_unit.specs.Hands.InHand.{in_hand, owner_in, version_in};
 ghost use Rattle.dbtg_unit.specs.Hands.Making.{CanFinish, HaveNextVersions, MayPrepare};
 ghost use Rattle.dbtg_unit.specs.declared.statement.Statement.TheVariants.{Delete};
-ghost use Rattle.dbtg_erase.specs.ErasePlan.{erasing_plan, whole_plan};
-ghost use Rattle.dbtg_erase.specs.WorkList.{gone_in, list_in};
+ghost use Rattle.dbtg_erase.specs.ErasePlan.{erasing_plan, raised_versions, whole_plan};
+ghost use Rattle.dbtg_erase.specs.WorkList.{gone_in, list_in, members_in_hand};
 
 use crate::edits::erasing_edits;
+use crate::keys::Keys;
 use crate::left::left;
 use crate::work_list::gone;
 use dbtg_cells::{DbKey, Owner};
 use dbtg_schema::{Row, Schema, SetNo};
 use dbtg_unit::{
-    Answer, Cause, Erase, Held, Prepared, Statement, Status, Unit, UnitEdit, occurrence,
+    Answer, Cause, CellEdit, Erase, Held, Prepared, Statement, Status, Unit, UnitEdit, occurrence,
     own_refusal, refused, refused_at_once, set_count, stored,
 };
 use std::alloc::{AllocError, Global};
@@ -97,7 +99,24 @@ fn next_versions(
     Ok(versions)
 }
 
-// What goes with a record, and what is left behind.
+// How cells change where these records go, and the versions of the records that are left behind.
+fn changes(
+    alloc: Global,
+    schema: &Schema,
+    held: &Held,
+    gone: &Keys,
+) -> Result<(Row<CellEdit>, Row<(DbKey, u64)>), AllocError>
+    requires { HaveNextVersions held.now.cells }
+    ensures cells { IfOk result (λ made. made.0 ≡ erasing_edits schema.now (owner_in held.now) (members_in_hand schema.now held.now) gone.now) }
+    ensures versions { IfOk result (λ made. made.1 ≡ raised_versions schema.now held.now gone.now) }
+{
+    let left = left(alloc, schema, held, gone)?;
+    let versions = next_versions(alloc, held, left.as_slice())?;
+    let cells = erasing_edits(alloc, schema, held, gone, &left)?;
+    Ok((cells, versions))
+}
+
+// What a DELETE prepares that nothing refuses.
 fn erasing(
     alloc: Global,
     schema: &Schema,
@@ -110,15 +129,13 @@ fn erasing(
     ensures { IfOk result (λ plan. plan ≡ erasing_plan schema.now held.now (gone_in schema.now capacity held.now option key.now) key.now) }
 {
     let gone = gone(alloc, schema, capacity, held, option, key)?;
-    let left = left(alloc, schema, held, &gone)?;
-    let versions = next_versions(alloc, held, left.as_slice())?;
-    let edits = erasing_edits(alloc, schema, held, &gone, &left)?;
+    let (cells, versions) = changes(alloc, schema, held, &gone)?;
     let answer = Answer {
         status: Status::Done,
         key: None,
         items: None,
     };
-    Ok(Prepared::new(answer, edits, versions, UnitEdit::LoseCurrent { key: *key }))
+    Ok(Prepared::new(answer, cells, versions, UnitEdit::LoseCurrent { key: *key }))
 }
 
 // What is prepared, as it is read off the cells in hand.

@@ -174,6 +174,25 @@ impl<'a> Meeting<'a> {
         Ok(key)
     }
 
+    // The text of the result to which a run leads, byte by byte. In the image of the run the units that have an area open then stand in
+    // the order of their numbers.
+    fn key_told(&self, alloc: Global, run: &mut Run) -> Result<Vec<u64>, AllocError>
+        requires meeting { IsMeeting self.now }
+        requires run { IsRunOf self.now (statements_of run.old.history) run.old }
+        ensures key { IfOk result (λ key. key.items ≡ result_text self.now (statements_of run.old.history)) }
+        ensures history { run.new.history ≡ run.old.history }
+    {
+        let answers = self.answers(alloc, run.history.as_slice())?;
+        let text = result_text(
+            alloc,
+            self.schema,
+            answers.as_slice(),
+            &mut run.image,
+            run.units.as_slice(),
+        )?;
+        as_numbers(alloc, text.as_slice())
+    }
+
     /// The text of the result to which a run leads, byte by byte, and the run's history.
     pub fn result_key(&self, alloc: Global, run: Run) -> Result<(Vec<u64>, Row<Entry>), AllocError>
         requires meeting { IsMeeting self.now }
@@ -181,15 +200,9 @@ impl<'a> Meeting<'a> {
         ensures key { IfOk result (λ told. told.0.items ≡ result_text self.now (statements_of run.history)) }
         ensures history { IfOk result (λ told. told.1 ≡ run.history) }
     {
-        let answers = self.answers(alloc, run.history.as_slice())?;
-        let text = result_text(
-            alloc,
-            self.schema,
-            answers.as_slice(),
-            run.image,
-            run.units.as_slice(),
-        )?;
-        let key = as_numbers(alloc, text.as_slice())?;
-        Ok((key, run.history))
+        let mut run = run;
+        let key = self.key_told(alloc, &mut run);
+        let history = run.into_history();
+        Ok((key?, history))
     }
 }

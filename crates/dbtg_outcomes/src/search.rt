@@ -64,14 +64,9 @@ impl<'a> Meeting<'a> {
         requires run { IsRunOf self.now (statements_of run.history) run }
         ensures { OnOk result (IsAdded next.old (state_key self.now (statements_of run.history)) (record { history = run.history; orders = orders }) next.new) }
     {
-        let key = self.state_key(alloc, &run)?;
-        next.add(
-            key,
-            Group {
-                history: run.history,
-                orders,
-            },
-        )
+        let key = self.state_key(alloc, &run);
+        let history = run.into_history();
+        next.add(key?, Group { history, orders })
     }
 
     // The order of a group goes on with this statement, the unit's next.

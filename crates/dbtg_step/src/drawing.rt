@@ -1,5 +1,5 @@
 //! The ticket: the statement is made on the cells in hand, and its entry joins the history.
-ghost use Rattle.std.specs.Prelude.{◌≡◌, ℕ, ◌≤◌, ◌<◌, ◌+◌, ◌-◌, ◌^◌, true, not, length, slice_get, Some, IfOk, OnOk, OnErr};
+ghost use Rattle.std.specs.Prelude.{◌≡◌, ℕ, ◌≤◌, ◌<◌, ◌+◌, ◌-◌, ◌^◌, ◌∷◌, ◌++◌, [], true, false, not, length, slice_get, None, Some, IfOk, OnOk, OnErr};
 ghost use Rattle.std.specs.Vec.{vec_capacity};
 ghost use Rattle.dbtg_unit.specs.declared.held.Need.{Need};
 ghost use Rattle.dbtg_unit.specs.declared.statement.Statement.{Statement};
@@ -11,6 +11,7 @@ ghost use Rattle.dbtg_unit.specs.Hands.Making.{MayPrepare, ShowsTheSame};
 ghost use Rattle.dbtg_step.specs.declared.parts.Runner.{Runner};
 ghost use Rattle.dbtg_step.specs.Core.Stands.{StandsNeeding};
 ghost use Rattle.dbtg_step.specs.Core.Leaves.{IsDrawn, IsMadeOn, IsUnmade};
+ghost use Rattle.dbtg_step.specs.Core.Parts.{stage_while_held};
 ghost use Rattle.dbtg_step.specs.Core.Events.{IsStepped, IsWell, NeedsNext};
 
 use crate::parts::{Parts, Runner, Stage};
@@ -52,6 +53,37 @@ pub fn make_room(history: &mut Vec<Entry>) -> Result<(), AllocError>
     Ok(())
 }
 
+/// The entry of the statement joins the history, with the next ticket, and the unit goes on behind the statement.
+fn enter(
+    history: &mut Vec<Entry>,
+    runner: &mut Runner,
+    unit: u8,
+    stage: Stage,
+    statement: Statement,
+    answer: Answer,
+)
+    requires room { length history.old.items < vec_capacity history.old }
+    requires left { runner.old.next < length runner.old.script }
+    ensures history { history.new.items ≡ history.old.items ++ (record { ticket = length history.old.items; unit = unit; statement = statement; answer = answer }) ∷ [] }
+    ensures runner { runner.new ≡ record runner.old { next = runner.old.next + 1; stage = stage_while_held runner.old.held.areas runner.old.held.cells (Some (record { exclusive = stage.exclusive; turning_back = false; ticket = Some (length history.old.items); linked = 0 })) } }
+{
+    let ticket = history.len() as u64;
+    history.push_reserved(Entry {
+        ticket,
+        unit,
+        statement,
+        answer,
+    });
+    pass(runner);
+    runner.stage = Some(Stage {
+        exclusive: stage.exclusive,
+        turning_back: false,
+        ticket: Some(ticket),
+        linked: 0,
+    });
+    close(runner);
+}
+
 /// Draws the ticket. Where memory is refused, all shows the same.
 fn draw(
     alloc: Global,
@@ -82,21 +114,7 @@ fn draw(
         &mut runner.held,
         &statement,
     )?;
-    let ticket = history.len() as u64;
-    history.push_reserved(Entry {
-        ticket,
-        unit,
-        statement,
-        answer,
-    });
-    pass(runner);
-    runner.stage = Some(Stage {
-        exclusive: stage.exclusive,
-        turning_back: false,
-        ticket: Some(ticket),
-        linked: 0,
-    });
-    close(runner);
+    enter(history, runner, unit, stage, statement, answer);
     Ok(())
 }
 

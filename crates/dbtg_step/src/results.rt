@@ -1,4 +1,6 @@
 //! The results of a run: what its moves came to, the image of its database, its history and its units.
+ghost use Rattle.std.specs.Prelude.{◌≡◌};
+
 use dbtg_schema::Row;
 use dbtg_unit::{Entry, Image, Stepped, Unit};
 
@@ -10,4 +12,19 @@ pub struct Run {
     pub image: Image,
     pub history: Row<Entry>,
     pub units: Row<Unit>,
+}
+
+impl Run {
+    /// The history alone.
+    pub fn into_history(self) -> Row<Entry>
+        ensures { result ≡ self.history }
+    {
+        let Run { history, .. } = self;
+        history
+    }
+
+    /// Lets go of it, and of its memory. Other crates end one by this, so that they need not prove what it is to drop its parts.
+    pub fn discard(self) {
+        drop(self)
+    }
 }

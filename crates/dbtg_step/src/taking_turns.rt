@@ -29,6 +29,21 @@ pub struct Turned {
     pub moves: Option<Row<Move>>,
 }
 
+impl Turned {
+    /// The moves alone.
+    pub fn into_moves(self) -> Option<Row<Move>>
+        ensures { result ≡ self.moves }
+    {
+        let Turned { moves, .. } = self;
+        moves
+    }
+
+    /// Lets go of it, and of its memory. Other crates end one by this, so that they need not prove what it is to drop its parts.
+    pub fn discard(self) {
+        drop(self)
+    }
+}
+
 /// The first of the moves that were made, up to a limit, and whether there are more.
 #[derive(Drop)]
 pub struct Noted {

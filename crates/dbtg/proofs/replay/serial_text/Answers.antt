@@ -9,5 +9,5 @@ pub returns : goal.returns
 returns c =
     let lists = c.args.schema.now in
     let texts = option_map (λ t. t.now) c.args.echo in
-    IfOk-weaker c.text_of.result (λ out. out.items ≡ shown_text lists texts c.in_ok-given.given) (λ out. IsPrinted (SerialRunIs lists c.args.capacity c.args.scripts) (shown_text lists texts) out.items)
-    (λ out text. record { given = c.in_ok-given.given; is_run = c.in_ok-given.ensures; is_text = text }) c.text_of.ensures
+    IfOk-weaker c.text_of-text.result (λ out. out.items ≡ shown_text lists texts c.in_ok-given.given) (λ out. IsPrinted (SerialRunIs lists c.args.capacity c.args.scripts) (shown_text lists texts) out.items)
+    (λ out text. record { given = c.in_ok-given.given; is_run = c.in_ok-given.ensures; is_text = text }) c.text_of-text.ensures

@@ -10,5 +10,5 @@ returns c =
     let texts = option_map (λ t. t.now) c.args.echo in
     let made = c.in_ok-given.given.run in
     let turned = c.in_ok-given.ensures in
-    IfOk-weaker c.text_of.result (λ out. out.items ≡ shown_text lists texts made) (λ out. IsPrinted (RunByTurnsIs lists c.args.capacity c.args.scripts c.args.turns.now) (shown_text lists texts) out.items)
-    (λ out text. record { given = made; is_run = (turned.moves, turned.run); is_text = text }) c.text_of.ensures
+    IfOk-weaker c.text_of-text.result (λ out. out.items ≡ shown_text lists texts made) (λ out. IsPrinted (RunByTurnsIs lists c.args.capacity c.args.scripts c.args.turns.now) (shown_text lists texts) out.items)
+    (λ out text. record { given = made; is_run = (turned.moves, turned.run); is_text = text }) c.text_of-text.ensures

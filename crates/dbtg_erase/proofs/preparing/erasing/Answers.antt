@@ -1,6 +1,4 @@
-use Rattle.std.proofs.Common.{◌∙◌, ap, ◌+◌}
-use Rattle.std.specs.Prelude.{map}
-use Rattle.dbtg_unit.specs.Hands.InHand.{version_in}
+use Rattle.std.proofs.Common.{◌∙◌}
 use Rattle.dbtg_erase.specs.WorkList.{gone_in}
 use Rattle.dbtg_erase.proofs.ErasePlan.{plan_from}
 use Rattle.dbtg_erase.proofs.preparing.erasing.Goals as goal
@@ -8,6 +6,5 @@ use Rattle.dbtg_erase.proofs.preparing.erasing.Goals as goal
 pub returns : goal.returns
 returns c =
     c.new.ensures
-    ∙ plan_from c.args.schema.now c.args.held.now c.args.key.now (gone_in c.args.schema.now c.args.capacity c.args.held.now c.args.option c.args.key.now) _ _ _ _
-    c.in_ok-gone.ensures c.in_ok-left.ensures c.in_ok-edits.ensures
-    (c.in_ok-versions.ensures ∙ ap (map (λ x. (x, version_in c.args.held.now x + 1))) c.as_slice.ensures)
+    ∙ plan_from c.args.schema.now c.args.held.now c.args.key.now (gone_in c.args.schema.now c.args.capacity c.args.held.now c.args.option c.args.key.now) _ _ _
+    c.in_ok-gone.ensures c.in_ok-cells.ensures.cells c.in_ok-cells.ensures.versions
