@@ -1,5 +1,5 @@
 //! The events of a statement before its ticket: it takes the area or the cell that it needs next, or turns back.
-ghost use Rattle.std.specs.Prelude.{◌≡◌, ℕ, ◌≤◌, ◌<◌, ◌-◌, ◌++◌, ◌∷◌, ◌||◌, [], length, drop, take, slice_get, true, false, Some, IfOk, OnErr};
+ghost use Rattle.std.specs.Prelude.{◌≡◌, ℕ, ◌≤◌, ◌<◌, ◌-◌, ◌++◌, ◌∷◌, ◌||◌, [], length, drop, take, slice_get, true, false, Some, IfOk, OnErr, OnOk};
 ghost use Rattle.std.specs.List.{list_any};
 ghost use Rattle.dbtg_cells.specs.Names.{name_eq};
 ghost use Rattle.dbtg_schema.specs.Lists.{Lists};
@@ -21,7 +21,7 @@ use crate::drawing::draws;
 use crate::parts::{Parts, Place, Runner, Stage};
 use crate::runner::turn_back;
 use crate::statements::next_need;
-use dbtg_cells::{CellName, cell_number};
+use dbtg_cells::{Cell, CellName, cell_number};
 use dbtg_schema::{AreaNo, Schema};
 use dbtg_unit::{Held, Need, Owners, Stepped, with_true_owners};
 use std::alloc::{AllocError, Global};
@@ -130,6 +130,26 @@ fn takes_area(parts: &mut Parts, unit: u8, stage: Stage, area: AreaNo) -> Steppe
     }
 }
 
+// Has a cell in hand that was at home in this place; where memory for it is refused it goes home again.
+fn put_in_hand(
+    place: &mut Place,
+    held: &mut Held,
+    name: CellName,
+    cell: Cell,
+) -> Result<(), AllocError>
+    requires free { list_any (λ e. name_eq name e.0) held.old.cells ≡ false }
+    ensures taken { OnOk result ((place.new ≡ place.old) × (held.new ≡ record held.old { cells = held.old.cells ++ (name, cell) ∷ [] })) }
+    ensures home { OnErr result ((place.new ≡ Place.Home cell) × (held.new ≡ held.old)) }
+{
+    match held.push_cell(name, cell) {
+        Ok(()) => Ok(()),
+        Err(failed) => {
+            *place = Place::Home(failed.value);
+            Err(AllocError)
+        }
+    }
+}
+
 // Takes the cell of this number out of the table, if it is at home.
 fn take_cell(
     table: &mut Vec<Place>,
@@ -142,20 +162,16 @@ fn take_cell(
     requires free { list_any (λ e. name_eq name e.0) held.old.cells ≡ false }
     ensures { IsTaken unit number name table.old.items table.new.items held.old held.new result }
 {
-    match mem::replace(&mut table[number], Place::HeldBy(unit)) {
+    let place = &mut table[number];
+    match mem::replace(place, Place::HeldBy(unit)) {
         Place::HeldBy(other) => {
-            table[number] = Place::HeldBy(other);
+            *place = Place::HeldBy(other);
             Stepped::Blocked
         }
-        Place::Home(cell) => {
-            match held.push_cell(name, cell) {
-                Ok(()) => Stepped::Moved,
-                Err(failed) => {
-                    table[number] = Place::Home(failed.value);
-                    Stepped::NoMemory
-                }
-            }
-        }
+        Place::Home(cell) => match put_in_hand(place, held, name, cell) {
+            Ok(()) => Stepped::Moved,
+            Err(_) => Stepped::NoMemory,
+        },
     }
 }
 

@@ -82,10 +82,10 @@ merged_length [] (o ∷ os) l = absurd (omega arith)
 merged_length (g ∷ gs) [] l = refl
 merged_length (g ∷ gs) (o ∷ os) l = ap suc (merged_length gs os (omega arith))
 
-pub set_back : {X : Type 0} (xs : List X) (i : ℕ) (x y : X) → slice_get xs i ≡ Some x → slice_set (slice_set xs i y) i x ≡ xs
-set_back [] i x y e = refl
-set_back (z ∷ xs) zero x y e = let same : x ≡ z = cc (e) in ap (λ v. v ∷ xs) same
-set_back (z ∷ xs) (suc i) x y e = ap (λ ys. z ∷ ys) (set_back xs i x y e)
+pub set_same : {X : Type 0} (xs : List X) (i : ℕ) (x : X) → slice_get xs i ≡ Some x → slice_set xs i x ≡ xs
+set_same [] i x e = refl
+set_same (z ∷ xs) zero x e = let same : x ≡ z = cc (e) in ap (λ v. v ∷ xs) same
+set_same (z ∷ xs) (suc i) x e = ap (λ ys. z ∷ ys) (set_same xs i x e)
 
 -- WHAT A STATEMENT DOES BEFORE ITS TICKET
 
