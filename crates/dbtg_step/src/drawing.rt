@@ -53,19 +53,11 @@ pub fn make_room(history: &mut Vec<Entry>) -> Result<(), AllocError>
     Ok(())
 }
 
-/// The entry of the statement joins the history, with the next ticket, and the unit goes on behind the statement.
-fn enter(
-    history: &mut Vec<Entry>,
-    runner: &mut Runner,
-    unit: u8,
-    stage: Stage,
-    statement: Statement,
-    answer: Answer,
-)
+/// The entry of a statement joins the history, with the next ticket, which comes back.
+pub fn enter(history: &mut Vec<Entry>, unit: u8, statement: Statement, answer: Answer) -> u64
     requires room { length history.old.items < vec_capacity history.old }
-    requires left { runner.old.next < length runner.old.script }
     ensures history { history.new.items ≡ history.old.items ++ (record { ticket = length history.old.items; unit = unit; statement = statement; answer = answer }) ∷ [] }
-    ensures runner { runner.new ≡ record runner.old { next = runner.old.next + 1; stage = stage_while_held runner.old.held.areas runner.old.held.cells (Some (record { exclusive = stage.exclusive; turning_back = false; ticket = Some (length history.old.items); linked = 0 })) } }
+    ensures ticket { result ≡ length history.old.items }
 {
     let ticket = history.len() as u64;
     history.push_reserved(Entry {
@@ -74,6 +66,14 @@ fn enter(
         statement,
         answer,
     });
+    ticket
+}
+
+/// The statement has this ticket, and the unit goes on behind it.
+fn go_on(runner: &mut Runner, stage: Stage, ticket: u64)
+    requires { runner.old.next < length runner.old.script }
+    ensures { runner.new ≡ record runner.old { next = runner.old.next + 1; stage = stage_while_held runner.old.held.areas runner.old.held.cells (Some (record { exclusive = stage.exclusive; turning_back = false; ticket = Some ticket; linked = 0 })) } }
+{
     pass(runner);
     runner.stage = Some(Stage {
         exclusive: stage.exclusive,
@@ -114,7 +114,8 @@ fn draw(
         &mut runner.held,
         &statement,
     )?;
-    enter(history, runner, unit, stage, statement, answer);
+    let ticket = enter(history, unit, statement, answer);
+    go_on(runner, stage, ticket);
     Ok(())
 }
 

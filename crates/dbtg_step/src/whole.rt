@@ -14,7 +14,7 @@ ghost use Rattle.dbtg_unit.specs.Database.Laws.Replay.{IsHistoryOf};
 ghost use Rattle.dbtg_unit.specs.Database.State.Units.{opening_unit};
 ghost use Rattle.dbtg_step.specs.Core.Whole.{HasMade, HoldsAll, IsEffect, IsGuessed, IsMadeRun, IsWhole, goes_by_guesses, state_now};
 
-use crate::drawing::{make, make_room};
+use crate::drawing::{enter, make, make_room};
 use crate::imaging::{CellSource, read_image};
 use crate::opening_parts::{hold_opening_cells, opening_unit};
 use crate::results::Run;
@@ -197,13 +197,7 @@ impl<'a> WholeDatabase<'a> {
             &mut self.held,
             &statement,
         )?;
-        let ticket = self.history.len() as u64;
-        self.history.push_reserved(Entry {
-            ticket,
-            unit,
-            statement,
-            answer,
-        });
+        enter(&mut self.history, unit, statement, answer);
         Ok(())
     }
 

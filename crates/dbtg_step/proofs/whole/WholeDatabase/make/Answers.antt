@@ -78,8 +78,8 @@ invariant_of-self-2 c =
     let at : slice_get units (c.args.unit - 1) ≡ Some r = slice_get_read units (length units) (c.args.unit - 1) r refl (omega (arith, c.requires.within, c.requires.numbered, count)) c.index_mut-maker.ensures.value in
     let made = c.in_ok-answer.ensures.effect (now schema capacity hands units history w).database (maker_agrees schema capacity hands units history w c.args.unit r c.requires.numbered at) in
     let fit = subst (λ (m : Making). fits m.schema c.args.statement ≡ true) (sym c.self.view_is) c.requires.fitting in
-    let pushed : c.push_reserved.new.self.items ≡ history ++ record { ticket = length history; unit = c.args.unit; statement = c.args.statement; answer = c.in_ok-answer.answer } ∷ [] =
-    c.push_reserved.ensures.items ∙ (λ i. c.in_ok-make_room.ensures.items i ++ record { ticket = (c.len-ticket.ensures ∙ c.make_room.new.history.ok.0 ∙ ap length c.in_ok-make_room.ensures.items) i; unit = c.args.unit; statement = c.args.statement; answer = c.in_ok-answer.answer } ∷ []) in
+    let pushed : c.enter.new.history.items ≡ history ++ record { ticket = length history; unit = c.args.unit; statement = c.args.statement; answer = c.in_ok-answer.answer } ∷ [] =
+    c.enter.ensures.history ∙ (λ i. c.in_ok-make_room.ensures.items i ++ record { ticket = length (c.in_ok-make_room.ensures.items i); unit = c.args.unit; statement = c.args.statement; answer = c.in_ok-answer.answer } ∷ []) in
     subst (λ (es : List Entry). IsWhole schema capacity c.make_effect.new.held (slice_set units (c.args.unit - 1) c.make_effect.new.unit) es) (sym pushed)
     (whole_then schema capacity hands units history w c.args.unit r c.requires.numbered at c.args.statement fit c.make_effect.new.unit c.make_effect.new.held c.in_ok-answer.answer made c.make_effect.ensures.all)
 
@@ -96,9 +96,9 @@ returns-clause-made c =
     let at : slice_get units (c.args.unit - 1) ≡ Some r = slice_get_read units (length units) (c.args.unit - 1) r refl (omega (arith, c.requires.within, c.requires.numbered, count)) c.index_mut-maker.ensures.value in
     let made = c.in_ok-answer.ensures.effect (now schema capacity hands units history w).database (maker_agrees schema capacity hands units history w c.args.unit r c.requires.numbered at) in
     let fit = subst (λ (m : Making). fits m.schema c.args.statement ≡ true) (sym c.self.view_is) c.requires.fitting in
-    let pushed : c.push_reserved.new.self.items ≡ history ++ record { ticket = length history; unit = c.args.unit; statement = c.args.statement; answer = c.in_ok-answer.answer } ∷ [] =
-    c.push_reserved.ensures.items ∙ (λ i. c.in_ok-make_room.ensures.items i ++ record { ticket = (c.len-ticket.ensures ∙ c.make_room.new.history.ok.0 ∙ ap length c.in_ok-make_room.ensures.items) i; unit = c.args.unit; statement = c.args.statement; answer = c.in_ok-answer.answer } ∷ []) in
+    let pushed : c.enter.new.history.items ≡ history ++ record { ticket = length history; unit = c.args.unit; statement = c.args.statement; answer = c.in_ok-answer.answer } ∷ [] =
+    c.enter.ensures.history ∙ (λ i. c.in_ok-make_room.ensures.items i ++ record { ticket = length (c.in_ok-make_room.ensures.items i); unit = c.args.unit; statement = c.args.statement; answer = c.in_ok-answer.answer } ∷ []) in
     let after = λ (es : List Entry). making schema capacity (length (slice_set units (c.args.unit - 1) c.make_effect.new.unit)) es in
-    subst (λ (m : Making). HasMade m c.args.unit c.args.statement (after c.push_reserved.new.self.items)) c.self.view_is
+    subst (λ (m : Making). HasMade m c.args.unit c.args.statement (after c.enter.new.history.items)) c.self.view_is
     (subst (λ (es : List Entry). HasMade (making schema capacity (length units) history) c.args.unit c.args.statement (after es)) (sym pushed)
     (made_then schema capacity hands units history w c.args.unit r c.requires.numbered at c.args.statement fit c.make_effect.new.unit c.make_effect.new.held c.in_ok-answer.answer made c.make_effect.ensures.all))
