@@ -4,6 +4,7 @@ import re
 
 from database import SYSTEM, Database
 from schema import Schema
+from script_faults import has_statement, lines_of
 from statement import Statement
 
 CODES = {"OPEN": "01", "CLOSE": "02", "FIND": "03", "GET": "04", "STORE": "05", "INSERT": "06", "REMOVE": "07",
@@ -24,8 +25,7 @@ def words_of(line):
 
 
 def statements(text):
-    lines = text.removesuffix("\n").split("\n")
-    return [words_of(line.removesuffix(".")) for line in lines if line.strip() and not line.startswith("*")]
+    return [words_of(line) for line in lines_of(text) if has_statement(line)]
 
 
 class Machine:
