@@ -1,5 +1,5 @@
 """The greatest schemas, scripts, moves and turns that docs/profile allows, deep and wide ones, those one below each limit and those one
-above, each with how it must be answered."""
+above; and a schema and a script with one change that makes a fault, one for each fault: each text with how it must be answered."""
 
 import os
 from dataclasses import dataclass, replace
@@ -10,6 +10,52 @@ from kit import ROOT, text_of
 CARD = f"{ROOT}/tests/cases/open_store_find_get"
 SCHEMA, SCRIPT = f"{CARD}/card.schema", f"{CARD}/unit1.script"
 AREA, RECORD, ITEM = "AREA NAME IS {}.\n", "RECORD NAME IS {}; WITHIN A0.\n", "02 {} PICTURE IS 9(4).\n"
+# A schema and a script that have each form of each sentence and statement.
+FORMS = f"{ROOT}/tests/forms"
+# A change of the one, and of the other, and the fault that it makes.
+SCHEMA_CHANGES = [
+    ("1 line 2", "MAIN", "MA\tIN\x7f"),
+    ("3 line 4", "LOCATION", "LOCATE"),
+    ("4 line 4", "OWNR", "Ownr"),
+    ("5 line 7", "RECORD NAME IS PAGE-M", "RECORD NAME IS MAIN"),
+    ("6 line 9", "02 PTEXT", "02 PNO"),
+    ("7 line 7", "WITHIN SIDE", "WITHIN SYDE"),
+    ("8 line 13", "OWNER IS OWNR", "OWNER IS OWNER-R"),
+    ("9 line 4", "USING ONO ONAME", "USING ONO NAME-O"),
+    ("9 line 14", "KEY IS PNO", "KEY IS LNO"),
+    ("10 line 7", "VIA BOTH", "VIA BOOTH"),
+    ("11 line 9", "XXX", "XYX"),
+    ("12 line 20", "MEMBER IS LINE-M OPTIONAL MANUAL.", "MEMBER IS PAGE-M OPTIONAL MANUAL."),
+    ("13 line 15", "MEMBER IS LINE-M MANDATORY MANUAL; KEY IS LNO", "MEMBER IS PAGE-M MANDATORY MANUAL; KEY IS PNO"),
+    ("14 line 15", "KEY IS LNO", "KEY IS LTEXT"),
+    ("15 line 14", "; KEY IS PNO", ""),
+    ("16 line 4", "USING ONO ONAME", "USING A B C D E"),
+    ("17 line 10", "  02 LNO PIC IS 9999.\n  02 LTEXT PICTURE IS X(3).\n", ""),
+    ("18 line 4", "USING ONO ONAME", "USING ONO ONAME ONO"),
+]
+SCRIPT_CHANGES = [
+    ("1 line 2", "MAIN", "MA\tIN"),
+    ("2 line 25", "\nGET\n", "\nFETCH\n"),
+    ("3 line 2", "IS UPDATE", "IS"),
+    ("4 line 2", "AREA MAIN", "AREA BOTH"),
+    ("5 line 4", "STORE OWNR", "STORE BOTH"),
+    ("6 line 27", "INTO TITLES", "INTO MAIN"),
+    ("7 line 5", "PNO = 7", "LNO = 7"),
+    ("8 line 5", 'PTEXT = "ABC"', "PNO = 8"),
+    ("9 line 5", "PNO = 7", 'PNO = "7"'),
+    ("9 line 24", 'SORTED "ABC"', "SORTED 7"),
+    ("10 line 5", "PNO = 7", "PNO = 10000"),
+    ("10 line 5", '"ABC"', '"ABCD"'),
+    ("10 line 23", "SORTED 7", "SORTED 10000"),
+    ("11 line 14", "LAST PAGE-M", "LAST OWNR"),
+    ("11 line 15", "NEXT LINE-M", "NEXT PAGE-M"),
+    ("12 line 19", "OWNER OF BOTH", "OWNER OF TITLES"),
+    ("12 line 20", 'ONO = 1 ONAME = "ONE"\nFIND CALC LINE-M', "ONO = 1\nFIND CALC LINE-M"),
+    ("12 line 22", "DUPLICATE OF LINE-M", "DUPLICATE OF PAGE-M"),
+    ("12 line 23", "SORTED 7 OF BOTH", "SORTED 7 OF NOTES"),
+    ("13 line 7", "PAGE-M:1", "PAGE-M:0"),
+    ("13 line 8", "LINE-M:1.2", "LINE-M:1.256"),
+]
 # What is printed of CARD behind the answers, where no statement was made.
 OPENING = "--\nNEXT 1\nAREA MAIN\nUNIT 1 RUN - RECORD - SET AREA -\n"
 START = "SCHEMA NAME IS S.\nAREA NAME IS A0.\n"
@@ -169,6 +215,16 @@ def scripts():
     yield script("A" * 1_000_000, err="1 line 1")
 
 
+def changes():
+    """The schema and the script of FORMS, each change of them apart."""
+    schema_text, script_text = text_of(f"{FORMS}/schema"), text_of(f"{FORMS}/script")
+    for err, old, new in SCHEMA_CHANGES:
+        yield schema(schema_text.replace(old, new, 1), err=err)
+    for err, old, new in SCRIPT_CHANGES:
+        told = f"script 1 fault {err}\n".encode()
+        yield "script", script_text.replace(old, new, 1).encode(), Wanted(("check", f"{FORMS}/schema"), (), b"", told)
+
+
 def all_moves():
     one = "M" * 7 + "M" * 13 + "M" * 7 + "M" * 7
     yield moves("1*1000000", one + "I" * (1_000_000 - len(one)), end=text_of(f"{CARD}/stdout"))
@@ -199,5 +255,5 @@ def all_turns():
 
 def texts():
     """All of them: the kind of each, its bytes, and what is wanted. Those that have a fault come twice, the second time explained."""
-    plain = [*schemas(), *scripts(), *all_moves(), *all_turns()]
+    plain = [*schemas(), *scripts(), *changes(), *all_moves(), *all_turns()]
     return [*plain, *((kind, text, replace(wanted, is_explained=True)) for kind, text, wanted in plain if wanted.err)]
