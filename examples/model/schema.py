@@ -1,4 +1,4 @@
-"""What a schema says: docs/profile/schema-language.md. It takes texts without faults for granted."""
+"""What a schema without faults says: docs/profile/schema-language.md."""
 import re
 
 
