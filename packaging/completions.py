@@ -17,10 +17,13 @@ _dbtg() {{
     esac
     case $word in
         -*) COMPREPLY=($(compgen -W "$options" -- "$word")) ;;
-        *) COMPREPLY=($(compgen -f -- "$word")) ;;
+        *)
+            compopt -o filenames 2>/dev/null
+            mapfile -t COMPREPLY < <(compgen -f -- "$word")
+            ;;
     esac
 }}
-complete -o filenames -F _dbtg dbtg
+complete -F _dbtg dbtg
 """
 BASH_CASE = '        {name}) options="{options}" values="{values}" ;;'
 
