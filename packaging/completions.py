@@ -1,8 +1,10 @@
 """Completions of the program's words for bash, zsh and fish, made from its help."""
 
+import re
+
 BASH = """# Completions of dbtg for bash.
 _dbtg() {{
-    local word=${{COMP_WORDS[COMP_CWORD]}} before=${{COMP_WORDS[COMP_CWORD - 1]}} options values
+    local word=${{COMP_WORDS[COMP_CWORD]}} before=${{COMP_WORDS[COMP_CWORD - 1]}} options values topics
     if [ "$COMP_CWORD" = 1 ]; then
         COMPREPLY=($(compgen -W "{commands} help {options}" -- "$word"))
         return
@@ -18,6 +20,10 @@ _dbtg() {{
     case $word in
         -*) COMPREPLY=($(compgen -W "$options" -- "$word")) ;;
         *)
+            if [ -n "$topics" ]; then
+                COMPREPLY=($(compgen -W "$topics" -- "$word"))
+                return
+            fi
             compopt -o filenames 2>/dev/null
             mapfile -t COMPREPLY < <(compgen -f -- "$word")
             ;;
@@ -25,7 +31,7 @@ _dbtg() {{
 }}
 complete -F _dbtg dbtg
 """
-BASH_CASE = '        {name}) options="{options}" values="{values}" ;;'
+BASH_CASE = '        {name}) options="{options}" values="{values}" topics="{topics}" ;;'
 
 ZSH = """#compdef dbtg
 # Completions of dbtg for zsh.
@@ -42,10 +48,11 @@ case $words[2] in
     help) _describe command commands ;;
 esac
 """
-ZSH_CASE = "    {name}) shift words; (( CURRENT-- )); _arguments {options} '*:file:_files' ;;"
+ZSH_CASE = "    {name}) shift words; (( CURRENT-- )); _arguments {options} '*:{others}' ;;"
 
 FISH = "# Completions of dbtg for fish.\n"
 FISH_COMMAND = "complete -c dbtg -n __fish_use_subcommand -a {name} -d {means}\n"
+FISH_TOPICS = "complete -c dbtg -n '__fish_seen_subcommand_from {name}' -f -a '{topics}'\n"
 FISH_OPTION = "complete -c dbtg -n '__fish_seen_subcommand_from {name}' {flags}{value} -d {means}\n"
 
 
@@ -58,6 +65,11 @@ def name_of(command):
     return command.name.partition("-")[2]
 
 
+def topics(command):
+    """The words that a command takes in the place of files: those of its usage in small letters, behind its own name."""
+    return " ".join(re.findall(r"(?<![-<\w])[a-z]+(?![-\w>])", command.usage)[1:])
+
+
 def flags(entries):
     return [flag for it in entries for flag in it.flags()]
 
@@ -68,6 +80,7 @@ def bash(whole, commands):
             name=name_of(it),
             options=" ".join(flags(it.options())),
             values=" ".join(flags(option for option in it.options() if option.value() and option.value() != "FILE")),
+            topics=topics(it),
         )
         for it in commands
     ]
@@ -83,7 +96,14 @@ def zsh_option(option):
 
 def zsh(whole, commands):
     described = "\n".join("    " + quoted(f"{it.words}:{it.means}") for it in whole.commands())
-    cases = [ZSH_CASE.format(name=name_of(it), options=" ".join(map(zsh_option, it.options()))) for it in commands]
+    cases = [
+        ZSH_CASE.format(
+            name=name_of(it),
+            options=" ".join(map(zsh_option, it.options())),
+            others=f"topic:({topics(it)})" if topics(it) else "file:_files",
+        )
+        for it in commands
+    ]
     return ZSH.format(commands=described, cases="\n".join(cases))
 
 
@@ -96,6 +116,7 @@ def fish_option(name, option):
 def fish(whole, commands):
     lines = [FISH_COMMAND.format(name=it.words, means=quoted(it.means)) for it in whole.commands()]
     lines += [fish_option(name_of(it), option) for it in commands for option in it.options()]
+    lines += [FISH_TOPICS.format(name=name_of(it), topics=topics(it)) for it in commands if topics(it)]
     return FISH + "".join(lines)
 
 

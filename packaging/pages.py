@@ -17,9 +17,9 @@ def listed(entries):
     return [line for it in entries for line in (".TP", f".B {escaped(it.words)}", escaped(it.means) or "\\&")]
 
 
-def page(it, version, others, profile):
-    """The page of a command, or of the program."""
-    lines = [f'.TH {it.name.upper()} 1 "" "{escaped(version)}" "Fonnavil"', ".ad l"]
+def page(it, source, others, profile):
+    """The page of a command, or of the program; its source is the day and the version."""
+    lines = [f'.TH {it.name.upper()} 1 "{escaped(source[0])}" "{escaped(source[1])}" "Fonnavil"', ".ad l"]
     lines += section("NAME", f"{escaped(it.name)} \\- {escaped(it.about)}")
     lines += section("SYNOPSIS", ".B dbtg", escaped(it.usage))
     for heading, entries in it.lists.items():
@@ -30,8 +30,8 @@ def page(it, version, others, profile):
     return "\n".join(lines) + "\n"
 
 
-def pages(whole, commands, version, profile):
+def pages(whole, commands, source, profile):
     """Each page with its file's name."""
     every = [whole, *commands]
     for it in every:
-        yield f"{it.name}.1", page(it, version, [other.name for other in every if other is not it], profile)
+        yield f"{it.name}.1", page(it, source, [other.name for other in every if other is not it], profile)
