@@ -19,7 +19,7 @@ def listed(entries):
 
 def page(it, source, others, profile):
     """The page of a command, or of the program; its source is the day and the version."""
-    lines = [f'.TH {it.name.upper()} 1 "{escaped(source[0])}" "{escaped(source[1])}" "Fonnavil"', ".ad l"]
+    lines = [f'.TH {it.name.upper()} 1 "{source[0]}" "{escaped(source[1])}" "Fonnavil"', ".ad l"]
     lines += section("NAME", f"{escaped(it.name)} \\- {escaped(it.about)}")
     lines += section("SYNOPSIS", ".B dbtg", escaped(it.usage))
     for heading, entries in it.lists.items():
