@@ -6,10 +6,11 @@ functions names in `refused: PATH` the function that has to be refused, as a che
 lists and that the prover finds no values against names in `test: NAME` a test that fails with the edit in it."""
 
 import functools
+import glob
 import os
 import re
 
-from functions import declared_in, functions_of, module_of
+from functions import functions_of, module_of
 from kit import text_of
 
 
@@ -41,7 +42,7 @@ class Sources:
     @functools.lru_cache(maxsize=None)
     def declared(self):
         """The structs and enums of the crate, each with the module that declares it."""
-        return {name: module for it in self.files() for name, module in declared_in(it, self.text(it)).items()}
+        return {name: module_of(it) for it in self.files() for name in re.findall(r"(?m)^(?:pub(?:\(\w+\))? )?(?:struct|enum) (\w+)", self.text(it))}
 
     def function(self, file, shown):
         found = [it for it in self.functions(file) if it.shown() == shown]
@@ -56,9 +57,8 @@ class Sources:
         """The folders below proofs/ of what is written by hand of a function, of its closures, and of the cycle of calls that it is in,
         which is named after all that are in it: `+closure+name`."""
         own, closures = self.path(file, function).replace("::", "/"), function.closures(module_of(file)).replace("::", "/")
-        at = os.path.dirname(own)
-        cycles = (it for it in os.listdir(f"{self.folder}/proofs/{at}") if it.startswith("+")) if os.path.isdir(f"{self.folder}/proofs/{at}") else ()
-        return [own, closures, *(f"{at}/{it}" for it in cycles if function.name in it.split("+"))]
+        cycles = (os.path.relpath(it, f"{self.folder}/proofs") for it in glob.glob(f"{self.folder}/proofs/{os.path.dirname(own)}/+*"))
+        return [own, closures, *(it for it in cycles if function.name in it.split("+"))]
 
     def place(self, file, inside, old):
         """Where an old text stands, which does so once."""
@@ -71,23 +71,21 @@ class Sources:
 
 
 class Edit:
-    """An edit: the pieces that it puts into files, as pairs of the file and the place with the new text, and the functions whose bodies
-    it changes, each with its file. It is `elsewhere` where it changes more."""
+    """An edit: the pieces that it puts into files, as pairs of the file and the place with the new text; the functions whose bodies it
+    changes, each with its file; what is refused where it changes more; and the lines of answers by hand that are left out, by file."""
 
     def __init__(self, path, sources):
         text = text_of(path)
-        self.name = os.path.basename(path).removesuffix(".edit")
+        self.name = path.stem
         self.refused, self.tests = (re.findall(rf"(?m)^{it}: (\S.*)$", text) for it in ("refused", "test"))
         self.pieces = list(pieces_of(text, sources))
         inside = [next(((file, f) for f in sources.functions(file) if f.opens <= at and end <= f.end), None) for file, (at, end, _) in self.pieces]
-        self.functions, self.elsewhere = list(dict.fromkeys(filter(None, inside))), None in inside
-        if not self.pieces or self.elsewhere != bool(self.refused):
+        self.functions, self.left_out = list(dict.fromkeys(filter(None, inside))), {}
+        if not self.pieces or (None in inside) != bool(self.refused):
             raise BadEdit("it changes nothing, or does not name the function that has to be refused where, and only where, it changes more than bodies")
         self.paths = self.refused or [sources.path(*it) for it in self.functions]
         self.closures = [] if self.refused else [it.closures(module_of(file)) for file, it in self.functions]
         self.proofs = [at for it in self.functions for at in sources.proofs(*it)]
-        # The lines of answers by hand that are left out, by file.
-        self.left_out = {}
 
     def leave_out(self, errors):
         """Leaves out the answers at which these errors stand; whether there is one that was not left out before."""
@@ -125,12 +123,10 @@ def in_rounds(edits):
     alone."""
     rounds = []
     for it in edits:
-        taken = (one for one in rounds if not it.elsewhere and not any(other.elsewhere or set(other.functions) & set(it.functions) for other in one))
-        room = next(taken, None)
-        if room is None:
-            rounds.append([it])
-        else:
-            room.append(it)
+        has_room = lambda one: not any(it.refused or other.refused or set(other.functions) & set(it.functions) for other in one)
+        room = next(filter(has_room, rounds), [])
+        room.append(it)
+        rounds += [room] if len(room) == 1 else []
     return rounds
 
 

@@ -46,11 +46,6 @@ def module_of(file):
     return re.sub(r"(^|::)(lib|main|mod)$", "", re.sub(r"(^src/|\.rt$)", "", file).replace("/", "::"))
 
 
-def declared_in(file, text):
-    """The structs and enums that a file declares, each with its module."""
-    return {name: module_of(file) for name in re.findall(r"(?m)^(?:pub(?:\(\w+\))? )?(?:struct|enum) (\w+)", text)}
-
-
 def functions_of(folder, path):
     """The functions of a file, in their order, with the type whose impl block they stand in."""
     text = text_of(f"{folder}/{path}")
@@ -59,7 +54,8 @@ def functions_of(folder, path):
         head, opens = HEAD.match(line), BLOCK.match(line)
         if at >= past and opens:
             arguments = re.sub(r"<.*>", "", (opens[2] or "<>")[1:-1])
-            block = last_name(opens[3]), last_name(opens[1] or "") + "".join(re.findall(r"[A-Za-z_]\w*", arguments))
+            owner, trait = (path.split("::")[-1] for path in (opens[3], opens[1] or ""))
+            block = owner, trait + "".join(re.findall(r"[A-Za-z_]\w*", arguments))
         elif at >= past and line == "}\n":
             block = "", ""
         elif at >= past and head and (not head[1] or block[0]):
@@ -69,10 +65,6 @@ def functions_of(folder, path):
                 past = body[1]
         at += len(line)
     return found
-
-
-def last_name(path):
-    return path.split("::")[-1]
 
 
 def body_of(text, at, margin):

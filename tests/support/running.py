@@ -28,7 +28,7 @@ class Ran:
 def ran(words, nice=0, name=None):
     """Runs a command at the top of the repository."""
     with tempfile.TemporaryFile("w+", errors="replace") as out:
-        process = subprocess.Popen(words, cwd=kit.ROOT, stdin=subprocess.DEVNULL, stdout=out, stderr=subprocess.STDOUT, preexec_fn=lambda: os.nice(nice))
+        process = subprocess.Popen(["nice", "-n", str(nice), *words], cwd=kit.ROOT, stdin=subprocess.DEVNULL, stdout=out, stderr=subprocess.STDOUT)
         _, status, used = os.wait4(process.pid, 0)
         process.returncode = os.waitstatus_to_exitcode(status)
         out.seek(0)
@@ -41,13 +41,10 @@ def tests(program=None):
     return [[program if it == "PROGRAM" else it for it in words] for words in lines if ("PROGRAM" in words) == bool(program)]
 
 
-def run_without_program(nice=0):
-    return [ran(it, nice) for it in tests()]
-
-
-def run_with_program(program):
-    with ThreadPoolExecutor(2) as pool:
-        return list(pool.map(ran, tests(program)))
+def run_tests(program=None, nice=0):
+    """Runs the tests with the program, two at a time; or the others, one after the other."""
+    with ThreadPoolExecutor(2 if program else 1) as pool:
+        return list(pool.map(lambda it: ran(it, nice), tests(program)))
 
 
 def summed_up(done):

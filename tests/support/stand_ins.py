@@ -4,11 +4,11 @@ function that promises what is false. Such a body meets any contract at once."""
 
 import os
 import shutil
+from pathlib import Path
 
 from edits import with_pieces
 from kit import root_file, text_of
 
-PARTS = ("src", "specs", "proofs")
 TEXT = """unsafe extern "C" {
     safe fn falsity() -> u8
         ensures { ⊥ };
@@ -20,30 +20,24 @@ pub fn never_returns() -> ! {
 }
 """
 BODY = "{ crate::stand_in::never_returns() }"
-# The files of a proof by hand, in the folder of its function.
-BY_HAND = ("Answers.antt", "Invariants.antt", "Proof.antt")
-
-
-def write(path, text):
-    with open(path, "w", encoding="utf-8") as out:
-        out.write(text)
 
 
 def make_copy(copy, sources, staying, pieces):
-    """Makes a copy of a crate with these pieces in its files, in which others stand in for all functions but those that are staying."""
-    for part in PARTS:
+    """Makes a copy of a crate with these pieces in its files, in which others stand in for all functions but those that are staying.
+    What proved their bodies by hand goes with these."""
+    for part in ("src", "specs", "proofs"):
         if os.path.isdir(f"{sources.folder}/{part}"):
             shutil.copytree(f"{sources.folder}/{part}", f"{copy}/{part}")
     for file in sources.files():
         own = [piece for at, piece in pieces if at == file]
         others = [(it.opens, it.end, BODY) for it in sources.functions(file) if (file, it) not in staying]
-        write(f"{copy}/{file}", with_pieces(sources.text(file), own + others))
+        Path(copy, file).write_text(with_pieces(sources.text(file), own + others), "utf-8")
     # A check of a program links it with all that it reaches; so a copy is a library.
-    root = f"{copy}/{root_file(copy)}"
-    write(root, text_of(root).replace("\nfn main(", "\nfn main_of_the_program(") + "\nmod stand_in;\n")
-    write(f"{copy}/src/stand_in.rt", TEXT)
+    root = Path(copy, root_file(copy))
+    root.write_text(text_of(root).replace("\nfn main(", "\nfn main_of_the_program(") + "\nmod stand_in;\n", "utf-8")
+    Path(copy, "src/stand_in.rt").write_text(TEXT, "utf-8")
     kept = [f"{copy}/proofs/{it}" for one in staying for it in sources.proofs(*one)]
     for at, _, names in os.walk(f"{copy}/proofs"):
         for name in names:
-            if name in BY_HAND and not any(at == it or at.startswith(f"{it}/") for it in kept):
+            if name in ("Answers.antt", "Invariants.antt", "Proof.antt") and not any(at == it or at.startswith(f"{it}/") for it in kept):
                 os.remove(f"{at}/{name}")

@@ -7,20 +7,16 @@ import subprocess
 import tempfile
 import threading
 from concurrent.futures import ThreadPoolExecutor
+from pathlib import Path
 
 import kit
 from edits import BadEdit, Edit, Sources, in_rounds
-from stand_ins import make_copy, write
+from stand_ins import make_copy
 from verdicts import Said, Verdict
 
 EDITS = f"{kit.ROOT}/tests/edits"
 # How often edits that came to nothing are tried together again; then each is tried alone.
 TOGETHER = 4
-
-
-def named(crate):
-    """The names of the edits of a crate that the gate tries."""
-    return [it.partition("/")[2] for it in kit.text_of(f"{EDITS}/NAMED").split("\n") if it.startswith(f"{crate}/")]
 
 
 class Trial:
@@ -30,13 +26,13 @@ class Trial:
 
     def __init__(self, crate, room=None, log=None, libraries=kit.ROOT):
         self.crate, self.room, self.log, self.libraries = crate, room, log, libraries
-        self.sources, self.passed, self.failed, self.named = Sources(f"{kit.ROOT}/crates/{crate}"), 0, 0, named(crate)
+        self.sources, self.passed, self.failed = Sources(f"{kit.ROOT}/crates/{crate}"), 0, 0
+        self.named = [it.partition("/")[2] for it in kit.text_of(f"{EDITS}/NAMED").split("\n") if it.startswith(f"{crate}/")]
 
     def names(self):
         """The edits of tests/edits, and those that the kit's own gate tries too, each with its file."""
-        folders = (f"{EDITS}/{self.crate}", f"{self.sources.folder}/must-fail")
-        found = [f"{at}/{it}" for at in folders if os.path.isdir(at) for it in sorted(os.listdir(at)) if it.endswith(".edit")]
-        return {os.path.basename(it).removesuffix(".edit"): it for it in found}
+        found = [path for at in (f"{EDITS}/{self.crate}", f"{self.sources.folder}/must-fail") for path in Path(at).glob("*.edit")]
+        return {it.stem: it for it in sorted(found)}
 
     def read(self, wanted):
         """The edits of these names that can be applied; the others have failed."""
@@ -49,11 +45,12 @@ class Trial:
         return edits
 
     def look(self):
-        """Sees that each edit can be applied and each named one is there, and that one check can try these, a harmless one among them."""
+        """Sees that each edit can be applied and each named one is there, and that one check can try those of these that change bodies
+        alone, a harmless one among them."""
         edits = self.read(dict.fromkeys([*self.names(), *self.named]))
         self.passed += len(edits)
-        own = [it for it in edits if it.name in self.named]
-        if len(in_rounds(own)) != 1 or not any(it.is_harmless() for it in own):
+        rounds = in_rounds([it for it in edits if it.name in self.named and not it.refused])
+        if len(rounds) != 1 or not any(it.is_harmless() for it in rounds[0]):
             self.tell("NAMED", False, "two of the named edits change one function, or none is harmless")
         return self
 
@@ -85,12 +82,12 @@ class Trial:
     def checked(self, batch):
         """Checks a copy of the crate with the edits of the batch in it. It is one process: several load and prove much twice."""
         with tempfile.TemporaryDirectory(prefix="edits-") as copy:
-            whole = {file for it in batch if it.elsewhere for file, _ in it.pieces}
+            whole = {file for it in batch if it.refused for file, _ in it.pieces}
             staying = {one for it in batch for one in it.functions} | {(file, one) for file in whole for one in self.sources.functions(file)}
             make_copy(copy, self.sources, staying, [piece for it in batch for piece in it.pieces])
             for it in batch:
                 for file, lines in it.left_out.items():
-                    write(f"{copy}/proofs/{file}", without(kit.text_of(f"{copy}/proofs/{file}"), lines))
+                    Path(copy, "proofs", file).write_text(without(kit.text_of(f"{copy}/proofs/{file}"), lines), "utf-8")
             asked = [word for it in batch for path in it.paths for word in ("--only", f"{self.crate}::{path}")]
             words = [kit.rattle(), "check", *kit.check_words(kit.crates_of(), self.crate, self.libraries, "stand_in"), *asked]
             with self.room:
@@ -100,14 +97,11 @@ class Trial:
 
     def count(self, edit, verdict, words, is_shown_false):
         """Counts an edit. One that is named has to be shown false: by values that the prover finds, or by the test that it names."""
-        is_named = edit.name in self.named
-        shown = f"{verdict.value}{' (false)' if is_shown_false else ''}: {words[:200]}"
-        if edit.is_harmless():
-            self.tell(edit.name, verdict is Verdict.LET_THROUGH, f"changes no meaning, and came out as {shown}")
-        elif verdict is Verdict.REFUSED and is_named and not is_shown_false and not edit.tests:
-            self.tell(edit.name, False, f"is named, and nothing shows that a goal of it is false ({shown})")
-        else:
-            self.tell(edit.name, verdict is Verdict.REFUSED, shown)
+        is_well = verdict is (Verdict.LET_THROUGH if edit.is_harmless() else Verdict.REFUSED)
+        words = f"{verdict.value}{' (false)' if is_shown_false else ''}: {words[:200]}"
+        if is_well and edit.name in self.named and not (edit.is_harmless() or is_shown_false or edit.tests):
+            is_well, words = False, f"is named, and nothing shows that a goal of it is false; {words}"
+        self.tell(edit.name, is_well, words)
 
     def tell(self, name, is_well, words):
         with self.printing:

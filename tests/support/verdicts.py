@@ -40,7 +40,7 @@ class Said:
     def names(self, edit):
         """The functions that an edit changes, with their closures, as the lines name them."""
         inner = tuple(f"{self.crate}::{it}::" for it in edit.closures)
-        return [it for it in self.lines if it in [f"{self.crate}::{path}" for path in edit.paths] or inner and it.startswith(inner)]
+        return [it for it in self.lines if it in [f"{self.crate}::{path}" for path in edit.paths] or it.startswith(inner)]
 
     def is_shown_false(self, edit):
         """Whether values were found at which a goal of the edit is false."""
