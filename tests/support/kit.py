@@ -1,9 +1,7 @@
-"""What the scripts of tests/ know of the toolchain: where it lies, which crates there are, and the words of rattle's commands."""
+"""What the scripts of tests/ know of the toolchain: where it lies, which crates there are, and the words of a check."""
 
 import functools
-import glob
 import os
-import re
 import subprocess
 
 ROOT = os.path.dirname(os.path.dirname(os.path.dirname(os.path.realpath(__file__))))
@@ -23,24 +21,6 @@ def rattle():
 def text_of(path):
     with open(path, encoding="utf-8") as it:
         return it.read()
-
-
-def free_memory():
-    """The memory that is free, in bytes."""
-    return 1024 * int(re.search(r"MemAvailable:\s+(\d+)", text_of("/proc/meminfo"))[1])
-
-
-def urgent():
-    """How many threads run at this moment, on a processor or waiting for one, that are not nice: none of this process."""
-    return sum(is_urgent(it) for it in glob.glob("/proc/[0-9]*/task/*/stat") if int(it.split("/")[2]) != os.getpid())
-
-
-def is_urgent(thread):
-    try:
-        fields = text_of(thread).rpartition(")")[2].split()
-    except (OSError, UnicodeDecodeError):
-        return False
-    return fields[0] == "R" and fields[16] == "0"
 
 
 def crates_of(root=ROOT):
@@ -63,11 +43,6 @@ def root_file(crate_folder):
     return "src/main.rt" if os.path.isfile(f"{crate_folder}/src/main.rt") else "src/lib.rt"
 
 
-def kit_uses(name):
-    """The libraries that a library of the kit uses."""
-    return re.findall(r"^dep (\w+)$", text_of(f"{kit()}/rlibs/{name}.rlib/format"), re.M)
-
-
 def check_words(crates, name, root=ROOT, links=""):
     """The words of `rattle check` over the built libraries below a crate, which lie below `root`, to be run in its folder or in a
     copy of it; `links` says what a copy is linked with that declares a foreign function."""
@@ -87,18 +62,3 @@ def check_words(crates, name, root=ROOT, links=""):
 def rlib(name, root=ROOT):
     """Where the built library of a crate lies."""
     return f"{root}/crates/{name}/out/rlib/{name}.rlib"
-
-
-def source_words(crates, name, root=ROOT):
-    """The words that pass all libraries below a crate as source, for a build without proofs."""
-    words, named, waiting = [], [], ["core", "std", *crates[name]]
-    while waiting:
-        it = waiting.pop(0)
-        if it in named:
-            continue
-        named.append(it)
-        uses = ["core", "std", *crates[it]] if it in crates else kit_uses(it)
-        waiting += uses
-        folder = f"{root}/crates/{it}" if it in crates else f"{kit()}/rattle/{it}"
-        words += ["--lib", f"{it}:{','.join(uses)}={folder}/src/lib.rt"]
-    return words
