@@ -8,7 +8,7 @@ ghost use Rattle.dbtg_schema.specs.Lookups.{first as first_in, some_and};
 ghost use Rattle.dbtg_cells.specs.Keys.{picked};
 ghost use Rattle.dbtg_cells.specs.Placed.{before};
 ghost use Rattle.dbtg_cells.specs.Numbers.{numbers_where, is_used, has_values, entry_of, with_entry};
-ghost use Rattle.dbtg_cells.specs.ByCalc.{value_cmp, values_of, is_behind, stands_before, is_rising, IsByCalc};
+ghost use Rattle.dbtg_cells.specs.Inside.ByCalc.{value_cmp, values_of, is_behind, stands_before, is_rising, IsByCalc};
 
 use crate::extent::{Number, entry_at, insert_number, number_at, remove_number, set_entry};
 use crate::key::Value;

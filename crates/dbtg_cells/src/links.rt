@@ -8,8 +8,8 @@ ghost use Rattle.slab.specs.Slab.{ContainsKey};
 ghost use Rattle.dbtg_schema.specs.Lookups.{first as first_in, some_and};
 ghost use Rattle.dbtg_cells.specs.Keys.{has_type, value_eq};
 ghost use Rattle.dbtg_cells.specs.Members.{has_sort_key as is_taken_by};
-ghost use Rattle.dbtg_cells.specs.Chain.{follow, neighbour, read};
-ghost use Rattle.dbtg_cells.specs.Links.{put_if, with_next, with_prior, linked_in, linked_out};
+ghost use Rattle.dbtg_cells.specs.Inside.Chain.{follow, neighbour, read};
+ghost use Rattle.dbtg_cells.specs.Inside.Links.{put_if, with_next, with_prior, linked_in, linked_out};
 
 use crate::key::{DbKey, Value, is_of_type, is_other};
 use crate::value::{same_sort_key, same_value};

@@ -5,8 +5,8 @@
 ghost use Rattle.std.specs.Prelude.{◌≡◌, ◌-◌, ◌*◌, ◌<◌, ◌≤◌, ◌^◌, true, false, ◌==◌, Some, None, option_map, if◌then◌else◌, length, slice_get, slice_set, slice_index, [], IsOk, OnOk, OnErr, vec_capacity};
 ghost use Rattle.std.specs.List.{list_any, insert, remove};
 ghost use Rattle.std.specs.Option.{IfSome};
-ghost use Rattle.dbtg_cells.specs.ByCalc.{is_rising};
-ghost use Rattle.dbtg_cells.specs.Ordered.{node_in_front, last_node, label_below, are_below, are_distinct, Fits};
+ghost use Rattle.dbtg_cells.specs.Inside.ByCalc.{is_rising};
+ghost use Rattle.dbtg_cells.specs.Inside.Ordered.{node_in_front, last_node, label_below, are_below, are_distinct, Fits};
 
 use std::alloc::{AllocError, Global};
 use std::marker::Model;
@@ -29,7 +29,7 @@ pub(crate) struct Order {
 
 impl Model for Order {
     ghost use Rattle.std.specs.Prelude.{length, vec_capacity};
-    ghost use Rattle.dbtg_cells.specs.Ordered.{OrderView, IsOrdered};
+    ghost use Rattle.dbtg_cells.specs.Inside.Ordered.{OrderView, IsOrdered};
 
     ghost Value = { OrderView };
 
