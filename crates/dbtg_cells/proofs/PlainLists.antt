@@ -1,5 +1,5 @@
 -- Lists of members, cut at a key; and what holds of any list, by its indexes, and of any test.
-use Rattle.std.proofs.Common.{◌≡◌, ℕ, zero, suc, ◌-◌, ◌<◌, Bool, true, false, not, cond, ◌||◌, List, [], ◌∷◌, ◌++◌, map, reverse, length, take, drop, refl, sym, ap, ◌∙◌, arith, slice_get, Some, ◌≢◌, get_or}
+use Rattle.std.proofs.Common.{◌≡◌, ℕ, zero, suc, ◌<◌, Bool, true, false, cond, ◌||◌, List, [], ◌∷◌, ◌++◌, map, reverse, length, take, drop, refl, sym, ap, ◌∙◌, arith, slice_get, Some, ◌≢◌, get_or}
 use Rattle.std.proofs.lemmas.List.{reverse-append, map-append}
 use Rattle.std.specs.List.{list_any, position_or_len, insert, list_all}
 use Rattle.std.specs.Prelude.{is_some, slice_set}

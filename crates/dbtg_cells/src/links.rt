@@ -1,7 +1,6 @@
 //! The nodes of an occurrence, each linked to the one before it and the one behind it, and what is read along the links.
 //!
-//! A node is either linked, and then its member is in the list, or it is a place that is kept for its key. The owner
-//! is both ends of the list.
+//! A node is either linked, and then its member is in the list, or only reserved for its key. The owner is both ends of the list.
 ghost use Rattle.std.specs.Prelude.{◌≡◌, Option, Some, None, IfOk, IfSome, cond, option_map, map, filter, slice_get};
 ghost use Rattle.std.specs.List.{list_any, find};
 ghost use Rattle.slab.specs.Slab.{ContainsKey};
@@ -194,10 +193,7 @@ pub(crate) fn find_along(
 pub(crate) fn has_sort_key(own: &Option<Value>, sort: &Value) -> bool
     ensures { result ≡ some_and (value_eq sort.now) own.now }
 {
-    match own {
-        Some(own) => same_value(sort, own),
-        None => false,
-    }
+    own.as_ref().is_some_and(|own| same_value(sort, own))
 }
 
 // Whether one has this sort key, other than the one that is left out.
