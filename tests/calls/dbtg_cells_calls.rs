@@ -1,7 +1,7 @@
 //! Makes each public call of `dbtg_cells` as its callers do, with memory to spare, and works out the lists of docs/profile.
 
 use dbtg_cells::{
-    CellName, DbKey, Extent, Mode, Owner, PlainRing, Ring, Slot, Usage, Value, copy_items,
+    CellName, DbKey, Extent, Mode, Owner, Ring, Slot, Usage, Value, copy_items,
     key_below, name_below, owner_below, same_key, same_name, same_owner, same_values,
 };
 use dbtg_schema::{AreaNo, Duplicates, ItemNo, RecordNo, Row, SetNo};
@@ -11,6 +11,7 @@ use std::test::*;
 
 mod both_rings;
 mod extent;
+mod plain_ring;
 mod slot;
 mod usage;
 mod worked_lists;

@@ -3,8 +3,8 @@ use Rattle.std.proofs.Common.{◌≡◌, ◌≢◌, ℕ, zero, suc, ◌+◌, Lis
 use Rattle.std.proofs.lemmas.List.{append_assoc, reverse-append, get_or-set_other}
 use Rattle.std.specs.Option.{option_map}
 use Rattle.dbtg_cells.specs.declared.links.Node.{Node}
-use Rattle.dbtg_cells.specs.Chain.{Slots, Link, slot, node_of, head_at, last_at, Seg, Avoids, Apart, follow, follow_back}
-use Rattle.dbtg_cells.specs.Links.{put, put_if, with_next, with_prior, as_linked, as_unlinked, linked_in, linked_out}
+use Rattle.dbtg_cells.specs.Inside.Chain.{Slots, Link, slot, node_of, head_at, last_at, Seg, Avoids, Apart, follow, follow_back}
+use Rattle.dbtg_cells.specs.Inside.Links.{put, put_if, with_next, with_prior, as_linked, as_unlinked, linked_in, linked_out}
 
 -- a write elsewhere leaves the slot
 pub slot_put_other : (i j : ℕ) (f : Node → Node) (s : Slots) → j ≢ i → slot (put i f s) j ≡ slot s j

@@ -5,8 +5,8 @@ use Rattle.std.proofs.lemmas.List.{get_or-set_same, get_or-set_other, take_more}
 use Rattle.std.proofs.lemmas.Map.Steps.{length-le_from_distinct_below}
 use Rattle.std.specs.List.{list_any, list_all, position_or_len, insert, remove, IsDistinct, AllByRecursion}
 use Rattle.std.specs.Option.{option_map, IfSome}
-use Rattle.dbtg_cells.specs.ByCalc.{is_rising}
-use Rattle.dbtg_cells.specs.Ordered.{label_below, are_below, are_distinct, Fits, IsOrdered}
+use Rattle.dbtg_cells.specs.Inside.ByCalc.{is_rising}
+use Rattle.dbtg_cells.specs.Inside.Ordered.{label_below, are_below, are_distinct, Fits, IsOrdered}
 use Rattle.dbtg_cells.proofs.Rising.{apart, nothing, is_in, in_later, in_cases, all_at, all_from, rising_same, stands_first}
 use Rattle.dbtg_cells.proofs.PlainLists.{passes_at}
 

@@ -1,5 +1,5 @@
 -- Lists of members, cut at a key; and what holds of any list, by its indexes, and of any test.
-use Rattle.std.proofs.Common.{◌≡◌, ℕ, zero, suc, ◌-◌, ◌<◌, ◌≤◌, Bool, true, false, not, cond, ◌||◌, List, [], ◌∷◌, ◌++◌, map, filter, reverse, length, take, drop, length-drop, refl, sym, ap, ◌∙◌, arith, true≢false, slice_get, Some, ◌≢◌, get_or}
+use Rattle.std.proofs.Common.{◌≡◌, ℕ, zero, suc, ◌<◌, Bool, true, false, cond, ◌||◌, List, [], ◌∷◌, ◌++◌, map, reverse, length, take, drop, refl, sym, ap, ◌∙◌, arith, slice_get, Some, ◌≢◌, get_or}
 use Rattle.std.proofs.lemmas.List.{reverse-append, map-append}
 use Rattle.std.specs.List.{list_any, position_or_len, insert, list_all}
 use Rattle.std.specs.Prelude.{is_some, slice_set}
@@ -48,30 +48,6 @@ module _ {X : Type 0} (is : X → Bool) where
       by true p rest = rw (place_first x xs p, p) refl
       by false p rest = rw (place_later x xs p, p) (ap (λ ys. x ∷ ys) rest)
 
-  pub place_within : (xs : List X) → list_any is xs ≡ true → position_or_len is xs < length xs
-  place_within [] h = absurd (true≢false (sym h))
-  place_within (x ∷ xs) h = by (is x) refl (λ p. place_within xs (rw p at h))
-    where
-      by : (b : Bool) → is x ≡ b → (is x ≡ false → position_or_len is xs < length xs) → position_or_len is (x ∷ xs) < length (x ∷ xs)
-      by true p rest = omega (arith, place_first x xs p)
-      by false p rest = omega (arith, place_later x xs p, rest p)
-
-  pub shorter : (xs : List X) → length (filter (λ x. not (is x)) xs) ≤ length xs
-  shorter [] = omega arith
-  shorter (x ∷ xs) = by (is x) refl (shorter xs)
-    where
-      by : (b : Bool) → is x ≡ b → length (filter (λ x. not (is x)) xs) ≤ length xs → length (filter (λ x. not (is x)) (x ∷ xs)) ≤ length (x ∷ xs)
-      by true p rest = rw p (omega (arith, rest))
-      by false p rest = rw p (omega (arith, rest))
-
-  pub shorter_by_one : (xs : List X) → list_any is xs ≡ true → length (filter (λ x. not (is x)) xs) < length xs
-  shorter_by_one [] h = absurd (true≢false (sym h))
-  shorter_by_one (x ∷ xs) h = by (is x) refl (λ p. shorter_by_one xs (rw p at h))
-    where
-      by : (b : Bool) → is x ≡ b → (is x ≡ false → length (filter (λ x. not (is x)) xs) < length xs) → length (filter (λ x. not (is x)) (x ∷ xs)) < length (x ∷ xs)
-      by true p rest = rw p (omega (arith, shorter xs))
-      by false p rest = rw p (omega (arith, rest p))
-
 module _ {X Y : Type 0} (f : X → Y) (is : Y → Bool) where
   pub behind_map : (xs : List X) → behind is (map f xs) ≡ map f (behind (λ x. is (f x)) xs)
   behind_map [] = refl
@@ -98,24 +74,6 @@ pub map_reverse : {X Y : Type 0} (f : X → Y) (xs : List X) → map f (reverse 
 map_reverse f [] = refl
 map_reverse f (x ∷ xs) =
     ap (map f) (reverse-append (x ∷ []) xs) ∙ map-append f (reverse xs) (x ∷ []) ∙ ap (λ ys. ys ++ f x ∷ []) (map_reverse f xs) ∙ sym (reverse-append (f x ∷ []) (map f xs))
-
-pub drop_rest : {X : Type 0} (n : ℕ) (xs : List X) → take (length xs - n) (drop n xs) ≡ drop n xs
-drop_rest n xs = rw (sym (length-drop n xs)) (all (drop n xs))
-  where
-    all : {Y : Type 0} (ys : List Y) → take (length ys) ys ≡ ys
-    all [] = refl
-    all (y ∷ ys) = ap (λ zs. y ∷ zs) (all ys)
-
-pub length_insert : {X : Type 0} (m : X) (xs : List X) (i : ℕ) → i ≤ length xs → length (insert xs i m) ≡ suc (length xs)
-length_insert m [] zero h = refl
-length_insert m [] (suc i) h = absurd (omega arith)
-length_insert m (x ∷ xs) zero h = refl
-length_insert m (x ∷ xs) (suc i) h = ap suc (length_insert m xs i (omega (arith, h)))
-
--- at most one more, whether the insertion succeeded or not
-pub length_maybe_insert : {X : Type 0} (b : Bool) (m : X) (xs ys : List X) (i : ℕ) → ys ≡ cond b (insert xs i m) xs → i ≤ length xs → length ys ≤ suc (length xs)
-length_maybe_insert true m xs ys i is h = omega (arith, ap length is, length_insert m xs i h)
-length_maybe_insert false m xs ys i is h = omega (arith, ap length is)
 
 -- a list has something at each index below its length
 pub there_is : {X : Type 0} (xs : List X) (i : ℕ) → i < length xs → (x : X) × (slice_get xs i ≡ Some x)

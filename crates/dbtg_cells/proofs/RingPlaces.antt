@@ -10,10 +10,10 @@ use Rattle.dbtg_cells.specs.declared.links.Node.{Node}
 use Rattle.dbtg_cells.specs.declared.sorted.Known.{Known}
 use Rattle.dbtg_cells.specs.Keys.{key_eq, has_type}
 use Rattle.dbtg_cells.specs.Members.{Entry}
-use Rattle.dbtg_cells.specs.Chain.{Slots, Link, slot, head_at, last_at, Seg, Avoids, Apart, follow, end_or, unlinked_keys, key_at, linked_at, IsRing}
-use Rattle.dbtg_cells.specs.Links.{linked_in, linked_out}
-use Rattle.dbtg_cells.specs.Ordered.{OrderView, node_in_front, last_node}
-use Rattle.dbtg_cells.specs.RingOrder.{Holds, IsOrderOf}
+use Rattle.dbtg_cells.specs.Inside.Chain.{Slots, Link, slot, head_at, last_at, Seg, Avoids, Apart, follow, end_or, unlinked_keys, key_at, linked_at, IsRing}
+use Rattle.dbtg_cells.specs.Inside.Links.{linked_in, linked_out}
+use Rattle.dbtg_cells.specs.Inside.Ordered.{OrderView, node_in_front, last_node}
+use Rattle.dbtg_cells.specs.Inside.RingOrder.{Holds, IsOrderOf}
 use Rattle.dbtg_cells.proofs.SortedMembers.{keeps_around}
 use Rattle.dbtg_cells.proofs.LinksWritten.{Avoids_right}
 use Rattle.dbtg_cells.proofs.WholeRings.{members, Seg_avoids, insert_at, reserved_at, joined, parted, listed, next_exists, prior_exists}

@@ -14,9 +14,9 @@ use Rattle.dbtg_cells.specs.declared.links.Node.{Node}
 use Rattle.dbtg_cells.specs.declared.ring.Occurrence.{Occurrence}
 use Rattle.dbtg_cells.specs.Keys.{key_eq}
 use Rattle.dbtg_cells.specs.Members.{Entry, members_in, keys_in, has_key, with_members, without_key}
-use Rattle.dbtg_cells.specs.Chain.{Slots, Link, slot, neighbour, read, follow, follow_back}
+use Rattle.dbtg_cells.specs.Inside.Chain.{Slots, Link, slot, neighbour, read, follow, follow_back}
 use Rattle.dbtg_cells.specs.Keys.{is_member}
-use Rattle.dbtg_cells.specs.Chain.{head_at, last_at, Seg, Avoids, Apart, IsRing, unlinked_keys, key_at}
+use Rattle.dbtg_cells.specs.Inside.Chain.{head_at, last_at, Seg, Avoids, Apart, IsRing, unlinked_keys, key_at}
 use Rattle.dbtg_cells.proofs.KeysAlike.{key_eq_refl, same_key}
 use Rattle.dbtg_cells.proofs.PlainLists.{behind_drop, in_front_take, map_reverse}
 use Rattle.dbtg_cells.proofs.Places.{place_of, OnceEach}

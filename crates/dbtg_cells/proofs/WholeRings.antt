@@ -13,8 +13,8 @@ use Rattle.dbtg_cells.specs.Keys.{key_eq}
 use Rattle.dbtg_cells.proofs.KeysAlike.{key_eq_refl, same_key}
 use Rattle.dbtg_cells.specs.Members.{Entry}
 use Rattle.dbtg_cells.specs.declared.links.Node.{Node}
-use Rattle.dbtg_cells.specs.Chain.{Slots, Link, slot, key_at, linked_at, node_of, head_at, last_at, Seg, Avoids, Apart, LiesAt, follow, follow_back, end_or, unlinked_keys, IsRing}
-use Rattle.dbtg_cells.specs.Links.{put, put_if, with_next, with_prior, as_linked, as_unlinked, linked_in, linked_out}
+use Rattle.dbtg_cells.specs.Inside.Chain.{Slots, Link, slot, key_at, linked_at, node_of, head_at, last_at, Seg, Avoids, Apart, LiesAt, follow, follow_back, end_or, unlinked_keys, IsRing}
+use Rattle.dbtg_cells.specs.Inside.Links.{put, put_if, with_next, with_prior, as_linked, as_unlinked, linked_in, linked_out}
 use Rattle.dbtg_cells.specs.Members.{has_key}
 use Rattle.dbtg_cells.proofs.Places.{place_of, HasMember}
 use Rattle.dbtg_cells.proofs.LinksWritten.{slot_put_other, slot_put_at, Avoids_right, Seg_left, Seg_right, Seg_linked_in, Seg_linked_out, Apart_with, Apart_without, follow_Seg, follow_back_Seg}

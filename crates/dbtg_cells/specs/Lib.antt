@@ -6,13 +6,7 @@ pub mod Users
 pub mod Shown
 pub mod Members
 pub mod Numbers
-pub mod Numbering
-pub mod ByCalc
 pub mod Cells
 pub mod Names
-pub mod Chain
-pub mod Links
 pub mod CellNumbers
-pub mod SortedMembers
-pub mod Ordered
-pub mod RingOrder
+pub mod Inside

@@ -1,5 +1,5 @@
-//! The live numbers of a record type in the order of their CALC values, and numbers with the same values in ascending
-//! order: so a look-up by values halves what is left to search, and takes no memory.
+//! The live numbers of a record type, ordered by their CALC values and, where these are the same, ascending. A look-up by values
+//! halves the list and takes no memory.
 ghost use Rattle.std.specs.Prelude.{◌≡◌, ◌<◌, ◌≤◌, ◌^◌, IsTrue, true, not, ◌==◌, length, filter, nat_lt, vec_capacity};
 ghost use Rattle.std.specs.List.{position_or_len, slice_index_or};
 ghost use Rattle.std.specs.Ordering.{ordering_then, nat_cmp, is_lt};
@@ -8,7 +8,7 @@ ghost use Rattle.dbtg_schema.specs.Lookups.{first as first_in, some_and};
 ghost use Rattle.dbtg_cells.specs.Keys.{picked};
 ghost use Rattle.dbtg_cells.specs.Placed.{before};
 ghost use Rattle.dbtg_cells.specs.Numbers.{numbers_where, is_used, has_values, entry_of, with_entry};
-ghost use Rattle.dbtg_cells.specs.ByCalc.{value_cmp, values_of, is_behind, stands_before, is_rising, IsByCalc};
+ghost use Rattle.dbtg_cells.specs.Inside.ByCalc.{value_cmp, values_of, is_behind, stands_before, is_rising, IsByCalc};
 
 use crate::extent::{Number, entry_at, insert_number, number_at, remove_number, set_entry};
 use crate::key::Value;
@@ -26,7 +26,7 @@ fn compare_value(a: &Value, b: &Value) -> Ordering
     }
 }
 
-// The first values that differ decide, and else the lengths.
+// The first values that differ decide; if none do, the lengths.
 fn compare_values(a: &[Value], b: &[Value]) -> Ordering
     ensures { result ≡ slice_cmp value_cmp a.now b.now }
 {
@@ -56,7 +56,7 @@ fn compare_item(items: &[Value], item: ItemNo, value: &Value) -> Ordering
     }
 }
 
-// The items with these numbers against values.
+// Compares the items with these numbers to some values.
 pub(crate) fn compare_picked(item_numbers: &[ItemNo], items: &[Value], values: &[Value]) -> Ordering
     ensures { result ≡ slice_cmp value_cmp (picked item_numbers.now items.now) values.now }
 {
@@ -133,10 +133,7 @@ fn first_behind(listed: &[u32], numbers: &[Number], values: &[Value], number: u3
 fn entry_has_values(numbers: &[Number], number: u32, values: &[Value]) -> bool
     ensures { result ≡ some_and (has_values values.now) (entry_of number numbers.now) }
 {
-    match entry_at(numbers, number) {
-        Some(entry) => entry.has_values(values),
-        None => false,
-    }
+    entry_at(numbers, number).is_some_and(|entry| entry.has_values(values))
 }
 
 // The least number above another whose entry has the values.
@@ -201,10 +198,7 @@ fn entry_has_picked(
 ) -> bool
     ensures { result ≡ some_and (has_values (picked item_numbers.now items.now)) (entry_of number numbers.now) }
 {
-    match entry_at(numbers, number) {
-        Some(entry) => entry.has_picked(item_numbers, items),
-        None => false,
-    }
+    entry_at(numbers, number).is_some_and(|entry| entry.has_picked(item_numbers, items))
 }
 
 // The least number above another whose entry has the items with these numbers.

@@ -1,15 +1,14 @@
 //! The nodes of an occurrence, each linked to the one before it and the one behind it, and what is read along the links.
 //!
-//! A node is either linked, and then its member is in the list, or it is a place that is kept for its key. The owner
-//! is both ends of the list.
+//! A node is either linked, and then its member is in the list, or only reserved for its key. The owner is both ends of the list.
 ghost use Rattle.std.specs.Prelude.{◌≡◌, Option, Some, None, IfOk, IfSome, cond, option_map, map, filter, slice_get};
 ghost use Rattle.std.specs.List.{list_any, find};
 ghost use Rattle.slab.specs.Slab.{ContainsKey};
 ghost use Rattle.dbtg_schema.specs.Lookups.{first as first_in, some_and};
 ghost use Rattle.dbtg_cells.specs.Keys.{has_type, value_eq};
 ghost use Rattle.dbtg_cells.specs.Members.{has_sort_key as is_taken_by};
-ghost use Rattle.dbtg_cells.specs.Chain.{follow, neighbour, read};
-ghost use Rattle.dbtg_cells.specs.Links.{put_if, with_next, with_prior, linked_in, linked_out};
+ghost use Rattle.dbtg_cells.specs.Inside.Chain.{follow, neighbour, read};
+ghost use Rattle.dbtg_cells.specs.Inside.Links.{put_if, with_next, with_prior, linked_in, linked_out};
 
 use crate::key::{DbKey, Value, is_of_type, is_other};
 use crate::value::{same_sort_key, same_value};
@@ -194,10 +193,7 @@ pub(crate) fn find_along(
 pub(crate) fn has_sort_key(own: &Option<Value>, sort: &Value) -> bool
     ensures { result ≡ some_and (value_eq sort.now) own.now }
 {
-    match own {
-        Some(own) => same_value(sort, own),
-        None => false,
-    }
+    own.as_ref().is_some_and(|own| same_value(sort, own))
 }
 
 // Whether one has this sort key, other than the one that is left out.

@@ -99,7 +99,7 @@ fn ring_number(schema: &Schema, capacity: u16, set: SetNo, rtype: RecordNo, numb
     requires { is_cell schema.now capacity (CellName.Ring set (Some (rtype, number))) ≡ true }
     ensures { cell_number schema.now capacity (CellName.Ring set (Some (rtype, number))) ≡ Some result }
 {
-    // Only the contract names the record type.
+    // Unused here; the contract mentions it.
     let _type = rtype.index();
     first_ring(schema) + rings_before(schema, capacity, set.index()) + (number as usize - 1)
 }

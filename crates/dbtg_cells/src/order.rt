@@ -1,12 +1,12 @@
-//! The order of a ring's nodes, by their numbers: the n-th is at hand, and where a node stands is found by halving.
+//! The order of a ring's nodes, by their numbers. The n-th node is read off a list, and a node's place is found by halving it.
 //!
 //! Each node has a label, and labels rise from the first node to the last. A node that comes in gets a label between those
 //! beside it; where none is left, all get new ones.
 ghost use Rattle.std.specs.Prelude.{◌≡◌, ◌-◌, ◌*◌, ◌<◌, ◌≤◌, ◌^◌, true, false, ◌==◌, Some, None, option_map, if◌then◌else◌, length, slice_get, slice_set, slice_index, [], IsOk, OnOk, OnErr, vec_capacity};
 ghost use Rattle.std.specs.List.{list_any, insert, remove};
 ghost use Rattle.std.specs.Option.{IfSome};
-ghost use Rattle.dbtg_cells.specs.ByCalc.{is_rising};
-ghost use Rattle.dbtg_cells.specs.Ordered.{node_in_front, last_node, label_below, are_below, are_distinct, Fits};
+ghost use Rattle.dbtg_cells.specs.Inside.ByCalc.{is_rising};
+ghost use Rattle.dbtg_cells.specs.Inside.Ordered.{node_in_front, last_node, label_below, are_below, are_distinct, Fits};
 
 use std::alloc::{AllocError, Global};
 use std::marker::Model;
@@ -17,7 +17,7 @@ const MIDDLE: u64 = 1 << 63;
 // How far labels are apart where there is space.
 const STEP: u64 = 1 << 32;
 
-// A node's number is listed in 32 bits: so many nodes have room.
+// Nodes are listed by 32-bit numbers, so there are at most this many.
 const MOST: usize = 0xffff_ffff;
 
 /// The nodes of a ring in their order, and the label of each node by its number.
@@ -29,7 +29,7 @@ pub(crate) struct Order {
 
 impl Model for Order {
     ghost use Rattle.std.specs.Prelude.{length, vec_capacity};
-    ghost use Rattle.dbtg_cells.specs.Ordered.{OrderView, IsOrdered};
+    ghost use Rattle.dbtg_cells.specs.Inside.Ordered.{OrderView, IsOrdered};
 
     ghost Value = { OrderView };
 
@@ -65,20 +65,16 @@ fn place_among(nodes: &[u32], labels: &[u64], node: usize) -> usize
 fn node_at(nodes: &[u32], place: usize) -> Option<usize>
     ensures { result ≡ slice_get nodes.now place }
 {
-    match nodes.get(place).copied() {
-        Some(node) => Some(node as usize),
-        None => None,
-    }
+    nodes.get(place).map(|node| *node as usize)
 }
 
 // The label of the node at a place, if there is one.
 fn label_at(nodes: &[u32], labels: &[u64], place: usize) -> Option<u64>
     ensures { result ≡ option_map (slice_index labels.now) (slice_get nodes.now place) }
 {
-    match nodes.get(place) {
-        Some(node) => Some(label_of(labels, *node as usize)),
-        None => None,
-    }
+    nodes
+        .get(place)
+        .map(|node| label_of(labels, *node as usize))
 }
 
 // The label of the node in front of a place, if there is one.
@@ -146,7 +142,7 @@ fn set_label(labels: &mut Vec<u64>, node: usize, label: u64)
     labels[node] = label;
 }
 
-// How far the new labels of so many nodes are apart.
+// The distance between the new labels of this many nodes.
 fn step_for(count: u64) -> u64
     requires { 0 < count }
     ensures some { 0 < result }
@@ -248,7 +244,7 @@ impl Order {
         self.reserve_labels(node + 1)
     }
 
-    // Makes room for so many labels, and to list as many nodes.
+    // Makes room for this many labels and listed nodes.
     fn reserve_labels(&mut self, room: usize) -> Result<(), AllocError>
         requires more { self.old.room ≤ room }
         requires numbers { room < 2 ^ 32 }

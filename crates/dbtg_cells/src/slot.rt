@@ -43,10 +43,7 @@ impl Slot {
     pub fn is_live(&self, generation: u8) -> bool
         ensures { result ≡ some_and (λ r. r.generation == generation) self.now }
     {
-        match &self.stored {
-            Some(record) => record.generation == generation,
-            None => false,
-        }
+        self.record().is_some_and(|it| it.generation == generation)
     }
 
     /// The record.
@@ -60,13 +57,8 @@ impl Slot {
     pub fn owner(&self, set: SetNo) -> Option<Owner>
         ensures { result ≡ option_and_then (λ r. at r.owners set) self.now }
     {
-        match &self.stored {
-            Some(record) => match record.owners.as_slice().get(set.index() as usize) {
-                Some(owner) => *owner,
-                None => None,
-            },
-            None => None,
-        }
+        let owners = self.record()?.owners.as_slice();
+        *owners.get(set.index() as usize)?
     }
 
     /// Stores a new record, with version 1, in place of what was there.
@@ -113,10 +105,7 @@ impl Slot {
     pub fn has_next_version(&self) -> bool
         ensures { result ≡ some_and (λ r. nat_lt (r.version + 1) (2 ^ 64)) self.now }
     {
-        match &self.stored {
-            Some(record) => record.version < u64::MAX,
-            None => false,
-        }
+        self.record().is_some_and(|it| it.version < u64::MAX)
     }
 
     /// Gives the record the next version. A vacant slot stays vacant.

@@ -13,7 +13,7 @@ use crate::lines::push_detail_lines;
 use dbtg_schema::{Area, AreaNo, Member, RecordNo, RecordType, Row, Schema, SetType};
 use std::alloc::{AllocError, Global};
 
-/// A box that has no place yet: its column, the area that colours it, its lines, and how many arrows begin or end at it.
+/// A box that is not placed yet: its column, the area that colours it, its lines, and how many arrows begin or end at it.
 #[derive(Drop)]
 pub struct Block {
     pub column: u8,
@@ -48,7 +48,7 @@ fn touches(node: &Option<RecordNo>, set: &SetType) -> bool
     }
 }
 
-/// How many of these sets have SYSTEM, or a record type, as owner or member.
+/// How many of these sets have SYSTEM, or this record type, as owner or member.
 pub fn count_ends(node: &Option<RecordNo>, sets: &[SetType]) -> usize
     ensures { result ≡ count_ends node.now sets.now }
 {
@@ -187,7 +187,7 @@ fn push_area_blocks(
 }
 
 #[tactic(auto, unfolding(crate::specs::Layout::blocks))]
-/// All that has a box, from above to below.
+/// Everything that has a box, from top to bottom.
 pub fn blocks(alloc: Global, schema: &Schema) -> Result<Vec<Block>, AllocError>
     ensures { IfOk result (λ all. all.items ≡ blocks schema.now) }
 {

@@ -1,4 +1,4 @@
-//! The words that a diagram shows: of a record type line by line, and of the arrow to a member.
+//! The words that a diagram shows: the lines of a record type, and the words at the arrow to a member.
 
 ghost use Rattle.dbtg_draw.specs.Lines.{allowed_line, area_name, calc_line, class_text, detail_lines, direction_text, duplicates_text, item_line, item_name, key_text, location_lines, member_line, order_line, owner_name, picture_text, spaced_item, type_name, within_line};
 ghost use Rattle.dbtg_schema.specs.Structure.{item_list};
@@ -140,7 +140,7 @@ fn within_line(alloc: Global, schema: &Schema, area: AreaNo) -> Result<Row<u8>, 
     Ok(Row::of(line))
 }
 
-/// What stands below the name of a record type: location mode, area, items.
+/// The lines below the name of a record type: location mode, area, items.
 pub fn push_detail_lines(
     alloc: Global,
     lines: &mut Vec<Row<u8>>,

@@ -72,7 +72,7 @@ fn push_links(
     Ok(())
 }
 
-/// All that has an arrow, in the order of the sets.
+/// Everything that has an arrow, in the order of the sets.
 pub fn links(alloc: Global, schema: &Schema) -> Result<Vec<Link>, AllocError>
     ensures { IfOk result (λ all. all.items ≡ links schema.now 0 schema.now.sets) }
 {

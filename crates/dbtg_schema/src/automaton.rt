@@ -177,424 +177,131 @@ pub enum State {
     MemberPeriod,
 }
 
+/// A row of the table: the kind of the word, its role, and the state behind it.
+macro_rules! start {
+    ($kind:ident $(($word:expr))?, $role:ident, $next:ident) => {
+        Start {
+            kind: Kind::$kind $(($word))?,
+            role: Role::$role,
+            next: State::$next,
+        }
+    };
+}
+
 impl State {
     /// The words that are wanted here.
     pub fn wants(self) -> &'static [Start]
         ensures { view_starts result.now ≡ starts (rest_of self) }
     {
         match self {
-            State::Opening => &[Start {
-                kind: Kind::Key(Keyword::Schema),
-                role: Role::Plain,
-                next: State::SchemaNameWord,
-            }],
-            State::SchemaNameWord => &[Start {
-                kind: Kind::Key(Keyword::Name),
-                role: Role::Plain,
-                next: State::SchemaName,
-            }],
-            State::SchemaName => &[Start {
-                kind: Kind::Name,
-                role: Role::SchemaName,
-                next: State::SchemaPeriod,
-            }],
-            State::SchemaPeriod => &[Start {
-                kind: Kind::Key(Keyword::Period),
-                role: Role::Plain,
-                next: State::FirstArea,
-            }],
-            State::FirstArea => &[Start {
-                kind: Kind::Key(Keyword::Area),
-                role: Role::AreaEntry,
-                next: State::AreaNameWord,
-            }],
-            State::AreaNameWord => &[Start {
-                kind: Kind::Key(Keyword::Name),
-                role: Role::Plain,
-                next: State::AreaName,
-            }],
-            State::AreaName => &[Start {
-                kind: Kind::Name,
-                role: Role::AreaName,
-                next: State::AreaPeriod,
-            }],
-            State::AreaPeriod => &[Start {
-                kind: Kind::Key(Keyword::Period),
-                role: Role::Plain,
-                next: State::Areas,
-            }],
+            State::Opening => &[start!(Key(Keyword::Schema), Plain, SchemaNameWord)],
+            State::SchemaNameWord => &[start!(Key(Keyword::Name), Plain, SchemaName)],
+            State::SchemaName => &[start!(Name, SchemaName, SchemaPeriod)],
+            State::SchemaPeriod => &[start!(Key(Keyword::Period), Plain, FirstArea)],
+            State::FirstArea => &[start!(Key(Keyword::Area), AreaEntry, AreaNameWord)],
+            State::AreaNameWord => &[start!(Key(Keyword::Name), Plain, AreaName)],
+            State::AreaName => &[start!(Name, AreaName, AreaPeriod)],
+            State::AreaPeriod => &[start!(Key(Keyword::Period), Plain, Areas)],
             State::Areas => &[
-                Start {
-                    kind: Kind::Key(Keyword::Area),
-                    role: Role::AreaEntry,
-                    next: State::AreaNameWord,
-                },
-                Start {
-                    kind: Kind::Key(Keyword::Record),
-                    role: Role::RecordEntry,
-                    next: State::RecordNameWord,
-                },
+                start!(Key(Keyword::Area), AreaEntry, AreaNameWord),
+                start!(Key(Keyword::Record), RecordEntry, RecordNameWord),
             ],
-            State::RecordNameWord => &[Start {
-                kind: Kind::Key(Keyword::Name),
-                role: Role::Plain,
-                next: State::RecordName,
-            }],
-            State::RecordName => &[Start {
-                kind: Kind::Name,
-                role: Role::RecordName,
-                next: State::RecordLocation,
-            }],
+            State::RecordNameWord => &[start!(Key(Keyword::Name), Plain, RecordName)],
+            State::RecordName => &[start!(Name, RecordName, RecordLocation)],
             State::RecordLocation => &[
-                Start {
-                    kind: Kind::Key(Keyword::Location),
-                    role: Role::Plain,
-                    next: State::Mode,
-                },
-                Start {
-                    kind: Kind::Key(Keyword::Within),
-                    role: Role::Plain,
-                    next: State::WithinArea,
-                },
+                start!(Key(Keyword::Location), Plain, Mode),
+                start!(Key(Keyword::Within), Plain, WithinArea),
             ],
-            State::Mode => &[Start {
-                kind: Kind::Key(Keyword::Mode),
-                role: Role::Plain,
-                next: State::CalcOrVia,
-            }],
-            State::WithinArea => &[Start {
-                kind: Kind::Name,
-                role: Role::WithinArea,
-                next: State::RecordPeriod,
-            }],
+            State::Mode => &[start!(Key(Keyword::Mode), Plain, CalcOrVia)],
+            State::WithinArea => &[start!(Name, WithinArea, RecordPeriod)],
             State::CalcOrVia => &[
-                Start {
-                    kind: Kind::Key(Keyword::Calc),
-                    role: Role::Plain,
-                    next: State::Using,
-                },
-                Start {
-                    kind: Kind::Key(Keyword::Via),
-                    role: Role::Plain,
-                    next: State::ViaSet,
-                },
+                start!(Key(Keyword::Calc), Plain, Using),
+                start!(Key(Keyword::Via), Plain, ViaSet),
             ],
-            State::RecordPeriod => &[Start {
-                kind: Kind::Key(Keyword::Period),
-                role: Role::Plain,
-                next: State::Items,
-            }],
-            State::Using => &[Start {
-                kind: Kind::Key(Keyword::Using),
-                role: Role::Plain,
-                next: State::FirstCalcItem,
-            }],
-            State::ViaSet => &[Start {
-                kind: Kind::Name,
-                role: Role::ViaSet,
-                next: State::ViaSetWord,
-            }],
+            State::RecordPeriod => &[start!(Key(Keyword::Period), Plain, Items)],
+            State::Using => &[start!(Key(Keyword::Using), Plain, FirstCalcItem)],
+            State::ViaSet => &[start!(Name, ViaSet, ViaSetWord)],
             State::Items => &[
-                Start {
-                    kind: Kind::Key(Keyword::Level),
-                    role: Role::ItemEntry,
-                    next: State::ItemName,
-                },
-                Start {
-                    kind: Kind::Key(Keyword::Record),
-                    role: Role::RecordEntry,
-                    next: State::RecordNameWord,
-                },
-                Start {
-                    kind: Kind::Key(Keyword::Set),
-                    role: Role::SetEntry,
-                    next: State::SetNameWord,
-                },
+                start!(Key(Keyword::Level), ItemEntry, ItemName),
+                start!(Key(Keyword::Record), RecordEntry, RecordNameWord),
+                start!(Key(Keyword::Set), SetEntry, SetNameWord),
             ],
-            State::FirstCalcItem => &[Start {
-                kind: Kind::Name,
-                role: Role::CalcItem,
-                next: State::CalcItems,
-            }],
-            State::ViaSetWord => &[Start {
-                kind: Kind::Key(Keyword::Set),
-                role: Role::Plain,
-                next: State::Within,
-            }],
-            State::ItemName => &[Start {
-                kind: Kind::Name,
-                role: Role::ItemName,
-                next: State::PictureWord,
-            }],
-            State::SetNameWord => &[Start {
-                kind: Kind::Key(Keyword::Name),
-                role: Role::Plain,
-                next: State::SetName,
-            }],
+            State::FirstCalcItem => &[start!(Name, CalcItem, CalcItems)],
+            State::ViaSetWord => &[start!(Key(Keyword::Set), Plain, Within)],
+            State::ItemName => &[start!(Name, ItemName, PictureWord)],
+            State::SetNameWord => &[start!(Key(Keyword::Name), Plain, SetName)],
             State::CalcItems => &[
-                Start {
-                    kind: Kind::Name,
-                    role: Role::CalcItem,
-                    next: State::CalcItems,
-                },
-                Start {
-                    kind: Kind::Key(Keyword::Duplicates),
-                    role: Role::Plain,
-                    next: State::NotOrAllowed,
-                },
+                start!(Name, CalcItem, CalcItems),
+                start!(Key(Keyword::Duplicates), Plain, NotOrAllowed),
             ],
-            State::Within => &[Start {
-                kind: Kind::Key(Keyword::Within),
-                role: Role::Plain,
-                next: State::WithinArea,
-            }],
+            State::Within => &[start!(Key(Keyword::Within), Plain, WithinArea)],
             State::PictureWord => &[
-                Start {
-                    kind: Kind::Key(Keyword::Picture),
-                    role: Role::Plain,
-                    next: State::ItemPicture,
-                },
-                Start {
-                    kind: Kind::Key(Keyword::Pic),
-                    role: Role::Plain,
-                    next: State::ItemPicture,
-                },
+                start!(Key(Keyword::Picture), Plain, ItemPicture),
+                start!(Key(Keyword::Pic), Plain, ItemPicture),
             ],
-            State::SetName => &[Start {
-                kind: Kind::Name,
-                role: Role::SetName,
-                next: State::OrderWord,
-            }],
+            State::SetName => &[start!(Name, SetName, OrderWord)],
             State::NotOrAllowed => &[
-                Start {
-                    kind: Kind::Key(Keyword::Not),
-                    role: Role::Unique,
-                    next: State::Allowed,
-                },
-                Start {
-                    kind: Kind::Key(Keyword::Allowed),
-                    role: Role::Plain,
-                    next: State::Within,
-                },
+                start!(Key(Keyword::Not), Unique, Allowed),
+                start!(Key(Keyword::Allowed), Plain, Within),
             ],
-            State::ItemPicture => &[Start {
-                kind: Kind::Picture,
-                role: Role::Picture,
-                next: State::RecordPeriod,
-            }],
-            State::OrderWord => &[Start {
-                kind: Kind::Key(Keyword::Order),
-                role: Role::Plain,
-                next: State::Order,
-            }],
-            State::Allowed => &[Start {
-                kind: Kind::Key(Keyword::Allowed),
-                role: Role::Plain,
-                next: State::Within,
-            }],
+            State::ItemPicture => &[start!(Picture, Picture, RecordPeriod)],
+            State::OrderWord => &[start!(Key(Keyword::Order), Plain, Order)],
+            State::Allowed => &[start!(Key(Keyword::Allowed), Plain, Within)],
             State::Order => &[
-                Start {
-                    kind: Kind::Key(Keyword::First),
-                    role: Role::OrderFirst,
-                    next: State::OwnerWord,
-                },
-                Start {
-                    kind: Kind::Key(Keyword::Last),
-                    role: Role::OrderLast,
-                    next: State::OwnerWord,
-                },
-                Start {
-                    kind: Kind::Key(Keyword::Next),
-                    role: Role::OrderNext,
-                    next: State::OwnerWord,
-                },
-                Start {
-                    kind: Kind::Key(Keyword::Prior),
-                    role: Role::OrderPrior,
-                    next: State::OwnerWord,
-                },
-                Start {
-                    kind: Kind::Key(Keyword::Sorted),
-                    role: Role::Sorted,
-                    next: State::Direction,
-                },
+                start!(Key(Keyword::First), OrderFirst, OwnerWord),
+                start!(Key(Keyword::Last), OrderLast, OwnerWord),
+                start!(Key(Keyword::Next), OrderNext, OwnerWord),
+                start!(Key(Keyword::Prior), OrderPrior, OwnerWord),
+                start!(Key(Keyword::Sorted), Sorted, Direction),
             ],
-            State::OwnerWord => &[Start {
-                kind: Kind::Key(Keyword::Owner),
-                role: Role::Plain,
-                next: State::Owner,
-            }],
+            State::OwnerWord => &[start!(Key(Keyword::Owner), Plain, Owner)],
             State::Direction => &[
-                Start {
-                    kind: Kind::Key(Keyword::Ascending),
-                    role: Role::Ascending,
-                    next: State::DuplicatesWord,
-                },
-                Start {
-                    kind: Kind::Key(Keyword::Descending),
-                    role: Role::Descending,
-                    next: State::DuplicatesWord,
-                },
+                start!(Key(Keyword::Ascending), Ascending, DuplicatesWord),
+                start!(Key(Keyword::Descending), Descending, DuplicatesWord),
             ],
             State::Owner => &[
-                Start {
-                    kind: Kind::Name,
-                    role: Role::OwnerName,
-                    next: State::OwnerPeriod,
-                },
-                Start {
-                    kind: Kind::Key(Keyword::System),
-                    role: Role::OwnerSystem,
-                    next: State::OwnerPeriod,
-                },
+                start!(Name, OwnerName, OwnerPeriod),
+                start!(Key(Keyword::System), OwnerSystem, OwnerPeriod),
             ],
-            State::DuplicatesWord => &[Start {
-                kind: Kind::Key(Keyword::Duplicates),
-                role: Role::Plain,
-                next: State::Duplicates,
-            }],
-            State::OwnerPeriod => &[Start {
-                kind: Kind::Key(Keyword::Period),
-                role: Role::Plain,
-                next: State::FirstMember,
-            }],
+            State::DuplicatesWord => &[start!(Key(Keyword::Duplicates), Plain, Duplicates)],
+            State::OwnerPeriod => &[start!(Key(Keyword::Period), Plain, FirstMember)],
             State::Duplicates => &[
-                Start {
-                    kind: Kind::Key(Keyword::First),
-                    role: Role::DuplicatesFirst,
-                    next: State::OwnerWord,
-                },
-                Start {
-                    kind: Kind::Key(Keyword::Last),
-                    role: Role::DuplicatesLast,
-                    next: State::OwnerWord,
-                },
-                Start {
-                    kind: Kind::Key(Keyword::Not),
-                    role: Role::DuplicatesNot,
-                    next: State::OrderAllowed,
-                },
+                start!(Key(Keyword::First), DuplicatesFirst, OwnerWord),
+                start!(Key(Keyword::Last), DuplicatesLast, OwnerWord),
+                start!(Key(Keyword::Not), DuplicatesNot, OrderAllowed),
             ],
-            State::FirstMember => &[Start {
-                kind: Kind::Key(Keyword::Member),
-                role: Role::MemberEntry,
-                next: State::MemberName,
-            }],
-            State::OrderAllowed => &[Start {
-                kind: Kind::Key(Keyword::Allowed),
-                role: Role::Plain,
-                next: State::OwnerWord,
-            }],
-            State::MemberName => &[Start {
-                kind: Kind::Name,
-                role: Role::MemberName,
-                next: State::Class,
-            }],
+            State::FirstMember => &[start!(Key(Keyword::Member), MemberEntry, MemberName)],
+            State::OrderAllowed => &[start!(Key(Keyword::Allowed), Plain, OwnerWord)],
+            State::MemberName => &[start!(Name, MemberName, Class)],
             State::Class => &[
-                Start {
-                    kind: Kind::Key(Keyword::Mandatory),
-                    role: Role::Mandatory,
-                    next: State::Connection,
-                },
-                Start {
-                    kind: Kind::Key(Keyword::Optional),
-                    role: Role::Optional,
-                    next: State::Connection,
-                },
+                start!(Key(Keyword::Mandatory), Mandatory, Connection),
+                start!(Key(Keyword::Optional), Optional, Connection),
             ],
             State::Connection => &[
-                Start {
-                    kind: Kind::Key(Keyword::Automatic),
-                    role: Role::Automatic,
-                    next: State::MemberTail,
-                },
-                Start {
-                    kind: Kind::Key(Keyword::Manual),
-                    role: Role::Manual,
-                    next: State::MemberTail,
-                },
+                start!(Key(Keyword::Automatic), Automatic, MemberTail),
+                start!(Key(Keyword::Manual), Manual, MemberTail),
             ],
             State::MemberTail => &[
-                Start {
-                    kind: Kind::Key(Keyword::Key),
-                    role: Role::Plain,
-                    next: State::KeyItem,
-                },
-                Start {
-                    kind: Kind::Key(Keyword::Set),
-                    role: Role::Plain,
-                    next: State::Occurrence,
-                },
-                Start {
-                    kind: Kind::Key(Keyword::Period),
-                    role: Role::MemberEnd,
-                    next: State::Members,
-                },
+                start!(Key(Keyword::Key), Plain, KeyItem),
+                start!(Key(Keyword::Set), Plain, Occurrence),
+                start!(Key(Keyword::Period), MemberEnd, Members),
             ],
-            State::KeyItem => &[Start {
-                kind: Kind::Name,
-                role: Role::KeyItem,
-                next: State::KeyTail,
-            }],
-            State::Occurrence => &[Start {
-                kind: Kind::Key(Keyword::Occurrence),
-                role: Role::Plain,
-                next: State::Selection,
-            }],
+            State::KeyItem => &[start!(Name, KeyItem, KeyTail)],
+            State::Occurrence => &[start!(Key(Keyword::Occurrence), Plain, Selection)],
             State::Members => &[
-                Start {
-                    kind: Kind::Key(Keyword::Member),
-                    role: Role::MemberEntry,
-                    next: State::MemberName,
-                },
-                Start {
-                    kind: Kind::Key(Keyword::Set),
-                    role: Role::SetEntry,
-                    next: State::SetNameWord,
-                },
+                start!(Key(Keyword::Member), MemberEntry, MemberName),
+                start!(Key(Keyword::Set), SetEntry, SetNameWord),
             ],
             State::KeyTail => &[
-                Start {
-                    kind: Kind::Key(Keyword::Set),
-                    role: Role::Plain,
-                    next: State::Occurrence,
-                },
-                Start {
-                    kind: Kind::Key(Keyword::Period),
-                    role: Role::MemberEnd,
-                    next: State::Members,
-                },
+                start!(Key(Keyword::Set), Plain, Occurrence),
+                start!(Key(Keyword::Period), MemberEnd, Members),
             ],
-            State::Selection => &[Start {
-                kind: Kind::Key(Keyword::Selection),
-                role: Role::Plain,
-                next: State::Thru,
-            }],
-            State::Thru => &[Start {
-                kind: Kind::Key(Keyword::Thru),
-                role: Role::Plain,
-                next: State::Current,
-            }],
-            State::Current => &[Start {
-                kind: Kind::Key(Keyword::Current),
-                role: Role::Plain,
-                next: State::Of,
-            }],
-            State::Of => &[Start {
-                kind: Kind::Key(Keyword::Of),
-                role: Role::Plain,
-                next: State::LastSetWord,
-            }],
-            State::LastSetWord => &[Start {
-                kind: Kind::Key(Keyword::Set),
-                role: Role::Plain,
-                next: State::MemberPeriod,
-            }],
-            State::MemberPeriod => &[Start {
-                kind: Kind::Key(Keyword::Period),
-                role: Role::MemberEnd,
-                next: State::Members,
-            }],
+            State::Selection => &[start!(Key(Keyword::Selection), Plain, Thru)],
+            State::Thru => &[start!(Key(Keyword::Thru), Plain, Current)],
+            State::Current => &[start!(Key(Keyword::Current), Plain, Of)],
+            State::Of => &[start!(Key(Keyword::Of), Plain, LastSetWord)],
+            State::LastSetWord => &[start!(Key(Keyword::Set), Plain, MemberPeriod)],
+            State::MemberPeriod => &[start!(Key(Keyword::Period), MemberEnd, Members)],
         }
     }
 

@@ -88,6 +88,17 @@ pub enum State {
     MoreChanges,
 }
 
+/// A row of the table: the kind of the word, its role, and the state behind it.
+macro_rules! start {
+    ($kind:ident $(($word:expr))?, $role:ident, $next:ident) => {
+        Start {
+            kind: Kind::$kind $(($word))?,
+            role: Role::$role,
+            next: State::$next,
+        }
+    };
+}
+
 impl State {
     /// The words that are wanted here.
     pub fn wants(self) -> &'static [Start]
@@ -95,489 +106,125 @@ impl State {
     {
         match self {
             State::Opening => &[
-                Start {
-                    kind: Kind::Key(Keyword::Open),
-                    role: Role::Open,
-                    next: State::OpenArea,
-                },
-                Start {
-                    kind: Kind::Key(Keyword::Close),
-                    role: Role::Close,
-                    next: State::CloseArea,
-                },
-                Start {
-                    kind: Kind::Key(Keyword::Find),
-                    role: Role::Find,
-                    next: State::Find,
-                },
-                Start {
-                    kind: Kind::Key(Keyword::Get),
-                    role: Role::Get,
-                    next: State::GetType,
-                },
-                Start {
-                    kind: Kind::Key(Keyword::Store),
-                    role: Role::Store,
-                    next: State::StoreType,
-                },
-                Start {
-                    kind: Kind::Key(Keyword::Insert),
-                    role: Role::Insert,
-                    next: State::Into,
-                },
-                Start {
-                    kind: Kind::Key(Keyword::Remove),
-                    role: Role::Remove,
-                    next: State::From,
-                },
-                Start {
-                    kind: Kind::Key(Keyword::Modify),
-                    role: Role::Modify,
-                    next: State::ModifyType,
-                },
-                Start {
-                    kind: Kind::Key(Keyword::Delete),
-                    role: Role::Delete,
-                    next: State::DeleteOption,
-                },
-                Start {
-                    kind: Kind::Key(Keyword::Keep),
-                    role: Role::Keep,
-                    next: State::Ended,
-                },
-                Start {
-                    kind: Kind::Key(Keyword::Free),
-                    role: Role::Free,
-                    next: State::FreeOption,
-                },
+                start!(Key(Keyword::Open), Open, OpenArea),
+                start!(Key(Keyword::Close), Close, CloseArea),
+                start!(Key(Keyword::Find), Find, Find),
+                start!(Key(Keyword::Get), Get, GetType),
+                start!(Key(Keyword::Store), Store, StoreType),
+                start!(Key(Keyword::Insert), Insert, Into),
+                start!(Key(Keyword::Remove), Remove, From),
+                start!(Key(Keyword::Modify), Modify, ModifyType),
+                start!(Key(Keyword::Delete), Delete, DeleteOption),
+                start!(Key(Keyword::Keep), Keep, Ended),
+                start!(Key(Keyword::Free), Free, FreeOption),
             ],
-            State::OpenArea => &[Start {
-                kind: Kind::Key(Keyword::Area),
-                role: Role::Plain,
-                next: State::OpenedArea,
-            }],
-            State::CloseArea => &[Start {
-                kind: Kind::Key(Keyword::Area),
-                role: Role::Plain,
-                next: State::ClosedArea,
-            }],
+            State::OpenArea => &[start!(Key(Keyword::Area), Plain, OpenedArea)],
+            State::CloseArea => &[start!(Key(Keyword::Area), Plain, ClosedArea)],
             State::Find => &[
-                Start {
-                    kind: Kind::Key(Keyword::Key),
-                    role: Role::FindKey,
-                    next: State::Key,
-                },
-                Start {
-                    kind: Kind::Key(Keyword::Current),
-                    role: Role::FindCurrent,
-                    next: State::CurrentOf,
-                },
-                Start {
-                    kind: Kind::Key(Keyword::Owner),
-                    role: Role::FindOwner,
-                    next: State::SetOf,
-                },
-                Start {
-                    kind: Kind::Key(Keyword::Calc),
-                    role: Role::FindCalc,
-                    next: State::CalcType,
-                },
-                Start {
-                    kind: Kind::Key(Keyword::Sorted),
-                    role: Role::FindSorted,
-                    next: State::SortedValue,
-                },
-                Start {
-                    kind: Kind::Key(Keyword::Next),
-                    role: Role::WhichNext,
-                    next: State::NextOf,
-                },
-                Start {
-                    kind: Kind::Key(Keyword::First),
-                    role: Role::WhichFirst,
-                    next: State::WhichOf,
-                },
-                Start {
-                    kind: Kind::Key(Keyword::Last),
-                    role: Role::WhichLast,
-                    next: State::WhichOf,
-                },
-                Start {
-                    kind: Kind::Key(Keyword::Prior),
-                    role: Role::WhichPrior,
-                    next: State::WhichOf,
-                },
-                Start {
-                    kind: Kind::Signed,
-                    role: Role::WhichNumber,
-                    next: State::WhichOf,
-                },
+                start!(Key(Keyword::Key), FindKey, Key),
+                start!(Key(Keyword::Current), FindCurrent, CurrentOf),
+                start!(Key(Keyword::Owner), FindOwner, SetOf),
+                start!(Key(Keyword::Calc), FindCalc, CalcType),
+                start!(Key(Keyword::Sorted), FindSorted, SortedValue),
+                start!(Key(Keyword::Next), WhichNext, NextOf),
+                start!(Key(Keyword::First), WhichFirst, WhichOf),
+                start!(Key(Keyword::Last), WhichLast, WhichOf),
+                start!(Key(Keyword::Prior), WhichPrior, WhichOf),
+                start!(Signed, WhichNumber, WhichOf),
             ],
-            State::GetType => &[Start {
-                kind: Kind::Name,
-                role: Role::TypeName,
-                next: State::Ended,
-            }],
-            State::StoreType => &[Start {
-                kind: Kind::Name,
-                role: Role::TypeName,
-                next: State::MoreItems,
-            }],
-            State::Into => &[Start {
-                kind: Kind::Key(Keyword::Into),
-                role: Role::Plain,
-                next: State::SetName,
-            }],
-            State::From => &[Start {
-                kind: Kind::Key(Keyword::From),
-                role: Role::Plain,
-                next: State::SetName,
-            }],
-            State::ModifyType => &[Start {
-                kind: Kind::Name,
-                role: Role::TypeName,
-                next: State::FirstChange,
-            }],
+            State::GetType => &[start!(Name, TypeName, Ended)],
+            State::StoreType => &[start!(Name, TypeName, MoreItems)],
+            State::Into => &[start!(Key(Keyword::Into), Plain, SetName)],
+            State::From => &[start!(Key(Keyword::From), Plain, SetName)],
+            State::ModifyType => &[start!(Name, TypeName, FirstChange)],
             State::DeleteOption => &[
-                Start {
-                    kind: Kind::Key(Keyword::Only),
-                    role: Role::Only,
-                    next: State::Ended,
-                },
-                Start {
-                    kind: Kind::Key(Keyword::Selective),
-                    role: Role::Selective,
-                    next: State::Ended,
-                },
-                Start {
-                    kind: Kind::Key(Keyword::All),
-                    role: Role::All,
-                    next: State::Ended,
-                },
+                start!(Key(Keyword::Only), Only, Ended),
+                start!(Key(Keyword::Selective), Selective, Ended),
+                start!(Key(Keyword::All), All, Ended),
             ],
             State::Ended => &[],
-            State::FreeOption => &[Start {
-                kind: Kind::Key(Keyword::All),
-                role: Role::FreeAll,
-                next: State::Ended,
-            }],
-            State::OpenedArea => &[Start {
-                kind: Kind::Name,
-                role: Role::AreaName,
-                next: State::UsageMode,
-            }],
-            State::ClosedArea => &[Start {
-                kind: Kind::Name,
-                role: Role::AreaName,
-                next: State::Ended,
-            }],
-            State::Key => &[Start {
-                kind: Kind::Keyed,
-                role: Role::Key,
-                next: State::Suppress,
-            }],
-            State::CurrentOf => &[Start {
-                kind: Kind::Key(Keyword::Of),
-                role: Role::Plain,
-                next: State::CurrentName,
-            }],
-            State::SetOf => &[Start {
-                kind: Kind::Key(Keyword::Of),
-                role: Role::Plain,
-                next: State::NameOfSet,
-            }],
-            State::CalcType => &[Start {
-                kind: Kind::Name,
-                role: Role::RecordName,
-                next: State::CalcRecord,
-            }],
-            State::SortedValue => &[Start {
-                kind: Kind::Value,
-                role: Role::SortedValue,
-                next: State::SetOf,
-            }],
+            State::FreeOption => &[start!(Key(Keyword::All), FreeAll, Ended)],
+            State::OpenedArea => &[start!(Name, AreaName, UsageMode)],
+            State::ClosedArea => &[start!(Name, AreaName, Ended)],
+            State::Key => &[start!(Keyed, Key, Suppress)],
+            State::CurrentOf => &[start!(Key(Keyword::Of), Plain, CurrentName)],
+            State::SetOf => &[start!(Key(Keyword::Of), Plain, NameOfSet)],
+            State::CalcType => &[start!(Name, RecordName, CalcRecord)],
+            State::SortedValue => &[start!(Value, SortedValue, SetOf)],
             State::NextOf => &[
-                Start {
-                    kind: Kind::Key(Keyword::Duplicate),
-                    role: Role::FindDuplicate,
-                    next: State::DuplicateOf,
-                },
-                Start {
-                    kind: Kind::Key(Keyword::Of),
-                    role: Role::Plain,
-                    next: State::NameOfPlace,
-                },
-                Start {
-                    kind: Kind::Name,
-                    role: Role::RecordName,
-                    next: State::InRecord,
-                },
+                start!(Key(Keyword::Duplicate), FindDuplicate, DuplicateOf),
+                start!(Key(Keyword::Of), Plain, NameOfPlace),
+                start!(Name, RecordName, InRecord),
             ],
             State::WhichOf => &[
-                Start {
-                    kind: Kind::Key(Keyword::Of),
-                    role: Role::Plain,
-                    next: State::NameOfPlace,
-                },
-                Start {
-                    kind: Kind::Name,
-                    role: Role::RecordName,
-                    next: State::InRecord,
-                },
+                start!(Key(Keyword::Of), Plain, NameOfPlace),
+                start!(Name, RecordName, InRecord),
             ],
             State::MoreItems => &[
-                Start {
-                    kind: Kind::OtherThan(Keyword::Suppress),
-                    role: Role::ItemName,
-                    next: State::ItemEquals,
-                },
-                Start {
-                    kind: Kind::Key(Keyword::Suppress),
-                    role: Role::Plain,
-                    next: State::Suppressed,
-                },
+                start!(OtherThan(Keyword::Suppress), ItemName, ItemEquals),
+                start!(Key(Keyword::Suppress), Plain, Suppressed),
             ],
-            State::SetName => &[Start {
-                kind: Kind::Name,
-                role: Role::SetName,
-                next: State::Ended,
-            }],
-            State::FirstChange => &[Start {
-                kind: Kind::Name,
-                role: Role::ItemName,
-                next: State::ChangeEquals,
-            }],
-            State::UsageMode => &[Start {
-                kind: Kind::Key(Keyword::UsageMode),
-                role: Role::Plain,
-                next: State::ModeIs,
-            }],
-            State::Suppress => &[Start {
-                kind: Kind::Key(Keyword::Suppress),
-                role: Role::Plain,
-                next: State::Suppressed,
-            }],
+            State::SetName => &[start!(Name, SetName, Ended)],
+            State::FirstChange => &[start!(Name, ItemName, ChangeEquals)],
+            State::UsageMode => &[start!(Key(Keyword::UsageMode), Plain, ModeIs)],
+            State::Suppress => &[start!(Key(Keyword::Suppress), Plain, Suppressed)],
             State::CurrentName => &[
-                Start {
-                    kind: Kind::Key(Keyword::RunUnit),
-                    role: Role::RunUnit,
-                    next: State::Suppress,
-                },
-                Start {
-                    kind: Kind::Name,
-                    role: Role::Name,
-                    next: State::CurrentKind,
-                },
+                start!(Key(Keyword::RunUnit), RunUnit, Suppress),
+                start!(Name, Name, CurrentKind),
             ],
-            State::NameOfSet => &[Start {
-                kind: Kind::Name,
-                role: Role::Name,
-                next: State::SetWord,
-            }],
-            State::CalcRecord => &[Start {
-                kind: Kind::Key(Keyword::Record),
-                role: Role::RecordWord,
-                next: State::Using,
-            }],
-            State::DuplicateOf => &[Start {
-                kind: Kind::Key(Keyword::Of),
-                role: Role::Plain,
-                next: State::DuplicateType,
-            }],
-            State::NameOfPlace => &[Start {
-                kind: Kind::Name,
-                role: Role::Name,
-                next: State::PlaceKind,
-            }],
-            State::InRecord => &[Start {
-                kind: Kind::Key(Keyword::Record),
-                role: Role::RecordWord,
-                next: State::PlaceOf,
-            }],
-            State::ItemEquals => &[Start {
-                kind: Kind::Equals,
-                role: Role::Plain,
-                next: State::ItemValue,
-            }],
+            State::NameOfSet => &[start!(Name, Name, SetWord)],
+            State::CalcRecord => &[start!(Key(Keyword::Record), RecordWord, Using)],
+            State::DuplicateOf => &[start!(Key(Keyword::Of), Plain, DuplicateType)],
+            State::NameOfPlace => &[start!(Name, Name, PlaceKind)],
+            State::InRecord => &[start!(Key(Keyword::Record), RecordWord, PlaceOf)],
+            State::ItemEquals => &[start!(Equals, Plain, ItemValue)],
             State::Suppressed => &[
-                Start {
-                    kind: Kind::Key(Keyword::All),
-                    role: Role::SuppressAll,
-                    next: State::Ended,
-                },
-                Start {
-                    kind: Kind::Key(Keyword::Record),
-                    role: Role::SuppressTypes,
-                    next: State::MoreSuppressed,
-                },
-                Start {
-                    kind: Kind::Key(Keyword::Area),
-                    role: Role::SuppressAreas,
-                    next: State::MoreSuppressed,
-                },
-                Start {
-                    kind: Kind::Name,
-                    role: Role::SuppressSet,
-                    next: State::MoreSuppressed,
-                },
+                start!(Key(Keyword::All), SuppressAll, Ended),
+                start!(Key(Keyword::Record), SuppressTypes, MoreSuppressed),
+                start!(Key(Keyword::Area), SuppressAreas, MoreSuppressed),
+                start!(Name, SuppressSet, MoreSuppressed),
             ],
-            State::ChangeEquals => &[Start {
-                kind: Kind::Equals,
-                role: Role::Plain,
-                next: State::ChangeValue,
-            }],
+            State::ChangeEquals => &[start!(Equals, Plain, ChangeValue)],
             State::ModeIs => &[
-                Start {
-                    kind: Kind::Key(Keyword::Is),
-                    role: Role::Plain,
-                    next: State::Sharing,
-                },
-                Start {
-                    kind: Kind::Key(Keyword::Protected),
-                    role: Role::Protected,
-                    next: State::Access,
-                },
-                Start {
-                    kind: Kind::Key(Keyword::Exclusive),
-                    role: Role::Exclusive,
-                    next: State::Access,
-                },
-                Start {
-                    kind: Kind::Key(Keyword::Retrieval),
-                    role: Role::Retrieval,
-                    next: State::Ended,
-                },
-                Start {
-                    kind: Kind::Key(Keyword::Update),
-                    role: Role::Update,
-                    next: State::Ended,
-                },
+                start!(Key(Keyword::Is), Plain, Sharing),
+                start!(Key(Keyword::Protected), Protected, Access),
+                start!(Key(Keyword::Exclusive), Exclusive, Access),
+                start!(Key(Keyword::Retrieval), Retrieval, Ended),
+                start!(Key(Keyword::Update), Update, Ended),
             ],
             State::CurrentKind => &[
-                Start {
-                    kind: Kind::Key(Keyword::Record),
-                    role: Role::KindRecord,
-                    next: State::Suppress,
-                },
-                Start {
-                    kind: Kind::Key(Keyword::Set),
-                    role: Role::KindSet,
-                    next: State::Suppress,
-                },
-                Start {
-                    kind: Kind::Key(Keyword::Area),
-                    role: Role::KindArea,
-                    next: State::Suppress,
-                },
+                start!(Key(Keyword::Record), KindRecord, Suppress),
+                start!(Key(Keyword::Set), KindSet, Suppress),
+                start!(Key(Keyword::Area), KindArea, Suppress),
             ],
-            State::SetWord => &[Start {
-                kind: Kind::Key(Keyword::Set),
-                role: Role::KindSet,
-                next: State::Suppress,
-            }],
-            State::Using => &[Start {
-                kind: Kind::Key(Keyword::Using),
-                role: Role::Plain,
-                next: State::CalcItem,
-            }],
-            State::DuplicateType => &[Start {
-                kind: Kind::Name,
-                role: Role::RecordName,
-                next: State::DuplicateRecord,
-            }],
+            State::SetWord => &[start!(Key(Keyword::Set), KindSet, Suppress)],
+            State::Using => &[start!(Key(Keyword::Using), Plain, CalcItem)],
+            State::DuplicateType => &[start!(Name, RecordName, DuplicateRecord)],
             State::PlaceKind => &[
-                Start {
-                    kind: Kind::Key(Keyword::Set),
-                    role: Role::KindSet,
-                    next: State::Suppress,
-                },
-                Start {
-                    kind: Kind::Key(Keyword::Area),
-                    role: Role::KindArea,
-                    next: State::Suppress,
-                },
+                start!(Key(Keyword::Set), KindSet, Suppress),
+                start!(Key(Keyword::Area), KindArea, Suppress),
             ],
-            State::PlaceOf => &[Start {
-                kind: Kind::Key(Keyword::Of),
-                role: Role::Plain,
-                next: State::NameOfPlace,
-            }],
-            State::ItemValue => &[Start {
-                kind: Kind::Value,
-                role: Role::Value,
-                next: State::MoreItems,
-            }],
+            State::PlaceOf => &[start!(Key(Keyword::Of), Plain, NameOfPlace)],
+            State::ItemValue => &[start!(Value, Value, MoreItems)],
             State::MoreSuppressed => &[
-                Start {
-                    kind: Kind::Key(Keyword::Record),
-                    role: Role::SuppressTypes,
-                    next: State::MoreSuppressed,
-                },
-                Start {
-                    kind: Kind::Key(Keyword::Area),
-                    role: Role::SuppressAreas,
-                    next: State::MoreSuppressed,
-                },
-                Start {
-                    kind: Kind::Name,
-                    role: Role::SuppressSet,
-                    next: State::MoreSuppressed,
-                },
+                start!(Key(Keyword::Record), SuppressTypes, MoreSuppressed),
+                start!(Key(Keyword::Area), SuppressAreas, MoreSuppressed),
+                start!(Name, SuppressSet, MoreSuppressed),
             ],
-            State::ChangeValue => &[Start {
-                kind: Kind::Value,
-                role: Role::Value,
-                next: State::MoreChanges,
-            }],
+            State::ChangeValue => &[start!(Value, Value, MoreChanges)],
             State::Sharing => &[
-                Start {
-                    kind: Kind::Key(Keyword::Protected),
-                    role: Role::Protected,
-                    next: State::Access,
-                },
-                Start {
-                    kind: Kind::Key(Keyword::Exclusive),
-                    role: Role::Exclusive,
-                    next: State::Access,
-                },
-                Start {
-                    kind: Kind::Key(Keyword::Retrieval),
-                    role: Role::Retrieval,
-                    next: State::Ended,
-                },
-                Start {
-                    kind: Kind::Key(Keyword::Update),
-                    role: Role::Update,
-                    next: State::Ended,
-                },
+                start!(Key(Keyword::Protected), Protected, Access),
+                start!(Key(Keyword::Exclusive), Exclusive, Access),
+                start!(Key(Keyword::Retrieval), Retrieval, Ended),
+                start!(Key(Keyword::Update), Update, Ended),
             ],
             State::Access => &[
-                Start {
-                    kind: Kind::Key(Keyword::Retrieval),
-                    role: Role::Retrieval,
-                    next: State::Ended,
-                },
-                Start {
-                    kind: Kind::Key(Keyword::Update),
-                    role: Role::Update,
-                    next: State::Ended,
-                },
+                start!(Key(Keyword::Retrieval), Retrieval, Ended),
+                start!(Key(Keyword::Update), Update, Ended),
             ],
-            State::CalcItem => &[Start {
-                kind: Kind::Name,
-                role: Role::ItemName,
-                next: State::ItemEquals,
-            }],
-            State::DuplicateRecord => &[Start {
-                kind: Kind::Key(Keyword::Record),
-                role: Role::RecordWord,
-                next: State::Suppress,
-            }],
-            State::MoreChanges => &[Start {
-                kind: Kind::Name,
-                role: Role::ItemName,
-                next: State::ChangeEquals,
-            }],
+            State::CalcItem => &[start!(Name, ItemName, ItemEquals)],
+            State::DuplicateRecord => &[start!(Key(Keyword::Record), RecordWord, Suppress)],
+            State::MoreChanges => &[start!(Name, ItemName, ChangeEquals)],
         }
     }
 

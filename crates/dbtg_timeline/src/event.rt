@@ -21,8 +21,8 @@ pub enum Mark {
     Idle,
 }
 
-/// A move's mark, its unit, the place in the unit's script of the statement that it is in or before, from 0, and whether the unit
-/// is in mid-statement after it.
+/// A move: its mark, its unit, the place in the unit's script of the statement that the unit is in or before, from 0, and whether
+/// the unit is in mid-statement afterwards.
 #[derive(Clone, Copy, Debug, PartialEq, Eq)]
 pub struct Event {
     pub unit: u8,

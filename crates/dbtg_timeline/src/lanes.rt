@@ -16,7 +16,7 @@ pub fn opening_lanes(alloc: Global, units: usize) -> Result<Vec<bool>, AllocErro
     Ok(lanes)
 }
 
-/// A line is drawn: its unit is in mid-statement, or not, as its last event leaves it.
+/// A line was drawn: marks whether its last event left the unit in mid-statement.
 pub fn pass(lanes: &mut Vec<bool>, line: &Line)
     ensures { lanes.new.items ≡ after_line lanes.old.items line.now }
 {

@@ -354,7 +354,7 @@ fn push_drawn_lines(
 }
 
 #[tactic(auto, unfolding(crate::specs::Svg::timeline_svg))]
-/// The picture of these events as SVG, with a lane for each script. Of each script there are the texts of its statements.
+/// The picture of these events as SVG, with a lane for each script. `scripts` has the text of each statement.
 pub fn timeline_svg(
     alloc: Global,
     scripts: &[Row<Row<u8>>],

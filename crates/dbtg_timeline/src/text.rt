@@ -94,7 +94,7 @@ fn push_front(out: &mut Vec<u8>, line: &Line) -> Result<(), AllocError>
     push_right_number(out, b' ', 5, line.head.unit as u64)
 }
 
-/// The first bytes of a text, no more than so many.
+/// The first bytes of a text, at most this many.
 pub fn beginning(text: &[u8], most: usize) -> &[u8]
     ensures { result.now ≡ take most text.now }
 {
@@ -175,7 +175,7 @@ pub fn push_second_legend(out: &mut Vec<u8>) -> Result<(), AllocError>
 }
 
 #[tactic(auto, unfolding(crate::specs::Text::timeline_text))]
-/// The picture of these events as plain text, with a lane for each script. Of each script there are the texts of its statements.
+/// The picture of these events as plain text, with a lane for each script. `scripts` has the text of each statement.
 pub fn timeline_text(
     alloc: Global,
     scripts: &[Row<Row<u8>>],

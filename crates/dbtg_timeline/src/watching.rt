@@ -1,4 +1,4 @@
-//! The events of a run: the core is stepped move by move, and where its units are is looked at before and after each.
+//! The events of a run. The core is stepped move by move, and its units are compared before and after each move.
 ghost use Rattle.std.specs.Prelude.{◌≡◌, ◌≤◌, true, length, IfOk, OnOk};
 ghost use Rattle.dbtg_schema.specs.Sound.{IsSound};
 ghost use Rattle.dbtg_step.specs.Core.CoreSteps.{after_move};
@@ -192,7 +192,7 @@ fn watch_moves(alloc: Global, core: &mut Core, moves: &[Move]) -> Result<Vec<Eve
     Ok(events)
 }
 
-/// The events of these moves, from the opening database on, with a unit for each script. A step that finds no memory ends it.
+/// The events of these moves, from the opening database on, with a unit for each script. A step that finds no memory ends the run.
 pub fn watch(
     alloc: Global,
     schema: &Schema,

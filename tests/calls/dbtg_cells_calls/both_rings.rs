@@ -1,5 +1,6 @@
 //! The linked ring and the plain one, after each of many operations, read alike in every way.
 
+use super::plain_ring::PlainRing;
 use super::*;
 
 /// A linked ring, and a plain one to which the same is done.
@@ -15,14 +16,14 @@ pub(super) fn opened(alloc: Global, owner: &Owner) -> Both {
         plain: PlainRing::absent(alloc),
     };
     both.linked.open(*owner);
-    both.plain.open(*owner);
+    both.plain.owner = Some(*owner);
     both
 }
 
 pub(super) fn closed(both: &mut Both) -> bool {
     both.linked.close();
     both.plain.close();
-    !both.linked.is_present() && !both.plain.is_present()
+    !both.linked.is_present()
 }
 
 /// Members of three types.
@@ -44,30 +45,26 @@ fn sort_of(number: u32) -> Option<u64> {
 }
 
 fn sort_key(sort: &Option<u64>) -> Option<Value> {
-    match sort {
-        Some(n) => Some(Value::Num(*n)),
-        None => None,
-    }
+    sort.map(|n| Value::Num(n))
 }
 
 pub(super) fn reserve(rt: &impl Abort, both: &mut Both, key: &DbKey) -> Result<(), AllocError> {
     assert!(rt; !both.linked.contains(*key) && !both.plain.contains(*key));
     both.linked.reserve_place(*key)?;
-    both.plain.reserve_place(*key)
+    both.plain.reserve()
 }
 
 pub(super) fn first_in_both(rt: &impl Abort, both: &mut Both, key: &DbKey, sort: &Option<u64>) {
     assert!(rt; both.linked.is_present() && both.linked.has_room(*key));
-    assert!(rt; both.plain.is_present() && both.plain.has_room(*key));
     both.linked.place_first(*key, sort_key(sort));
-    both.plain.place_first(*key, sort_key(sort));
+    both.plain.put_in(0, *key, *sort);
 }
 
 pub(super) fn last_in_both(rt: &impl Abort, both: &mut Both, key: &DbKey, sort: &Option<u64>) {
     assert!(rt; both.linked.is_present() && both.linked.has_room(*key));
-    assert!(rt; both.plain.is_present() && both.plain.has_room(*key));
     both.linked.place_last(*key, sort_key(sort));
-    both.plain.place_last(*key, sort_key(sort));
+    let len = both.plain.len();
+    both.plain.put_in(len, *key, *sort);
 }
 
 pub(super) fn after_in_both(
@@ -78,9 +75,9 @@ pub(super) fn after_in_both(
     sort: &Option<u64>,
 ) {
     assert!(rt; both.linked.contains(*other) && both.linked.has_room(*key));
-    assert!(rt; both.plain.contains(*other) && both.plain.has_room(*key));
     both.linked.place_after(*other, *key, sort_key(sort));
-    both.plain.place_after(*other, *key, sort_key(sort));
+    let at = both.plain.place_of(*other) + 1;
+    both.plain.put_in(at, *key, *sort);
 }
 
 fn before_in_both(
@@ -91,9 +88,9 @@ fn before_in_both(
     sort: &Option<u64>,
 ) {
     assert!(rt; both.linked.contains(*other) && both.linked.has_room(*key));
-    assert!(rt; both.plain.contains(*other) && both.plain.has_room(*key));
     both.linked.place_before(*other, *key, sort_key(sort));
-    both.plain.place_before(*other, *key, sort_key(sort));
+    let at = both.plain.place_of(*other);
+    both.plain.put_in(at, *key, *sort);
 }
 
 pub(super) fn sorted_in_both(
@@ -105,11 +102,10 @@ pub(super) fn sorted_in_both(
     sort: &Option<u64>,
 ) {
     assert!(rt; both.linked.is_present() && both.linked.has_room(*key));
-    assert!(rt; both.plain.is_present() && both.plain.has_room(*key));
     both.linked
         .place_sorted(ascending, duplicates, *key, sort_key(sort));
-    both.plain
-        .place_sorted(ascending, duplicates, *key, sort_key(sort));
+    let at = both.plain.sorted_place(ascending, duplicates, *sort);
+    both.plain.put_in(at, *key, *sort);
 }
 
 pub(super) fn out_of_both(rt: &impl Abort, both: &mut Both, key: &DbKey) {
@@ -164,19 +160,19 @@ fn step(
 
 fn same_keys(alloc: Global, both: &Both) -> Result<bool, AllocError> {
     let forward = both.linked.keys(alloc)?;
-    let wanted = both.plain.keys(alloc)?;
+    let wanted: Vec<DbKey> = both.plain.keys(None).collect(alloc)?;
     Ok(forward.as_slice() == wanted.as_slice())
 }
 
 fn same_keys_back(alloc: Global, both: &Both) -> Result<bool, AllocError> {
     let back = both.linked.keys_back(alloc)?;
-    let wanted = both.plain.keys_back(alloc)?;
+    let wanted: Vec<DbKey> = both.plain.keys(None).rev().collect(alloc)?;
     Ok(back.as_slice() == wanted.as_slice())
 }
 
 fn same_ends(both: &Both, rtype: &Option<RecordNo>) -> bool {
-    both.linked.first(*rtype) == both.plain.first(*rtype)
-        && both.linked.last(*rtype) == both.plain.last(*rtype)
+    both.linked.first(*rtype) == both.plain.keys(*rtype).next()
+        && both.linked.last(*rtype) == both.plain.keys(*rtype).next_back()
 }
 
 fn same_nth(both: &Both, rtype: &Option<RecordNo>, n: i32) -> bool {
@@ -202,10 +198,10 @@ fn same_prior(both: &Both, rtype: &Option<RecordNo>, key: &DbKey) -> bool {
 fn same_sorts(both: &Both, sort: u64, left_out: &DbKey) -> bool {
     let key = Some(Value::Num(sort));
     both.linked.first_with_sort_key(&Value::Num(sort))
-        == both.plain.first_with_sort_key(&Value::Num(sort))
-        && both.linked.has_sort_key(&key, None) == both.plain.has_sort_key(&key, None)
+        == both.plain.with_sort_key(sort, None)
+        && both.linked.has_sort_key(&key, None) == both.plain.with_sort_key(sort, None).is_some()
         && both.linked.has_sort_key(&key, Some(*left_out))
-            == both.plain.has_sort_key(&key, Some(*left_out))
+            == both.plain.with_sort_key(sort, Some(*left_out)).is_some()
 }
 
 fn same_reads(both: &Both, rtype: &Option<RecordNo>, other: &DbKey) -> bool {
@@ -250,7 +246,7 @@ fn both_rings_stay_alike(rt: HostRuntime) -> Result<(), Fail> {
             "turn {turn}"
         );
     }
-    assert!(rt; both.linked.owner() == both.plain.owner());
+    assert!(rt; both.linked.owner() == both.plain.owner);
     assert!(rt; closed(&mut both));
     Ok(())
 }

@@ -1,6 +1,6 @@
 use Rattle.std.proofs.Common.{◌≡◌, drop}
 use Rattle.std.specs.Cmp.Lexicographic.{slice_cmp}
-use Rattle.dbtg_cells.specs.ByCalc.{value_cmp}
+use Rattle.dbtg_cells.specs.Inside.ByCalc.{value_cmp}
 use Rattle.dbtg_cells.proofs.by_calc.compare_values.Given as goal
 
 abbrev pub invariant-loop-i : goal.invariant-loop-i

@@ -1,6 +1,6 @@
 use Rattle.std.proofs.Common.{◌∙◌, ap, ◌-◌}
 use Rattle.std.specs.List.{position_or_len}
-use Rattle.dbtg_cells.specs.ByCalc.{is_behind}
+use Rattle.dbtg_cells.specs.Inside.ByCalc.{is_behind}
 use Rattle.dbtg_cells.proofs.CalcOrder.{listed_removed}
 use Rattle.dbtg_cells.proofs.by_calc.drop_by_calc.Goals as goal
 

@@ -1,5 +1,5 @@
 use Rattle.std.proofs.Common.{ap, ◌∙◌, slice_get}
-use Rattle.dbtg_cells.specs.ByCalc.{is_behind}
+use Rattle.dbtg_cells.specs.Inside.ByCalc.{is_behind}
 use Rattle.dbtg_cells.proofs.Rising.{first_at}
 use Rattle.dbtg_cells.proofs.by_calc.first_behind.Goals as goal
 

@@ -1,6 +1,6 @@
 use Rattle.std.proofs.Common.{◌∙◌, ap, arith, length}
 use Rattle.dbtg_cells.specs.Placed.{before}
-use Rattle.dbtg_cells.specs.ByCalc.{is_rising, stands_before}
+use Rattle.dbtg_cells.specs.Inside.ByCalc.{is_rising, stands_before}
 use Rattle.dbtg_cells.proofs.CalcOrder.{resetting_rises, resetting_has_room, reset_by_calc, same_by_calc, used_above}
 use Rattle.dbtg_cells.proofs.by_calc.list_again.Goals as goal
 

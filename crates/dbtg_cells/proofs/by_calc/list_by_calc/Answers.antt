@@ -1,6 +1,6 @@
 use Rattle.std.proofs.Common.{◌∙◌, ap}
 use Rattle.std.specs.List.{insert, position_or_len}
-use Rattle.dbtg_cells.specs.ByCalc.{is_behind, stands_before}
+use Rattle.dbtg_cells.specs.Inside.ByCalc.{is_behind, stands_before}
 use Rattle.dbtg_cells.proofs.PlainLists.{before_insert}
 use Rattle.dbtg_cells.proofs.by_calc.list_by_calc.Goals as goal
 

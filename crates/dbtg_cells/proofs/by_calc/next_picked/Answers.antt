@@ -1,6 +1,6 @@
 use Rattle.std.proofs.Common.{sym, ◌∙◌, ap, slice_get}
 use Rattle.dbtg_cells.specs.Keys.{picked}
-use Rattle.dbtg_cells.specs.ByCalc.{is_behind}
+use Rattle.dbtg_cells.specs.Inside.ByCalc.{is_behind}
 use Rattle.dbtg_cells.proofs.Rising.{first_at}
 use Rattle.dbtg_cells.proofs.CalcOrder.{found_first, found_other, found_none}
 use Rattle.dbtg_cells.proofs.by_calc.next_picked.Goals as goal

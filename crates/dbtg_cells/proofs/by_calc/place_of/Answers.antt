@@ -1,6 +1,6 @@
 use Rattle.std.proofs.Common.{rules, not}
 use Rattle.std.proofs.lemmas.List.Sorted.{IsPartitionPoint-from_clause}
-use Rattle.dbtg_cells.specs.ByCalc.{is_behind, stands_before}
+use Rattle.dbtg_cells.specs.Inside.ByCalc.{is_behind, stands_before}
 use Rattle.dbtg_cells.proofs.Rising.{parted, point_place}
 use Rattle.dbtg_cells.proofs.CalcOrder.{behind_up}
 use Rattle.dbtg_cells.proofs.by_calc.place_of.Goals as goal

@@ -4,7 +4,7 @@ use Rattle.std.specs.Option.{option_copied, option_map}
 use Rattle.dbtg_schema.specs.Lookups.{some_and}
 use Rattle.dbtg_cells.specs.Keys.{value_eq}
 use Rattle.dbtg_cells.specs.declared.links.Direction.TheVariants.{Next}
-use Rattle.dbtg_cells.specs.Chain.{slot, follow}
+use Rattle.dbtg_cells.specs.Inside.Chain.{slot, follow}
 use Rattle.dbtg_cells.proofs.RingReads.{read_one, found_later}
 use Rattle.dbtg_cells.proofs.links.find_along.Goals as goal
 

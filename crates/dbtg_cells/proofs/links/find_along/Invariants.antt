@@ -3,7 +3,7 @@ use Rattle.std.specs.List.{find}
 use Rattle.std.specs.Option.{option_map}
 use Rattle.dbtg_schema.specs.Lookups.{some_and}
 use Rattle.dbtg_cells.specs.Keys.{value_eq}
-use Rattle.dbtg_cells.specs.Chain.{follow}
+use Rattle.dbtg_cells.specs.Inside.Chain.{follow}
 use Rattle.dbtg_cells.proofs.links.find_along.Given as goal
 
 abbrev pub invariant-loop-turn : goal.invariant-loop-turn

@@ -2,7 +2,7 @@ use Rattle.std.proofs.Common.{◌≡◌, ◌∷◌, ◌-◌, ◌+◌, suc, sym, 
 use Rattle.std.specs.Option.{option_copied}
 use Rattle.dbtg_schema.specs.Lookups.{first}
 use Rattle.dbtg_cells.specs.Keys.{has_type}
-use Rattle.dbtg_cells.specs.Chain.{slot, read}
+use Rattle.dbtg_cells.specs.Inside.Chain.{slot, read}
 use Rattle.dbtg_cells.proofs.RingReads.{read_one, first_later}
 use Rattle.dbtg_cells.proofs.links.first_along.Goals as goal
 

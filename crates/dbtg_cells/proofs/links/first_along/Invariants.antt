@@ -1,7 +1,7 @@
 use Rattle.std.proofs.Common.{◌≡◌, ◌-◌, map, filter}
 use Rattle.dbtg_schema.specs.Lookups.{first}
 use Rattle.dbtg_cells.specs.Keys.{has_type}
-use Rattle.dbtg_cells.specs.Chain.{read}
+use Rattle.dbtg_cells.specs.Inside.Chain.{read}
 use Rattle.dbtg_cells.proofs.links.first_along.Given as goal
 
 abbrev pub invariant-loop-turn : goal.invariant-loop-turn

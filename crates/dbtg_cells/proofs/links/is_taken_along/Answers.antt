@@ -3,7 +3,7 @@ use Rattle.std.specs.List.{list_any}
 use Rattle.std.specs.Option.{option_copied}
 use Rattle.dbtg_cells.specs.Members.{has_sort_key}
 use Rattle.dbtg_cells.specs.declared.links.Direction.TheVariants.{Next}
-use Rattle.dbtg_cells.specs.Chain.{slot, follow}
+use Rattle.dbtg_cells.specs.Inside.Chain.{slot, follow}
 use Rattle.dbtg_cells.proofs.RingReads.{read_one, any_later}
 use Rattle.dbtg_cells.proofs.links.is_taken_along.Goals as goal
 

@@ -1,7 +1,7 @@
 use Rattle.std.proofs.Common.{◌≡◌, ◌-◌}
 use Rattle.std.specs.List.{list_any}
 use Rattle.dbtg_cells.specs.Members.{has_sort_key}
-use Rattle.dbtg_cells.specs.Chain.{follow}
+use Rattle.dbtg_cells.specs.Inside.Chain.{follow}
 use Rattle.dbtg_cells.proofs.links.is_taken_along.Given as goal
 
 abbrev pub invariant-loop-turn : goal.invariant-loop-turn

@@ -1,6 +1,6 @@
 use Rattle.std.proofs.Common.{◌≡◌, ◌-◌, ◌+◌, ◌++◌, ◌∷◌, [], suc, sym, ap, ◌∙◌, arith, Some, map}
 use Rattle.std.specs.Option.{option_copied}
-use Rattle.dbtg_cells.specs.Chain.{slot, read}
+use Rattle.dbtg_cells.specs.Inside.Chain.{slot, read}
 use Rattle.dbtg_cells.proofs.RingReads.{read_one, read_none, read_vacant, keys_later, keys_end}
 use Rattle.dbtg_cells.proofs.links.keys_along.Goals as goal
 

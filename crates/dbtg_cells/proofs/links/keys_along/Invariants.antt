@@ -1,5 +1,5 @@
 use Rattle.std.proofs.Common.{◌≡◌, ◌-◌, ◌++◌, map}
-use Rattle.dbtg_cells.specs.Chain.{read}
+use Rattle.dbtg_cells.specs.Inside.Chain.{read}
 use Rattle.dbtg_cells.proofs.links.keys_along.Given as goal
 
 abbrev pub invariant-loop-turn : goal.invariant-loop-turn

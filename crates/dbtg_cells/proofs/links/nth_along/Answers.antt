@@ -1,7 +1,7 @@
 use Rattle.std.proofs.Common.{◌≡◌, ◌∷◌, subst, ◌-◌, ◌+◌, ◌<◌, ◌≤◌, suc, sym, ap, ◌∙◌, arith, Some, map, filter, slice_get, cond}
 use Rattle.std.specs.Option.{option_copied}
 use Rattle.dbtg_cells.specs.Keys.{has_type}
-use Rattle.dbtg_cells.specs.Chain.{slot, neighbour, read}
+use Rattle.dbtg_cells.specs.Inside.Chain.{slot, neighbour, read}
 use Rattle.dbtg_cells.proofs.RingReads.{read_one, nth_here, nth_later}
 use Rattle.dbtg_cells.proofs.links.nth_along.Goals as goal
 

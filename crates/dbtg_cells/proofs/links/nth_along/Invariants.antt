@@ -1,6 +1,6 @@
 use Rattle.std.proofs.Common.{◌≡◌, ◌-◌, map, filter, slice_get}
 use Rattle.dbtg_cells.specs.Keys.{has_type}
-use Rattle.dbtg_cells.specs.Chain.{read}
+use Rattle.dbtg_cells.specs.Inside.Chain.{read}
 use Rattle.dbtg_cells.proofs.links.nth_along.Given as goal
 
 abbrev pub invariant-loop-turn : goal.invariant-loop-turn

@@ -1,6 +1,6 @@
 use Rattle.std.proofs.Common.{rules, ◌∙◌, ap, slice_get}
 use Rattle.std.proofs.lemmas.List.Sorted.{IsPartitionPoint-from_clause}
-use Rattle.dbtg_cells.specs.Ordered.{label_below}
+use Rattle.dbtg_cells.specs.Inside.Ordered.{label_below}
 use Rattle.dbtg_cells.proofs.Rising.{parted_in_front, point_end}
 use Rattle.dbtg_cells.proofs.PlacesOfNodes.{labels_down, found_there}
 use Rattle.dbtg_cells.proofs.order.place_among.Goals as goal

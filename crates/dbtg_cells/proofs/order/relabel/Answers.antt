@@ -1,5 +1,5 @@
 use Rattle.std.proofs.Common.{◌<◌, ◌+◌, ◌-◌, length, length-set, subst, sym, ◌∙◌, ap, arith}
-use Rattle.dbtg_cells.specs.Ordered.{are_below}
+use Rattle.dbtg_cells.specs.Inside.Ordered.{are_below}
 use Rattle.dbtg_cells.proofs.PlacesOfNodes.{Labelled, labelled_more, left_more}
 use Rattle.dbtg_cells.proofs.order.relabel.Goals as goal
 

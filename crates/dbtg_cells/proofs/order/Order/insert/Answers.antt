@@ -1,6 +1,6 @@
 use Rattle.std.proofs.Common.{◌≡◌, ◌<◌, ◌∙◌, false, length, subst, sym, ap, arith, nat_lt}
 use Rattle.std.proofs.lemmas.Bool.{lt-ltb}
-use Rattle.dbtg_cells.specs.Ordered.{are_below, are_distinct, Fits}
+use Rattle.dbtg_cells.specs.Inside.Ordered.{are_below, are_distinct, Fits}
 use Rattle.dbtg_cells.proofs.Rising.{is_in}
 use Rattle.dbtg_cells.proofs.PlacesOfNodes.{has_room, fitted, same_order, distinct, distinct_insert, all_insert, relabelled}
 use Rattle.dbtg_cells.proofs.order.Order.insert.Goals as goal

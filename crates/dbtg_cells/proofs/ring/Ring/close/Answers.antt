@@ -2,7 +2,7 @@ use Rattle.std.proofs.Common.{ap, length, subst, sym}
 use Rattle.std.specs.Map.{lookup}
 use Rattle.dbtg_cells.specs.declared.key.DbKey.{DbKey}
 use Rattle.dbtg_cells.specs.Keys.{key_eq}
-use Rattle.dbtg_cells.specs.RingOrder.{IsOrderOf}
+use Rattle.dbtg_cells.specs.Inside.RingOrder.{IsOrderOf}
 use Rattle.dbtg_cells.proofs.RingPlaces.{empty}
 use Rattle.dbtg_cells.proofs.ring.Ring.close.Goals as goal
 

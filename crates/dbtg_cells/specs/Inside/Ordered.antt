@@ -1,7 +1,7 @@
 -- The order of a ring's nodes, and the labels by which the place of a node is found.
 use Rattle.std.specs.Prelude.{◌≡◌, ℕ, zero, suc, ◌<◌, ◌≤◌, ◌^◌, Bool, true, not, ◌==◌, nat_lt, List, length, Option, None, slice_get, slice_index, take, drop}
 use Rattle.std.specs.List.{list_all}
-use Rattle.dbtg_cells.specs.ByCalc.{is_rising}
+use Rattle.dbtg_cells.specs.Inside.ByCalc.{is_rising}
 
 -- the numbers of the nodes in their order; nodes below the room can come in without memory
 pub record OrderView : Type 0 where

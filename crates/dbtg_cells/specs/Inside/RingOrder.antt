@@ -10,9 +10,9 @@ use Rattle.dbtg_cells.specs.declared.sorted.Known.{Known}
 use Rattle.dbtg_cells.specs.Keys.{has_type}
 use Rattle.dbtg_cells.specs.Orders.{key_below, comes_before}
 use Rattle.dbtg_cells.specs.Members.{Entry}
-use Rattle.dbtg_cells.specs.Chain.{Slots, Link, slot}
-use Rattle.dbtg_cells.specs.SortedMembers.{is_of_kind, is_sorted, KeepsOrder}
-use Rattle.dbtg_cells.specs.Ordered.{OrderView}
+use Rattle.dbtg_cells.specs.Inside.Chain.{Slots, Link, slot}
+use Rattle.dbtg_cells.specs.Inside.SortedMembers.{is_of_kind, is_sorted, KeepsOrder}
+use Rattle.dbtg_cells.specs.Inside.Ordered.{OrderView}
 
 -- the member of a node stands before a new one with sort key m
 abbrev pub stands_at : Bool → Duplicates → Option Value → Slots → ℕ → Bool

@@ -3,7 +3,7 @@ use Rattle.std.specs.Prelude.{ℕ, true, false, Option, Some, None, slice_set}
 use Rattle.std.specs.Option.{option_map}
 use Rattle.dbtg_cells.specs.declared.links.Node.{Node}
 use Rattle.dbtg_cells.specs.Members.{Entry}
-use Rattle.dbtg_cells.specs.Chain.{Slots, slot}
+use Rattle.dbtg_cells.specs.Inside.Chain.{Slots, slot}
 
 -- the node at i, changed
 abbrev pub put : ℕ → (Node → Node) → Slots → Slots
