@@ -17,8 +17,8 @@ use crate::work_list::gone;
 use dbtg_cells::{DbKey, Owner};
 use dbtg_schema::{Row, Schema, SetNo};
 use dbtg_unit::{
-    Answer, Cause, CellEdit, Erase, Held, Prepared, Statement, Status, Unit, UnitEdit, occurrence,
-    own_refusal, refused, refused_at_once, set_count, stored,
+    Answer, Cause, CellEdit, Erase, Held, Prepared, Statement, Status, Unit, UnitEdit,
+    next_version, occurrence, own_refusal, refused, refused_at_once, set_count,
 };
 use std::alloc::{AllocError, Global};
 
@@ -68,18 +68,6 @@ fn refusal_of(
             }
         }
         _ => None,
-    }
-}
-
-// The version of a record in hand once it is changed.
-#[tactic(auto, using(dbtg_unit::proofs::Public::has_next_version))]
-fn next_version(held: &Held, key: &DbKey) -> u64
-    requires { HaveNextVersions held.now.cells }
-    ensures { result ≡ version_in held.now key.now + 1 }
-{
-    match stored(held, key) {
-        Some(stored) => stored.version + 1,
-        None => 1,
     }
 }
 

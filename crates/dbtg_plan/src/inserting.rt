@@ -14,13 +14,13 @@ ghost use Rattle.dbtg_plan.specs.Joining.{joined_place, joining_edit};
 ghost use Rattle.dbtg_plan.specs.Missing.{first_missing};
 
 use crate::joining::{current_owner, joined_place, joining_edit, make_room, place_refusal};
-use crate::members::{next_version, slot_edit, sort_key_in};
+use crate::members::{slot_edit, sort_key_in};
 use crate::missing::{missing_ring, missing_slot};
 use dbtg_cells::{CellName, DbKey, Value};
 use dbtg_schema::{Row, Schema, SetNo};
 use dbtg_unit::{
-    Answer, Cause, CellEdit, Edit, Held, Place, Prepared, Status, Unit, UnitEdit, own_refusal,
-    owner_of, refused,
+    Answer, Cause, CellEdit, Edit, Held, Place, Prepared, Status, Unit, UnitEdit, next_version,
+    own_refusal, owner_of, refused,
 };
 use std::alloc::{AllocError, Global};
 
@@ -128,7 +128,7 @@ pub(crate) fn prepare_insert(
     ensures shows { ShowsTheSame held.old held.new }
     ensures prepared { IfOk result (λ plan. CanFinish schema.now capacity unit.now held.new (Insert set) plan) }
 {
-    // Only the contract names the capacity.
+    // Used by the contract alone.
     let _ = capacity;
     let Some(key) = unit.currency.run_unit else {
         return Ok(refused(alloc, Cause::NoCurrentOfRunUnit));

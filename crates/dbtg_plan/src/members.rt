@@ -1,9 +1,8 @@
-//! A record in hand as a member of sets: its sort key, its next version; and edits of its slot.
-ghost use Rattle.std.specs.Prelude.{◌≡◌, ◌+◌, IfOk};
+//! A record in hand as a member of sets: its sort key; and edits of its slot.
+ghost use Rattle.std.specs.Prelude.{◌≡◌, IfOk};
 ghost use Rattle.dbtg_unit.specs.Database.State.Base.{key_item};
 ghost use Rattle.dbtg_unit.specs.Hands.EditsOf.{slot_edit};
-ghost use Rattle.dbtg_unit.specs.Hands.InHand.{items_in, version_in};
-ghost use Rattle.dbtg_unit.specs.Hands.Making.{HaveNextVersions};
+ghost use Rattle.dbtg_unit.specs.Hands.InHand.{items_in};
 
 use crate::calc::copy_item;
 use dbtg_cells::{CellName, DbKey, Value};
@@ -18,18 +17,6 @@ pub(crate) fn slot_edit(key: &DbKey, edit: Edit) -> CellEdit
     CellEdit {
         name: CellName::Slot(key.rtype, key.number),
         edit,
-    }
-}
-
-/// The version of a record in hand once it is changed.
-#[tactic(auto, using(dbtg_unit::proofs::Public::has_next_version))]
-pub(crate) fn next_version(held: &Held, key: &DbKey) -> u64
-    requires { HaveNextVersions held.now.cells }
-    ensures { result ≡ version_in held.now key.now + 1 }
-{
-    match stored(held, key) {
-        Some(stored) => stored.version + 1,
-        None => 1,
     }
 }
 

@@ -17,13 +17,14 @@ ghost use Rattle.dbtg_plan.specs.Missing.{first_missing};
 ghost use Rattle.dbtg_plan.specs.Modifying.{calc_edits_in, is_refused, is_rekeyed, modified_plan, modify_edits_in, modify_plan, replacing_edits_in};
 
 use crate::calc::{copy_calc, is_calc_taken};
-use crate::members::{copy_sort_key, next_version, slot_edit};
+use crate::members::{copy_sort_key, slot_edit};
 use crate::missing::{missing, missing_ring, missing_slot};
 use dbtg_cells::{CellName, DbKey, Owner, Value, copy_items};
 use dbtg_schema::{Duplicates, Order, RecordNo, Row, Schema, SetNo};
 use dbtg_unit::{
     Answer, Cause, CellEdit, Change, Edit, Held, Prepared, Status, Unit, UnitEdit, is_rekeyed_in,
-    names_calc, occurrence, own_refusal, owner_of, refused, ring_name, set_count, stored,
+    names_calc, next_version, occurrence, own_refusal, owner_of, refused, ring_name, set_count,
+    stored,
 };
 use std::alloc::{AllocError, Global};
 
@@ -437,7 +438,7 @@ pub(crate) fn prepare_modify(
     requires passes { refused_at_once schema.now capacity unit.now (Modify rtype changes.now) ≡ None }
     ensures { IfOk result (λ plan. CanFinish schema.now capacity unit.now held.now (Modify rtype changes.now) plan) }
 {
-    // Only the contract names the record type and the capacity.
+    // Used by the contract alone.
     let _ = (rtype, capacity);
     plan_of(alloc, schema, unit, changes, held)
 }

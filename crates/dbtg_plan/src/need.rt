@@ -43,14 +43,15 @@ fn next_cell(
             rtype,
             items,
             suppress: _,
-        } => next_cell_of_store(schema, capacity, unit, *rtype, items, held),
+        } => next_cell_of_store(schema, unit, *rtype, items, held),
         Statement::Insert(set) => next_cell_of_insert(schema, unit, *set, held),
-        Statement::Remove(set) => next_cell_of_remove(schema, unit, *set, held),
+        Statement::Remove(set) => next_cell_of_remove(unit, *set, held),
         Statement::Modify { rtype, changes } => {
             next_cell_of_modify(schema, unit, *rtype, changes.as_slice(), held)
         }
         Statement::Keep => missing_slot(held, unit.currency.run_unit),
-        Statement::Delete(_) => None,
+        // The contract: a DELETE is another crate's.
+        Statement::Delete(_) => unreachable!(),
         Statement::Free { all: _ } => None,
     }
 }

@@ -11,7 +11,7 @@ use crate::opening::{prepare_close, prepare_open};
 use crate::removing::prepare_remove;
 use crate::storing::prepare_store;
 use dbtg_schema::Schema;
-use dbtg_unit::{Cause, Held, Prepared, Statement, Unit, refused, refused_at_once};
+use dbtg_unit::{Held, Prepared, Statement, Unit, refused, refused_at_once};
 use std::alloc::{AllocError, Global};
 
 /// Prepares a statement other than DELETE that needs nothing more: makes room for what it adds to the cells in hand, which show
@@ -63,6 +63,7 @@ pub fn prepare(
         } => prepare_store(
             alloc, schema, capacity, unit, *rtype, items, *suppress, held,
         ),
-        Statement::Delete(_) => Ok(refused(alloc, Cause::Deleted)),
+        // The contract: a DELETE is another crate's.
+        Statement::Delete(_) => unreachable!(),
     }
 }

@@ -1,5 +1,6 @@
 //! REMOVE: what it needs next, and what it does once it needs nothing more.
 ghost use Rattle.std.specs.Prelude.{◌≡◌, ℕ, [], ◌∷◌, ◌++◌, None, is_some, IfOk};
+ghost use Rattle.dbtg_schema.specs.Lists.{Lists};
 ghost use Rattle.dbtg_schema.specs.Lookups.{first_cause};
 ghost use Rattle.dbtg_unit.specs.Database.Statements.Checks.{remove_checks};
 ghost use Rattle.dbtg_unit.specs.declared.statement.Statement.TheVariants.{Remove};
@@ -12,27 +13,20 @@ ghost use Rattle.dbtg_unit.specs.Hands.Needs.{cells_of};
 ghost use Rattle.dbtg_plan.specs.Missing.{first_missing};
 ghost use Rattle.dbtg_plan.specs.Removing.{removing};
 
-use crate::members::{next_version, slot_edit};
+use crate::members::slot_edit;
 use crate::missing::{missing_ring, missing_slot};
 use dbtg_cells::{CellName, DbKey, Owner};
 use dbtg_schema::{Row, Schema, SetNo};
 use dbtg_unit::{
-    Answer, Cause, CellEdit, Edit, Held, Prepared, Status, Unit, UnitEdit, own_refusal, owner_of,
-    push_taking_out, refused,
+    Answer, Cause, CellEdit, Edit, Held, Prepared, Status, Unit, UnitEdit, next_version,
+    own_refusal, owner_of, push_taking_out, refused,
 };
 use std::alloc::{AllocError, Global};
 
 /// The first cell that a REMOVE needs and that is not in hand.
-pub(crate) fn next_cell_of_remove(
-    schema: &Schema,
-    unit: &Unit,
-    set: SetNo,
-    held: &Held,
-) -> Option<CellName>
-    ensures { (capacity : ℕ) (db : Database) → result ≡ first_missing held.now (cells_of schema.now capacity db unit.now held.now.guesses (Remove set)) }
+pub(crate) fn next_cell_of_remove(unit: &Unit, set: SetNo, held: &Held) -> Option<CellName>
+    ensures { (schema : Lists) (capacity : ℕ) (db : Database) → result ≡ first_missing held.now (cells_of schema capacity db unit.now held.now.guesses (Remove set)) }
 {
-    // Only the contract names the schema.
-    let _ = schema;
     let ring = missing_ring(held, set, held.guess(set));
     if ring.is_some() {
         return ring;
@@ -98,7 +92,7 @@ pub(crate) fn prepare_remove(
     requires passes { refused_at_once schema.now capacity unit.now (Remove set) ≡ None }
     ensures { IfOk result (λ plan. CanFinish schema.now capacity unit.now held.now (Remove set) plan) }
 {
-    // Only the contract names the schema and the capacity.
+    // Used by the contract alone.
     let _ = schema;
     let _ = capacity;
     let Some(key) = unit.currency.run_unit else {

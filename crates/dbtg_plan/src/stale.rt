@@ -22,7 +22,7 @@ fn is_guessed(schema: &Schema, unit: &Unit, statement: &Statement, set: SetNo) -
     requires { set < length schema.now.sets }
     ensures { result ≡ list_any (λ s. s == set) (guessed_sets schema.now unit.now statement.now) }
 {
-    // Only the contract names the unit.
+    // Used by the contract alone.
     let _ = unit;
     match statement {
         Statement::Remove(named) => named.index() == set.index(),

@@ -143,16 +143,13 @@ fn missing_cell(
 /// The first cell that a STORE needs and that is not in hand.
 pub(crate) fn next_cell_of_store(
     schema: &Schema,
-    capacity: u16,
     unit: &Unit,
     rtype: RecordNo,
     items: &Row<Value>,
     held: &Held,
 ) -> Option<CellName>
-    ensures { (db : Database) (suppress : Suppress) → Agrees schema.now capacity db held.now unit.now → result ≡ first_missing held.now (cells_of schema.now capacity db unit.now held.now.guesses (Store rtype items.now suppress)) }
+    ensures { (capacity : ℕ) (db : Database) (suppress : Suppress) → Agrees schema.now capacity db held.now unit.now → result ≡ first_missing held.now (cells_of schema.now capacity db unit.now held.now.guesses (Store rtype items.now suppress)) }
 {
-    // Only the contract names the capacity.
-    let _ = capacity;
     missing_cell(schema, unit, rtype, items.as_slice(), held)
 }
 
@@ -422,7 +419,7 @@ pub(crate) fn prepare_store(
     ensures shows { ShowsTheSame held.old held.new }
     ensures prepared { IfOk result (λ plan. CanFinish schema.now capacity unit.now held.new (Store rtype items.now suppress) plan) }
 {
-    // Only the contract names the capacity.
+    // Used by the contract alone.
     let _ = capacity;
     plan_store(alloc, schema, unit, rtype, items, suppress, held)
 }

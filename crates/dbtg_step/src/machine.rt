@@ -1,9 +1,9 @@
 //! The core: a database and its run-units, stepped event by event.
 ghost use Rattle.std.specs.Prelude.{◌≡◌, ◌≤◌, true, length, map, option_map, IfOk, OnOk};
 ghost use Rattle.dbtg_unit.specs.Database.State.Image.{image_of};
-ghost use Rattle.dbtg_unit.specs.Database.Laws.Replay.{opening_state, replay};
+ghost use Rattle.dbtg_unit.specs.Database.Laws.Replay.{AnswersHold, TicketsInOrder, opening_state, replay};
 ghost use Rattle.dbtg_step.specs.Machine.SequentialDatabase.{unit_at};
-ghost use Rattle.dbtg_step.specs.Core.Core.{IsCore};
+ghost use Rattle.dbtg_step.specs.Core.Core.{IsCore, start, state_now};
 ghost use Rattle.dbtg_step.specs.Core.CoreSteps.{IsNeverStuck, IsQuitStep, IsStep};
 ghost use Rattle.dbtg_schema.specs.Sound.{IsSound};
 ghost use Rattle.dbtg_step.specs.Machine.Headline.{machine_of, opening_of};
@@ -131,7 +131,7 @@ impl Core {
     }
 
     /// One step of the unit with this number: the machine's step, or want of memory in the place of an event before its
-    /// ticket. Where it leaves a unit in mid-statement, some unit's next step is an event.
+    /// ticket that is no turn back. Where it leaves a unit in mid-statement, some unit's next step is an event.
     pub fn step(&mut self, unit: u8) -> Stepped
         ensures step { IsStep (machine self.old) unit result (machine self.new) }
         ensures never_stuck { IsNeverStuck (machine self.new) }
@@ -177,16 +177,21 @@ impl Core {
         let _ = &self.parts;
     }
 
-    /// The statements that drew a ticket, in the order of their tickets.
+    /// The statements that drew a ticket, in the order of their tickets: taken whole in this order on the sequential database,
+    /// they have just these answers.
     pub fn history(&self) -> &[Entry]
-        ensures { result.now ≡ self.now.history }
+        ensures machine { result.now ≡ self.now.history }
+        ensures tickets { TicketsInOrder result.now }
+        ensures answers { AnswersHold self.now.schema self.now.capacity (start self.now) result.now }
     {
         self.parts.history.as_slice()
     }
 
-    /// The unit with this number, as its statements with a ticket left it.
+    /// The unit with this number, as its statements with a ticket left it: the unit to which the history leads on the sequential
+    /// database.
     pub fn unit(&self, number: u8) -> Option<&Unit>
-        ensures { option_map (λ u. u.now) result ≡ option_map (λ s. s.unit) (unit_at (machine self.now).state.units number) }
+        ensures machine { option_map (λ u. u.now) result ≡ option_map (λ s. s.unit) (unit_at (machine self.now).state.units number) }
+        ensures sequential { option_map (λ u. u.now) result ≡ unit_at (state_now self.now).units number }
     {
         if number == 0 || self.parts.runners.len() < number as usize {
             return None;

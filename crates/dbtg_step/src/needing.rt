@@ -75,7 +75,7 @@ fn need_now(
     ensures need { IfOk result (λ n. NeedsNext schema.now capacity parts.new unit stage n) }
     ensures refused { OnErr result ((r : Runner) (x : Statement) → slice_get parts.new.runners.items (unit - 1) ≡ Some r → slice_get r.script r.next ≡ Some x → HasItsAreas schema.now r.unit r.held x) }
 {
-    // Only the contract names the stage.
+    // Used by the contract alone.
     let _ = stage.linked;
     need_of(
         alloc,
@@ -191,7 +191,7 @@ fn takes_cell(
     requires needs { NeedsNext schema.now capacity parts.old unit stage (Need.Take name) }
     ensures { IsStepped schema.now capacity unit result parts.old parts.new }
 {
-    // Only the contract names the stage.
+    // Used by the contract alone.
     let _ = stage.linked;
     match cell_number(schema, capacity, &name) {
         Some(number) => {
@@ -218,8 +218,8 @@ fn notes_owners(
     requires needs { NeedsNext schema.now capacity parts.old unit stage (Need.Stale owners) }
     ensures { IsStepped schema.now capacity unit result parts.old parts.new }
 {
-    // Only the contract names the schema and the capacity.
-    let _ = schema.is_well_formed();
+    // Used by the contract alone.
+    let _ = schema;
     let _ = capacity;
     let runner = &mut parts.runners[unit as usize - 1];
     let guesses = with_true_owners(runner.held.guesses(), owners);

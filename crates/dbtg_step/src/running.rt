@@ -1,5 +1,5 @@
 //! Runs: what a list of moves comes to, and one unit after another.
-ghost use Rattle.std.specs.Prelude.{◌≡◌, ◌≤◌, ◌<◌, true, length, map, IfOk, OnOk};
+ghost use Rattle.std.specs.Prelude.{◌≡◌, ◌≤◌, ◌<◌, true, length, map, IfOk, OnErr, OnOk};
 ghost use Rattle.std.specs.List.{list_all};
 ghost use Rattle.dbtg_schema.specs.Sound.{IsSound};
 ghost use Rattle.dbtg_unit.specs.Database.Statements.Fits.{fits};
@@ -22,6 +22,7 @@ use std::alloc::{AllocError, Global};
 pub fn make_move(core: &mut Core, one: Move) -> Result<Stepped, AllocError>
     ensures core { OnOk result (machine core.new ≡ after_move (machine core.old) one) }
     ensures result { IfOk result (λ stepped. stepped ≡ result_of_move (machine core.old) one) }
+    ensures unchanged { OnErr result (machine core.new ≡ machine core.old) }
 {
     let stepped = match one {
         Move::Step(unit) => core.step(unit),
@@ -112,8 +113,8 @@ fn make_scripts(
     Ok(())
 }
 
-/// Makes all statements of unit 1 whole, one after another, then those of unit 2, and so on. It has no results. A growth that
-/// is refused ends it.
+/// Makes all statements of unit 1 whole, one after another, then those of unit 2, and so on, however long the scripts are. It has
+/// no results. A growth that is refused ends it.
 pub fn run_serial(
     alloc: Global,
     schema: &Schema,

@@ -52,7 +52,7 @@ pub fn gives_cell(
     requires cells { (r : Runner) → slice_get parts.old.runners.items (unit - 1) ≡ Some r → 0 < length r.held.cells }
     ensures { IsStepped schema.now capacity unit result parts.old parts.new }
 {
-    // Only the contract names the stage.
+    // Used by the contract alone.
     let _ = stage.linked;
     let runner = &mut parts.runners[unit as usize - 1];
     give_cell(schema, capacity, &mut parts.table, &mut runner.held);
@@ -68,7 +68,7 @@ pub fn leaves_area(parts: &mut Parts, unit: u8, stage: Stage) -> Stepped
     requires cells { (r : Runner) → slice_get parts.old.runners.items (unit - 1) ≡ Some r → length r.held.cells ≡ 0 }
     ensures { (schema : Lists) (capacity : ℕ) → IsWell schema capacity parts.old → IsStepped schema capacity unit result parts.old parts.new }
 {
-    // Only the contract names the stage.
+    // Used by the contract alone.
     let _ = stage.linked;
     let runner = &mut parts.runners[unit as usize - 1];
     let _ = runner.held.pop_area();

@@ -163,7 +163,8 @@ impl Held {
         Ok(())
     }
 
-    /// Makes room for so many more cells, so that taking them moves none of those in hand. Nothing else changes.
+    /// Asks for memory for `more` cells at once, where they would grow it step by step. It saves time alone: no promise
+    /// rests on it, and nothing that is held changes.
     pub fn reserve_cells(&mut self, more: usize) -> Result<(), AllocError>
         ensures { self.new ≡ self.old }
     {

@@ -1,9 +1,10 @@
 //! What is read off the cells in hand. Nothing here takes memory.
-ghost use Rattle.std.specs.Prelude.{◌≡◌, ℕ, [], is_some, option_and_then, option_copied, option_map, unwrap_or};
+ghost use Rattle.std.specs.Prelude.{◌≡◌, ℕ, ◌+◌, [], is_some, option_and_then, option_copied, option_map, unwrap_or};
 ghost use Rattle.dbtg_schema.specs.Lookups.{at, first_cause};
 ghost use Rattle.dbtg_unit.specs.Database.Statements.Checks.{own_checks};
 ghost use Rattle.dbtg_unit.specs.Database.State.CellNames.{place_of};
-ghost use Rattle.dbtg_unit.specs.Hands.InHand.{extent_in, in_hand, numbers_in, occurrence_in, owner_in, stored_in, usage_in, users_in};
+ghost use Rattle.dbtg_unit.specs.Hands.InHand.{extent_in, in_hand, numbers_in, occurrence_in, owner_in, stored_in, usage_in, users_in, version_in};
+ghost use Rattle.dbtg_unit.specs.Hands.Making.{HaveNextVersions};
 
 use crate::held::Held;
 use crate::unit::{Cause, Unit};
@@ -36,6 +37,18 @@ pub fn stored<'a>(held: &'a Held, key: &DbKey) -> Option<&'a Stored>
             None => None,
         },
         _ => None,
+    }
+}
+
+/// The version of a record in hand once it is changed.
+#[tactic(auto, using(crate::proofs::Hands::Reading::NextVersions::has_next_version))]
+pub fn next_version(held: &Held, key: &DbKey) -> u64
+    requires { HaveNextVersions held.now.cells }
+    ensures { result ≡ version_in held.now key.now + 1 }
+{
+    match stored(held, key) {
+        Some(stored) => stored.version + 1,
+        None => 1,
     }
 }
 

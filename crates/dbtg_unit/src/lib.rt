@@ -39,7 +39,7 @@ pub use entries::entry_at;
 pub use held::{Held, Need};
 pub use image::Image;
 pub use in_hand::{
-    numbers, occurrence, own_refusal, owner_of, owners_of, ring_name, stored, usage,
+    next_version, numbers, occurrence, own_refusal, owner_of, owners_of, ring_name, stored, usage,
 };
 pub use kept::Kept;
 pub use laws::{
@@ -54,7 +54,7 @@ pub use legality::{
 pub use moves::{Move, Stepped};
 pub use order::{has_area, next_area};
 pub use owners::{Owners, with_true_owners};
-pub use prepared::{Prepared, finish, has_next_versions, refused};
+pub use prepared::{Prepared, finish, refused};
 pub use reserving::{reserve_member, reserve_user};
 pub use statement::{Change, Erase, Form, Statement, Suppress, Which};
 pub use unit::{Answer, Cause, Currency, Entry, Place, Status, Unit};

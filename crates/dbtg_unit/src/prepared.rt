@@ -1,14 +1,13 @@
 //! What a statement has prepared, and how it is done: without memory and without a refusal.
-ghost use Rattle.std.specs.Prelude.{◌≡◌, slice_set, IsTrue};
-ghost use Rattle.std.specs.List.{list_all};
-ghost use Rattle.dbtg_unit.specs.Hands.Making.{CanEditHeld, CanMake, HaveNextVersions, IsMade, has_next_version};
+ghost use Rattle.std.specs.Prelude.{◌≡◌, slice_set};
+ghost use Rattle.dbtg_unit.specs.Hands.Making.{CanEditHeld, CanMake, IsMade};
 ghost use Rattle.dbtg_unit.specs.Hands.Prepared.{edited_values, guesses_edited, refusal, renoted_at, unit_after, unit_edited, values_of};
 
 use crate::apply::edit_cell;
 use crate::edit::{CellEdit, UnitEdit};
 use crate::held::Held;
 use crate::unit::{Answer, Cause, Status, Unit};
-use dbtg_cells::{Cell, DbKey, Mode};
+use dbtg_cells::{DbKey, Mode};
 use dbtg_schema::{AreaNo, Row, Schema};
 use std::alloc::Global;
 use std::marker::Model;
@@ -71,37 +70,6 @@ pub fn refused(alloc: Global, cause: Cause) -> Prepared
         Row::of(Vec::new(alloc)),
         UnitEdit::Same,
     )
-}
-
-fn has_next(cell: &Cell) -> bool
-    ensures { result ≡ has_next_version cell.now }
-{
-    match cell {
-        Cell::Slot(slot) => match slot.record() {
-            Some(stored) => stored.version < u64::MAX,
-            None => true,
-        },
-        _ => true,
-    }
-}
-
-fn all_have_next(cells: &[Cell]) -> bool
-    ensures { result ≡ list_all has_next_version cells.now }
-{
-    for cell in cells {
-        if !has_next(cell) {
-            return false;
-        }
-    }
-    true
-}
-
-/// Whether no record in hand is at the greatest version, so that a statement may be prepared that raises one.
-pub fn has_next_versions(held: &Held) -> bool
-    ensures all { result ≡ list_all (λ e. has_next_version e.1) held.now.cells }
-    ensures versions { IsTrue result → HaveNextVersions held.now.cells }
-{
-    all_have_next(held.cells())
 }
 
 fn edit_held(held: &mut Held, edit: CellEdit)

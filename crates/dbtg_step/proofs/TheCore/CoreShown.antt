@@ -1,5 +1,6 @@
 -- A well core is what every core is, and from that the headline follows.
 use Rattle.std.proofs.Common.{ℕ, ◌≡◌, ◌≢◌, ◌-◌, List, [], ◌∷◌, ◌++◌, Option, Some, None, inl, inr, drop, length, map, refl, sym, ap, ◌∙◌, subst}
+use Rattle.std.specs.Prelude.{option_map}
 use Rattle.std.proofs.lemmas.List.{length-map}
 use Rattle.dbtg_schema.specs.Lists.{Lists}
 use Rattle.dbtg_cells.specs.declared.cell.Cell.{Cell}
@@ -29,6 +30,7 @@ use Rattle.dbtg_step.proofs.Runs.Headlines.{answers_same, replays_same, statemen
 use Rattle.dbtg_step.proofs.TheCore.NeedsShown.{in_mapped, in_reverse}
 use Rattle.dbtg_step.proofs.TheCore.PlacesOfCells.{held_is_placed, location_placed}
 use Rattle.dbtg_step.proofs.Runs.Waiting.{came_from}
+use Rattle.dbtg_step.proofs.EachEvent.UnitLists.{map_at}
 
 -- the core with these parts
 abbrev pub core_with : Lists → ℕ → Parts → CoreParts
@@ -175,6 +177,10 @@ module _ (schema : Lists) (capacity : ℕ) (parts : Parts) (well : IsWell schema
     hands = hands_fit;
     areas = areas_are;
   }
+
+  -- each unit is the one to which the history leads
+  pub unit_led_to : (u : ℕ) → option_map (λ (r : Runner). r.unit) (unit_at parts.runners.items u) ≡ unit_at (state_now (core_with schema capacity parts)).units u
+  unit_led_to u = sym (map_at (λ (r : Runner). r.unit) parts.runners.items u) ∙ ap (λ us. unit_at us u) units_are
 
 -- THE HEADLINE
 

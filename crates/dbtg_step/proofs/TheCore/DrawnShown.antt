@@ -37,7 +37,7 @@ use Rattle.dbtg_step.specs.declared.parts.Parts.{Parts}
 use Rattle.dbtg_step.specs.declared.parts.Runner.{Runner}
 use Rattle.dbtg_step.specs.declared.parts.Stage.{Stage}
 use Rattle.dbtg_unit.specs.declared.moves.Stepped.TheVariants.{Moved, NoMemory}
-use Rattle.dbtg_step.specs.Machine.SequentialDatabase.{HeldCell, with_unit_at}
+use Rattle.dbtg_step.specs.Machine.SequentialDatabase.{HeldCell, NeedsNothing, with_unit_at}
 use Rattle.dbtg_step.specs.Machine.Machine.{unless_over}
 use Rattle.dbtg_step.specs.Machine.Step.{MovedTo, due_cells, follows_need, with_ticket}
 use Rattle.dbtg_step.specs.Machine.Network.{network}
@@ -47,7 +47,7 @@ use Rattle.dbtg_step.specs.Core.Leaves.{IsDrawn, IsUnmade}
 use Rattle.dbtg_step.specs.Core.Events.{IsStepped, IsWell, NeedsNext, RunnerFits, RunnersFit, opening_for}
 use Rattle.dbtg_step.proofs.TheCore.CoursesKept.{no_course}
 use Rattle.dbtg_step.proofs.TheCore.EventsShown.{over_is_empty, unit_written, while_held_is, written_fit}
-use Rattle.dbtg_step.proofs.TheCore.FollowsShown.{follows, refused_is, wants}
+use Rattle.dbtg_step.proofs.TheCore.FollowsShown.{follows, refused_is, statement, wants}
 use Rattle.dbtg_step.proofs.Runs.Headlines.{replays_same}
 use Rattle.dbtg_step.proofs.TheCore.NeedsShown.{agrees_now, database_now, statement_fits, unit_in}
 use Rattle.dbtg_step.proofs.EachEvent.UnitLists.{map_set}
@@ -192,7 +192,9 @@ module _ (schema : Lists) (capacity u : ℕ) (old : Parts) (r : Runner) (well : 
         remaining = drop r.next r.script;
         progress = progress_shows schema capacity r.held n.held m.shows.areas cells r.stage i;
       } in
-      refused_is schema capacity u old r well numbered at w s (wants schema capacity u old r well numbered at w s _ (follows schema capacity u old r well numbered at w s Ready needs)) new n t h runners (ap (unit_state_of schema capacity) m.rest ∙ state)
+      let y = statement schema capacity u old r well numbered at w s in
+      let wanting = wants schema capacity u old r well numbered at w s _ (follows schema capacity u old r well numbered at w s Ready needs) NeedsNothing (needs r y.0 at y.1).is (λ others q. absurd (cc (q))) in
+      refused_is schema capacity u old r well numbered at w s wanting new n t h runners (ap (unit_state_of schema capacity) m.rest ∙ state)
       (subst (RunnerFits schema capacity) (sym m.rest) (record { settled = λ q. absurd (cc (q, s.before.stage)); guesses = ap length m.shows.guesses ∙ (well.runners (u - 1) r at).guesses; course = λ v q t x is. no_course schema capacity n.held r.unit x }))
 
   pub drawn_is : (new : Parts) (n : Runner) → new.table.items ≡ old.table.items → new.runners.items ≡ slice_set old.runners.items (u - 1) n → ((x : Statement) (d : Database) → slice_get r.script r.next ≡ Some x → Agrees schema capacity d r.held r.unit → IsDrawn schema capacity d x u w old.history.items new.history.items r n) → IsStepped schema capacity u Moved old new

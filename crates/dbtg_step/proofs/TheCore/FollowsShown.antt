@@ -1,5 +1,5 @@
 -- What a statement does before its ticket is what the machine's unit does.
-use Rattle.std.proofs.Common.{ℕ, zero, suc, ◌≡◌, ◌<◌, ◌-◌, Bool, true, false, eqb, ◌&&◌, ◌||◌, List, [], ◌∷◌, ◌++◌, Option, Some, None, drop, take, map, length, reverse, slice_get, slice_set, refl, sym, ap, ◌∙◌, subst, arith}
+use Rattle.std.proofs.Common.{ℕ, zero, suc, ◌≡◌, ◌≢◌, ◌<◌, ◌-◌, Bool, true, false, eqb, ◌&&◌, ◌||◌, List, [], ◌∷◌, ◌++◌, Option, Some, None, drop, take, map, length, reverse, slice_get, slice_set, refl, sym, ap, ◌∙◌, subst, arith}
 use Rattle.std.specs.Prelude.{nat_lt}
 use Rattle.std.specs.List.{list_any}
 use Rattle.std.proofs.lemmas.Bool.Decides.{nat_tests}
@@ -24,8 +24,9 @@ use Rattle.dbtg_step.specs.declared.parts.Runner.{Runner}
 use Rattle.dbtg_step.specs.declared.parts.Stage.{Stage}
 use Rattle.dbtg_unit.specs.declared.moves.Stepped.{Stepped}
 use Rattle.dbtg_unit.specs.declared.moves.Stepped.TheVariants.{Moved, Blocked, Idle, NoMemory}
+use Rattle.dbtg_step.specs.Machine.SequentialDatabase.{NextNeed, NeedsArea, NeedsCell, StaleGuesses}
 use Rattle.dbtg_step.specs.Machine.Machine.{HeldBy, State, held_areas, holds_exclusively, relocated}
-use Rattle.dbtg_step.specs.Machine.Step.{any_but, any_other, conflicts, follows_need, is_nonempty, step, takes_area, takes_cell, IsBlocked, MovedTo}
+use Rattle.dbtg_step.specs.Machine.Step.{any_but, any_other, conflicts, follows_need, is_nonempty, next_need, step, takes_area, takes_cell, IsBlocked, MovedTo}
 use Rattle.dbtg_step.specs.Machine.Network.{network, next_need_of}
 use Rattle.dbtg_step.specs.Core.Courses.{IsCourseKept}
 use Rattle.dbtg_step.specs.Core.Parts.{held_cells_of, held_of, location_at, location_of, note_of, progress_of, stage_of, state_from, state_of, unit_state_of}
@@ -99,9 +100,11 @@ module _ (schema : Lists) (capacity u : ℕ) (old : Parts) (r : Runner) (well : 
       step_follows (network schema capacity) (opening_for schema capacity old) (state_of schema capacity old) u (unit_state_of schema capacity r) (found schema capacity u old r well numbered at) (stage_of schema capacity r.held w) (ap (progress_of schema capacity r.held) s.before.stage) statement.0 (drop (suc r.next) r.script) s.before.ticket (drop_found r.script r.next statement.0 statement.1)
       (λ t. ap held_cells_of (s.turned t)) (next_need_of r.held.guesses n) (needs r statement.0 at statement.1).is
 
-  -- where the step is an event, memory may be refused in its place
-  pub wants : (after : State (network schema capacity)) → step (network schema capacity) (opening_for schema capacity old) (state_of schema capacity old) u ≡ MovedTo after → WantsMemory (opening_for schema capacity old) (state_of schema capacity old) u
-  wants after e = record {
+  -- where the step is an event and no turn back, memory may be refused in its place
+  pub wants : (after : State (network schema capacity)) → step (network schema capacity) (opening_for schema capacity old) (state_of schema capacity old) u ≡ MovedTo after
+      → (n : NextNeed CellName (List (Option Owner))) → next_need (network schema capacity) (opening_for schema capacity old) (state_of schema capacity old) (unit_state_of schema capacity r) (stage_of schema capacity r.held w) statement.0 ≡ n
+      → ((others : List (Option Owner)) → n ≢ StaleGuesses others) → WantsMemory (opening_for schema capacity old) (state_of schema capacity old) u
+  wants after e n is onward = record {
     before = record {
       state = unit_state_of schema capacity r;
       found = found schema capacity u old r well numbered at;
@@ -113,6 +116,9 @@ module _ (schema : Lists) (capacity u : ℕ) (old : Parts) (r : Runner) (well : 
     };
     after = after;
     event = e;
+    onward = λ x xs others remaining stale.
+        let same : x ≡ statement.0 = (let both = sym remaining ∙ drop_found r.script r.next statement.0 statement.1 in cc (both)) in
+        onward others (sym is ∙ ap (next_need (network schema capacity) (opening_for schema capacity old) (state_of schema capacity old) (unit_state_of schema capacity r) (stage_of schema capacity r.held w)) (sym same) ∙ stale);
   }
 
   -- what is kept of its course stays right while more comes to hand
@@ -163,7 +169,7 @@ module _ (schema : Lists) (capacity u : ℕ) (old : Parts) (r : Runner) (well : 
     unfolding takes_area
     area_refused new n mid e t h runners m is =
         let same : n ≡ r = is ∙ ap (λ (x : Hands). record r { held = x }) m in
-        refused_is (wants _ (area_step false e)) new n t h runners (ap (unit_state_of schema capacity) same) (subst (RunnerFits schema capacity) (sym same) (well.runners (u - 1) r at))
+        refused_is (wants _ (area_step false e) (NeedsArea a) (needs r statement.0 at statement.1).is (λ others q. absurd (cc (q)))) new n t h runners (ap (unit_state_of schema capacity) same) (subst (RunnerFits schema capacity) (sym same) (well.runners (u - 1) r at))
 
   -- a cell
   module _ (c : CellName) (needs : NeedsNext schema capacity old u w (Take c)) (number : ℕ) (is_number : cell_number schema capacity c ≡ Some number) where
@@ -191,7 +197,7 @@ module _ (schema : Lists) (capacity u : ℕ) (old : Parts) (r : Runner) (well : 
         blocked_is new (cell_step (WithUnit m.1.0) m.1.1) m.0.after_is h (runners ∙ ap (slice_set old.runners.items (u - 1)) same ∙ set_same_at old.runners.items (u - 1) r at)
     cell_followed new n mid NoMemory m h runners is =
         let same : n ≡ r = is ∙ ap (λ (x : Hands). record r { held = x }) m.0.held in
-        refused_is (wants _ (cell_step (AtHome m.1.0) m.1.1)) new n m.0.after_is h runners (ap (unit_state_of schema capacity) same) (subst (RunnerFits schema capacity) (sym same) (well.runners (u - 1) r at))
+        refused_is (wants _ (cell_step (AtHome m.1.0) m.1.1) (NeedsCell c) (needs r statement.0 at statement.1).is (λ others q. absurd (cc (q)))) new n m.0.after_is h runners (ap (unit_state_of schema capacity) same) (subst (RunnerFits schema capacity) (sym same) (well.runners (u - 1) r at))
     cell_followed new n mid Idle m h runners is = absurd m
 
   -- a turn back

@@ -1,28 +1,32 @@
 -- Memory that is refused where a need is asked for stands in the place of an event: a DELETE that has its areas waits for
 -- nobody.
-use Rattle.std.proofs.Common.{ℕ, ◌≡◌, ◌<◌, ◌-◌, true, false, Some, None, drop, slice_get, refl, sym, ap, ◌∙◌, suc}
-use Rattle.std.specs.Prelude.{is_some, not, ◌==◌, Result, Ok, Err, OnErr}
+use Rattle.std.proofs.Common.{ℕ, ◌≡◌, ◌≢◌, ◌<◌, ◌-◌, Bool, true, false, ◌&&◌, List, [], Option, Some, None, drop, slice_get, refl, sym, ap, ◌∙◌, suc}
+use Rattle.std.specs.Prelude.{is_some, not, ◌==◌, if◌then◌else◌, Result, Ok, Err, OnErr}
 use Rattle.std.specs.List.{find, list_any}
 use Rattle.std.proofs.lemmas.Bool.{false≢true}
 use Rattle.std.proofs.lemmas.Option.{none-some}
 use Rattle.dbtg_schema.specs.Lists.{Lists}
+use Rattle.dbtg_schema.specs.Lookups.{at as guess_at, some_and}
+use Rattle.dbtg_cells.specs.declared.key.DbKey.{DbKey}
+use Rattle.dbtg_cells.specs.declared.key.Owner.{Owner}
 use Rattle.dbtg_cells.specs.declared.cell.Cell.{Cell}
 use Rattle.dbtg_cells.specs.declared.name.CellName.{CellName}
 use Rattle.dbtg_cells.specs.Names.{name_eq, name_lt}
 use Rattle.dbtg_cells.specs.CellNumbers.{cell_number}
 use Rattle.dbtg_cells.proofs.Public.{has_number}
-use Rattle.dbtg_unit.specs.declared.held.Need.TheVariants.{Take}
+use Rattle.dbtg_unit.specs.declared.held.Need.TheVariants.{Take, Ready}
 use Rattle.dbtg_unit.specs.declared.statement.Statement.{Statement}
+use Rattle.dbtg_unit.specs.declared.statement.Statement.TheVariants.{OpenArea, CloseArea, Find, Get, Store, Insert, Remove, Modify, Delete, Keep, Free}
 use Rattle.dbtg_unit.specs.declared.unit.Unit.{Unit}
 use Rattle.dbtg_unit.specs.declared.moves.Stepped.TheVariants.{NoMemory}
-use Rattle.dbtg_unit.specs.Database.State.Base.{Database}
+use Rattle.dbtg_unit.specs.Database.State.Base.{Database, is_live, owner_of}
 use Rattle.dbtg_unit.specs.Database.Statements.Checks.{refused_at_once}
 use Rattle.dbtg_unit.specs.Hands.Hands.{Hands}
-use Rattle.dbtg_unit.specs.Hands.Needs.{areas_in_order, cells_of, is_stale, need, stale_owners}
+use Rattle.dbtg_unit.specs.Hands.Needs.{areas_in_order, cells_of, is_stale, is_wrong_guess, need, next_of, stale_owners}
 use Rattle.dbtg_step.specs.declared.parts.Parts.{Parts}
 use Rattle.dbtg_step.specs.declared.parts.Runner.{Runner}
 use Rattle.dbtg_step.specs.declared.parts.Stage.{Stage}
-use Rattle.dbtg_step.specs.Machine.SequentialDatabase.{NeedsArea}
+use Rattle.dbtg_step.specs.Machine.SequentialDatabase.{NeedsArea, StaleGuesses}
 use Rattle.dbtg_step.specs.Machine.Step.{next_need}
 use Rattle.dbtg_step.specs.Machine.NeverStuck.{InTurn}
 use Rattle.dbtg_step.specs.Machine.Network.{is_delete, network, next_need_of}
@@ -50,6 +54,39 @@ no_area_needed schema capacity db unit hands x has a e =
     (chose_area hands.guesses (is_some (refused_at_once schema capacity unit x)) first (find (λ c. not (list_any (λ (f : CellName × Cell). name_eq c f.0) hands.cells)) (cells_of schema capacity db unit hands.guesses x)) (is_stale schema capacity db unit hands.guesses x) (stale_owners schema capacity db unit hands.guesses x) a e).1 in
     none-some a (sym has.areas ∙ wanted)
 
+-- a DELETE goes by no guesses
+module _ (schema : Lists) (capacity : ℕ) (db : Database) (unit : Unit) (guesses : List (Option Owner)) where
+  no_wrong_guess : (current : Option DbKey) → some_and (λ k. is_live db k && list_any (λ s. is_wrong_guess (owner_of schema capacity db s k) (guess_at guesses s)) []) current ≡ false
+  no_wrong_guess None = refl
+  no_wrong_guess (Some k) = elim (is_live db k) as (λ b. b && false ≡ false) [ true ↦ refl | false ↦ refl ]
+
+  delete_is_not_stale : (x : Statement) → is_delete x ≡ true → is_stale schema capacity db unit guesses x ≡ false
+  delete_is_not_stale (OpenArea a mode) e = absurd (cc (e))
+  delete_is_not_stale (CloseArea a) e = absurd (cc (e))
+  delete_is_not_stale (Find form suppress) e = absurd (cc (e))
+  delete_is_not_stale (Get r) e = absurd (cc (e))
+  delete_is_not_stale (Store t items suppress) e = absurd (cc (e))
+  delete_is_not_stale (Insert s) e = absurd (cc (e))
+  delete_is_not_stale (Remove s) e = absurd (cc (e))
+  delete_is_not_stale (Modify t changes) e = absurd (cc (e))
+  delete_is_not_stale (Delete option) e = no_wrong_guess unit.currency.run_unit
+  delete_is_not_stale Keep e = absurd (cc (e))
+  delete_is_not_stale (Free all) e = absurd (cc (e))
+
+-- so it doesn't turn back
+not_stale_choice : (guesses others : List (Option Owner)) (b : Bool) (oa : Option ℕ) (oc : Option CellName) (stale : Bool) (owners : List (Option Owner)) → stale ≡ false → next_need_of guesses (if b then Ready else next_of oa oc stale owners) ≢ StaleGuesses others
+not_stale_choice guesses others true oa oc stale owners f e = absurd (cc (e))
+not_stale_choice guesses others false (Some a) oc stale owners f e = absurd (cc (e))
+not_stale_choice guesses others false None (Some c) stale owners f e = absurd (cc (e))
+not_stale_choice guesses others false None None true owners f e = absurd (cc (f))
+not_stale_choice guesses others false None None false owners f e = absurd (cc (e))
+
+delete_goes_onward : (schema : Lists) (capacity : ℕ) (db : Database) (unit : Unit) (hands : Hands) (x : Statement) → is_delete x ≡ true → (others : List (Option Owner)) → next_need_of hands.guesses (need schema capacity db unit hands x) ≢ StaleGuesses others
+unfolding need
+delete_goes_onward schema capacity db unit hands x deletes others =
+    not_stale_choice hands.guesses others (is_some (refused_at_once schema capacity unit x)) (find (λ a. not (list_any (λ b. b == a) hands.areas)) (areas_in_order schema unit x)) (find (λ c. not (list_any (λ (f : CellName × Cell). name_eq c f.0) hands.cells)) (cells_of schema capacity db unit hands.guesses x))
+    (is_stale schema capacity db unit hands.guesses x) (stale_owners schema capacity db unit hands.guesses x) (delete_is_not_stale schema capacity db unit hands.guesses x deletes)
+
 module _ (schema : Lists) (capacity u : ℕ) (old : Parts) (r : Runner) (well : IsWell schema capacity old) (numbered : 0 < u) (at : slice_get old.runners.items (u - 1) ≡ Some r) (w : Stage) (s : StandsNeeding r w) where
   pub need_refused : ((x : Statement) → slice_get r.script r.next ≡ Some x → HasItsAreas schema r.unit r.held x) → IsStepped schema capacity u NoMemory old old
   unfolding next_need
@@ -69,7 +106,8 @@ module _ (schema : Lists) (capacity u : ℕ) (old : Parts) (r : Runner) (well : 
       let db = database_now schema capacity u old r well numbered at in
       let moves = exclusive_moves (network schema capacity) (network_is_sequential schema capacity well.sound) opening name_lt names_are_ordered (state_of schema capacity old) well.lawful order u state progress here is x.0 (drop (suc r.next) r.script)
       s.before.ticket remaining (λ t. ap held_cells_of (s.turned t)) alone (next_need_of r.held.guesses (need schema capacity db r.unit r.held x.0)) (ap (next_need_of r.held.guesses) (need_of_holding schema capacity db r.unit x.0 r.held)) (no_area_needed schema capacity db r.unit r.held x.0 has) in
-      refused_is schema capacity u old r well numbered at w s (wants schema capacity u old r well numbered at w s moves.after moves.event) old r refl refl (sym (set_same_at old.runners.items (u - 1) r at)) refl (well.runners (u - 1) r at)
+      let wanting = wants schema capacity u old r well numbered at w s moves.after moves.event (next_need_of r.held.guesses (need schema capacity db r.unit r.held x.0)) (ap (next_need_of r.held.guesses) (need_of_holding schema capacity db r.unit x.0 r.held)) (delete_goes_onward schema capacity db r.unit r.held x.0 has.deletes) in
+      refused_is schema capacity u old r well numbered at w s wanting old r refl refl (sym (set_same_at old.runners.items (u - 1) r at)) refl (well.runners (u - 1) r at)
 
 -- what follows from what an Err has
 pub err_also : {T E : Type 0} (r : Result T E) (P Q : Type 0) → (P → Q) → OnErr r P → OnErr r Q

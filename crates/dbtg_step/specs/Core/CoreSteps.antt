@@ -19,7 +19,7 @@ abbrev pub quit_of : (c : CoreState) → ℕ → Transition (network c.schema c.
 quit_of c u = quit (network c.schema c.capacity) c.state u
 
 -- Moved just where the machine moves, to its next state; Blocked and Idle just where it is; want of memory only in the place
--- of an event, before a ticket. What isn't moved isn't changed
+-- of an event before a ticket that is no turn back. What isn't moved isn't changed
 abbrev pub IsStep : CoreState → ℕ → Stepped → CoreState → Type 0
 IsStep old u Moved new = (t : State (network old.schema old.capacity)) × (step_of old u ≡ MovedTo t) × (new ≡ with_state old t)
 IsStep old u Blocked new = (step_of old u ≡ IsBlocked) × (new ≡ old)

@@ -2,7 +2,7 @@
 -- `Stands` has what an event finds, and `Leaves` what it leaves.
 -- r is a runner, w a stage, u the number of a unit, x a statement, n a need.
 use Rattle.std.specs.List.{list_all}
-use Rattle.std.specs.Prelude.{ℕ, ◌≡◌, ◌<◌, ◌-◌, true, List, [], Option, Some, None, length, slice_get, slice_set, ⊤}
+use Rattle.std.specs.Prelude.{ℕ, ◌≡◌, ◌≢◌, ◌<◌, ◌-◌, true, List, [], ◌∷◌, Option, Some, None, length, slice_get, slice_set, ⊤}
 use Rattle.dbtg_schema.specs.Lists.{Lists}
 use Rattle.dbtg_schema.specs.Lookups.{at}
 use Rattle.dbtg_schema.specs.Sound.{IsSound}
@@ -21,7 +21,7 @@ use Rattle.dbtg_step.specs.declared.parts.Runner.{Runner}
 use Rattle.dbtg_step.specs.declared.parts.Stage.{Stage}
 use Rattle.dbtg_unit.specs.declared.moves.Stepped.{Stepped}
 use Rattle.dbtg_unit.specs.declared.moves.Stepped.TheVariants.{Moved, Blocked, Idle, NoMemory}
-use Rattle.dbtg_step.specs.Machine.SequentialDatabase.{unit_at}
+use Rattle.dbtg_step.specs.Machine.SequentialDatabase.{StaleGuesses, unit_at}
 use Rattle.dbtg_step.specs.Machine.Machine.{Progress, UnitState, State, SequentialState, replay}
 use Rattle.dbtg_step.specs.Machine.Step.{next_need, quit, step, MovedTo, IsBlocked, IsIdle}
 use Rattle.dbtg_step.specs.Machine.Lawful.{Lawful}
@@ -100,13 +100,14 @@ pub record IsBeforeTicket {schema : Lists} {capacity : ℕ} (s : State (network 
   pub turned : w.turning_back ≡ true → w.cells ≡ []
   pub left : 0 < length state.remaining
 
--- where it wants memory, its step is an event
+-- where it wants memory, its step is an event in which it takes something or draws its ticket: a turn back takes no memory
 pub record WantsMemory {schema : Lists} {capacity : ℕ} (opening : SequentialState (network schema capacity)) (s : State (network schema capacity)) (u : ℕ) : Type 0 where
   pub before : IsBeforeTicket s u
   pub after : State (network schema capacity)
   pub event : step (network schema capacity) opening s u ≡ MovedTo after
+  pub onward : (x : Statement) (xs : List Statement) (others : List (Option Owner)) → before.state.remaining ≡ x ∷ xs → next_need (network schema capacity) opening s before.state before.w x ≢ StaleGuesses others
 
--- the machine's step; or, in the place of an event before a ticket, want of memory, which changes nothing
+-- the machine's step; or, in the place of an event before a ticket that is no turn back, want of memory, which changes nothing
 abbrev pub Tells : (schema : Lists) (capacity : ℕ) → SequentialState (network schema capacity) → ℕ → Stepped → State (network schema capacity) → State (network schema capacity) → Type 0
 Tells schema capacity opening u Moved old new = step (network schema capacity) opening old u ≡ MovedTo new
 Tells schema capacity opening u Blocked old new = (step (network schema capacity) opening old u ≡ IsBlocked) × (new ≡ old)

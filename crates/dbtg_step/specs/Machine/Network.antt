@@ -1,5 +1,5 @@
 -- The network database of a schema as the sequential database of the machine.
-use Rattle.std.specs.Prelude.{ℕ, ◌≡◌, Bool, true, false, List, Option, None, map}
+use Rattle.std.specs.Prelude.{ℕ, ◌≡◌, true, List, Option, None, map}
 use Rattle.dbtg_schema.specs.Lists.{Lists}
 use Rattle.dbtg_cells.specs.declared.key.Owner.{Owner}
 use Rattle.dbtg_cells.specs.declared.name.CellName.{CellName}
@@ -7,7 +7,6 @@ use Rattle.dbtg_cells.specs.declared.cell.Cell.TheVariants.{Slot as SlotCell}
 use Rattle.dbtg_cells.specs.Names.{name_eq}
 use Rattle.dbtg_cells.specs.Shown.{CellValue}
 use Rattle.dbtg_unit.specs.declared.statement.Statement.{Statement}
-use Rattle.dbtg_unit.specs.declared.statement.Statement.TheVariants.{Delete}
 use Rattle.dbtg_unit.specs.declared.unit.Unit.{Unit}
 use Rattle.dbtg_unit.specs.declared.unit.Answer.{Answer}
 use Rattle.dbtg_unit.specs.declared.held.Need.{Need}
@@ -17,16 +16,12 @@ use Rattle.dbtg_unit.specs.Database.State.CellNames.{area_of_cell}
 use Rattle.dbtg_unit.specs.Database.State.Cells.{cell}
 use Rattle.dbtg_unit.specs.Database.Statements.Effect.{Outcome, effect}
 use Rattle.dbtg_unit.specs.Database.Statements.Fits.{fits}
+pub use Rattle.dbtg_unit.specs.Hands.EditsOf.{is_delete}
 use Rattle.dbtg_unit.specs.Hands.Guesses.{guesses_after, with_owners}
 use Rattle.dbtg_unit.specs.Hands.Hands.{Hands}
 use Rattle.dbtg_unit.specs.Database.State.LegalWith.{LegalWith}
 use Rattle.dbtg_unit.specs.Hands.Needs.{need}
 use Rattle.dbtg_step.specs.Machine.SequentialDatabase.{HeldCell, NextNeed, NeedsArea, NeedsCell, StaleGuesses, NeedsNothing, Effect, SequentialDatabase}
-
--- a DELETE alone takes its areas exclusively
-abbrev pub is_delete : Statement → Bool
-is_delete (Delete option) = true
-is_delete _ = false
 
 -- what a unit holds, for `need`, which looks at the names of cells alone
 abbrev pub holding : List (Option Owner) → List ℕ → List (HeldCell CellName CellValue) → Hands
@@ -59,6 +54,7 @@ network schema capacity = record {
   effect = λ db unit statement. effect_of (effect schema capacity db unit statement);
   guesses_after = λ db unit statement guesses. guesses_after schema capacity statement guesses (effect schema capacity db unit statement);
   need = λ db unit statement guesses areas cells. next_need_of guesses (need schema capacity db unit (holding guesses areas cells) statement);
+  -- a DELETE alone takes its areas exclusively
   is_exclusive = is_delete;
   Fits = λ statement. fits schema statement ≡ true;
   Legal = LegalWith schema capacity;

@@ -1,5 +1,5 @@
 -- What the machine of events knows of a sequential database: its types, the effect of a statement, and what a statement
--- has to hold. The real database is an instance (Instance.antt).
+-- has to hold. The network database is an instance (Network.antt).
 use Rattle.std.specs.Prelude.{ℕ, zero, suc, ◌≡◌, ◌≢◌, Bool, true, List, [], ◌∷◌, Option, Some, None, slice_get, slice_set, ◌⊎◌}
 
 -- a cell that a unit holds: before its ticket with the value as taken, from the ticket on with the value that is due

@@ -1,6 +1,6 @@
 -- When what a statement has prepared can be made: without memory, and without a refusal.
 -- e is an edit of a cell, x and y cells, db a database.
-use Rattle.std.specs.Prelude.{◌≡◌, ℕ, ◌<◌, ◌+◌, ◌^◌, Bool, true, nat_lt, List, [], ◌∷◌, Some, ⊤}
+use Rattle.std.specs.Prelude.{◌≡◌, ℕ, ◌<◌, ◌+◌, ◌^◌, true, List, [], ◌∷◌, Some, ⊤}
 use Rattle.dbtg_schema.specs.Lists.{Lists}
 use Rattle.dbtg_schema.specs.Sound.{IsSound}
 use Rattle.dbtg_cells.specs.declared.cell.Cell.{Cell}
@@ -47,11 +47,6 @@ IsReady schema capacity unit hands statement = (db : Database) → Agrees schema
 -- no held record is at the greatest version
 abbrev pub HaveNextVersions : List (CellName × Cell) → Type 0
 HaveNextVersions cells = (c : CellName) (stored : Stored) → cell_of c cells ≡ Some (SlotCell (Some stored)) → stored.version + 1 < 2 ^ 64
-
--- a record in the cell is not at the greatest version
-abbrev pub has_next_version : Cell → Bool
-has_next_version (SlotCell (Some stored)) = nat_lt (stored.version + 1) (2 ^ 64)
-has_next_version _ = true
 
 -- what a caller knows of a statement that it prepares
 pub record MayPrepare (schema : Lists) (capacity : ℕ) (unit : Unit) (hands : Hands) (statement : Statement) : Type 0 where

@@ -12,7 +12,7 @@ returns-in-Insert c db agrees =
 
 pub returns-in-Remove : goal.returns-in-Remove
 returns-in-Remove c db agrees =
-    c.next_cell_of_remove.ensures c.args.capacity db
+    c.next_cell_of_remove.ensures c.args.schema.now c.args.capacity db
     ∙ ap (λ (s : Statement). first_missing c.args.held.now (cells_of c.args.schema.now c.args.capacity db c.args.unit.now c.args.held.now.guesses s)) (sym c.in-Remove.is)
 
 pub returns-in-Modify : goal.returns-in-Modify
@@ -22,5 +22,5 @@ returns-in-Modify c db agrees =
 
 pub returns-in-Store : goal.returns-in-Store
 returns-in-Store c db agrees =
-    c.next_cell_of_store.ensures db c.in-Store.suppress agrees
+    c.next_cell_of_store.ensures c.args.capacity db c.in-Store.suppress agrees
     ∙ ap (λ (s : Statement). first_missing c.args.held.now (cells_of c.args.schema.now c.args.capacity db c.args.unit.now c.args.held.now.guesses s)) (sym c.in-Store.is)

@@ -13,7 +13,7 @@ returns-clause-event c =
     let core = c.in_ok-stepped.ensures.core in
     let before : c.position-before.result ≡ place_in old (unit_in one) = c.position-before.ensures ∙ ap (place_in old) c.unit_in-unit.ensures in
     let after : c.position.result ≡ place_in (after_move old one) (unit_in one) = c.position.ensures ∙ ap (place_in (machine c.make_move.new.core)) c.unit_in-unit.ensures ∙ ap (λ (m : CoreState). place_in m (unit_in one)) core in
-    let history : c.history.result.now ≡ map entry_of (after_move old one).state.history = c.history.ensures ∙ history_shown c.make_move.new.core ∙ ap (λ (m : CoreState). map entry_of m.state.history) core in
+    let history : c.history.result.now ≡ map entry_of (after_move old one).state.history = c.history.ensures.machine ∙ history_shown c.make_move.new.core ∙ ap (λ (m : CoreState). map entry_of m.state.history) core in
     c.shown.ensures
     ∙ ap (λ s. shown one s c.position-before.result c.position.result c.history.result.now) c.in_ok-stepped.ensures.result
     ∙ ap (λ p. shown one (result_of_move old one) p c.position.result c.history.result.now) before

@@ -17,7 +17,7 @@ use Rattle.dbtg_unit.specs.Database.State.Base.{Database, Record, is_live, items
 use Rattle.dbtg_unit.specs.Database.Statements.Doomed.{doomed}
 use Rattle.dbtg_unit.specs.Database.Statements.Found.{found}
 use Rattle.dbtg_unit.specs.Database.Statements.Effect.{Outcome, effect, effect_on_cells, done, raised, next_version, version_of, with_new, with_items, with_its_items, connected_in, stored, store_checks, new_key, free_number, changed_items}
-use Rattle.dbtg_unit.specs.Database.Laws.Forward.{is_spent, GoesForward}
+use Rattle.dbtg_unit.specs.Database.Laws.Forward.{is_deleted, GoesForward}
 use Rattle.dbtg_unit.proofs.Database.Legal.Outcomes.{of_unless, of_current, of_done, of_finding, of_effect}
 
 -- the version in what is stored under a key
@@ -38,8 +38,8 @@ record NoneIsNew (db d : Database) : Type 0 where
   live : (k : DbKey) → is_live db k ≡ false → is_live d k ≡ false
   last : (t n : ℕ) → d.last t n ≡ db.last t n
 
-spent_stays : (db new : Database) → ((k : DbKey) → is_live db k ≡ false → is_live new k ≡ false) → ((t n : ℕ) → db.last t n ≤ new.last t n) → (k : DbKey) → is_spent db k ≡ true → is_spent new k ≡ true
-spent_stays db new live last k h =
+deleted_stays : (db new : Database) → ((k : DbKey) → is_live db k ≡ false → is_live new k ≡ false) → ((t n : ℕ) → db.last t n ≤ new.last t n) → (k : DbKey) → is_deleted db k ≡ true → is_deleted new k ≡ true
+deleted_stays db new live last k h =
     let hs = and_parts _ _ h in
     let below = leb-true k.generation (db.last k.rtype k.number) hs.1 in
     let rises = last k.rtype k.number in
@@ -48,7 +48,7 @@ spent_stays db new live last k h =
 forward_from : (db d : Database) → NoneIsNew db d → GoesForward db d
 forward_from db d h =
     let below : (t n : ℕ) → db.last t n ≤ d.last t n = λ t n. let e = h.last t n in omega arith in
-    record { versions = λ k. let v = h.versions k in omega arith; generations = below; spent = spent_stays db d h.live below }
+    record { versions = λ k. let v = h.versions k in omega arith; generations = below; deleted = deleted_stays db d h.live below }
 
 pub same_forward : (db : Database) → GoesForward db db
 same_forward db = forward_from db db (record { versions = λ k. omega arith; live = λ k h. h; last = λ t n. refl })
@@ -62,7 +62,7 @@ raised_forward db d test h =
           cond_both (test k) (option_map next_version (d.records k)) (d.records k) (λ o. version_in o ≤ version_in (db.records k) + 1)
           (λ e. let w = next_version_in (d.records k) in omega arith) (λ e. omega arith);
       generations = below;
-      spent = spent_stays db (raised test d) (λ k e. cond_both (test k) (option_map next_version (d.records k)) (d.records k) (λ o. is_some o ≡ false) (λ t. next_is_some (d.records k) ∙ h.live k e) (λ t. h.live k e)) below;
+      deleted = deleted_stays db (raised test d) (λ k e. cond_both (test k) (option_map next_version (d.records k)) (d.records k) (λ o. is_some o ≡ false) (λ t. next_is_some (d.records k) ∙ h.live k e) (λ t. h.live k e)) below;
     }
 
 stored_forward : (schema : Lists) (db : Database) (t n : ℕ) (items : List Value) → GoesForward db (with_new schema db (new_key db t n) items)
@@ -73,7 +73,7 @@ stored_forward schema db t n items =
     record {
       versions = λ x. cond_both (key_eq k x) (Some (record { items = items; version = 1 })) (db.records x) (λ o. version_in o ≤ version_of db x + 1) (λ e. omega arith) (λ e. omega arith);
       generations = rises;
-      spent = λ x h.
+      deleted = λ x h.
           let hs = and_parts _ _ h in
           let below = leb-true x.generation (db.last x.rtype x.number) hs.1 in
           let rise = rises x.rtype x.number in
@@ -106,7 +106,7 @@ module _ (schema : Lists) (capacity : ℕ) (db : Database) (unit : Unit) where
   on_cells (Store t items suppress) =
       of_unless db unit Forward (λ cause. same_forward db) (first_cause (store_checks schema (whole schema capacity db) unit t items))
       (stored schema capacity db unit (new_key db t (unwrap_or (free_number capacity db t) 0)) items suppress)
-      (λ h. let new = stored_forward schema db t (unwrap_or (free_number capacity db t) 0) items in record { versions = new.versions; generations = new.generations; spent = new.spent })
+      (λ h. let new = stored_forward schema db t (unwrap_or (free_number capacity db t) 0) items in record { versions = new.versions; generations = new.generations; deleted = new.deleted })
   on_cells (Insert s) =
       of_current db unit Forward (λ cause. same_forward db) unit.currency.run_unit _ _
       (λ k e h. raised_forward db (connected_in schema db unit (s ∷ []) k) (key_eq k) (record { versions = λ x. omega arith; live = λ x h. h; last = λ t n. refl }))

@@ -158,11 +158,11 @@ versions_are_bounded schema capacity units history k =
 
 pub replay_goes_forward : (schema : Lists) (capacity : ℕ) (state : State) (entries : List Entry) → ReplayGoesForward schema capacity state entries
 unfolding replay
-replay_goes_forward schema capacity state [] = record { generations = λ t n. omega arith; spent = λ k h. h }
+replay_goes_forward schema capacity state [] = record { generations = λ t n. omega arith; deleted = λ k h. h }
 replay_goes_forward schema capacity state (e ∷ es) =
     let step = entry_forward schema capacity state e in
     let rest = replay_goes_forward schema capacity (after_entry schema capacity state e) es in
-    record { generations = λ t n. let a = step.generations t n in let b = rest.generations t n in omega arith; spent = λ k h. rest.spent k (step.spent k h) }
+    record { generations = λ t n. let a = step.generations t n in let b = rest.generations t n in omega arith; deleted = λ k h. rest.deleted k (step.deleted k h) }
 
 -- there are as many units at the beginning as are wanted
 pub opening_length : (schema : Lists) (units : ℕ) → length (opening_state schema units).units ≡ units

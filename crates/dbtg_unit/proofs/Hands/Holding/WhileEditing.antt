@@ -1,9 +1,9 @@
 -- What is held while edits are made of it.
 -- e is an edit of a cell, c and d names of cells, x and y cells, db a database.
-use Rattle.std.proofs.Common.{◌≡◌, refl, sym, ◌∙◌, ap, subst, ℕ, ◌+◌, ◌<◌, Bool, true, false, cond, not, ◌&&◌, List, [], ◌∷◌, ◌++◌, map, Option, Some, None, inl, inr}
+use Rattle.std.proofs.Common.{◌≡◌, refl, sym, ◌∙◌, ap, subst, ℕ, ◌+◌, ◌<◌, Bool, true, false, cond, not, List, [], ◌∷◌, ◌++◌, map, Option, Some, None, inl, inr}
 use Rattle.std.specs.Prelude.{◌^◌, ⊤}
 use Rattle.std.specs.List.{flat_map, list_all}
-use Rattle.std.proofs.lemmas.Bool.{and_parts, cases_Bool, false_from_ne_true, false≢true, ltb-true, not-true}
+use Rattle.std.proofs.lemmas.Bool.{and_parts, cases_Bool, false_from_ne_true, false≢true, not-true}
 use Rattle.dbtg_cells.specs.declared.cell.Cell.{Cell}
 use Rattle.dbtg_cells.specs.declared.cell.Cell.TheVariants.{Usage, Extent, Ring, Slot}
 use Rattle.dbtg_cells.specs.declared.key.Owner.{Owner}
@@ -22,7 +22,7 @@ use Rattle.dbtg_unit.specs.Hands.Edits.{edited, with_owner, with_stored_items}
 use Rattle.dbtg_unit.specs.Hands.Hands.{Hands, cell_of}
 use Rattle.dbtg_unit.specs.Database.State.Legal.{pairwise}
 use Rattle.dbtg_unit.specs.Hands.Lends.{with_cell}
-use Rattle.dbtg_unit.specs.Hands.Making.{CanEditHeld, CanMake, HaveNextVersions, IsMade, ShowsEdited, has_next_version}
+use Rattle.dbtg_unit.specs.Hands.Making.{CanEditHeld, CanMake, HaveNextVersions, IsMade, ShowsEdited}
 use Rattle.dbtg_unit.specs.Hands.Prepared.{edited_values, value_edited, values_of}
 
 abbrev pub Held : Type 0
@@ -223,21 +223,3 @@ can_make_raised es c edit cells once others each can leaves next =
         let was = leaves old.0 r shown_is in
         let bound : was.0.version + 1 < 2 ^ 64 = next c was.0 (sym stays ∙ old.1 ∙ ap Some was.1) in
         subst (λ v. v + 1 < 2 ^ 64) (sym was.2) bound
-
--- NEXT VERSIONS
-
-all_of_held : (p : Cell → Bool) (c : CellName) (cells : Held) (x : Cell) → list_all (λ e. p e.1) cells ≡ true → cell_of c cells ≡ Some x → p x ≡ true
-all_of_held p c [] x all there = cc
-all_of_held p c (e ∷ es) x all there =
-    let hs : (p e.1 ≡ true) × (list_all (λ e. p e.1) es ≡ true) = and_parts _ _ all in
-    elim (cases_Bool (name_eq c e.0)) [
-      | inl same ↦ let found = sym (cell_of_here c e es same) ∙ there in let is : e.1 ≡ x = cc in ap p (sym is) ∙ hs.0
-      | inr other ↦ all_of_held p c es x hs.1 (sym (cell_of_further c e es other) ∙ there)
-    ]
-
-pub all_in : (p : Cell → Bool) (cells : Held) → list_all p (map (λ e. e.1) cells) ≡ list_all (λ e. p e.1) cells
-all_in p [] = refl
-all_in p (e ∷ es) = ap (λ b. p e.1 && b) (all_in p es)
-
-pub next_versions : (cells : Held) → list_all (λ e. has_next_version e.1) cells ≡ true → HaveNextVersions cells
-next_versions cells all c stored there = ltb-true (stored.version + 1) (2 ^ 64) (all_of_held has_next_version c cells (Slot (Some stored)) all there)

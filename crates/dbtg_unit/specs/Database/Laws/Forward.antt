@@ -11,14 +11,14 @@ use Rattle.dbtg_unit.specs.Database.Laws.Replay.{State, opening_state, replay}
 use Rattle.dbtg_unit.specs.Database.State.Versions.{VersionsUpTo}
 
 -- not live, and the key's number has had its generation: a key that was deleted
-abbrev pub is_spent : Database → DbKey → Bool
-is_spent db k = not (is_live db k) && nat_le k.generation (db.last k.rtype k.number)
+abbrev pub is_deleted : Database → DbKey → Bool
+is_deleted db k = not (is_live db k) && nat_le k.generation (db.last k.rtype k.number)
 
 -- no version rises by more than one, no last generation falls, no deleted key is live again
 pub record GoesForward (db new : Database) : Type 0 where
   pub versions : (k : DbKey) → version_of new k ≤ version_of db k + 1
   pub generations : (t n : ℕ) → db.last t n ≤ new.last t n
-  pub spent : (k : DbKey) → is_spent db k ≡ true → is_spent new k ≡ true
+  pub deleted : (k : DbKey) → is_deleted db k ≡ true → is_deleted new k ≡ true
 
 -- every statement goes forward from every legal database
 abbrev pub EachGoesForward : Type 0
@@ -31,7 +31,7 @@ VersionsAreBounded = (schema : Lists) (capacity units : ℕ) (history : List Ent
 -- over any entries
 pub record ReplayGoesForward (schema : Lists) (capacity : ℕ) (state : State) (entries : List Entry) : Type 0 where
   pub generations : (t n : ℕ) → state.database.last t n ≤ (replay schema capacity state entries).database.last t n
-  pub spent : (k : DbKey) → is_spent state.database k ≡ true → is_spent (replay schema capacity state entries).database k ≡ true
+  pub deleted : (k : DbKey) → is_deleted state.database k ≡ true → is_deleted (replay schema capacity state entries).database k ≡ true
 
 -- so does every history
 abbrev pub EachReplayGoesForward : Type 0

@@ -45,9 +45,13 @@ version_of db k = unwrap_or (option_map (λ r. r.version) (db.records k)) 0
 abbrev pub key_at : Database → ℕ → ℕ → DbKey
 key_at db t n = record { rtype = t; number = n; generation = db.last t n }
 
+-- the number is not spent: it has a generation left, of which 255 is the last
+abbrev pub is_unspent : Database → ℕ → ℕ → Bool
+is_unspent db t n = nat_lt (db.last t n) 255
+
 -- the least number of type t that no live record has and that is not spent
 abbrev pub free_number : ℕ → Database → ℕ → Option ℕ
-free_number capacity db t = first (filter (λ n. not (is_live db (key_at db t n)) && nat_lt (db.last t n) 255) (range_with_len 1 capacity))
+free_number capacity db t = first (filter (λ n. not (is_live db (key_at db t n)) && is_unspent db t n) (range_with_len 1 capacity))
 
 -- the live keys of type t, in key order
 abbrev pub live_keys : ℕ → Database → ℕ → List DbKey

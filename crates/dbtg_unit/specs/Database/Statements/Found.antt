@@ -72,7 +72,7 @@ found_unless (Some cause) key none = Err cause
 found_unless None (Some key) none = Ok key
 found_unless None None none = Err none
 
--- a needed current, or null
+-- of a needed current. A FIND whose current is null is refused before it looks (`find_lacks_current`)
 abbrev pub with_current : {X : Type 0} → Option X → (X → Result DbKey Cause) → Result DbKey Cause
 with_current None f = Err NoSuchCurrent
 with_current (Some x) f = f x

@@ -6,7 +6,9 @@ use Rattle.dbtg_step.specs.declared.parts.Runner.{Runner}
 use Rattle.dbtg_step.specs.Machine.SequentialDatabase.{unit_at}
 use Rattle.dbtg_step.specs.Machine.Machine.{UnitState}
 use Rattle.dbtg_step.specs.Machine.Network.{network}
+use Rattle.dbtg_step.specs.Core.Core.{state_now}
 use Rattle.dbtg_step.specs.Core.Parts.{CoreParts, machine}
+use Rattle.dbtg_step.proofs.TheCore.CoreShown.{unit_led_to}
 use Rattle.dbtg_step.proofs.TheCore.EventsShown.{no_unit, unit_there}
 use Rattle.dbtg_step.proofs.TheCore.QuitShown.{unit_shown}
 use Rattle.dbtg_step.proofs.machine.Core.unit.Goals as goal
@@ -17,8 +19,13 @@ returns-then-number-eq0 c =
     let inside = c.self.inside in
     let items = inside.parts.runners.items in
     let none : unit_at items c.args.number ≡ None = no_unit items c.args.number (elim c.then-number-eq0.branch [ then-number-eq0-via-then-number-eq0 w ↦ inl (omega arith) | then-number-eq0-via-else-number-eq0+then-len-number w ↦ inr (omega (arith, w.if-len-number.true, w.len.ensures)) ]) in
-    subst (λ (v : CoreParts). ◌≡◌ {A = Option Unit} None (option_map (λ (x : UnitState (network v.schema v.capacity)). x.unit) (unit_at (machine v).state.units c.args.number))) c.self.view_is
-    (sym (ap (option_map (λ (x : Runner). x.unit)) none) ∙ unit_shown inside.schema inside.capacity c.args.number inside.parts.table.items inside.parts.history.items items)
+    let here : option_map (λ (x : Runner). x.unit) (unit_at items c.args.number) ≡ None = ap (option_map (λ (x : Runner). x.unit)) none in
+    record {
+      machine = subst (λ (v : CoreParts). ◌≡◌ {A = Option Unit} None (option_map (λ (x : UnitState (network v.schema v.capacity)). x.unit) (unit_at (machine v).state.units c.args.number))) c.self.view_is
+          (sym here ∙ unit_shown inside.schema inside.capacity c.args.number inside.parts.table.items inside.parts.history.items items);
+      sequential = subst (λ (v : CoreParts). ◌≡◌ {A = Option Unit} None (unit_at (state_now v).units c.args.number)) c.self.view_is
+          (sym here ∙ unit_led_to inside.schema inside.capacity inside.parts c.self.invariant c.args.number);
+    }
 
 pub returns : goal.returns
 returns c =
@@ -26,5 +33,10 @@ returns c =
     let items = inside.parts.runners.items in
     let at : slice_get items (c.args.number - 1) ≡ Some c.index.result.now = slice_get_read items (length items) (c.args.number - 1) c.index.result.now refl (omega arith) c.index.ensures in
     let some : unit_at items c.args.number ≡ Some c.index.result.now = unit_there items c.args.number c.index.result.now (omega arith) at in
-    subst (λ (v : CoreParts). ◌≡◌ {A = Option Unit} (Some c.index.result.now.unit) (option_map (λ (x : UnitState (network v.schema v.capacity)). x.unit) (unit_at (machine v).state.units c.args.number))) c.self.view_is
-    (sym (ap (option_map (λ (x : Runner). x.unit)) some) ∙ unit_shown inside.schema inside.capacity c.args.number inside.parts.table.items inside.parts.history.items items)
+    let here : option_map (λ (x : Runner). x.unit) (unit_at items c.args.number) ≡ Some c.index.result.now.unit = ap (option_map (λ (x : Runner). x.unit)) some in
+    record {
+      machine = subst (λ (v : CoreParts). ◌≡◌ {A = Option Unit} (Some c.index.result.now.unit) (option_map (λ (x : UnitState (network v.schema v.capacity)). x.unit) (unit_at (machine v).state.units c.args.number))) c.self.view_is
+          (sym here ∙ unit_shown inside.schema inside.capacity c.args.number inside.parts.table.items inside.parts.history.items items);
+      sequential = subst (λ (v : CoreParts). ◌≡◌ {A = Option Unit} (Some c.index.result.now.unit) (unit_at (state_now v).units c.args.number)) c.self.view_is
+          (sym here ∙ unit_led_to inside.schema inside.capacity inside.parts c.self.invariant c.args.number);
+    }
