@@ -2,8 +2,10 @@
 -- May use: the reading of cells in hand, and edits.
 -- Promises: one lemma serves every statement about the current record, and one every plan that changes no cell.
 pub mod CurrentPlans
+pub mod EffectIsPlan
 pub mod GetKeepFree
 pub mod IsEffect
 pub mod OpenClose
 pub mod PartByPart
 pub mod RingEdits
+pub mod SamePlan

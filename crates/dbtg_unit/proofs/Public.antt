@@ -185,6 +185,8 @@ pub use Rattle.dbtg_unit.proofs.Database.Legal.SameView.{calc_taken_agrees}
 -- the same occurrence and key have the same checks at a place
 pub use Rattle.dbtg_unit.proofs.Database.Legal.SameView.{checks_at_agree}
 -- an INSERT has the same checks where the record, its owner and the occurrence are the same
+-- a record is the same in two views, and an occurrence
+pub use Rattle.dbtg_unit.proofs.Database.Legal.SameView.{SameRecord, SameOccurrence}
 pub use Rattle.dbtg_unit.proofs.Database.Legal.SameView.{insert_checks_agree}
 -- of its sets a MODIFY asks only those in which the record has an owner
 pub use Rattle.dbtg_unit.proofs.Database.Legal.SameView.{modify_checks_agree}

@@ -1,5 +1,4 @@
--- The edits by which a statement changes the cells, where nothing refuses it: edits of rings and slots; STORE, INSERT, REMOVE,
--- MODIFY and DELETE, each with its parts before it; then `edits_of`, a line for each statement, and that its edits are its effect.
+-- The edits by which a statement changes the cells, where nothing refuses it: STORE, MODIFY and DELETE, each with its parts before it; then `edits_of`, a line for each statement, and that its edits are its effect.
 -- k is a key, m a new member, d a record that goes, x a member that stays, o an owner, s a set, t a record type.
 use Rattle.std.specs.Prelude.{◌≡◌, ℕ, Bool, true, false, not, ◌==◌, List, [], ◌∷◌, ◌++◌, Option, Some, None, map, filter, option_map, option_and_then, unwrap_or, if◌then◌else◌}
 use Rattle.std.specs.List.{list_any, flat_map}
@@ -11,9 +10,9 @@ use Rattle.dbtg_cells.specs.declared.key.Owner.{Owner}
 use Rattle.dbtg_cells.specs.declared.key.Owner.TheVariants.{Rec}
 use Rattle.dbtg_cells.specs.declared.key.Value.{Value}
 use Rattle.dbtg_cells.specs.declared.name.CellName.{CellName}
-use Rattle.dbtg_cells.specs.declared.name.CellName.TheVariants.{Usage, Extent, Ring}
+use Rattle.dbtg_cells.specs.declared.name.CellName.TheVariants.{Extent, Ring}
 use Rattle.dbtg_unit.specs.declared.edit.Edit.{Edit}
-use Rattle.dbtg_unit.specs.declared.edit.Edit.TheVariants.{EnterUser, LeaveUser, EnterNumber, LeaveNumber, ChangeNumber, OpenRing, CloseRing, PlaceMember, ReplaceMember, TakeOut, Fill, Vacate, ChangeItems, ChangeOwner, RaiseVersion}
+use Rattle.dbtg_unit.specs.declared.edit.Edit.TheVariants.{EnterNumber, LeaveNumber, ChangeNumber, OpenRing, CloseRing, ReplaceMember, TakeOut, Fill, Vacate, ChangeItems, ChangeOwner, RaiseVersion}
 use Rattle.dbtg_unit.specs.declared.edit.CellEdit.{CellEdit}
 use Rattle.dbtg_unit.specs.declared.statement.Change.{Change}
 use Rattle.dbtg_unit.specs.declared.statement.Erase.{Erase}
@@ -23,32 +22,21 @@ use Rattle.dbtg_unit.specs.Database.State.Base.{Database, items_of, calc_items, 
 use Rattle.dbtg_unit.specs.Database.State.CellNames.{slot_name, place_of}
 use Rattle.dbtg_unit.specs.Database.State.Units.{place_in}
 use Rattle.dbtg_unit.specs.declared.statement.Statement.{Statement}
-use Rattle.dbtg_unit.specs.declared.statement.Statement.TheVariants.{OpenArea, CloseArea, Store, Insert, Remove, Modify, Delete}
+use Rattle.dbtg_unit.specs.declared.statement.Statement.TheVariants.{Store, Modify, Delete}
 use Rattle.dbtg_unit.specs.declared.unit.Status.TheVariants.{Done}
 use Rattle.dbtg_unit.specs.Database.State.Cells.{cell}
 use Rattle.dbtg_unit.specs.Hands.Edits.{edited_at}
 use Rattle.dbtg_unit.specs.Database.Statements.Effect.{changed_items, effect, free_number, is_gone, names_calc, new_key, replaced_sets}
+use Rattle.dbtg_unit.specs.Database.Statements.View.{whole}
+pub use Rattle.dbtg_unit.specs.Hands.PlanOf.{done_plan_of, placed_at, ring_edits, slot_edit}
 use Rattle.dbtg_unit.specs.Hands.Erasing.{doomed_in_turn, members_of_all, with_those}
 use Rattle.dbtg_unit.specs.Database.State.Legal.{Legal}
-
--- these edits of the ring of an owner, where there is one
-abbrev pub ring_edits : ℕ → Option Owner → List Edit → List CellEdit
-ring_edits s None edits = []
-ring_edits s (Some o) edits = map (λ edit. record { name = Ring s (place_of o); edit = edit }) edits
-
--- m, with this sort key, into the current occurrence of set s
-abbrev pub placed_at : Lists → ℕ → DbKey → Option Value → Place → Edit
-placed_at schema s m key place = PlaceMember (order_of schema s) place.at m key
 
 -- the edits by which m joins the current occurrence of a set
 abbrev pub joining_edits : Lists → Unit → ℕ → DbKey → Option Value → List CellEdit
 joining_edits schema unit s m key =
     ring_edits s (option_map (λ place. place.owner) (place_in schema unit s))
     (unwrap_or (option_map (λ place. placed_at schema s m key place ∷ []) (place_in schema unit s)) [])
-
--- an edit of the slot of a key
-abbrev pub slot_edit : DbKey → Edit → CellEdit
-slot_edit k edit = record { name = slot_name k; edit = edit }
 
 -- the owners of a record as STORE connects it
 abbrev pub first_owners : Lists → Unit → ℕ → List (Option Owner)
@@ -62,19 +50,6 @@ store_edits schema unit k items =
     ∷ (flat_map (λ s. joining_edits schema unit s k (key_item schema s k.rtype items)) (automatic_sets schema k.rtype)
     ++ (flat_map (λ s. record { name = Ring s (Some (k.rtype, k.number)); edit = OpenRing (Rec k) } ∷ []) (filter (λ s. owns schema s k.rtype) (set_numbers schema))
     ++ slot_edit k (Fill k.generation items (first_owners schema unit k.rtype)) ∷ []))
-
--- INSERT of k: its place, its owner, its version
-abbrev pub insert_edits : Lists → Database → Unit → ℕ → DbKey → List CellEdit
-insert_edits schema db unit s k =
-    joining_edits schema unit s k (key_item schema s k.rtype (items_of db k))
-    ++ slot_edit k (ChangeOwner s (option_map (λ place. place.owner) (place_in schema unit s)))
-    ∷ slot_edit k RaiseVersion
-    ∷ []
-
--- REMOVE of k: out of its list, no owner, its version
-abbrev pub remove_edits : Lists → ℕ → Database → ℕ → DbKey → List CellEdit
-remove_edits schema capacity db s k =
-    ring_edits s (owner_of schema capacity db s k) (TakeOut k ∷ []) ++ slot_edit k (ChangeOwner s None) ∷ slot_edit k RaiseVersion ∷ []
 
 -- k, out of its list of set s and placed anew by its new sort key
 abbrev pub replacing_edits : Lists → ℕ → Database → Unit → DbKey → List Value → ℕ → List CellEdit
@@ -139,14 +114,10 @@ edits_of_current (Some k) edits = edits k
 
 -- the edits of a statement
 abbrev pub edits_of : Lists → ℕ → Database → Unit → Statement → List CellEdit
-edits_of schema capacity db unit (OpenArea a mode) = record { name = Usage a; edit = EnterUser unit.number mode } ∷ []
-edits_of schema capacity db unit (CloseArea a) = record { name = Usage a; edit = LeaveUser unit.number } ∷ []
 edits_of schema capacity db unit (Store t items suppress) = store_edits schema unit (new_key db t (unwrap_or (free_number capacity db t) 0)) items
-edits_of schema capacity db unit (Insert s) = edits_of_current unit.currency.run_unit (insert_edits schema db unit s)
-edits_of schema capacity db unit (Remove s) = edits_of_current unit.currency.run_unit (remove_edits schema capacity db s)
 edits_of schema capacity db unit (Modify t changes) = edits_of_current unit.currency.run_unit (modify_edits schema capacity db unit changes)
 edits_of schema capacity db unit (Delete option) = edits_of_current unit.currency.run_unit (delete_edits schema capacity db option)
-edits_of schema capacity db unit _ = []
+edits_of schema capacity db unit statement = (done_plan_of schema (whole schema capacity db) unit statement).cells
 
 -- the statement is a DELETE
 abbrev pub is_delete : Statement → Bool
