@@ -29,7 +29,6 @@ use Rattle.dbtg_unit.specs.Hands.Prepared.{refusal, unless_refusal}
 use Rattle.dbtg_plan.specs.Finding.{found_in, plan_of_found}
 use Rattle.dbtg_plan.specs.Locality.{EachIsDetermined}
 use Rattle.dbtg_plan.specs.Missing.{first_missing}
-use Rattle.dbtg_plan.specs.Modifying.{modify_plan}
 use Rattle.dbtg_plan.specs.Store.{store_plan}
 use Rattle.dbtg_unit.specs.Hands.PlanOf.{plan_of}
 use Rattle.dbtg_plan.proofs.Plans.EffectIsPlan.{effect_in_hand}
@@ -109,8 +108,7 @@ module _ (schema : Lists) (capacity : ℕ) (db eb : Database) (hands : Hands) (u
       (λ passes may. (store_plan schema unit hands t items suppress, plan_is_effect schema capacity unit hands t items suppress may passes))
   of_each (Insert s) fit other = by_plan (Insert s) fit (λ o there. refl) (λ passes may. (plan_of schema (in_hand hands) unit (Insert s), effect_in_hand schema capacity unit hands (Insert s) may passes refl (λ d there. insert_is_effect schema capacity unit hands s may passes d there)))
   of_each (Remove s) fit other = by_plan (Remove s) fit (λ o there. refl) (λ passes may. (plan_of schema (in_hand hands) unit (Remove s), effect_in_hand schema capacity unit hands (Remove s) may passes refl (λ d there. remove_is_effect schema capacity unit hands s may passes d there)))
-  of_each (Modify t changes) fit other =
-      by_plan (Modify t changes) fit (λ o there. refl) (λ passes may. (modify_plan schema hands unit changes, modify_is_effect schema capacity unit hands t changes may passes))
+  of_each (Modify t changes) fit other = by_plan (Modify t changes) fit (λ o there. refl) (λ passes may. (plan_of schema (in_hand hands) unit (Modify t changes), effect_in_hand schema capacity unit hands (Modify t changes) may passes refl (λ d there. modify_is_effect schema capacity unit hands t changes may passes d there)))
   of_each (Delete option) fit other = absurd (false≢true (sym other))
   of_each Keep fit other = by_plan Keep fit (λ o there. refl) (λ passes may. (plan_of schema (in_hand hands) unit (Keep), effect_in_hand schema capacity unit hands (Keep) may passes refl (λ d there. keep_is_effect schema capacity unit hands passes may d there)))
   of_each (Free all) fit other = by_plan (Free all) fit (λ o there. refl) (λ passes may. (plan_of schema (in_hand hands) unit (Free all), effect_in_hand schema capacity unit hands (Free all) may passes refl (λ d there. free_is_effect schema capacity unit hands all passes d)))

@@ -3,7 +3,6 @@ pub mod Modifying
 pub mod Store
 pub mod Joining
 pub mod Finding
-pub mod Plans
 pub mod Missing
 pub mod Stale
 pub mod Locality

@@ -6,7 +6,7 @@ ghost use Rattle.dbtg_unit.specs.Hands.Making.{CanFinish, MayPrepare, ShowsTheSa
 use crate::finding::prepare_find;
 use crate::inserting::prepare_insert;
 use crate::keeping::{free, get, keep};
-use crate::modifying::prepare_modify;
+use crate::modifying::modify;
 use crate::opening::{close, prepare_open};
 use crate::removing::remove;
 use crate::storing::prepare_store;
@@ -14,7 +14,7 @@ use dbtg_schema::Schema;
 use dbtg_unit::{Cause, Held, Prepared, Statement, Unit, refused, refused_at_once};
 use std::alloc::{AllocError, Global};
 
-#[tactic(auto, using(crate::proofs::Plans::OpenClose::close_can_finish, crate::proofs::Plans::GetKeepFree::get_finishes, crate::proofs::Plans::GetKeepFree::keep_finishes, crate::proofs::Plans::GetKeepFree::free_finishes, crate::proofs::Connect::RemoveIsEffect::remove_finishes))]
+#[tactic(auto, using(crate::proofs::Plans::OpenClose::close_can_finish, crate::proofs::Plans::GetKeepFree::get_finishes, crate::proofs::Plans::GetKeepFree::keep_finishes, crate::proofs::Plans::GetKeepFree::free_finishes, crate::proofs::Connect::RemoveIsEffect::remove_finishes, crate::proofs::Modify::ModifyReady::modify_finishes))]
 /// Prepares a statement other than DELETE that needs nothing more: makes room for what it adds to the cells in hand, which show
 /// what they did, and fixes its answer and its changes. Where no memory is found, only room was made.
 pub fn prepare(
@@ -42,15 +42,7 @@ pub fn prepare(
         Statement::Insert(set) => prepare_insert(alloc, schema, capacity, unit, *set, held),
         Statement::Remove(set) => remove(alloc, schema, unit, *set, held),
         Statement::Modify { rtype, changes } => {
-            prepare_modify(
-                alloc,
-                schema,
-                capacity,
-                unit,
-                *rtype,
-                changes.as_slice(),
-                held,
-            )
+            modify(alloc, schema, unit, *rtype, changes.as_slice(), held)
         }
         Statement::Keep => keep(alloc, schema, unit, held),
         Statement::Free { all } => Ok(free(alloc, schema, unit, *all, held)),

@@ -1,18 +1,22 @@
 -- Two views that answer alike where a statement asks have one plan; and the cells in hand of a ready statement answer as each
 -- database does that agrees with them.
 -- k is a key, s a set, v and w views.
-use Rattle.std.proofs.Common.{◌≡◌, refl, sym, ◌∙◌, ap, subst, ℕ, ◌<◌, ◌+◌, Bool, true, false, not, List, [], ◌∷◌, ◌++◌, length, Option, Some, None, inl, arith}
-use Rattle.std.specs.Prelude.{⊤, option_map, unwrap_or}
-use Rattle.std.specs.List.{list_any}
+use Rattle.std.proofs.Common.{◌≡◌, refl, sym, ◌∙◌, ap, subst, ℕ, ◌<◌, ◌+◌, Bool, true, false, not, List, [], ◌∷◌, ◌++◌, length, map, Option, Some, None, inl, arith}
+use Rattle.std.specs.Prelude.{⊤, option_and_then, option_map, unwrap_or}
+use Rattle.std.specs.List.{flat_map, list_any}
 use Rattle.std.proofs.lemmas.Bool.{false≢true, ltb-true}
 use Rattle.dbtg_schema.specs.Lists.{Lists}
 use Rattle.dbtg_schema.specs.Lookups.{at, first_cause}
-use Rattle.dbtg_schema.specs.Structure.{set_numbers}
+use Rattle.dbtg_schema.specs.Structure.{order_of, rekeyed_sets, set_numbers}
 use Rattle.dbtg_cells.specs.declared.key.DbKey.{DbKey}
+use Rattle.dbtg_cells.specs.declared.key.Owner.{Owner}
 use Rattle.dbtg_cells.specs.declared.key.Owner.TheVariants.{System}
+use Rattle.dbtg_cells.specs.declared.key.Value.{Value}
 use Rattle.dbtg_cells.specs.declared.name.CellName.TheVariants.{Ring}
-use Rattle.dbtg_unit.specs.declared.edit.Edit.TheVariants.{ChangeOwner, EnterUser, RaiseVersion, TakeOut}
+use Rattle.dbtg_unit.specs.declared.edit.CellEdit.{CellEdit}
+use Rattle.dbtg_unit.specs.declared.edit.Edit.TheVariants.{ChangeItems, ChangeOwner, EnterUser, RaiseVersion, ReplaceMember, TakeOut}
 use Rattle.dbtg_unit.specs.declared.edit.UnitEdit.TheVariants.{Keep as KeepEdit, Leave, Move, Same}
+use Rattle.dbtg_unit.specs.declared.statement.Change.{Change}
 use Rattle.dbtg_unit.specs.declared.statement.Statement.{Statement}
 use Rattle.dbtg_unit.specs.declared.statement.Statement.TheVariants.{OpenArea, CloseArea, Find, Get, Store, Insert, Remove, Modify, Delete, Keep, Free}
 use Rattle.dbtg_unit.specs.declared.unit.Cause.{Cause}
@@ -22,23 +26,25 @@ use Rattle.dbtg_unit.specs.declared.unit.Unit.{Unit}
 use Rattle.dbtg_unit.specs.Database.State.Base.{Database, key_item}
 use Rattle.dbtg_unit.specs.Database.State.CellNames.{place_of, slot_name}
 use Rattle.dbtg_unit.specs.Database.State.Units.{noted, place_in}
-use Rattle.dbtg_unit.specs.Database.Statements.Checks.{about, insert_checks, live_checks, refused_at_once, remove_checks}
-use Rattle.dbtg_unit.specs.Database.Statements.Conditions.{joined_place}
+use Rattle.dbtg_unit.specs.Database.Statements.Checks.{about, insert_checks, live_checks, modify_checks, refused_at_once, remove_checks}
+use Rattle.dbtg_unit.specs.Database.Statements.Conditions.{changed_items, joined_place, names_calc}
 use Rattle.dbtg_unit.specs.Database.Statements.Effect.{conflict}
 use Rattle.dbtg_unit.specs.Database.Statements.View.{View, whole}
 use Rattle.dbtg_unit.specs.Hands.Hands.{Hands}
 use Rattle.dbtg_unit.specs.Hands.InHand.{in_hand}
 use Rattle.dbtg_unit.specs.Hands.Local.{Agrees, holds}
 use Rattle.dbtg_unit.specs.Hands.Needs.{current_owner, ring_names, slot_names}
-use Rattle.dbtg_unit.specs.Hands.PlanOf.{done_answer, done_plan, inserting, joining_edit, mode_plan, plan_of, planned_on_current, removing, ring_edits, slot_edit}
+use Rattle.dbtg_unit.specs.Hands.PlanOf.{calc_edits, done_answer, done_plan, inserting, joining_edit, mode_plan, modify_edits, modifying, plan_of, planned_on_current, removing, replacing_edits, ring_edits, slot_edit}
 use Rattle.dbtg_unit.specs.Hands.Prepared.{Plan, unless_refusal}
+use Rattle.dbtg_unit.proofs.Public.{HasAll, flat_map_agrees, live_in_hand, modify_checks_agree, modify_typed, of_filter, same_calc_beside}
+use Rattle.dbtg_plan.specs.Modifying.{is_rekeyed}
+use Rattle.dbtg_plan.proofs.Plans.ModifyHolds.{extent_held, rings_held, slot_held}
 use Rattle.dbtg_unit.proofs.Public.{In, MayPlan, SameOccurrence, SameRecord, in_left, in_range, in_right, insert_checks_agree, owner_in_hand, passes_without_cells, prepared_has_all, remove_checks_agree, same_occurrence, same_record, some_from_not_none, users_in_hand}
 
 -- the statements that are planned over a view
 abbrev pub is_planned : Statement → Bool
 is_planned (Find form suppress) = false
 is_planned (Store t items suppress) = false
-is_planned (Modify t changes) = false
 is_planned (Delete option) = false
 is_planned _ = true
 
@@ -46,20 +52,47 @@ is_planned _ = true
 abbrev pub OfCurrent : Unit → (DbKey → Type 0) → Type 0
 OfCurrent unit P = (k : DbKey) → unit.currency.run_unit ≡ Some k → P k
 
+-- the same of a record that is to have changes: of its CALC items where one is named, and of its owner and occurrence in each set in
+-- which it is placed anew
+pub record SameToChange (schema : Lists) (v w : View) (changes : List Change) (k : DbKey) : Type 0 where
+  pub record_is : SameRecord v w k
+  pub calc : names_calc schema k.rtype changes ≡ true → v.is_live k ≡ true → (values : List Value) → v.has_calc k.rtype values (Some k) ≡ w.has_calc k.rtype values (Some k)
+  pub owners : (s : ℕ) → In s (rekeyed_sets schema k.rtype (map (λ c. c.item) changes)) → v.owner s k ≡ w.owner s k
+  pub rings : (s : ℕ) (o : Owner) → In s (rekeyed_sets schema k.rtype (map (λ c. c.item) changes)) → w.owner s k ≡ Some o → SameOccurrence v w s o
+
 -- the same where a statement asks
 abbrev pub SameFor : Lists → View → View → Unit → Statement → Type 0
 SameFor schema v w unit (OpenArea a mode) = v.users a ≡ w.users a
 SameFor schema v w unit (Get r) = OfCurrent unit (SameRecord v w)
 SameFor schema v w unit (Insert s) = OfCurrent unit (λ k. SameRecord v w k × (v.owner s k ≡ w.owner s k) × SameOccurrence v w s (joined_place schema unit s).owner)
 SameFor schema v w unit (Remove s) = OfCurrent unit (λ k. SameRecord v w k × (v.owner s k ≡ w.owner s k))
+SameFor schema v w unit (Modify t changes) = OfCurrent unit (SameToChange schema v w changes)
 SameFor schema v w unit Keep = OfCurrent unit (SameRecord v w)
 SameFor schema v w unit _ = ⊤
 
 current_agrees : (current : Option DbKey) (checks checks' : DbKey → List (Bool × Cause)) (plan plan' : DbKey → Plan)
-    → ((k : DbKey) → current ≡ Some k → (checks k ≡ checks' k) × (plan k ≡ plan' k))
+    → ((k : DbKey) → current ≡ Some k → (first_cause (checks k) ≡ first_cause (checks' k)) × (plan k ≡ plan' k))
     → unless_refusal (first_cause (about current checks)) (planned_on_current current plan) ≡ unless_refusal (first_cause (about current checks')) (planned_on_current current plan')
 current_agrees None checks checks' plan plan' h = refl
-current_agrees (Some k) checks checks' plan plan' h = let is = h k refl in λ i. unless_refusal (first_cause (is.0 i)) (is.1 i)
+current_agrees (Some k) checks checks' plan plan' h = let is = h k refl in λ i. unless_refusal (is.0 i) (is.1 i)
+
+-- the same record has the same plan of its changes
+modifying_agrees : (schema : Lists) (v w : View) (unit : Unit) (changes : List Change) (k : DbKey) → SameToChange schema v w changes k → modifying schema v unit changes k ≡ modifying schema w unit changes k
+modifying_agrees schema v w unit changes k all =
+    λ i. record { answer = done_answer; cells = cells i; versions = (k, all.record_is.version i + 1) ∷ []; unit = Same } where
+      sets : List ℕ
+      sets = rekeyed_sets schema k.rtype (map (λ c. c.item) changes)
+
+      rings : (items : List Value) → flat_map (replacing_edits schema v unit k items) sets ≡ flat_map (replacing_edits schema w unit k items) sets
+      rings items =
+          flat_map_agrees (replacing_edits schema v unit k items) (replacing_edits schema w unit k items) sets
+          (λ s there. ap (λ (o : Option Owner). ring_edits s o (ReplaceMember (order_of schema s) (option_and_then (λ (place : Place). place.at) (place_in schema unit s)) k (key_item schema s k.rtype items) ∷ [])) (all.owners s there))
+
+      cells : modify_edits schema v unit changes k (changed_items changes (v.items k)) ≡ modify_edits schema w unit changes k (changed_items changes (w.items k))
+      cells =
+          ap (λ items. modify_edits schema v unit changes k (changed_items changes items)) all.record_is.items
+          ∙ (let items = changed_items changes (w.items k) in
+          ap (λ (edits : List CellEdit). calc_edits schema changes k items ++ (edits ++ slot_edit k (ChangeItems items) ∷ (slot_edit k RaiseVersion ∷ []))) (rings items))
 
 -- two views that answer alike where a statement asks have one plan
 pub plan_agrees : (schema : Lists) (v w : View) (unit : Unit) (statement : Statement) → is_planned statement ≡ true → SameFor schema v w unit statement
@@ -69,12 +102,12 @@ plan_agrees schema v w unit (CloseArea a) planned same = refl
 plan_agrees schema v w unit (Find form suppress) planned same = absurd (false≢true planned)
 plan_agrees schema v w unit (Get r) planned same =
     current_agrees unit.currency.run_unit (live_checks v) (live_checks w) (λ k. done_plan Same (Some k) (Some (v.items k))) (λ k. done_plan Same (Some k) (Some (w.items k)))
-    (λ k is. let record_is = same k is in ((λ i. (not (record_is.is_live i), Deleted) ∷ []), (λ i. done_plan Same (Some k) (Some (record_is.items i)))))
+    (λ k is. let record_is = same k is in ((λ i. first_cause ((not (record_is.is_live i), Deleted) ∷ [])), (λ i. done_plan Same (Some k) (Some (record_is.items i)))))
 plan_agrees schema v w unit (Store t items suppress) planned same = absurd (false≢true planned)
 plan_agrees schema v w unit (Insert s) planned same =
     current_agrees unit.currency.run_unit (insert_checks schema v unit s) (insert_checks schema w unit s) (inserting schema v unit s) (inserting schema w unit s)
     (λ k is. let all = same k is in (
-      insert_checks_agree v w unit schema s k all.0 all.1 all.2,
+      ap first_cause (insert_checks_agree v w unit schema s k all.0 all.1 all.2),
       (λ i. record {
         answer = done_answer;
         cells = joining_edit schema unit s k (key_item schema s k.rtype (all.0.items i)) ∷ slot_edit k (ChangeOwner s (Some (joined_place schema unit s).owner)) ∷ slot_edit k RaiseVersion ∷ [];
@@ -85,7 +118,7 @@ plan_agrees schema v w unit (Insert s) planned same =
 plan_agrees schema v w unit (Remove s) planned same =
     current_agrees unit.currency.run_unit (remove_checks v unit s) (remove_checks w unit s) (removing v s) (removing w s)
     (λ k is. let all = same k is in (
-      remove_checks_agree v w unit s k all.0 all.1,
+      ap first_cause (remove_checks_agree v w unit s k all.0 all.1),
       (λ i. record {
         answer = done_answer;
         cells = ring_edits s (all.1 i) (TakeOut k ∷ []) ++ slot_edit k (ChangeOwner s None) ∷ slot_edit k RaiseVersion ∷ [];
@@ -93,11 +126,16 @@ plan_agrees schema v w unit (Remove s) planned same =
         unit = Leave s;
       }),
     ))
-plan_agrees schema v w unit (Modify t changes) planned same = absurd (false≢true planned)
+plan_agrees schema v w unit (Modify t changes) planned same =
+    current_agrees unit.currency.run_unit (modify_checks schema v unit changes) (modify_checks schema w unit changes) (modifying schema v unit changes) (modifying schema w unit changes)
+    (λ k is. let all = same k is in (
+      modify_checks_agree v w unit schema changes k all.record_is all.calc all.owners all.rings,
+      modifying_agrees schema v w unit changes k all,
+    ))
 plan_agrees schema v w unit (Delete option) planned same = absurd (false≢true planned)
 plan_agrees schema v w unit Keep planned same =
     current_agrees unit.currency.run_unit (live_checks v) (live_checks w) (λ k. done_plan (KeepEdit (noted k (v.version k) unit.kept)) None None) (λ k. done_plan (KeepEdit (noted k (w.version k) unit.kept)) None None)
-    (λ k is. let record_is = same k is in ((λ i. (not (record_is.is_live i), Deleted) ∷ []), (λ i. done_plan (KeepEdit (noted k (record_is.version i) unit.kept)) None None)))
+    (λ k is. let record_is = same k is in ((λ i. first_cause ((not (record_is.is_live i), Deleted) ∷ [])), (λ i. done_plan (KeepEdit (noted k (record_is.version i) unit.kept)) None None)))
 plan_agrees schema v w unit (Free true) planned same = refl
 plan_agrees schema v w unit (Free false) planned same = refl
 
@@ -152,7 +190,19 @@ module _ (schema : Lists) (capacity : ℕ) (unit : Unit) (hands : Hands) (db : D
     same_record schema capacity db hands unit agrees k (remove_slot s may passes k is),
     sym (owner_in_hand schema capacity db hands unit agrees k (remove_slot s may passes k is) s (in_sets schema s (ltb-true s (length schema.sets) may.fits))),
   )
-  alike_in_hand (Modify t changes) may passes = tt
+  alike_in_hand (Modify t changes) may passes = λ k is.
+      let typed = modify_typed schema capacity db unit hands t changes passes k is in
+      let has = subst (λ u. HasAll schema capacity db unit hands (Modify u changes)) (sym typed) (prepared_has_all schema capacity unit hands (Modify t changes) passes may.ready db agrees) in
+      let slot = slot_held schema capacity db hands unit agrees changes k is has.cells has.fresh in
+      let extent = extent_held schema capacity db hands unit agrees changes k is has.cells has.fresh in
+      let rings = rings_held schema capacity db hands unit agrees changes k is has.cells has.fresh in
+      let rekeyed = λ (s : ℕ) (i : In s (rekeyed_sets schema k.rtype (map (λ c. c.item) changes))). of_filter (λ s. is_rekeyed schema changes k.rtype s) s (set_numbers schema) i in
+      record {
+        record_is = same_record schema capacity db hands unit agrees k slot;
+        calc = λ named there. same_calc_beside schema capacity db hands unit agrees k.rtype (extent named) k refl (live_in_hand schema capacity db hands unit agrees k slot ∙ there);
+        owners = λ s i. sym (owner_in_hand schema capacity db hands unit agrees k slot s (rekeyed s i).0);
+        rings = λ s o i there. same_occurrence schema capacity db hands unit agrees s o (rings s o (rekeyed s i).1 there);
+      }
   alike_in_hand (Delete option) may passes = tt
   alike_in_hand Keep may passes = λ k is.
       same_record schema capacity db hands unit agrees k ((prepared_has_all schema capacity unit hands Keep passes may.ready db agrees).cells (slot_name k) (current_slot unit.currency.run_unit k is))

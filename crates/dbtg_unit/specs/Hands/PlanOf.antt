@@ -1,33 +1,35 @@
 -- What each statement plans, a line for each, over a view: so a plan stands once, for a whole database and for the cells in hand.
--- First edits of rings and slots and plans that change no cell; then INSERT and REMOVE; at the end `done_plan_of`, a line for each
+-- First edits of rings and slots and plans that change no cell; then INSERT, REMOVE and MODIFY; at the end `done_plan_of`, a line for each
 -- statement, and `plan_of`, which puts the checks before it.
 -- k is a key, m a new member, o an owner, s a set, a an area.
-use Rattle.std.specs.Prelude.{ℕ, ◌+◌, true, false, List, [], ◌∷◌, ◌++◌, Option, Some, None, map}
+use Rattle.std.specs.Prelude.{ℕ, ◌+◌, true, false, List, [], ◌∷◌, ◌++◌, Option, Some, None, map, option_and_then, if◌then◌else◌}
+use Rattle.std.specs.List.{flat_map}
 use Rattle.dbtg_schema.specs.Lists.{Lists}
 use Rattle.dbtg_schema.specs.Lookups.{first_cause}
-use Rattle.dbtg_schema.specs.Structure.{order_of}
+use Rattle.dbtg_schema.specs.Structure.{order_of, rekeyed_sets}
 use Rattle.dbtg_cells.specs.declared.key.DbKey.{DbKey}
 use Rattle.dbtg_cells.specs.declared.key.Owner.{Owner}
 use Rattle.dbtg_cells.specs.declared.key.Value.{Value}
-use Rattle.dbtg_cells.specs.declared.name.CellName.TheVariants.{Usage, Ring}
+use Rattle.dbtg_cells.specs.declared.name.CellName.TheVariants.{Usage, Extent, Ring}
 use Rattle.dbtg_cells.specs.declared.usage.Mode.{Mode}
 use Rattle.dbtg_unit.specs.declared.edit.CellEdit.{CellEdit}
 use Rattle.dbtg_unit.specs.declared.edit.Edit.{Edit}
-use Rattle.dbtg_unit.specs.declared.edit.Edit.TheVariants.{EnterUser, LeaveUser, PlaceMember, TakeOut, ChangeOwner, RaiseVersion}
+use Rattle.dbtg_unit.specs.declared.edit.Edit.TheVariants.{EnterUser, LeaveUser, ChangeNumber, PlaceMember, ReplaceMember, TakeOut, ChangeItems, ChangeOwner, RaiseVersion}
 use Rattle.dbtg_unit.specs.declared.edit.UnitEdit.{UnitEdit}
 use Rattle.dbtg_unit.specs.declared.edit.UnitEdit.TheVariants.{Same, Move, Leave, SetMode, Keep as KeepEdit, Forget, ForgetAll}
+use Rattle.dbtg_unit.specs.declared.statement.Change.{Change}
 use Rattle.dbtg_unit.specs.declared.statement.Statement.{Statement}
-use Rattle.dbtg_unit.specs.declared.statement.Statement.TheVariants.{OpenArea, CloseArea, Get, Insert, Remove, Keep, Free}
+use Rattle.dbtg_unit.specs.declared.statement.Statement.TheVariants.{OpenArea, CloseArea, Get, Insert, Remove, Modify, Keep, Free}
 use Rattle.dbtg_unit.specs.declared.unit.Answer.{Answer}
 use Rattle.dbtg_unit.specs.declared.unit.Cause.TheVariants.{NoCurrentOfRunUnit}
 use Rattle.dbtg_unit.specs.declared.unit.Place.{Place}
 use Rattle.dbtg_unit.specs.declared.unit.Status.TheVariants.{Done}
 use Rattle.dbtg_unit.specs.declared.unit.Unit.{Unit}
-use Rattle.dbtg_unit.specs.Database.State.Base.{key_item}
+use Rattle.dbtg_unit.specs.Database.State.Base.{calc_items, key_item}
 use Rattle.dbtg_unit.specs.Database.State.CellNames.{slot_name, place_of}
-use Rattle.dbtg_unit.specs.Database.State.Units.{noted}
+use Rattle.dbtg_unit.specs.Database.State.Units.{noted, place_in}
 use Rattle.dbtg_unit.specs.Database.Statements.Checks.{checks_on_cells}
-use Rattle.dbtg_unit.specs.Database.Statements.Conditions.{joined_place}
+use Rattle.dbtg_unit.specs.Database.Statements.Conditions.{changed_items, joined_place, names_calc}
 use Rattle.dbtg_unit.specs.Database.Statements.View.{View}
 use Rattle.dbtg_unit.specs.Hands.Prepared.{Plan, refusal, unless_refusal}
 
@@ -79,6 +81,32 @@ removing view s k = record {
   unit = Leave s;
 }
 
+-- k, out of its list of set s and placed anew by its new sort key
+abbrev pub replacing_edits : Lists → View → Unit → DbKey → List Value → ℕ → List CellEdit
+replacing_edits schema view unit k items s =
+    ring_edits s (view.owner s k) (ReplaceMember (order_of schema s) (option_and_then (λ place. place.at) (place_in schema unit s)) k (key_item schema s k.rtype items) ∷ [])
+
+-- the CALC values of k, where an item among them is named
+abbrev pub calc_edits : Lists → List Change → DbKey → List Value → List CellEdit
+calc_edits schema changes k items =
+    if names_calc schema k.rtype changes then record { name = Extent k.rtype; edit = ChangeNumber k.number (calc_items schema k.rtype items) } ∷ [] else []
+
+-- k has these items now: its CALC values, its places where a sort key is named, its items, its version
+abbrev pub modify_edits : Lists → View → Unit → List Change → DbKey → List Value → List CellEdit
+modify_edits schema view unit changes k items =
+    calc_edits schema changes k items
+    ++ (flat_map (replacing_edits schema view unit k items) (rekeyed_sets schema k.rtype (map (λ c. c.item) changes))
+    ++ slot_edit k (ChangeItems items) ∷ (slot_edit k RaiseVersion ∷ []))
+
+-- MODIFY of k
+abbrev pub modifying : Lists → View → Unit → List Change → DbKey → Plan
+modifying schema view unit changes k = record {
+  answer = done_answer;
+  cells = modify_edits schema view unit changes k (changed_items changes (view.items k));
+  versions = (k, view.version k + 1) ∷ [];
+  unit = Same;
+}
+
 -- what is planned about a current, where there is one
 abbrev pub planned_on_current : Option DbKey → (DbKey → Plan) → Plan
 planned_on_current None plan = refusal NoCurrentOfRunUnit
@@ -91,6 +119,7 @@ done_plan_of schema view unit (CloseArea a) = mode_plan a (LeaveUser unit.number
 done_plan_of schema view unit (Get r) = planned_on_current unit.currency.run_unit (λ k. done_plan Same (Some k) (Some (view.items k)))
 done_plan_of schema view unit (Insert s) = planned_on_current unit.currency.run_unit (inserting schema view unit s)
 done_plan_of schema view unit (Remove s) = planned_on_current unit.currency.run_unit (removing view s)
+done_plan_of schema view unit (Modify t changes) = planned_on_current unit.currency.run_unit (modifying schema view unit changes)
 done_plan_of schema view unit Keep = planned_on_current unit.currency.run_unit (λ k. done_plan (KeepEdit (noted k (view.version k) unit.kept)) None None)
 done_plan_of schema view unit (Free true) = done_plan ForgetAll None None
 done_plan_of schema view unit (Free false) = planned_on_current unit.currency.run_unit (λ k. done_plan (Forget k) None None)
