@@ -27,21 +27,18 @@ use Rattle.dbtg_unit.specs.Hands.Needs.{areas_in_order, cells_of, need}
 use Rattle.dbtg_unit.proofs.Public.{HasPlan, MayPlan, one_plan_does_the_same}
 use Rattle.dbtg_unit.specs.Hands.Prepared.{refusal, unless_refusal}
 use Rattle.dbtg_plan.specs.Finding.{found_in, plan_of_found}
-use Rattle.dbtg_plan.specs.Inserting.{insert_plan}
-use Rattle.dbtg_plan.specs.Keeping.{free_plan, get_plan, keep_plan}
 use Rattle.dbtg_plan.specs.Locality.{EachIsDetermined}
 use Rattle.dbtg_plan.specs.Missing.{first_missing}
-use Rattle.dbtg_plan.specs.Modifying.{modify_plan}
-use Rattle.dbtg_plan.specs.Opening.{close_plan, open_plan}
-use Rattle.dbtg_plan.specs.Removing.{remove_plan}
 use Rattle.dbtg_plan.specs.Store.{store_plan}
+use Rattle.dbtg_unit.specs.Hands.PlanOf.{plan_of}
+use Rattle.dbtg_plan.proofs.Plans.EffectIsPlan.{effect_in_hand}
 use Rattle.dbtg_plan.proofs.Find.FindPlans.{find_is_effect, next_cell_is}
-use Rattle.dbtg_plan.proofs.Connect.InsertIsEffect.{insert_is_prepared}
+use Rattle.dbtg_plan.proofs.Connect.InsertIsEffect.{insert_is_effect}
 use Rattle.dbtg_plan.proofs.Plans.GetKeepFree.{free_is_effect, get_is_effect, keep_is_effect}
 use Rattle.dbtg_plan.proofs.Modify.ModifyReady.{modify_is_effect}
 use Rattle.dbtg_plan.proofs.Plans.OpenClose.{close_is_effect, open_is_effect}
 use Rattle.dbtg_plan.proofs.Plans.PartByPart.{refused_finishes}
-use Rattle.dbtg_plan.proofs.Connect.RemoveIsEffect.{remove_is_prepared}
+use Rattle.dbtg_plan.proofs.Connect.RemoveIsEffect.{remove_is_effect}
 use Rattle.dbtg_plan.proofs.Needs.WrongGuesses.{area_needed, cell_needed, guesses_needed, refused_needs}
 use Rattle.dbtg_plan.proofs.Store.StoreInHand.{missing_in_hand, plan_is_effect}
 
@@ -97,27 +94,24 @@ module _ (schema : Lists) (capacity : ℕ) (db eb : Database) (hands : Hands) (u
     })
 
   of_each : (statement : Statement) → fits schema statement ≡ true → is_delete statement ≡ false → Determined statement
-  of_each (OpenArea a mode) fit other =
-      by_plan (OpenArea a mode) fit (λ o there. refl)
-      (λ passes may. (unless_refusal (first_cause (open_checks (in_hand hands) a mode)) (open_plan unit a mode), open_is_effect schema capacity unit a mode hands passes may))
-  of_each (CloseArea a) fit other = by_plan (CloseArea a) fit (λ o there. refl) (λ passes may. (close_plan unit a, close_is_effect schema capacity unit a hands passes may))
+  of_each (OpenArea a mode) fit other = by_plan (OpenArea a mode) fit (λ o there. refl) (λ passes may. (plan_of schema (in_hand hands) unit (OpenArea a mode), effect_in_hand schema capacity unit hands (OpenArea a mode) may passes refl (λ d there. open_is_effect schema capacity unit a mode hands passes may d there)))
+  of_each (CloseArea a) fit other = by_plan (CloseArea a) fit (λ o there. refl) (λ passes may. (plan_of schema (in_hand hands) unit (CloseArea a), effect_in_hand schema capacity unit hands (CloseArea a) may passes refl (λ d there. close_is_effect schema capacity unit a hands passes may d there)))
   of_each (Find form suppress) fit other =
       let named = (and_parts (form_fits schema form) (suppress_fits schema suppress) fit).0 in
       by_plan (Find form suppress) fit
       (λ o there. sym (next_cell_is schema capacity db hands unit agrees of_schema form named) ∙ next_cell_is schema capacity o hands unit there of_schema form named)
       (λ passes may. (plan_of_found hands suppress (found_in schema unit hands form), find_is_effect schema capacity unit hands form suppress may passes))
-  of_each (Get r) fit other = by_plan (Get r) fit (λ o there. refl) (λ passes may. (get_plan hands unit, get_is_effect schema capacity unit hands r passes may))
+  of_each (Get r) fit other = by_plan (Get r) fit (λ o there. refl) (λ passes may. (plan_of schema (in_hand hands) unit (Get r), effect_in_hand schema capacity unit hands (Get r) may passes refl (λ d there. get_is_effect schema capacity unit hands r passes may d there)))
   of_each (Store t items suppress) fit other =
       by_plan (Store t items suppress) fit
       (λ o there. sym (missing_in_hand schema capacity unit hands t items db agrees hands.guesses suppress) ∙ missing_in_hand schema capacity unit hands t items o there hands.guesses suppress)
       (λ passes may. (store_plan schema unit hands t items suppress, plan_is_effect schema capacity unit hands t items suppress may passes))
-  of_each (Insert s) fit other = by_plan (Insert s) fit (λ o there. refl) (λ passes may. (insert_plan schema unit hands s, (insert_is_prepared schema capacity unit hands s may passes).effects))
-  of_each (Remove s) fit other = by_plan (Remove s) fit (λ o there. refl) (λ passes may. (remove_plan unit hands s, (remove_is_prepared schema capacity unit hands s may passes).effects))
-  of_each (Modify t changes) fit other =
-      by_plan (Modify t changes) fit (λ o there. refl) (λ passes may. (modify_plan schema hands unit changes, modify_is_effect schema capacity unit hands t changes may passes))
+  of_each (Insert s) fit other = by_plan (Insert s) fit (λ o there. refl) (λ passes may. (plan_of schema (in_hand hands) unit (Insert s), effect_in_hand schema capacity unit hands (Insert s) may passes refl (λ d there. insert_is_effect schema capacity unit hands s may passes d there)))
+  of_each (Remove s) fit other = by_plan (Remove s) fit (λ o there. refl) (λ passes may. (plan_of schema (in_hand hands) unit (Remove s), effect_in_hand schema capacity unit hands (Remove s) may passes refl (λ d there. remove_is_effect schema capacity unit hands s may passes d there)))
+  of_each (Modify t changes) fit other = by_plan (Modify t changes) fit (λ o there. refl) (λ passes may. (plan_of schema (in_hand hands) unit (Modify t changes), effect_in_hand schema capacity unit hands (Modify t changes) may passes refl (λ d there. modify_is_effect schema capacity unit hands t changes may passes d there)))
   of_each (Delete option) fit other = absurd (false≢true (sym other))
-  of_each Keep fit other = by_plan Keep fit (λ o there. refl) (λ passes may. (keep_plan hands unit, keep_is_effect schema capacity unit hands passes may))
-  of_each (Free all) fit other = by_plan (Free all) fit (λ o there. refl) (λ passes may. (free_plan unit all, λ d there. free_is_effect schema capacity unit hands all passes d))
+  of_each Keep fit other = by_plan Keep fit (λ o there. refl) (λ passes may. (plan_of schema (in_hand hands) unit (Keep), effect_in_hand schema capacity unit hands (Keep) may passes refl (λ d there. keep_is_effect schema capacity unit hands passes may d there)))
+  of_each (Free all) fit other = by_plan (Free all) fit (λ o there. refl) (λ passes may. (plan_of schema (in_hand hands) unit (Free all), effect_in_hand schema capacity unit hands (Free all) may passes refl (λ d there. free_is_effect schema capacity unit hands all passes d)))
 
 pub each_is_determined : EachIsDetermined
 each_is_determined schema capacity db eb hands unit statement sound of_schema within fit other agrees agrees_too =

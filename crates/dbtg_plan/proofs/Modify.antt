@@ -1,8 +1,7 @@
--- MODIFY: what it reads, its plan, and that this can be made.
+-- MODIFY: what it reads, that its plan is its effect, and that it can be made.
 -- May use: `Connect` and `Plans`.
--- Promises: `ModifyPlan`: its plan is its effect; `ModifyReady`: it can be made.
+-- Promises: `ModifyReady`: its plan is its effect, and can be made.
 pub mod ModifyMaking
-pub mod ModifyPlan
 pub mod ModifyReading
 pub mod ModifyReady
 pub mod TwoTests

@@ -31,7 +31,7 @@ use Rattle.dbtg_unit.specs.Hands.Needs.{current_owner, found_slot, ring_names, s
 use Rattle.dbtg_unit.specs.Hands.Prepared.{Plan, refusal}
 use Rattle.dbtg_unit.specs.Database.State.Units.{key_of_owner, key_of_place, place_in}
 use Rattle.dbtg_plan.specs.Missing.{first_missing}
-use Rattle.dbtg_plan.specs.Plans.{done_plan}
+use Rattle.dbtg_unit.specs.Hands.PlanOf.{done_plan}
 
 -- the record k in hand, or this cause where it is not there
 abbrev pub stored_or : Cause → Hands → DbKey → Result DbKey Cause

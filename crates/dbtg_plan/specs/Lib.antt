@@ -3,11 +3,6 @@ pub mod Modifying
 pub mod Store
 pub mod Joining
 pub mod Finding
-pub mod Plans
-pub mod Inserting
-pub mod Removing
 pub mod Missing
-pub mod Keeping
-pub mod Opening
 pub mod Stale
 pub mod Locality

@@ -9,7 +9,7 @@ ghost use Rattle.dbtg_unit.specs.Hands.EditsOf.{slot_edit};
 ghost use Rattle.dbtg_unit.specs.Hands.InHand.{items_in, in_hand};
 ghost use Rattle.dbtg_unit.specs.Hands.Making.{CanFinish, HaveNextVersions, MayPrepare, ShowsTheSame};
 ghost use Rattle.dbtg_unit.specs.Hands.Needs.{cells_of};
-ghost use Rattle.dbtg_plan.specs.Inserting.{inserting};
+ghost use Rattle.dbtg_unit.specs.Hands.PlanOf.{inserting};
 ghost use Rattle.dbtg_plan.specs.Joining.{joined_place, joining_edit};
 ghost use Rattle.dbtg_plan.specs.Missing.{first_missing};
 
@@ -92,7 +92,7 @@ fn inserted(
 ) -> Result<Prepared, AllocError>
     requires versions { HaveNextVersions held.now.cells }
     requires sort_key { sort_key ≡ key_item schema.now set key.now.rtype (items_in held.now key.now) }
-    ensures { IfOk result (λ plan. plan ≡ inserting schema.now unit.now held.now set key.now) }
+    ensures { IfOk result (λ plan. plan ≡ inserting schema.now (in_hand held.now) unit.now set key.now) }
 {
     let edits = edits_of(alloc, schema, unit, set, key, sort_key)?;
     let mut versions = Vec::new(alloc);

@@ -6,15 +6,15 @@ ghost use Rattle.dbtg_schema.specs.Lookups.{at, first_cause};
 ghost use Rattle.dbtg_schema.specs.Structure.{rekeyed_sets, set_numbers};
 ghost use Rattle.dbtg_unit.specs.declared.statement.Statement.TheVariants.{Modify};
 ghost use Rattle.dbtg_unit.specs.Database.State.Base.{Database, key_item};
-ghost use Rattle.dbtg_unit.specs.Database.Statements.Checks.{modify_checks, refused_at_once};
+ghost use Rattle.dbtg_unit.specs.Database.Statements.Checks.{modify_checks};
 ghost use Rattle.dbtg_unit.specs.Database.Statements.Conditions.{calc_taken, changed_items, names_calc, refuses_equal};
-ghost use Rattle.dbtg_unit.specs.Hands.EditsOf.{slot_edit};
+ghost use Rattle.dbtg_unit.specs.Hands.PlanOf.{calc_edits, modify_edits, modifying, plan_of, replacing_edits, slot_edit};
 ghost use Rattle.dbtg_unit.specs.Hands.InHand.{in_hand, items_in};
-ghost use Rattle.dbtg_unit.specs.Hands.Making.{CanFinish, HaveNextVersions, MayPrepare};
+ghost use Rattle.dbtg_unit.specs.Hands.Making.{HaveNextVersions};
 ghost use Rattle.dbtg_unit.specs.Hands.Needs.{cells_of, ring_names};
 ghost use Rattle.dbtg_unit.specs.Database.State.Units.{place_in};
 ghost use Rattle.dbtg_plan.specs.Missing.{first_missing};
-ghost use Rattle.dbtg_plan.specs.Modifying.{calc_edits_in, is_refused, is_rekeyed, modified_plan, modify_edits_in, modify_plan, replacing_edits_in};
+ghost use Rattle.dbtg_plan.specs.Modifying.{is_refused, is_rekeyed};
 
 use crate::calc::{copy_calc, is_calc_taken};
 use crate::members::{copy_sort_key, slot_edit};
@@ -265,7 +265,7 @@ fn calc_edit(
     key: &DbKey,
     items: &[Value],
 ) -> Result<Option<CellEdit>, AllocError>
-    ensures { IfOk result (λ edit. option_to_list edit ≡ calc_edits_in schema.now changes.now key.now items.now) }
+    ensures { IfOk result (λ edit. option_to_list edit ≡ calc_edits schema.now changes.now key.now items.now) }
 {
     if !names_calc(schema, key.rtype, changes) {
         return Ok(None);
@@ -291,7 +291,7 @@ fn replacing_edit(
     items: &[Value],
     set: SetNo,
 ) -> Result<Option<CellEdit>, AllocError>
-    ensures { IfOk result (λ edit. option_to_list edit ≡ replacing_edits_in schema.now held.now unit.now changes.now key.now items.now set) }
+    ensures { IfOk result (λ edit. option_to_list edit ≡ (if is_rekeyed schema.now changes.now key.now.rtype set then replacing_edits schema.now (in_hand held.now) unit.now key.now items.now set else [])) }
 {
     if !is_rekeyed_in(schema, set, key.rtype, changes) {
         return Ok(None);
@@ -333,7 +333,7 @@ fn push_replacing(
     key: &DbKey,
     items: &[Value],
 ) -> Result<(), AllocError>
-    ensures { IfOk result (λ _. edits.new.items ≡ edits.old.items ++ flat_map (replacing_edits_in schema.now held.now unit.now changes.now key.now items.now) (set_numbers schema.now)) }
+    ensures { IfOk result (λ _. edits.new.items ≡ edits.old.items ++ flat_map (replacing_edits schema.now (in_hand held.now) unit.now key.now items.now) (rekeyed_sets schema.now key.now.rtype (map (λ c. c.item) changes.now))) }
 {
     for s in 0..set_count(schema) {
         let set = SetNo::new(s);
@@ -360,7 +360,7 @@ fn edits_of(
     key: &DbKey,
     items: Row<Value>,
 ) -> Result<Row<CellEdit>, AllocError>
-    ensures { IfOk result (λ edits. edits ≡ modify_edits_in schema.now held.now unit.now changes.now key.now items) }
+    ensures { IfOk result (λ edits. edits ≡ modify_edits schema.now (in_hand held.now) unit.now changes.now key.now items) }
 {
     let mut edits = Vec::new(alloc);
     let calc = calc_edit(alloc, schema, changes, key, items.as_slice())?;
@@ -388,8 +388,9 @@ fn modified(
     key: &DbKey,
     items: Row<Value>,
 ) -> Result<Prepared, AllocError>
-    requires { HaveNextVersions held.now.cells }
-    ensures { IfOk result (λ plan. plan ≡ modified_plan schema.now held.now unit.now changes.now key.now items) }
+    requires versions { HaveNextVersions held.now.cells }
+    requires changed { items ≡ changed_items changes.now (items_in held.now key.now) }
+    ensures { IfOk result (λ plan. plan ≡ modifying schema.now (in_hand held.now) unit.now changes.now key.now) }
 {
     let edits = edits_of(alloc, schema, unit, changes, held, key, items)?;
     let mut versions = Vec::new(alloc);
@@ -402,16 +403,21 @@ fn modified(
     Ok(Prepared::new(answer, edits, Row::of(versions), UnitEdit::Same))
 }
 
-fn plan_of(
+/// MODIFY that needs nothing more: the CALC values where one is named, the places in sets that are sorted by an item that is
+/// named, the items, the version.
+pub(crate) fn modify(
     alloc: Global,
     schema: &Schema,
     unit: &Unit,
+    rtype: RecordNo,
     changes: &[Change],
     held: &Held,
 ) -> Result<Prepared, AllocError>
     requires { HaveNextVersions held.now.cells }
-    ensures { IfOk result (λ plan. plan ≡ modify_plan schema.now held.now unit.now changes.now) }
+    ensures { IfOk result (λ plan. plan ≡ plan_of schema.now (in_hand held.now) unit.now (Modify rtype changes.now)) }
 {
+    // The current of run-unit is of this type, so the plan does not ask for it.
+    let _ = rtype;
     let Some(key) = unit.currency.run_unit else {
         return Ok(refused(alloc, Cause::NoCurrentOfRunUnit));
     };
@@ -420,25 +426,4 @@ fn plan_of(
         Some(cause) => Ok(refused(alloc, cause)),
         None => modified(alloc, schema, unit, changes, held, &key, items),
     }
-}
-
-/// What a MODIFY does that needs nothing more: the CALC values where one is named, the places in sets that are sorted by an
-/// item that is named, the items, the version.
-#[tactic(auto, using(crate::proofs::Modify::ModifyReady::modify_can_finish))]
-pub(crate) fn prepare_modify(
-    alloc: Global,
-    schema: &Schema,
-    capacity: u16,
-    unit: &Unit,
-    rtype: RecordNo,
-    changes: &[Change],
-    held: &Held,
-) -> Result<Prepared, AllocError>
-    requires may { MayPrepare schema.now capacity unit.now held.now (Modify rtype changes.now) }
-    requires passes { refused_at_once schema.now capacity unit.now (Modify rtype changes.now) ≡ None }
-    ensures { IfOk result (λ plan. CanFinish schema.now capacity unit.now held.now (Modify rtype changes.now) plan) }
-{
-    // Used by the contract alone.
-    let _ = (rtype, capacity);
-    plan_of(alloc, schema, unit, changes, held)
 }

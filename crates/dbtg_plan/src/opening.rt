@@ -3,9 +3,9 @@ ghost use Rattle.std.specs.Prelude.{◌≡◌, IfOk, None};
 ghost use Rattle.std.specs.List.{list_any};
 ghost use Rattle.dbtg_unit.specs.Database.Statements.Checks.{refused_at_once};
 ghost use Rattle.dbtg_unit.specs.Database.Statements.Effect.{conflict};
-ghost use Rattle.dbtg_unit.specs.Hands.InHand.{users_in};
+ghost use Rattle.dbtg_unit.specs.Hands.InHand.{in_hand, users_in};
 ghost use Rattle.dbtg_unit.specs.Hands.Making.{CanFinish, MayPrepare, ShowsTheSame};
-ghost use Rattle.dbtg_plan.specs.Opening.{close_plan, mode_plan, open_plan};
+ghost use Rattle.dbtg_unit.specs.Hands.PlanOf.{mode_plan, plan_of};
 
 use dbtg_cells::{CellName, Mode};
 use dbtg_schema::{AreaNo, Row, Schema};
@@ -73,18 +73,18 @@ pub(crate) fn prepare_open(
 }
 
 /// CLOSE of an area.
-pub(crate) fn prepare_close(
+pub(crate) fn close(
     alloc: Global,
     schema: &Schema,
-    capacity: u16,
     unit: &Unit,
     area: AreaNo,
     held: &Held,
 ) -> Result<Prepared, AllocError>
-    requires may { MayPrepare schema.now capacity unit.now held.now (Statement.CloseArea area) }
-    requires passes { refused_at_once schema.now capacity unit.now (Statement.CloseArea area) ≡ None }
-    ensures { IfOk result (λ plan. CanFinish schema.now capacity unit.now held.now (Statement.CloseArea area) plan) }
+    ensures { IfOk result (λ plan. plan ≡ plan_of schema.now (in_hand held.now) unit.now (Statement.CloseArea area)) }
 {
+    // Only the contract names them.
+    let _ = schema;
+    let _ = held;
     let edit = Edit::LeaveUser { unit: unit.number };
     set_mode(alloc, area, edit, None)
 }

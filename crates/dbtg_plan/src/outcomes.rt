@@ -1,6 +1,6 @@
 //! What is prepared where the unit alone changes.
 ghost use Rattle.std.specs.Prelude.{◌≡◌};
-ghost use Rattle.dbtg_plan.specs.Plans.{done_plan};
+ghost use Rattle.dbtg_unit.specs.Hands.PlanOf.{done_plan};
 
 use dbtg_cells::{DbKey, Value};
 use dbtg_schema::Row;

@@ -5,15 +5,16 @@ ghost use Rattle.dbtg_unit.specs.Hands.Making.{CanFinish, MayPrepare, ShowsTheSa
 
 use crate::finding::prepare_find;
 use crate::inserting::prepare_insert;
-use crate::keeping::{prepare_free, prepare_get, prepare_keep};
-use crate::modifying::prepare_modify;
-use crate::opening::{prepare_close, prepare_open};
-use crate::removing::prepare_remove;
+use crate::keeping::{free, get, keep};
+use crate::modifying::modify;
+use crate::opening::{close, prepare_open};
+use crate::removing::remove;
 use crate::storing::prepare_store;
 use dbtg_schema::Schema;
 use dbtg_unit::{Held, Prepared, Statement, Unit, refused, refused_at_once};
 use std::alloc::{AllocError, Global};
 
+#[tactic(auto, using(crate::proofs::Plans::OpenClose::close_can_finish, crate::proofs::Plans::GetKeepFree::get_finishes, crate::proofs::Plans::GetKeepFree::keep_finishes, crate::proofs::Plans::GetKeepFree::free_finishes, crate::proofs::Connect::RemoveIsEffect::remove_finishes, crate::proofs::Modify::ModifyReady::modify_finishes))]
 /// Prepares a statement other than DELETE that needs nothing more: makes room for what it adds to the cells in hand, which show
 /// what they did, and fixes its answer and its changes. Where no memory is found, only room was made.
 pub fn prepare(
@@ -36,23 +37,15 @@ pub fn prepare(
         Statement::OpenArea { area, mode } => {
             prepare_open(alloc, schema, capacity, unit, *area, *mode, held)
         }
-        Statement::CloseArea(area) => prepare_close(alloc, schema, capacity, unit, *area, held),
-        Statement::Get(rtype) => prepare_get(alloc, schema, capacity, unit, *rtype, held),
+        Statement::CloseArea(area) => close(alloc, schema, unit, *area, held),
+        Statement::Get(rtype) => get(alloc, schema, unit, *rtype, held),
         Statement::Insert(set) => prepare_insert(alloc, schema, capacity, unit, *set, held),
-        Statement::Remove(set) => prepare_remove(alloc, schema, capacity, unit, *set, held),
+        Statement::Remove(set) => remove(alloc, schema, unit, *set, held),
         Statement::Modify { rtype, changes } => {
-            prepare_modify(
-                alloc,
-                schema,
-                capacity,
-                unit,
-                *rtype,
-                changes.as_slice(),
-                held,
-            )
+            modify(alloc, schema, unit, *rtype, changes.as_slice(), held)
         }
-        Statement::Keep => prepare_keep(alloc, schema, capacity, unit, held),
-        Statement::Free { all } => Ok(prepare_free(alloc, schema, capacity, unit, *all, held)),
+        Statement::Keep => keep(alloc, schema, unit, held),
+        Statement::Free { all } => Ok(free(alloc, schema, unit, *all, held)),
         Statement::Find(form, suppress) => {
             Ok(prepare_find(alloc, schema, capacity, unit, form, suppress, held))
         }

@@ -5,13 +5,12 @@ ghost use Rattle.dbtg_schema.specs.Lookups.{first_cause};
 ghost use Rattle.dbtg_unit.specs.Database.Statements.Checks.{remove_checks};
 ghost use Rattle.dbtg_unit.specs.declared.statement.Statement.TheVariants.{Remove};
 ghost use Rattle.dbtg_unit.specs.Database.State.Base.{Database};
-ghost use Rattle.dbtg_unit.specs.Database.Statements.Checks.{refused_at_once};
 ghost use Rattle.dbtg_unit.specs.Hands.EditsOf.{ring_edits, slot_edit};
 ghost use Rattle.dbtg_unit.specs.Hands.InHand.{owner_in, in_hand};
-ghost use Rattle.dbtg_unit.specs.Hands.Making.{CanFinish, HaveNextVersions, MayPrepare};
+ghost use Rattle.dbtg_unit.specs.Hands.Making.{HaveNextVersions};
 ghost use Rattle.dbtg_unit.specs.Hands.Needs.{cells_of};
 ghost use Rattle.dbtg_plan.specs.Missing.{first_missing};
-ghost use Rattle.dbtg_plan.specs.Removing.{removing};
+ghost use Rattle.dbtg_unit.specs.Hands.PlanOf.{plan_of};
 
 use crate::members::slot_edit;
 use crate::missing::{missing_ring, missing_slot};
@@ -64,42 +63,32 @@ fn edits_of(
     Ok(edits)
 }
 
-fn removed(alloc: Global, set: SetNo, held: &Held, key: &DbKey) -> Result<Prepared, AllocError>
+/// REMOVE that needs nothing more: out of the list of its owner, no owner there, the version.
+pub(crate) fn remove(
+    alloc: Global,
+    schema: &Schema,
+    unit: &Unit,
+    set: SetNo,
+    held: &Held,
+) -> Result<Prepared, AllocError>
     requires { HaveNextVersions held.now.cells }
-    ensures { IfOk result (λ plan. plan ≡ removing held.now set key.now) }
+    ensures { IfOk result (λ plan. plan ≡ plan_of schema.now (in_hand held.now) unit.now (Remove set)) }
 {
-    let edits = edits_of(alloc, set, owner_of(held, set, key), key)?;
+    // Only the contract names the schema.
+    let _ = schema;
+    let Some(key) = unit.currency.run_unit else {
+        return Ok(refused(alloc, Cause::NoCurrentOfRunUnit));
+    };
+    if let Some(cause) = refusal(unit, set, held, &key) {
+        return Ok(refused(alloc, cause));
+    }
+    let edits = edits_of(alloc, set, owner_of(held, set, &key), &key)?;
     let mut versions = Vec::new(alloc);
-    versions.push((*key, next_version(held, key)))?;
+    versions.push((key, next_version(held, &key)))?;
     let answer = Answer {
         status: Status::Done,
         key: None,
         items: None,
     };
     Ok(Prepared::new(answer, edits, Row::of(versions), UnitEdit::Leave { set }))
-}
-
-/// What a REMOVE does that needs nothing more: out of the list of its owner, no owner there, the version.
-pub(crate) fn prepare_remove(
-    alloc: Global,
-    schema: &Schema,
-    capacity: u16,
-    unit: &Unit,
-    set: SetNo,
-    held: &Held,
-) -> Result<Prepared, AllocError>
-    requires may { MayPrepare schema.now capacity unit.now held.now (Remove set) }
-    requires passes { refused_at_once schema.now capacity unit.now (Remove set) ≡ None }
-    ensures { IfOk result (λ plan. CanFinish schema.now capacity unit.now held.now (Remove set) plan) }
-{
-    // Used by the contract alone.
-    let _ = schema;
-    let _ = capacity;
-    let Some(key) = unit.currency.run_unit else {
-        return Ok(refused(alloc, Cause::NoCurrentOfRunUnit));
-    };
-    match refusal(unit, set, held, &key) {
-        Some(cause) => Ok(refused(alloc, cause)),
-        None => removed(alloc, set, held, &key),
-    }
 }

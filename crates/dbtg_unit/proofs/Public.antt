@@ -184,6 +184,8 @@ pub use Rattle.dbtg_unit.proofs.Database.Legal.PassedChecks.{passes_each}
 pub use Rattle.dbtg_unit.proofs.Database.Legal.SameView.{calc_taken_agrees}
 -- the same occurrence and key have the same checks at a place
 pub use Rattle.dbtg_unit.proofs.Database.Legal.SameView.{checks_at_agree}
+-- a record is the same in two views, and an occurrence
+pub use Rattle.dbtg_unit.proofs.Database.Legal.SameView.{SameRecord, SameOccurrence}
 -- an INSERT has the same checks where the record, its owner and the occurrence are the same
 pub use Rattle.dbtg_unit.proofs.Database.Legal.SameView.{insert_checks_agree}
 -- of its sets a MODIFY asks only those in which the record has an owner
@@ -358,8 +360,6 @@ pub use Rattle.dbtg_unit.proofs.Hands.Changes.EditsInTurn.{has_number_filter}
 pub use Rattle.dbtg_unit.proofs.Hands.Changes.EditsInTurn.{has_number_passes}
 -- a number within the bounds of a range is in it
 pub use Rattle.dbtg_unit.proofs.Hands.Changes.EditsInTurn.{has_number_range}
--- a number that a filter leaves was there
-pub use Rattle.dbtg_unit.proofs.Hands.Changes.EditsInTurn.{has_number_unfiltered}
 -- no number stands twice in a range
 pub use Rattle.dbtg_unit.proofs.Hands.Changes.EditsInTurn.{range_distinct}
 -- what a STORE that passes has found: a free number, and a current owner with a list in each automatic set

@@ -17,5 +17,6 @@ pub mod Local
 pub mod Locality
 pub mod Making
 pub mod Needs
+pub mod PlanOf
 pub mod Prepared
 pub mod Reserving

@@ -18,7 +18,7 @@ use Rattle.dbtg_cells.specs.declared.ring.Occurrence.{Occurrence}
 use Rattle.dbtg_cells.specs.Keys.{key_eq, is_member, owner_eq}
 use Rattle.dbtg_cells.specs.Members.{keys_in}
 use Rattle.dbtg_cells.proofs.Public.{key_eq_refl, owner_eq_refl}
-use Rattle.dbtg_unit.specs.Database.Statements.Checks.{own_checks, insert_checks, place_checks}
+use Rattle.dbtg_unit.specs.Database.Statements.Checks.{about, own_checks, insert_checks, place_checks}
 use Rattle.dbtg_unit.specs.declared.edit.CellEdit.{CellEdit}
 use Rattle.dbtg_unit.specs.declared.edit.Edit.TheVariants.{ChangeOwner, RaiseVersion}
 use Rattle.dbtg_unit.specs.declared.statement.Statement.{Statement}
@@ -27,11 +27,11 @@ use Rattle.dbtg_unit.specs.declared.unit.Cause.{Cause}
 use Rattle.dbtg_unit.specs.declared.unit.Cause.TheVariants.{AlreadyMember, ChangedByAnother, Deleted}
 use Rattle.dbtg_unit.specs.declared.unit.Place.{Place}
 use Rattle.dbtg_unit.specs.declared.unit.Unit.{Unit}
-use Rattle.dbtg_unit.specs.Database.State.Base.{Database, Record, key_item, members_of, owner_of}
+use Rattle.dbtg_unit.specs.Database.State.Base.{Database, Record, is_live, items_of, key_item, members_of, owner_of}
 use Rattle.dbtg_unit.specs.Hands.CanEdit.{CanPlace}
 use Rattle.dbtg_unit.specs.Database.State.CellNames.{place_of, slot_name}
 use Rattle.dbtg_unit.specs.Database.Statements.Checks.{accepts_type, refused_at_once}
-use Rattle.dbtg_unit.specs.Hands.EditsOf.{edits_of, edits_of_current, insert_edits, placed_at, ring_edits, slot_edit}
+use Rattle.dbtg_unit.specs.Hands.EditsOf.{placed_at}
 use Rattle.dbtg_unit.specs.Database.Statements.Effect.{Outcome, connected_in, effect, insert_checks, inserted, next_version, place_checks, raised, version_of}
 use Rattle.dbtg_unit.specs.Database.Statements.Fits.{values_fit}
 use Rattle.dbtg_unit.specs.Hands.Guesses.{guesses_after, noted_guesses}
@@ -50,18 +50,18 @@ use Rattle.dbtg_unit.proofs.Public.{occurrence_in_same, owner_in_hand, owner_lea
 use Rattle.dbtg_unit.proofs.Public.{same_occurrence, same_record, same_sym, some_from_not_none, version_in_hand, versions_same}
 use Rattle.dbtg_unit.specs.Hands.InHand.{in_hand}
 use Rattle.dbtg_unit.specs.Database.Statements.View.{View, whole}
-use Rattle.dbtg_plan.proofs.Plans.CurrentPlans.{current_cells, current_is_effect}
-use Rattle.dbtg_plan.specs.Inserting.{insert_plan, inserting}
+use Rattle.dbtg_unit.specs.Hands.PlanOf.{inserting, plan_of, planned_on_current}
+use Rattle.dbtg_plan.proofs.Plans.EffectIsPlan.{current_plan_is_effect, effect_in_hand, planned_cells}
+use Rattle.dbtg_plan.proofs.Plans.SamePlan.{in_sets, insert_ring, insert_slot, insert_stands}
 use Rattle.dbtg_plan.specs.Joining.{joined_occurrence, joined_place, joining_edit}
-use Rattle.dbtg_plan.specs.Plans.{on_current_plan}
 use Rattle.dbtg_plan.proofs.Connect.PlacesDecide.{can_join_in_hand, place_checks_in_hand}
 use Rattle.dbtg_plan.proofs.Plans.IsEffect.{done_is_effect, noted_renoted}
 use Rattle.dbtg_plan.proofs.Plans.RingEdits.{can_edit_ring, free_owner}
 
 -- what the record's own checks, a test and further checks have passed
-pub own_passed : (hands : Hands) (unit : Unit) (k : DbKey) (b : Bool) (cause : Cause) (rest : List (Bool × Cause)) → first_cause (own_checks (in_hand hands) unit k ++ (b, cause) ∷ rest) ≡ None
-    → (is_some (stored_in hands k) ≡ true) × (b ≡ false) × (first_cause rest ≡ None)
-own_passed hands unit k b cause rest h =
+pub own_passed : (view : View) (unit : Unit) (k : DbKey) (b : Bool) (cause : Cause) (rest : List (Bool × Cause)) → first_cause (own_checks view unit k ++ (b, cause) ∷ rest) ≡ None
+    → (view.is_live k ≡ true) × (b ≡ false) × (first_cause rest ≡ None)
+own_passed view unit k b cause rest h =
     let there = passes_check _ Deleted _ h in
     let unchanged = passes_check _ ChangedByAnother _ there.1 in
     let apart = passes_check b cause (first_cause rest) unchanged.1 in
@@ -80,14 +80,8 @@ module _ (schema : Lists) (capacity : ℕ) (unit : Unit) (hands : Hands) (s : �
   abbrev here : Place
   here = joined_place schema unit s
 
-  -- the set has a current
   stands : place_in schema unit s ≡ Some here
-  stands =
-      let p = some_from_not_none (place_in schema unit s) (passes_without_cells schema capacity unit (Insert s) passes).placed in
-      p.1 ∙ ap Some (sym (ap (λ (q : Option Place). unwrap_or q (record { owner = System; at = None })) p.1))
-
-  in_sets : In s (set_numbers schema)
-  in_sets = let below = ltb-true s (length schema.sets) may.fits in in_range (length schema.sets) 0 s (omega arith) (omega arith)
+  stands = insert_stands schema capacity unit s passes
 
   -- the record's type has a member clause in the set
   clause : (k : DbKey) → unit.currency.run_unit ≡ Some k → is_some (member_clause schema s k.rtype) ≡ true
@@ -95,100 +89,53 @@ module _ (schema : Lists) (capacity : ℕ) (unit : Unit) (hands : Hands) (s : �
       not-false _ (ap (λ (r : Option DbKey). some_and (λ t. not (accepts_type schema (Insert s) t)) (option_map (λ (j : DbKey). j.rtype) r)) (sym current) ∙ (passes_without_cells schema capacity unit (Insert s) passes).type_is)
 
   module _ (db : Database) (agrees : Agrees schema capacity db hands unit) where
-    ring_held : holds hands.cells (Ring s (place_of here.owner)) ≡ true
-    ring_held =
-        (prepared_has_all schema capacity unit hands (Insert s) passes may.ready db agrees).cells (Ring s (place_of here.owner))
-        (in_left _ (ring_names s (current_owner schema unit s)) (slot_names unit.currency.run_unit)
-        (subst (λ (p : Option Place). In (Ring s (place_of here.owner)) (ring_names s (option_map (λ (p : Place). p.owner) p))) (sym stands) (inl refl)))
+    module _ (k : DbKey) (current : unit.currency.run_unit ≡ Some k) (free : first_cause (insert_checks schema (whole schema capacity db) unit s k) ≡ None) where
+      abbrev new : Database
+      new = (inserted schema db unit s k).database
 
-    slot_held : (k : DbKey) → unit.currency.run_unit ≡ Some k → holds hands.cells (slot_name k) ≡ true
-    slot_held k current =
-        (prepared_has_all schema capacity unit hands (Insert s) passes may.ready db agrees).cells (slot_name k)
-        (in_right _ (ring_names s (current_owner schema unit s)) (slot_names unit.currency.run_unit)
-        (subst (λ (r : Option DbKey). In (slot_name k) (slot_names r)) (sym current) (inl refl)))
+      own : (is_live db k ≡ true) × (is_some (owner_of schema capacity db s k) ≡ false) × (first_cause (place_checks schema (whole schema capacity db) unit s (key_item schema s k.rtype (items_of db k))) ≡ None)
+      own = own_passed (whole schema capacity db) unit k (is_some (owner_of schema capacity db s k)) AlreadyMember (place_checks schema (whole schema capacity db) unit s (key_item schema s k.rtype (items_of db k))) free
 
-    module _ (k : DbKey) (current : unit.currency.run_unit ≡ Some k) where
-      -- the checks are those of the database
-      checks_are : insert_checks schema (in_hand hands) unit s k ≡ insert_checks schema (whole schema capacity db) unit s k
-      checks_are =
-          insert_checks_agree (in_hand hands) (whole schema capacity db) unit schema s k (same_record schema capacity db hands unit agrees k (slot_held k current))
-          (sym (owner_in_hand schema capacity db hands unit agrees k (slot_held k current) s in_sets)) (same_occurrence schema capacity db hands unit agrees s here.owner ring_held)
+      listed : is_some (db.lists s here.owner) ≡ true
+      listed = some_from_none (db.lists s here.owner) (passes_check (is_none (db.lists s here.owner)) Deleted _ own.2).0
 
-      module _ (free : first_cause (insert_checks schema (in_hand hands) unit s k) ≡ None) (done : effect schema capacity db unit (Insert s) ≡ inserted schema db unit s k) where
-        abbrev new : Database
-        new = (inserted schema db unit s k).database
+      -- k is in the list of the current owner
+      member : is_member k (members_of new s here.owner) ≡ true
+      member =
+          member_connected schema db unit (s ∷ []) k s here.owner k
+          ∙ or_left _ _ (and_from _ _ (and_from _ _ (and_from _ _ (or_left _ _ (eq-eqb s s refl)) (ap (some_and (λ (p : Place). owner_eq p.owner here.owner)) stands ∙ owner_eq_refl here.owner)) listed) (key_eq_refl k))
 
-        -- the edits, by the current of the set and the items of the record
-        abbrev edits_by : Option Place → List Value → List CellEdit
-        edits_by q items =
-            ring_edits s (option_map (λ place. place.owner) q) (unwrap_or (option_map (λ place. placed_at schema s k (key_item schema s k.rtype items) place ∷ []) q) [])
-            ++ slot_edit k (ChangeOwner s (option_map (λ place. place.owner) q)) ∷ slot_edit k RaiseVersion ∷ []
+      owner_is : effect schema capacity db unit (Insert s) ≡ inserted schema db unit s k → owner_of schema capacity new s k ≡ Some here.owner
+      owner_is done =
+          member_owner_found schema capacity new (subst (λ (o : Outcome). Legal schema capacity o.database) done (legal_after schema capacity db unit hands may.sound may.of_schema may.within (Insert s) may.fits agrees)) s here.owner k member
 
-        edits_are : (inserting schema unit hands s k).cells ≡ edits_of schema capacity db unit (Insert s)
-        edits_are =
-            let items = items_in_hand schema capacity db hands unit agrees k (slot_held k current) in
-            (λ i. edits_by (sym stands i) (sym items i))
-            ∙ sym (ap (λ (r : Option DbKey). edits_of_current r (insert_edits schema db unit s)) current)
+      unit_is : unit_after schema (inserting schema (whole schema capacity db) unit s k) unit ≡ (inserted schema db unit s k).unit
+      unit_is =
+          let owner : here.owner ≡ unwrap_or (option_map (λ (place : Place). place.owner) (place_in schema unit s)) System = sym (ap (λ (q : Option Place). unwrap_or (option_map (λ (place : Place). place.owner) q) System) stands) in
+          λ i. record unit {
+            currency = record unit.currency { sets = slice_set unit.currency.sets s (Some (record { owner = owner i; at = Some k })) };
+            kept = noted_renoted k (version_of db k + 1) new (version_raised (connected_in schema db unit (s ∷ []) k) k own.0) unit.kept i;
+          }
 
-        own : (is_some (stored_in hands k) ≡ true) × (is_some (owner_in hands s k) ≡ false) × (first_cause (place_checks schema (in_hand hands) unit s (key_item schema s k.rtype (items_in hands k))) ≡ None)
-        own = own_passed hands unit k (is_some (owner_in hands s k)) AlreadyMember (place_checks schema (in_hand hands) unit s (key_item schema s k.rtype (items_in hands k))) free
+      guesses_are : effect schema capacity db unit (Insert s) ≡ inserted schema db unit s k → slice_set hands.guesses s (Some here.owner) ≡ guesses_after schema capacity (Insert s) hands.guesses (inserted schema db unit s k)
+      guesses_are done =
+          ap (slice_set hands.guesses s) (sym (owner_is done))
+          ∙ sym (ap (noted_guesses schema capacity new (Insert s) hands.guesses) current)
 
-        listed : is_some (db.lists s here.owner) ≡ true
-        listed =
-            some_from_none (db.lists s here.owner)
-            (passes_check (is_none (db.lists s here.owner)) Deleted _
-            (sym (ap first_cause (place_checks_in_hand schema capacity db hands unit agrees s ring_held (key_item schema s k.rtype (items_in hands k)))) ∙ own.2)).0
-
-        version_is : version_of new k ≡ version_in hands k + 1
-        version_is =
-            version_raised (connected_in schema db unit (s ∷ []) k) k (live_in_hand schema capacity db hands unit agrees k (slot_held k current) ∙ own.0)
-            ∙ ap (λ v. v + 1) (version_in_hand schema capacity db hands unit agrees k (slot_held k current))
-
-        -- k is in the list of the current owner
-        member : is_member k (members_of new s here.owner) ≡ true
-        member =
-            member_connected schema db unit (s ∷ []) k s here.owner k
-            ∙ or_left _ _ (and_from _ _ (and_from _ _ (and_from _ _ (or_left _ _ (eq-eqb s s refl)) (ap (some_and (λ (p : Place). owner_eq p.owner here.owner)) stands ∙ owner_eq_refl here.owner)) listed) (key_eq_refl k))
-
-        owner_is : owner_of schema capacity new s k ≡ Some here.owner
-        owner_is =
-            member_owner_found schema capacity new (subst (λ (o : Outcome). Legal schema capacity o.database) done (legal_after schema capacity db unit hands may.sound may.of_schema may.within (Insert s) may.fits agrees)) s here.owner k member
-
-        unit_is : unit_after schema (inserting schema unit hands s k) unit ≡ (inserted schema db unit s k).unit
-        unit_is =
-            let owner : here.owner ≡ unwrap_or (option_map (λ (place : Place). place.owner) (place_in schema unit s)) System = sym (ap (λ (q : Option Place). unwrap_or (option_map (λ (place : Place). place.owner) q) System) stands) in
-            λ i. record unit {
-              currency = record unit.currency { sets = slice_set unit.currency.sets s (Some (record { owner = owner i; at = Some k })) };
-              kept = noted_renoted k (version_in hands k + 1) new version_is unit.kept i;
-            }
-
-        guesses_are : slice_set hands.guesses s (Some here.owner) ≡ guesses_after schema capacity (Insert s) hands.guesses (inserted schema db unit s k)
-        guesses_are =
-            ap (slice_set hands.guesses s) (sym owner_is)
-            ∙ sym (ap (noted_guesses schema capacity new (Insert s) hands.guesses) current)
-
-        inserts : IsEffect schema capacity db unit hands.guesses (Insert s) (inserting schema unit hands s k)
-        inserts =
-            done_is_effect schema capacity db unit hands (Insert s) (inserting schema unit hands s k) refl may agrees refl
-            (sym (ap (λ (o : Outcome). o.answer) done)) edits_are
-            (unit_is ∙ sym (ap (λ (o : Outcome). o.unit) done))
-            (guesses_are ∙ sym (ap (guesses_after schema capacity (Insert s) hands.guesses) done))
-
-  abbrev checks : View → DbKey → List (Bool × Cause)
-  checks view = insert_checks schema view unit s
+    pub insert_is_effect : IsEffect schema capacity db unit hands.guesses (Insert s) (plan_of schema (whole schema capacity db) unit (Insert s))
+    insert_is_effect =
+        current_plan_is_effect schema capacity unit hands (Insert s) may passes db agrees refl (insert_checks schema (whole schema capacity db) unit s) (inserting schema (whole schema capacity db) unit s)
+        (inserted schema db unit s) refl refl
+        (λ k is free done. record { is_done = refl; answer = refl; unit_is = unit_is k is free; guesses_are = guesses_are k is free done })
 
   -- what is prepared changes held cells alone
-  all_held : (db : Database) → Agrees schema capacity db hands unit → list_all (λ (e : CellEdit). holds hands.cells e.name) (insert_plan schema unit hands s).cells ≡ true
+  all_held : (db : Database) → Agrees schema capacity db hands unit → list_all (λ (e : CellEdit). holds hands.cells e.name) (plan_of schema (in_hand hands) unit (Insert s)).cells ≡ true
   all_held db agrees =
-      current_cells schema capacity unit hands (Insert s) passes checks (inserting schema unit hands s) (λ es. list_all (λ (e : CellEdit). holds hands.cells e.name) es ≡ true) refl
-      (λ k current h. let slot = slot_held db agrees k current in and_from _ _ (ring_held db agrees) (and_from _ _ slot (and_from _ _ slot refl)))
+      planned_cells unit.currency.run_unit (insert_checks schema (in_hand hands) unit s) (inserting schema (in_hand hands) unit s) (λ es. list_all (λ (e : CellEdit). holds hands.cells e.name) es ≡ true) refl
+      (λ k current h. let slot = insert_slot schema capacity unit hands db agrees s may passes k current in and_from _ _ (insert_ring schema capacity unit hands db agrees s may passes) (and_from _ _ slot (and_from _ _ slot refl)))
 
-  pub insert_is_prepared : IsPrepared schema capacity unit hands (Insert s) (insert_plan schema unit hands s)
-  insert_is_prepared = record {
-    held = all_held;
-    effects = λ db agrees.
-        current_is_effect schema capacity unit hands (Insert s) passes checks (inserting schema unit hands s) db (inserted schema db unit s) refl (λ k e. ap first_cause (checks_are db agrees k e)) (inserts db agrees);
-  }
+  pub insert_is_prepared : IsPrepared schema capacity unit hands (Insert s) (plan_of schema (in_hand hands) unit (Insert s))
+  insert_is_prepared = record { held = all_held; effects = effect_in_hand schema capacity unit hands (Insert s) may passes refl (λ db agrees. insert_is_effect db agrees) }
 
 -- THAT IT CAN BE MADE
 
@@ -208,23 +155,23 @@ module _ (schema : Lists) (capacity : ℕ) (unit : Unit) (old new : Hands) (s : 
 
   module _ (k : DbKey) (current : unit.currency.run_unit ≡ Some k) (free : first_cause (insert_checks schema (in_hand old) unit s k) ≡ None) (room : OfHeld ring_cell new.cells (CanTakeMember k)) where
     own_free : (is_some (stored_in old k) ≡ true) × (is_some (owner_in old s k) ≡ false) × (first_cause (place_checks schema (in_hand old) unit s (key_item schema s k.rtype (items_in old k))) ≡ None)
-    own_free = own_passed old unit k (is_some (owner_in old s k)) AlreadyMember (place_checks schema (in_hand old) unit s (key_item schema s k.rtype (items_in old k))) free
+    own_free = own_passed (in_hand old) unit k (is_some (owner_in old s k)) AlreadyMember (place_checks schema (in_hand old) unit s (key_item schema s k.rtype (items_in old k))) free
 
     occurrence_is : occurrence_in new s (joined_place schema unit s).owner ≡ joined_occurrence schema unit old s
     occurrence_is = occurrence_in_same old new same s (joined_place schema unit s).owner
 
     module _ (db : Database) (agrees : Agrees schema capacity db old unit) where
       abbrev held_ring : holds old.cells ring_cell ≡ true
-      held_ring = ring_held schema capacity unit old s (may_plan may) passes db agrees
+      held_ring = insert_ring schema capacity unit old db agrees s (may_plan may) passes
 
       abbrev held_slot : holds old.cells (slot_name k) ≡ true
-      held_slot = slot_held schema capacity unit old s (may_plan may) passes db agrees k current
+      held_slot = insert_slot schema capacity unit old db agrees s (may_plan may) passes k current
 
       no_member : is_member k (keys_in (joined_occurrence schema unit old s)) ≡ false
       no_member =
           ap (is_member k) (sym (members_in_hand schema capacity db old unit agrees s (joined_place schema unit s).owner held_ring))
           ∙ member_nowhere schema capacity db agrees.legal s k
-          (none_is (owner_of schema capacity db s k) (ap is_some (owner_in_hand schema capacity db old unit agrees k held_slot s (in_sets schema capacity unit old s (may_plan may) passes)) ∙ own_free.1)) (joined_place schema unit s).owner
+          (none_is (owner_of schema capacity db s k) (ap is_some (owner_in_hand schema capacity db old unit agrees k held_slot s (in_sets schema s (ltb-true s (length schema.sets) may.fits))) ∙ own_free.1)) (joined_place schema unit s).owner
 
       can_place_here : CanPlace (order_of schema s) (joined_place schema unit s).at (key_item schema s k.rtype (items_in old k)) (joined_occurrence schema unit old s)
       can_place_here =
@@ -242,24 +189,24 @@ module _ (schema : Lists) (capacity : ℕ) (unit : Unit) (old new : Hands) (s : 
             subst (CanPlace (order_of schema s) (joined_place schema unit s).at (key_item schema s k.rtype (items_in old k))) (sym (is ∙ occurrence_is)) can_place_here,
           ))
 
-      edits_can_be_made : CanMake (inserting schema unit old s k).cells new.cells
+      edits_can_be_made : CanMake (inserting schema (in_hand old) unit s k).cells new.cells
       edits_can_be_made =
           can_make_raised (joining_edit schema unit s k (key_item schema s k.rtype (items_in old k)) ∷ []) (slot_name k) (ChangeOwner s (Some (joined_place schema unit s).owner)) new.cells refl refl
           (ring_can, tt) (λ x there. free_owner s (Some (joined_place schema unit s).owner) x) (owner_leaves_version s (Some (joined_place schema unit s).owner))
           (versions_same old new same may.versions)
 
     -- an INSERT that nothing refuses
-    pub insert_can_finish : CanFinish schema capacity unit new (Insert s) (inserting schema unit old s k)
+    pub insert_can_finish : CanFinish schema capacity unit new (Insert s) (inserting schema (in_hand old) unit s k)
     insert_can_finish = record {
-      prepared = prepared_same schema capacity unit old new (Insert s) (inserting schema unit old s k) same
+      prepared = prepared_same schema capacity unit old new (Insert s) (inserting schema (in_hand old) unit s k) same
           (subst (IsPrepared schema capacity unit old (Insert s))
-          (ap (λ (r : Option DbKey). on_current_plan r (insert_checks schema (in_hand old) unit s) (inserting schema unit old s)) current ∙ ap (λ (c : Option Cause). unless_refusal c (inserting schema unit old s k)) free)
+          (ap (λ (r : Option DbKey). unless_refusal (first_cause (about r (insert_checks schema (in_hand old) unit s))) (planned_on_current r (inserting schema (in_hand old) unit s))) current ∙ ap (λ (c : Option Cause). unless_refusal c (inserting schema (in_hand old) unit s k)) free)
           (insert_is_prepared schema capacity unit old s (may_plan may) passes));
       can_make = λ db agrees. edits_can_be_made db (agrees_same schema capacity db unit new old (same_sym same) agrees);
     }
 
 -- an INSERT that is refused
 pub refused_insert_can_finish : (schema : Lists) (capacity : ℕ) (unit : Unit) (hands : Hands) (s : ℕ) → MayPrepare schema capacity unit hands (Insert s) → refused_at_once schema capacity unit (Insert s) ≡ None → (cause : Cause)
-    → insert_plan schema unit hands s ≡ refusal cause → CanFinish schema capacity unit hands (Insert s) (refusal cause)
+    → plan_of schema (in_hand hands) unit (Insert s) ≡ refusal cause → CanFinish schema capacity unit hands (Insert s) (refusal cause)
 refused_insert_can_finish schema capacity unit hands s may passes cause is =
     record { prepared = subst (IsPrepared schema capacity unit hands (Insert s)) is (insert_is_prepared schema capacity unit hands s (may_plan may) passes); can_make = λ db agrees. tt }

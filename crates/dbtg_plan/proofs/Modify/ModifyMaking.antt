@@ -32,12 +32,12 @@ use Rattle.dbtg_unit.specs.declared.unit.Unit.{Unit}
 use Rattle.dbtg_unit.specs.Database.State.Base.{Database, calc_items, key_item, members_of, owner_of, sort_key}
 use Rattle.dbtg_unit.specs.Hands.CanEdit.{CanEdit, CanPlace}
 use Rattle.dbtg_unit.specs.Database.State.CellNames.{place_of, slot_name}
-use Rattle.dbtg_unit.specs.Hands.EditsOf.{ring_edits, slot_edit}
+use Rattle.dbtg_unit.specs.Hands.PlanOf.{calc_edits, modify_edits, replacing_edits, ring_edits, slot_edit}
 use Rattle.dbtg_unit.specs.Database.Statements.Effect.{names_calc, uses_position}
 use Rattle.dbtg_unit.specs.Database.Statements.Fits.{values_fit}
 use Rattle.dbtg_unit.specs.Database.Statements.Found.{is_lost}
 use Rattle.dbtg_unit.specs.Hands.Hands.{Hands, cell_of}
-use Rattle.dbtg_unit.specs.Hands.InHand.{numbers_in, numbers_of, occurrence_in, owner_in}
+use Rattle.dbtg_unit.specs.Hands.InHand.{in_hand, numbers_in, numbers_of, occurrence_in, owner_in}
 use Rattle.dbtg_unit.specs.Database.State.Legal.{keys_in_order, pairwise}
 use Rattle.dbtg_unit.specs.Hands.Local.{Agrees, holds}
 use Rattle.dbtg_unit.specs.Hands.Making.{CanMake, HaveNextVersions}
@@ -46,9 +46,10 @@ use Rattle.dbtg_unit.specs.Database.State.Units.{place_in}
 use Rattle.dbtg_unit.proofs.Public.{EachCanEdit, In, all_at_entry, all_filter, are_distinct, are_of_others, can_make_raised, each_append, each_flat_map}
 use Rattle.dbtg_unit.proofs.Public.{entries_in_hand, items_leave_version, listed_in_hand, member_has_a_list as member_there, member_of_owner}
 use Rattle.dbtg_unit.proofs.Public.{members_in_hand, of_flat_map, owner_in_hand, pairwise_filter, range_distinct}
-use Rattle.dbtg_plan.specs.Modifying.{calc_edits_in, is_rekeyed, modify_edits_in, replacing_edits_in}
+use Rattle.dbtg_plan.specs.Modifying.{is_rekeyed}
+use Rattle.dbtg_plan.proofs.Modify.TwoTests.{flat_map_if}
 use Rattle.dbtg_plan.proofs.Connect.PlacesDecide.{can_place, members_compare, pairwise_map}
-use Rattle.dbtg_plan.proofs.Modify.ModifyPlan.{rekeyed_clause, rekeyed_number}
+use Rattle.dbtg_plan.proofs.Plans.ModifyHolds.{rekeyed_clause, rekeyed_number}
 use Rattle.dbtg_plan.proofs.Plans.RingEdits.{can_edit_ring}
 use Rattle.dbtg_plan.proofs.Store.StoreMaking.{distinct_append, distinct_flat_map, other_rings}
 
@@ -63,7 +64,7 @@ module _ (schema : Lists) (hands : Hands) (unit : Unit) (changes : List Change) 
   edit_at s = ReplaceMember (order_of schema s) (option_and_then (λ place. place.at) (place_in schema unit s)) k (key_item schema s k.rtype items)
 
   abbrev pub replacing : ℕ → List CellEdit
-  replacing = replacing_edits_in schema hands unit changes k items
+  replacing s = cond (is_rekeyed schema changes k.rtype s) (replacing_edits schema (in_hand hands) unit k items s) []
 
   abbrev pub replacing_all : List CellEdit
   replacing_all = flat_map replacing (set_numbers schema)
@@ -80,7 +81,7 @@ module _ (schema : Lists) (hands : Hands) (unit : Unit) (changes : List Change) 
     by_case true (Some o) e is = one o e is
 
   -- there is none, or the one of the extent
-  of_calc : (P : List CellEdit → Type 0) → P [] → (names_calc schema k.rtype changes ≡ true → P (calc_edit ∷ [])) → P (calc_edits_in schema changes k items)
+  of_calc : (P : List CellEdit → Type 0) → P [] → (names_calc schema k.rtype changes ≡ true → P (calc_edit ∷ [])) → P (calc_edits schema changes k items)
   of_calc P none one = by_case (names_calc schema k.rtype changes) refl where
     by_case : (b : Bool) → names_calc schema k.rtype changes ≡ b → P (cond b (calc_edit ∷ []) [])
     by_case false e = none
@@ -91,13 +92,13 @@ module _ (schema : Lists) (hands : Hands) (unit : Unit) (changes : List Change) 
       of_set (λ es. (e : CellEdit) → In e es → (q : Option (ℕ × ℕ)) × (e.name ≡ Ring s q)) s (λ e i. absurd i)
       (λ o replaced is e i. ⊎_elim (λ h. (place_of o, ap (λ (f : CellEdit). f.name) (sym h))) (λ j. absurd j) i)
 
-  extent_name_of : (e : CellEdit) → In e (calc_edits_in schema changes k items) → e.name ≡ Extent k.rtype
+  extent_name_of : (e : CellEdit) → In e (calc_edits schema changes k items) → e.name ≡ Extent k.rtype
   extent_name_of = of_calc (λ es. (e : CellEdit) → In e es → e.name ≡ Extent k.rtype) (λ e i. absurd i) (λ named e i. ⊎_elim (λ h. ap (λ (f : CellEdit). f.name) (sym h)) (λ j. absurd j) i)
 
   -- each is of a cell of its own, and none of the slot
-  are_apart : are_distinct (calc_edits_in schema changes k items ++ replacing_all) ≡ true
+  are_apart : are_distinct (calc_edits schema changes k items ++ replacing_all) ≡ true
   are_apart =
-      distinct_append (calc_edits_in schema changes k items) replacing_all (of_calc (λ es. are_distinct es ≡ true) refl (λ named. refl))
+      distinct_append (calc_edits schema changes k items) replacing_all (of_calc (λ es. are_distinct es ≡ true) refl (λ named. refl))
       (distinct_flat_map replacing (set_numbers schema) (range_distinct 0 (length schema.sets)) (λ s. of_set (λ es. are_distinct es ≡ true) s refl (λ o replaced is. refl))
       (λ s u other e i f j.
       let a = ring_name_of s e i in
@@ -108,23 +109,32 @@ module _ (schema : Lists) (hands : Hands) (unit : Unit) (changes : List Change) 
       let b = ring_name_of from.0 f from.2 in
       λ d. name_eq (extent_name_of e i d) (b.1 d))
 
-  are_off_slot : are_of_others (slot_name k) (calc_edits_in schema changes k items ++ replacing_all) ≡ true
+  are_off_slot : are_of_others (slot_name k) (calc_edits schema changes k items ++ replacing_all) ≡ true
   are_off_slot =
-      list_all-append (λ (e : CellEdit). not (name_eq (slot_name k) e.name)) (calc_edits_in schema changes k items) replacing_all
+      list_all-append (λ (e : CellEdit). not (name_eq (slot_name k) e.name)) (calc_edits schema changes k items) replacing_all
       ∙ and_from _ _ (of_calc (λ es. are_of_others (slot_name k) es ≡ true) refl (λ named. refl))
       (all_flat_map (λ (e : CellEdit). not (name_eq (slot_name k) e.name)) replacing (λ s. of_set (λ es. are_of_others (slot_name k) es ≡ true) s refl (λ o replaced is. refl)) (set_numbers schema))
+
+  abbrev pub slot_edits : List CellEdit
+  slot_edits = slot_edit k (ChangeItems items) ∷ (slot_edit k RaiseVersion ∷ [])
+
+  -- set by set they are those that are planned
+  pub edits_are : calc_edits schema changes k items ++ (replacing_all ++ slot_edits) ≡ modify_edits schema (in_hand hands) unit changes k items
+  edits_are =
+      ap (λ (rings : List CellEdit). calc_edits schema changes k items ++ (rings ++ slot_edits))
+      (flat_map_if (replacing_edits schema (in_hand hands) unit k items) (λ s. is_rekeyed schema changes k.rtype s) (set_numbers schema))
 
   -- THEIR CELLS ARE IN HAND
 
   pub edits_held : holds hands.cells (slot_name k) ≡ true → (names_calc schema k.rtype changes ≡ true → holds hands.cells (Extent k.rtype) ≡ true)
       → ((s : ℕ) (o : Owner) → is_rekeyed schema changes k.rtype s ≡ true → owner_in hands s k ≡ Some o → holds hands.cells (Ring s (place_of o)) ≡ true)
-      → list_all (λ (e : CellEdit). holds hands.cells e.name) (modify_edits_in schema hands unit changes k items) ≡ true
+      → list_all (λ (e : CellEdit). holds hands.cells e.name) (modify_edits schema (in_hand hands) unit changes k items) ≡ true
   edits_held slot extent rings =
       let is_held : CellEdit → Bool = λ e. holds hands.cells e.name in
-      let slots : List CellEdit = slot_edit k (ChangeItems items) ∷ (slot_edit k RaiseVersion ∷ []) in
-      list_all-append is_held (calc_edits_in schema changes k items) (replacing_all ++ slots)
+      ap (list_all is_held) (sym edits_are)
+      ∙ list_all-append is_held (calc_edits schema changes k items) (replacing_all ++ slot_edits)
       ∙ and_from _ _ (of_calc (λ es. list_all is_held es ≡ true) refl (λ named. and_from _ _ (extent named) refl))
-      (list_all-append is_held replacing_all slots
+      (list_all-append is_held replacing_all slot_edits
       ∙ and_from _ _ (all_flat_map is_held replacing (λ s. of_set (λ es. list_all is_held es ≡ true) s refl (λ o named is. and_from _ _ (rings s o named is) refl)) (set_numbers schema)) (and_from _ _ slot (and_from _ _ slot refl)))
 
 -- THAT THEY CAN BE MADE
@@ -213,7 +223,7 @@ module _ (schema : Lists) (capacity : ℕ) (db : Database) (hands : Hands) (unit
         tt,
       ))
 
-  calc_can : (names_calc schema k.rtype changes ≡ true → some_and is_used (entry_of k.number (numbers_in hands k.rtype)) ≡ true) → EachCanEdit (calc_edits_in schema changes k items) hands.cells
+  calc_can : (names_calc schema k.rtype changes ≡ true → some_and is_used (entry_of k.number (numbers_in hands k.rtype)) ≡ true) → EachCanEdit (calc_edits schema changes k items) hands.cells
   calc_can numbered = of_calc schema hands unit changes k items (λ es. EachCanEdit es hands.cells) tt (λ named. (extent_can named, tt)) where
     extent_can : names_calc schema k.rtype changes ≡ true → (x : Cell) → cell_of (Extent k.rtype) hands.cells ≡ Some x → CanEdit (ChangeNumber k.number (calc_items schema k.rtype items)) x
     extent_can named (UsageCell u) h = tt
@@ -221,11 +231,11 @@ module _ (schema : Lists) (capacity : ℕ) (db : Database) (hands : Hands) (unit
     extent_can named (SlotCell r) h = tt
     extent_can named (ExtentCell v) h = ap (λ (o : Option Cell). some_and is_used (entry_of k.number (numbers_of o))) (sym h) ∙ numbered named
 
-  pub edits_can : HaveNextVersions hands.cells → (names_calc schema k.rtype changes ≡ true → some_and is_used (entry_of k.number (numbers_in hands k.rtype)) ≡ true) → CanMake (modify_edits_in schema hands unit changes k items) hands.cells
+  pub edits_can : HaveNextVersions hands.cells → (names_calc schema k.rtype changes ≡ true → some_and is_used (entry_of k.number (numbers_in hands k.rtype)) ≡ true) → CanMake (modify_edits schema (in_hand hands) unit changes k items) hands.cells
   edits_can versions numbered =
-      let calc = calc_edits_in schema changes k items in
+      let calc = calc_edits schema changes k items in
       let all = replacing_all schema hands unit changes k items in
-      subst (λ es. CanMake es hands.cells) (append_assoc calc all (slot_edit k (ChangeItems items) ∷ (slot_edit k RaiseVersion ∷ [])))
+      subst (λ es. CanMake es hands.cells) (append_assoc calc all (slot_edits schema hands unit changes k items) ∙ edits_are schema hands unit changes k items)
       (can_make_raised (calc ++ all) (slot_name k) (ChangeItems items) hands.cells (are_apart schema hands unit changes k items) (are_off_slot schema hands unit changes k items)
       (each_append calc all hands.cells (calc_can numbered) (each_flat_map (replacing schema hands unit changes k items) (set_numbers schema) hands.cells ring_can))
       (λ x there. tt) (items_leave_version items) versions)

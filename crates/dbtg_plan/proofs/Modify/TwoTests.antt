@@ -5,14 +5,11 @@ use Rattle.std.specs.List.{list_any, flat_map}
 use Rattle.dbtg_schema.specs.Lookups.{first_cause}
 
 -- what is made of each that passes
-pub flat_map_kept : {X Y : Type 0} (f : X → List Y) (p q : X → Bool) (xs : List X) → flat_map (λ x. cond (p x && q x) (f x) []) xs ≡ flat_map f (filter q (filter p xs))
-flat_map_kept f p q [] = refl
-flat_map_kept f p q (x ∷ xs) =
-    ap (λ ys. cond (p x && q x) (f x) [] ++ ys) (flat_map_kept f p q xs)
-    ∙ elim (p x) as (λ b. (cond (b && q x) (f x) [] ++ flat_map f (filter q (filter p xs))) ≡ flat_map f (filter q (cond b (x ∷ filter p xs) (filter p xs)))) [
-      | true ↦ elim (q x) as (λ c. (cond c (f x) [] ++ flat_map f (filter q (filter p xs))) ≡ flat_map f (cond c (x ∷ filter q (filter p xs)) (filter q (filter p xs)))) [ true ↦ refl | false ↦ refl ]
-      | false ↦ refl
-    ]
+pub flat_map_if : {X Y : Type 0} (f : X → List Y) (p : X → Bool) (xs : List X) → flat_map (λ x. cond (p x) (f x) []) xs ≡ flat_map f (filter p xs)
+flat_map_if f p [] = refl
+flat_map_if f p (x ∷ xs) =
+    ap (λ ys. cond (p x) (f x) [] ++ ys) (flat_map_if f p xs)
+    ∙ elim (p x) as (λ b. (cond b (f x) [] ++ flat_map f (filter p xs)) ≡ flat_map f (cond b (x ∷ filter p xs) (filter p xs))) [ true ↦ refl | false ↦ refl ]
 
 -- whether one that passes one test passes another
 pub any_filter : {X : Type 0} (f p : X → Bool) (xs : List X) → list_any f (filter p xs) ≡ list_any (λ x. p x && f x) xs

@@ -30,7 +30,7 @@ use Rattle.dbtg_unit.proofs.Public.{In, all_held, any_element, any_in, has_numbe
 use Rattle.dbtg_unit.proofs.Public.{in_right, map_agrees, of_filter, owner_in_hand, unlisted_has_no_owner}
 use Rattle.dbtg_plan.specs.Missing.{first_missing}
 use Rattle.dbtg_plan.specs.Stale.{need_of_guesses, wrong_owner_in, wrong_owners_in}
-use Rattle.dbtg_plan.proofs.Plans.GetKeepFree.{current_slot}
+use Rattle.dbtg_plan.proofs.Plans.SamePlan.{current_slot}
 
 -- LISTS
 

@@ -24,7 +24,7 @@ use Rattle.dbtg_unit.specs.Hands.Hands.{Hands}
 use Rattle.dbtg_unit.specs.Hands.Local.{Agrees, holds}
 use Rattle.dbtg_unit.specs.Hands.Making.{CanFinish, CanMake}
 use Rattle.dbtg_unit.specs.Hands.Prepared.{IsEffect, Plan, guesses_edited, unit_after, unit_edited, refusal, unless_refusal}
-use Rattle.dbtg_plan.specs.Plans.{done_plan, on_current_plan}
+use Rattle.dbtg_unit.specs.Hands.PlanOf.{done_plan}
 use Rattle.dbtg_plan.proofs.Plans.IsEffect.{effect_is_on_cells, refusal_is_effect}
 
 module _ (schema : Lists) (capacity : ℕ) (db : Database) (unit : Unit) (guesses : List (Option Owner)) (statement : Statement) where
@@ -37,12 +37,6 @@ module _ (schema : Lists) (capacity : ℕ) (db : Database) (unit : Unit) (guesse
 
   pub makes_refusal : (cause : Cause) → Makes (refusal cause) (refused db unit cause)
   makes_refusal cause = record { answer = refl; unit_is = refl; guesses_are = refl; cells = λ c. refl }
-
-  pub makes_unless : (check check' : Option Cause) (plan : Plan) (outcome : Outcome) → check ≡ check' → (check' ≡ None → Makes plan outcome) → Makes (unless_refusal check plan) (unless_refused db unit check' outcome)
-  makes_unless check check' plan outcome e h = subst (λ (c : Option Cause). Makes (unless_refusal c plan) (unless_refused db unit check' outcome)) (sym e) (by_check check' h) where
-    by_check : (c : Option Cause) → (c ≡ None → Makes plan outcome) → Makes (unless_refusal c plan) (unless_refused db unit c outcome)
-    by_check (Some cause) h = makes_refusal cause
-    by_check None h = h refl
 
   -- what is done with the unit alone
   pub makes_done : (change : UnitEdit) (key : Option DbKey) (items items' : Option (List Value)) (after : Unit) → items ≡ items' → unit_edited schema change unit ≡ after
@@ -63,14 +57,6 @@ module _ (schema : Lists) (capacity : ℕ) (db : Database) (unit : Unit) (guesse
   makes_effect passes plan = makes_is plan (effect_on_cells schema capacity db unit statement) (effect_is_on_cells schema capacity db unit statement passes)
 
 -- PLANS THAT CHANGE NO CELL
-
-pub unless_no_cells : (check : Option Cause) (plan : Plan) → plan.cells ≡ [] → (unless_refusal check plan).cells ≡ []
-unless_no_cells (Some cause) plan h = refl
-unless_no_cells None plan h = h
-
-pub current_no_cells : (current : Option DbKey) (checks : DbKey → List (Bool × Cause)) (plan : DbKey → Plan) → ((k : DbKey) → (plan k).cells ≡ []) → (on_current_plan current checks plan).cells ≡ []
-current_no_cells None checks plan h = refl
-current_no_cells (Some k) checks plan h = unless_no_cells (first_cause (checks k)) (plan k) (h k)
 
 -- such a plan can be finished where it is the effect on every database that agrees
 pub no_cells_can_finish : (schema : Lists) (capacity : ℕ) (unit : Unit) (hands : Hands) (statement : Statement) (plan : Plan) → plan.cells ≡ []

@@ -43,8 +43,16 @@ any_end p n i above = ap (list_any p) (numbers_end n i above)
 pub flat_step : {X : Type 0} (f : ℕ → List X) (n i : ℕ) → i < n → flat_map f (drop i (range_with_len 0 n)) ≡ f i ++ flat_map f (drop (i + 1) (range_with_len 0 n))
 flat_step f n i below = ap (flat_map f) (numbers_next n i below)
 
-pub flat_end : {X : Type 0} (f : ℕ → List X) (n i : ℕ) → n ≤ i → flat_map f (drop i (range_with_len 0 n)) ≡ []
-flat_end f n i above = ap (flat_map f) (numbers_end n i above)
+-- what is made of each that is kept
+pub kept_step : {X : Type 0} (f : ℕ → List X) (p : ℕ → Bool) (n i : ℕ) → i < n
+    → flat_map f (filter p (drop i (range_with_len 0 n))) ≡ cond (p i) (f i) [] ++ flat_map f (filter p (drop (i + 1) (range_with_len 0 n)))
+kept_step f p n i below =
+    let rest = drop (i + 1) (range_with_len 0 n) in
+    ap (λ ns. flat_map f (filter p ns)) (numbers_next n i below)
+    ∙ elim (p i) as (λ b. flat_map f (cond b (i ∷ filter p rest) (filter p rest)) ≡ cond b (f i) [] ++ flat_map f (filter p rest)) [ true ↦ refl | false ↦ refl ]
+
+pub kept_end : {X : Type 0} (f : ℕ → List X) (p : ℕ → Bool) (n i : ℕ) → n ≤ i → flat_map f (filter p (drop i (range_with_len 0 n))) ≡ []
+kept_end f p n i above = ap (λ ns. flat_map f (filter p ns)) (numbers_end n i above)
 
 -- THE FIRST OF TWO
 

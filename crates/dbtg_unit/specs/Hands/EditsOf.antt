@@ -1,7 +1,6 @@
--- The edits by which a statement changes the cells, where nothing refuses it: edits of rings and slots; STORE, INSERT, REMOVE,
--- MODIFY and DELETE, each with its parts before it; then `edits_of`, a line for each statement, and that its edits are its effect.
+-- The edits by which a statement changes the cells, where nothing refuses it: STORE and DELETE, each with its parts before it; then `edits_of`, a line for each statement, and that its edits are its effect.
 -- k is a key, m a new member, d a record that goes, x a member that stays, o an owner, s a set, t a record type.
-use Rattle.std.specs.Prelude.{◌≡◌, ℕ, Bool, true, false, not, ◌==◌, List, [], ◌∷◌, ◌++◌, Option, Some, None, map, filter, option_map, option_and_then, unwrap_or, if◌then◌else◌}
+use Rattle.std.specs.Prelude.{◌≡◌, ℕ, Bool, true, false, not, ◌==◌, List, [], ◌∷◌, ◌++◌, Option, Some, None, map, filter, option_map, unwrap_or, if◌then◌else◌}
 use Rattle.std.specs.List.{list_any, flat_map}
 use Rattle.dbtg_schema.specs.Lists.{Lists}
 use Rattle.dbtg_schema.specs.Lookups.{some_and}
@@ -11,44 +10,32 @@ use Rattle.dbtg_cells.specs.declared.key.Owner.{Owner}
 use Rattle.dbtg_cells.specs.declared.key.Owner.TheVariants.{Rec}
 use Rattle.dbtg_cells.specs.declared.key.Value.{Value}
 use Rattle.dbtg_cells.specs.declared.name.CellName.{CellName}
-use Rattle.dbtg_cells.specs.declared.name.CellName.TheVariants.{Usage, Extent, Ring}
+use Rattle.dbtg_cells.specs.declared.name.CellName.TheVariants.{Extent, Ring}
 use Rattle.dbtg_unit.specs.declared.edit.Edit.{Edit}
-use Rattle.dbtg_unit.specs.declared.edit.Edit.TheVariants.{EnterUser, LeaveUser, EnterNumber, LeaveNumber, ChangeNumber, OpenRing, CloseRing, PlaceMember, ReplaceMember, TakeOut, Fill, Vacate, ChangeItems, ChangeOwner, RaiseVersion}
+use Rattle.dbtg_unit.specs.declared.edit.Edit.TheVariants.{EnterNumber, LeaveNumber, OpenRing, CloseRing, TakeOut, Fill, Vacate, ChangeOwner, RaiseVersion}
 use Rattle.dbtg_unit.specs.declared.edit.CellEdit.{CellEdit}
-use Rattle.dbtg_unit.specs.declared.statement.Change.{Change}
 use Rattle.dbtg_unit.specs.declared.statement.Erase.{Erase}
 use Rattle.dbtg_unit.specs.declared.unit.Place.{Place}
 use Rattle.dbtg_unit.specs.declared.unit.Unit.{Unit}
-use Rattle.dbtg_unit.specs.Database.State.Base.{Database, items_of, calc_items, is_member, key_item, owner_of}
+use Rattle.dbtg_unit.specs.Database.State.Base.{Database, calc_items, is_member, key_item, owner_of}
 use Rattle.dbtg_unit.specs.Database.State.CellNames.{slot_name, place_of}
 use Rattle.dbtg_unit.specs.Database.State.Units.{place_in}
 use Rattle.dbtg_unit.specs.declared.statement.Statement.{Statement}
-use Rattle.dbtg_unit.specs.declared.statement.Statement.TheVariants.{OpenArea, CloseArea, Store, Insert, Remove, Modify, Delete}
+use Rattle.dbtg_unit.specs.declared.statement.Statement.TheVariants.{Store, Delete}
 use Rattle.dbtg_unit.specs.declared.unit.Status.TheVariants.{Done}
 use Rattle.dbtg_unit.specs.Database.State.Cells.{cell}
 use Rattle.dbtg_unit.specs.Hands.Edits.{edited_at}
-use Rattle.dbtg_unit.specs.Database.Statements.Effect.{changed_items, effect, free_number, is_gone, names_calc, new_key, replaced_sets}
+use Rattle.dbtg_unit.specs.Database.Statements.Effect.{effect, free_number, is_gone, new_key}
+use Rattle.dbtg_unit.specs.Database.Statements.View.{whole}
+pub use Rattle.dbtg_unit.specs.Hands.PlanOf.{done_plan_of, modify_edits, placed_at, replacing_edits, ring_edits, slot_edit}
 use Rattle.dbtg_unit.specs.Hands.Erasing.{doomed_in_turn, members_of_all, with_those}
 use Rattle.dbtg_unit.specs.Database.State.Legal.{Legal}
-
--- these edits of the ring of an owner, where there is one
-abbrev pub ring_edits : ℕ → Option Owner → List Edit → List CellEdit
-ring_edits s None edits = []
-ring_edits s (Some o) edits = map (λ edit. record { name = Ring s (place_of o); edit = edit }) edits
-
--- m, with this sort key, into the current occurrence of set s
-abbrev pub placed_at : Lists → ℕ → DbKey → Option Value → Place → Edit
-placed_at schema s m key place = PlaceMember (order_of schema s) place.at m key
 
 -- the edits by which m joins the current occurrence of a set
 abbrev pub joining_edits : Lists → Unit → ℕ → DbKey → Option Value → List CellEdit
 joining_edits schema unit s m key =
     ring_edits s (option_map (λ place. place.owner) (place_in schema unit s))
     (unwrap_or (option_map (λ place. placed_at schema s m key place ∷ []) (place_in schema unit s)) [])
-
--- an edit of the slot of a key
-abbrev pub slot_edit : DbKey → Edit → CellEdit
-slot_edit k edit = record { name = slot_name k; edit = edit }
 
 -- the owners of a record as STORE connects it
 abbrev pub first_owners : Lists → Unit → ℕ → List (Option Owner)
@@ -62,33 +49,6 @@ store_edits schema unit k items =
     ∷ (flat_map (λ s. joining_edits schema unit s k (key_item schema s k.rtype items)) (automatic_sets schema k.rtype)
     ++ (flat_map (λ s. record { name = Ring s (Some (k.rtype, k.number)); edit = OpenRing (Rec k) } ∷ []) (filter (λ s. owns schema s k.rtype) (set_numbers schema))
     ++ slot_edit k (Fill k.generation items (first_owners schema unit k.rtype)) ∷ []))
-
--- INSERT of k: its place, its owner, its version
-abbrev pub insert_edits : Lists → Database → Unit → ℕ → DbKey → List CellEdit
-insert_edits schema db unit s k =
-    joining_edits schema unit s k (key_item schema s k.rtype (items_of db k))
-    ++ slot_edit k (ChangeOwner s (option_map (λ place. place.owner) (place_in schema unit s)))
-    ∷ slot_edit k RaiseVersion
-    ∷ []
-
--- REMOVE of k: out of its list, no owner, its version
-abbrev pub remove_edits : Lists → ℕ → Database → ℕ → DbKey → List CellEdit
-remove_edits schema capacity db s k =
-    ring_edits s (owner_of schema capacity db s k) (TakeOut k ∷ []) ++ slot_edit k (ChangeOwner s None) ∷ slot_edit k RaiseVersion ∷ []
-
--- k, out of its list of set s and placed anew by its new sort key
-abbrev pub replacing_edits : Lists → ℕ → Database → Unit → DbKey → List Value → ℕ → List CellEdit
-replacing_edits schema capacity db unit k items s =
-    ring_edits s (owner_of schema capacity db s k)
-    (ReplaceMember (order_of schema s) (option_and_then (λ place. place.at) (place_in schema unit s)) k (key_item schema s k.rtype items) ∷ [])
-
--- MODIFY of k: its CALC values where one is named, its places anew, its items, its version
-abbrev pub modify_edits : Lists → ℕ → Database → Unit → List Change → DbKey → List CellEdit
-modify_edits schema capacity db unit changes k =
-    let items = changed_items changes (items_of db k) in
-    (if names_calc schema k.rtype changes then record { name = Extent k.rtype; edit = ChangeNumber k.number (calc_items schema k.rtype items) } ∷ [] else [])
-    ++ (flat_map (replacing_edits schema capacity db unit k items) (replaced_sets schema capacity db changes k)
-    ++ slot_edit k (ChangeItems items) ∷ (slot_edit k RaiseVersion ∷ []))
 
 -- DELETE: d's number is left
 abbrev pub leave_number : DbKey → CellEdit
@@ -139,14 +99,9 @@ edits_of_current (Some k) edits = edits k
 
 -- the edits of a statement
 abbrev pub edits_of : Lists → ℕ → Database → Unit → Statement → List CellEdit
-edits_of schema capacity db unit (OpenArea a mode) = record { name = Usage a; edit = EnterUser unit.number mode } ∷ []
-edits_of schema capacity db unit (CloseArea a) = record { name = Usage a; edit = LeaveUser unit.number } ∷ []
 edits_of schema capacity db unit (Store t items suppress) = store_edits schema unit (new_key db t (unwrap_or (free_number capacity db t) 0)) items
-edits_of schema capacity db unit (Insert s) = edits_of_current unit.currency.run_unit (insert_edits schema db unit s)
-edits_of schema capacity db unit (Remove s) = edits_of_current unit.currency.run_unit (remove_edits schema capacity db s)
-edits_of schema capacity db unit (Modify t changes) = edits_of_current unit.currency.run_unit (modify_edits schema capacity db unit changes)
 edits_of schema capacity db unit (Delete option) = edits_of_current unit.currency.run_unit (delete_edits schema capacity db option)
-edits_of schema capacity db unit _ = []
+edits_of schema capacity db unit statement = (done_plan_of schema (whole schema capacity db) unit statement).cells
 
 -- the statement is a DELETE
 abbrev pub is_delete : Statement → Bool

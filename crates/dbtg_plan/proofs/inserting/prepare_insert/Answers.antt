@@ -2,13 +2,12 @@ use Rattle.std.proofs.Common.{◌≡◌, sym, ◌∙◌, ap, subst, Option, Some
 use Rattle.dbtg_schema.specs.Lookups.{first_cause}
 use Rattle.dbtg_cells.specs.declared.key.DbKey.{DbKey}
 use Rattle.dbtg_unit.specs.Hands.InHand.{in_hand}
-use Rattle.dbtg_unit.specs.Database.Statements.Checks.{insert_checks}
+use Rattle.dbtg_unit.specs.Database.Statements.Checks.{about, insert_checks}
 use Rattle.dbtg_unit.specs.declared.statement.Statement.TheVariants.{Insert}
 use Rattle.dbtg_unit.specs.declared.unit.Cause.{Cause}
 use Rattle.dbtg_unit.specs.Hands.Making.{CanFinish}
 use Rattle.dbtg_unit.specs.Hands.Prepared.{refusal, unless_refusal}
-use Rattle.dbtg_plan.specs.Plans.{on_current_plan}
-use Rattle.dbtg_plan.specs.Inserting.{insert_plan, inserting}
+use Rattle.dbtg_unit.specs.Hands.PlanOf.{plan_of, planned_on_current, inserting}
 use Rattle.dbtg_plan.proofs.Connect.InsertIsEffect.{insert_can_finish, refused_insert_can_finish}
 use Rattle.dbtg_plan.proofs.inserting.prepare_insert.Goals as goal
 
@@ -18,9 +17,9 @@ returns-in-Some-refusal-clause-prepared c =
     let unit = c.args.unit.now in
     let hands = c.args.held.now in
     let current : unit.currency.run_unit ≡ Some c.in-Some.key = cc in
-    let is : insert_plan schema unit hands c.args.set ≡ refusal c.in-Some-refusal.cause =
-    ap (λ (r : Option DbKey). on_current_plan r (insert_checks schema (in_hand hands) unit c.args.set) (inserting schema unit hands c.args.set)) current
-    ∙ ap (λ (x : Option Cause). unless_refusal x (inserting schema unit hands c.args.set c.in-Some.key)) (sym c.in-Some-refusal.ensures) in
+    let is : plan_of schema (in_hand hands) unit (Insert c.args.set) ≡ refusal c.in-Some-refusal.cause =
+    ap (λ (r : Option DbKey). unless_refusal (first_cause (about r (insert_checks schema (in_hand hands) unit c.args.set))) (planned_on_current r (inserting schema (in_hand hands) unit c.args.set))) current
+    ∙ ap (λ (x : Option Cause). unless_refusal x (inserting schema (in_hand hands) unit c.args.set c.in-Some.key)) (sym c.in-Some-refusal.ensures) in
     subst (CanFinish schema c.args.capacity unit hands (Insert c.args.set)) (sym c.refused-in-Some-refusal.ensures)
     (refused_insert_can_finish schema c.args.capacity unit hands c.args.set c.requires.may c.requires.passes c.in-Some-refusal.cause is)
 

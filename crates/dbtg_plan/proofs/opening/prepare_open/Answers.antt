@@ -4,7 +4,9 @@ use Rattle.dbtg_unit.specs.declared.statement.Statement.TheVariants.{OpenArea}
 use Rattle.dbtg_unit.specs.Hands.Making.{CanFinish}
 use Rattle.dbtg_unit.specs.Hands.Prepared.{Plan}
 use Rattle.dbtg_unit.proofs.Public.{may_plan}
-use Rattle.dbtg_plan.specs.Opening.{open_plan}
+use Rattle.std.specs.Prelude.{Some}
+use Rattle.dbtg_unit.specs.declared.edit.Edit.TheVariants.{EnterUser}
+use Rattle.dbtg_unit.specs.Hands.PlanOf.{mode_plan}
 use Rattle.dbtg_plan.proofs.Plans.OpenClose.{open_finishes, open_refused}
 use Rattle.dbtg_plan.proofs.opening.prepare_open.Goals as goal
 
@@ -15,7 +17,7 @@ returns-then-conflicts-clause-prepared c =
 
 pub returns-clause-prepared : goal.returns-clause-prepared
 returns-clause-prepared c =
-    IfOk-weaker c.set_mode.result (λ (plan : Plan). plan ≡ open_plan c.args.unit.now c.args.area c.args.mode)
+    IfOk-weaker c.set_mode.result (λ (plan : Plan). plan ≡ mode_plan c.args.area (EnterUser c.args.unit.now.number c.args.mode) (Some c.args.mode))
     (λ (plan : Plan). CanFinish c.args.schema.now c.args.capacity c.args.unit.now c.reserve_user.new.held (OpenArea c.args.area c.args.mode) plan)
     (λ plan is. subst (λ (p : Plan). CanFinish c.args.schema.now c.args.capacity c.args.unit.now c.reserve_user.new.held (OpenArea c.args.area c.args.mode) p) (sym is)
     (open_finishes c.args.schema.now c.args.capacity c.args.unit.now c.args.area c.args.mode c.requires.passes c.args.held.now c.reserve_user.new.held c.requires.may

@@ -107,15 +107,3 @@ has_number_range s from (suc count) low high =
       | inl e ↦ ap (λ b. b || has_number s (range_with_len (from + 1) count)) e
       | inr e ↦ ap (λ b. b || has_number s (range_with_len (from + 1) count)) e ∙ has_number_range s (from + 1) count (omega (arith, low, eqb-false from s e)) (omega (arith, high))
     ]
-
--- what a filter leaves was there
-pub has_number_unfiltered : (p : ℕ → Bool) (s : ℕ) (xs : List ℕ) → has_number s (filter p xs) ≡ true → has_number s xs ≡ true
-has_number_unfiltered p s [] h = h
-has_number_unfiltered p s (x ∷ xs) h =
-    elim (cases_Bool (eqb x s)) [
-      | inl e ↦ ap (λ b. b || has_number s xs) e
-      | inr e ↦ ap (λ b. b || has_number s xs) e ∙ has_number_unfiltered p s xs (rest (cases_Bool (p x)) e)
-    ] where
-      rest : (p x ≡ true) ⊎ (p x ≡ false) → eqb x s ≡ false → has_number s (filter p xs) ≡ true
-      rest (inl passes) e = sym (ap (λ b. has_number s (cond b (x ∷ filter p xs) (filter p xs))) passes ∙ ap (λ b. b || has_number s (filter p xs)) e) ∙ h
-      rest (inr fails) e = sym (ap (λ b. has_number s (cond b (x ∷ filter p xs) (filter p xs))) fails) ∙ h

@@ -166,16 +166,21 @@ module _ (schema : Lists) (capacity : ℕ) (db : Database) (unit : Unit) (legal 
   on_cells (CloseArea a) other placed = of_close a
   on_cells (Find form suppress) other placed =
       of_finding db unit (Edited []) (no_refusal []) (found schema capacity db unit form) (λ k. seen schema capacity db unit k suppress) (λ k is is_done lawful c. refl)
-  on_cells (Get r) other placed = of_current db unit (Edited []) (no_refusal []) unit.currency.run_unit (live_checks (whole schema capacity db)) (λ k. done db unit (Some k) (Some (items_of db k))) (λ k is checks is_done lawful c. refl)
+  on_cells (Get r) other placed =
+      of_current db unit (Edited (edits_of schema capacity db unit (Get r))) (no_refusal (edits_of schema capacity db unit (Get r))) unit.currency.run_unit (live_checks (whole schema capacity db)) (λ k. done db unit (Some k) (Some (items_of db k)))
+      (λ k is checks is_done lawful c. ap (λ current. edited_at c (edits_of schema capacity db (record unit { currency = record unit.currency { run_unit = current } }) (Get r)) (cell schema capacity db c)) (sym is))
   on_cells (Store t items suppress) other placed = of_store t items suppress placed
   on_cells (Insert s) other placed = of_insert s placed
   on_cells (Remove s) other placed = of_remove s
   on_cells (Modify t changes) other placed = of_modify t changes
   on_cells (Delete option) other placed = absurd (false≢true (sym other))
   on_cells Keep other placed =
-      of_current db unit (Edited []) (no_refusal []) unit.currency.run_unit (live_checks (whole schema capacity db)) (λ k. done db (record unit { kept = noted k (version_of db k) unit.kept }) None None) (λ k is checks is_done lawful c. refl)
+      of_current db unit (Edited (edits_of schema capacity db unit Keep)) (no_refusal (edits_of schema capacity db unit Keep)) unit.currency.run_unit (live_checks (whole schema capacity db)) (λ k. done db (record unit { kept = noted k (version_of db k) unit.kept }) None None)
+      (λ k is checks is_done lawful c. ap (λ current. edited_at c (edits_of schema capacity db (record unit { currency = record unit.currency { run_unit = current } }) Keep) (cell schema capacity db c)) (sym is))
   on_cells (Free true) other placed = λ is_done lawful c. refl
-  on_cells (Free false) other placed = of_done db unit (Edited []) (no_refusal []) unit.currency.run_unit (λ k. done db (record unit { kept = forgotten k unit.kept }) None None) (λ k is is_done lawful c. refl)
+  on_cells (Free false) other placed =
+      of_done db unit (Edited (edits_of schema capacity db unit (Free false))) (no_refusal (edits_of schema capacity db unit (Free false))) unit.currency.run_unit (λ k. done db (record unit { kept = forgotten k unit.kept }) None None)
+      (λ k is is_done lawful c. ap (λ current. edited_at c (edits_of schema capacity db (record unit { currency = record unit.currency { run_unit = current } }) (Free false)) (cell schema capacity db c)) (sym is))
 
 pub effect_is_its_edits : (schema : Lists) (capacity : ℕ) (db : Database) (unit : Unit) (statement : Statement) → is_delete statement ≡ false
     → Legal schema capacity db → Legal schema capacity (effect schema capacity db unit statement).database → (effect schema capacity db unit statement).answer.status ≡ Done

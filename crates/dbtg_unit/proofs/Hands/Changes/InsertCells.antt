@@ -22,7 +22,8 @@ use Rattle.dbtg_unit.specs.Database.Statements.Effect.{inserted, spot, is_curren
 use Rattle.dbtg_unit.specs.Database.State.Legal.{Legal}
 use Rattle.dbtg_unit.specs.Database.State.Cells.{cell, ring_of}
 use Rattle.dbtg_unit.specs.Hands.Edits.{edited_at, member_spot, with_members}
-use Rattle.dbtg_unit.specs.Hands.EditsOf.{insert_edits}
+use Rattle.dbtg_unit.specs.Database.Statements.View.{whole}
+use Rattle.dbtg_unit.specs.Hands.PlanOf.{inserting}
 use Rattle.dbtg_unit.proofs.Hands.Changes.OneMembership.{ChangesMembership, changed_items_same, membership_edits, membership_cells}
 use Rattle.dbtg_unit.specs.declared.edit.Edit.{Edit}
 use Rattle.dbtg_unit.specs.declared.edit.Edit.TheVariants.{PlaceMember}
@@ -112,11 +113,11 @@ module _ (schema : Lists) (capacity : ℕ) (db : Database) (unit : Unit) (s : �
       ∙ (λ i. Some (record { owner = place.owner; members = placed_is i }))
 
   -- INSERT changes the cells by its edits
-  pub insert_makes : Legal schema capacity new → is_some (db.lists s place.owner) ≡ true → (c : CellName) → cell schema capacity new c ≡ edited_at c (insert_edits schema db unit s k) (cell schema capacity db c)
+  pub insert_makes : Legal schema capacity new → is_some (db.lists s place.owner) ≡ true → (c : CellName) → cell schema capacity new c ≡ edited_at c (inserting schema (whole schema capacity db) unit s k).cells (cell schema capacity db c)
   insert_makes legal_new present c =
       let key = key_item schema s k.rtype (items_of db k) in
       let edit : Edit = PlaceMember (order_of schema s) place.at k key in
-      let edits_are : insert_edits schema db unit s k ≡ membership_edits changes legal live edit (Some place.owner) = rw stands refl in
+      let edits_are : (inserting schema (whole schema capacity db) unit s k).cells ≡ membership_edits changes legal live edit (Some place.owner) = rw stands refl in
       membership_cells changes legal live edit (Some place.owner) present (member_owner_found schema capacity new legal_new s place.owner k (has_here present))
       (ap (λ l. RingValue (option_map (ring_of schema new s place.owner) l)) list_here ∙ ap RingValue (ring_here (db.lists s place.owner))) c
       ∙ ap (λ es. edited_at c es (cell schema capacity db c)) (sym edits_are)

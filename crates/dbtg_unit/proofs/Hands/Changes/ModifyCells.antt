@@ -26,7 +26,8 @@ use Rattle.dbtg_unit.specs.declared.edit.CellEdit.{CellEdit}
 use Rattle.dbtg_unit.specs.declared.unit.Unit.{Unit}
 use Rattle.dbtg_unit.specs.Database.State.Base.{Database, Record, is_live, items_of, members_of, is_member, owner_of, sort_key, key_item, key_at, calc_items}
 use Rattle.dbtg_unit.specs.Database.State.Units.{place_in, owners_of}
-use Rattle.dbtg_unit.specs.Database.Statements.Effect.{modified, with_items, with_its_items, changed_items, names_calc, replaced_sets, next_version, joined, without}
+use Rattle.dbtg_unit.specs.Database.Statements.Effect.{modified, with_items, with_its_items, changed_items, names_calc, next_version, joined, without}
+use Rattle.dbtg_unit.specs.Database.Statements.View.{whole}
 use Rattle.dbtg_unit.specs.Database.State.Legal.{Legal}
 use Rattle.dbtg_unit.specs.Database.State.Cells.{cell, owner_at, slot_of, ring_of, number_of}
 use Rattle.dbtg_unit.specs.Database.State.CellNames.{place_of}
@@ -40,7 +41,7 @@ use Rattle.dbtg_unit.proofs.Hands.Untouched.LocalRemove.{owner_at_place, member_
 use Rattle.dbtg_unit.proofs.Hands.Changes.RangeMaps.{map_range_changed}
 use Rattle.dbtg_unit.proofs.Database.Records.OwnersFound.{latest, owner_stands_at_place, member_owner_found, owner_has_member, owner_of_by_members, member_has_list}
 use Rattle.dbtg_unit.proofs.Lists.WithANewMember.{pairwise_filter}
-use Rattle.dbtg_unit.proofs.Hands.Changes.EditsInTurn.{edited_at_append, edits_miss, edits_hit, has_number, range_distinct, has_number_filter, has_number_range, has_number_unfiltered}
+use Rattle.dbtg_unit.proofs.Hands.Changes.EditsInTurn.{edited_at_append, edits_miss, edits_hit, has_number, range_distinct, has_number_filter, has_number_range}
 use Rattle.dbtg_unit.proofs.Database.Records.ItemsAfterModify.{same_calc_items}
 
 -- an item that is not named stays
@@ -279,19 +280,19 @@ module _ (schema : Lists) (capacity : ℕ) (db : Database) (unit : Unit) (change
       ∙ (λ i. record { owner = o; members = placed (member_spot (order_of schema s) at (sort_key_here s i)) (k, sort_key_here s i) (rest_is i) })
 
   ring_edits : CellName → CellValue → CellValue
-  ring_edits c value = edited_at c (flat_map (replacing_edits schema capacity db unit k new_items) (replaced_sets schema capacity db changes k)) value
+  ring_edits c value = edited_at c (flat_map (replacing_edits schema (whole schema capacity db) unit k new_items) rekeyed) value
 
   -- edits of rings miss other cells
-  replacing_misses : (c : CellName) (s : ℕ) (value : CellValue) → ((o : Owner) → owner_of schema capacity db s k ≡ Some o → name_eq c (Ring s (place_of o)) ≡ false) → edited_at c (replacing_edits schema capacity db unit k new_items s) value ≡ value
+  replacing_misses : (c : CellName) (s : ℕ) (value : CellValue) → ((o : Owner) → owner_of schema capacity db s k ≡ Some o → name_eq c (Ring s (place_of o)) ≡ false) → edited_at c (replacing_edits schema (whole schema capacity db) unit k new_items s) value ≡ value
   replacing_misses c s value miss = known (owner_of schema capacity db s k) refl where
-    known : (found : Option Owner) → owner_of schema capacity db s k ≡ found → edited_at c (replacing_edits schema capacity db unit k new_items s) value ≡ value
+    known : (found : Option Owner) → owner_of schema capacity db s k ≡ found → edited_at c (replacing_edits schema (whole schema capacity db) unit k new_items s) value ≡ value
     known None h = rw h refl
     known (Some o) h =
         rw h (ap (λ b. cond b (edited (placing s) value) value) (miss o h))
 
   rings_miss : (c : CellName) (value : CellValue) → ((s : ℕ) (p : Option (ℕ × ℕ)) → name_eq c (Ring s p) ≡ false) → ring_edits c value ≡ value
   unfolding ring_edits
-  rings_miss c value miss = edits_miss c (replacing_edits schema capacity db unit k new_items) (replaced_sets schema capacity db changes k) value (λ s v h. replacing_misses c s v (λ o is. miss s (place_of o)))
+  rings_miss c value miss = edits_miss c (replacing_edits schema (whole schema capacity db) unit k new_items) rekeyed value (λ s v h. replacing_misses c s v (λ o is. miss s (place_of o)))
 
   -- the sets whose key item is named
   rekeys : ℕ → Bool
@@ -316,26 +317,26 @@ module _ (schema : Lists) (capacity : ℕ) (db : Database) (unit : Unit) (change
         | inl e ↦
             let es = and_parts _ _ e in
             let stands : owner_of schema capacity db s k ≡ Some o = member_owner_found schema capacity db legal s o k es.1 in
-            let there : has_number s (replaced_sets schema capacity db changes k) ≡ true = has_number_filter (λ s'. is_some (owner_of schema capacity db s' k)) s rekeyed (ap is_some stands) es.0 in
-            let once = pairwise_filter _ _ rekeyed (pairwise_filter _ _ (set_numbers schema) (range_distinct 0 (length schema.sets))) in
+            let there : has_number s rekeyed ≡ true = es.0 in
+            let once = pairwise_filter _ _ (set_numbers schema) (range_distinct 0 (length schema.sets)) in
             let named : (eqb s s && place_eq q (place_of o)) ≡ true = and_from _ _ (eq-eqb s s refl) (ap (place_eq q) (owner_at_place db q) ∙ place_eq_refl q) in
-            let hit : edited_at (Ring s q) (replacing_edits schema capacity db unit k new_items s) value ≡ edited (placing s) value =
+            let hit : edited_at (Ring s q) (replacing_edits schema (whole schema capacity db) unit k new_items s) value ≡ edited (placing s) value =
             rw stands (ap (λ b. cond b (edited (placing s) value) value) named) in
             ap (λ b. RingValue (option_map (ring_of schema new s o) (cond b (option_map (λ list. joined schema changed_db unit s k (without k list)) (db.lists s o)) (db.lists s o)))) e
             ∙ shown s o (db.lists s o)
             ∙ sym hit
-            ∙ sym (edits_hit (Ring s q) (replacing_edits schema capacity db unit k new_items) (replaced_sets schema capacity db changes k) s value once there
+            ∙ sym (edits_hit (Ring s q) (replacing_edits schema (whole schema capacity db) unit k new_items) rekeyed s value once there
             (λ s' v other. replacing_misses (Ring s q) s' v (λ p is. ap (λ b. b && place_eq q (place_of p)) (ne_eqb s s' (λ same. other (sym same))))))
         | inr e ↦
             ap (λ b. RingValue (option_map (ring_of schema new s o) (cond b (option_map (λ list. joined schema changed_db unit s k (without k list)) (db.lists s o)) (db.lists s o)))) e
             ∙ ap RingValue (stays s o e)
-            ∙ sym (edits_miss (Ring s q) (replacing_edits schema capacity db unit k new_items) (replaced_sets schema capacity db changes k) value
+            ∙ sym (edits_miss (Ring s q) (replacing_edits schema (whole schema capacity db) unit k new_items) rekeyed value
             (λ s' v h. replacing_misses (Ring s q) s' v (λ p is. false_from_ne_true _ (λ same.
             let sames = and_parts (eqb s s') (place_eq q (place_of p)) same in
             let set_is = eqb-true s s' sames.0 in
             let has : is_member k (members_of db s' p) ≡ true = owner_has_member schema capacity db s' p k is in
             let owner : o ≡ p = ap (owner_at db) (same_place q (place_of p) sames.1) ∙ owner_stands_at_place schema capacity db legal s' p (sym (legal.pairs s' p) ∙ member_has_list (db.lists s' p) k has) in
-            let rekeyed_there : has_number s rekeyed ≡ true = subst (λ x. has_number x rekeyed ≡ true) (sym set_is) (has_number_unfiltered (λ x. is_some (owner_of schema capacity db x k)) s' rekeyed h) in
+            let rekeyed_there : has_number s rekeyed ≡ true = subst (λ x. has_number x rekeyed ≡ true) (sym set_is) h in
             false≢true (sym e ∙ and_from _ _ rekeyed_there (λ i. (subst (λ x. is_member k (members_of db x o) ≡ true) (sym set_is) (subst (λ u. is_member k (members_of db s' u) ≡ true) (sym owner) has)) i))))))
       ] where
         shown : (s : ℕ) (o : Owner) (l : Option (List DbKey)) → RingValue (option_map (ring_of schema new s o) (option_map (λ list. joined schema changed_db unit s k (without k list)) l)) ≡ edited (placing s) (RingValue (option_map (ring_of schema db s o) l))
@@ -358,15 +359,15 @@ module _ (schema : Lists) (capacity : ℕ) (db : Database) (unit : Unit) (change
                   ]
 
   -- MODIFY changes the cells by its edits
-  pub modify_makes : Legal schema capacity new → (c : CellName) → cell schema capacity new c ≡ edited_at c (modify_edits schema capacity db unit changes k) (cell schema capacity db c)
+  pub modify_makes : Legal schema capacity new → (c : CellName) → cell schema capacity new c ≡ edited_at c (modify_edits schema (whole schema capacity db) unit changes k new_items) (cell schema capacity db c)
   unfolding ring_edits extent_edits cell
   modify_makes legal_new c = made c ∙ sym (in_turn c (cell schema capacity db c)) where
     slots : List CellEdit
     slots = slot_edit k (ChangeItems new_items) ∷ (slot_edit k RaiseVersion ∷ [])
 
-    in_turn : (c : CellName) (value : CellValue) → edited_at c (modify_edits schema capacity db unit changes k) value ≡ edited_at c (slot_edit k (ChangeItems new_items) ∷ (slot_edit k RaiseVersion ∷ [])) (ring_edits c (edited_at c extent_edits value))
+    in_turn : (c : CellName) (value : CellValue) → edited_at c (modify_edits schema (whole schema capacity db) unit changes k new_items) value ≡ edited_at c (slot_edit k (ChangeItems new_items) ∷ (slot_edit k RaiseVersion ∷ [])) (ring_edits c (edited_at c extent_edits value))
     in_turn c value =
-        let rings = flat_map (replacing_edits schema capacity db unit k new_items) (replaced_sets schema capacity db changes k) in
+        let rings = flat_map (replacing_edits schema (whole schema capacity db) unit k new_items) rekeyed in
         edited_at_append c extent_edits (rings ++ slot_edit k (ChangeItems new_items) ∷ (slot_edit k RaiseVersion ∷ [])) value
         ∙ edited_at_append c rings (slot_edit k (ChangeItems new_items) ∷ (slot_edit k RaiseVersion ∷ [])) (edited_at c extent_edits value)
 

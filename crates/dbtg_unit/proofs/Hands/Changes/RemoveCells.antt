@@ -15,7 +15,8 @@ use Rattle.dbtg_unit.specs.Database.Statements.Effect.{removed, without}
 use Rattle.dbtg_unit.specs.Database.State.Legal.{Legal}
 use Rattle.dbtg_unit.specs.Database.State.Cells.{cell, ring_of}
 use Rattle.dbtg_unit.specs.Hands.Edits.{edited_at, members_without, with_members}
-use Rattle.dbtg_unit.specs.Hands.EditsOf.{remove_edits}
+use Rattle.dbtg_unit.specs.Database.Statements.View.{whole}
+use Rattle.dbtg_unit.specs.Hands.PlanOf.{removing}
 use Rattle.dbtg_unit.proofs.Lists.PlacedMaps.{map_filter}
 use Rattle.dbtg_unit.proofs.Hands.Untouched.LocalRemove.{without_absent, member_without}
 use Rattle.dbtg_unit.proofs.Database.Records.OwnersFound.{member_has_list, owner_has_member, find_none}
@@ -78,9 +79,9 @@ module _ (schema : Lists) (capacity : ℕ) (db : Database) (unit : Unit) (s : �
       ∙ (λ i. Some (record { owner = owner; members = map_filter (λ x. (x, sort_key schema db s x)) (λ m. not (key_eq k m.0)) list i }))
 
   -- REMOVE changes the cells by its edits
-  pub remove_makes : (c : CellName) → cell schema capacity new c ≡ edited_at c (remove_edits schema capacity db s k) (cell schema capacity db c)
+  pub remove_makes : (c : CellName) → cell schema capacity new c ≡ edited_at c (removing (whole schema capacity db) s k).cells (cell schema capacity db c)
   remove_makes c =
-      let edits_are : remove_edits schema capacity db s k ≡ membership_edits changes legal live (TakeOut k) None = rw stands refl in
+      let edits_are : (removing (whole schema capacity db) s k).cells ≡ membership_edits changes legal live (TakeOut k) None = rw stands refl in
       membership_cells changes legal live (TakeOut k) None (member_has_list (db.lists s owner) k has) (find_none (λ o. is_member k (members_of new s o)) _ gone)
       (ap (λ l. RingValue (option_map (ring_of schema new s owner) l)) list_here ∙ ap RingValue (ring_here (db.lists s owner))) c
       ∙ ap (λ es. edited_at c es (cell schema capacity db c)) (sym edits_are)

@@ -163,10 +163,6 @@ with_its_items items r = record { items = items; version = r.version }
 abbrev pub with_items : Database → DbKey → List Value → Database
 with_items db k items = record db { records = λ x. if key_eq k x then option_map (with_its_items items) (db.records x) else db.records x }
 
--- the sorted sets whose key item is named and in which k is connected
-abbrev pub replaced_sets : Lists → ℕ → Database → List Change → DbKey → List ℕ
-replaced_sets schema capacity db changes k = filter (λ s. is_some (owner_of schema capacity db s k)) (rekeyed_sets schema k.rtype (map (λ c. c.item) changes))
-
 -- k with its changed items, placed anew
 abbrev pub modified : Lists → ℕ → Database → Unit → List Change → DbKey → Outcome
 modified schema capacity db unit changes k =

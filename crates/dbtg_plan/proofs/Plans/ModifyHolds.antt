@@ -1,4 +1,4 @@
--- What is prepared of a MODIFY is its effect on every database that agrees with what is held.
+-- What a MODIFY that is ready holds: its slot, its extent where a CALC item is named, the rings of the owners in whose sets it is placed anew.
 use Rattle.std.proofs.Common.{◌≡◌, refl, sym, ◌∙◌, ap, subst, ℕ, ◌+◌, Bool, true, false, cond, ◌&&◌, List, [], ◌∷◌, ◌++◌, Option, Some, None, inl, eqb, map}
 use Rattle.std.specs.Prelude.{is_some, option_map, unwrap_or}
 use Rattle.std.specs.List.{list_any, flat_map}
@@ -12,26 +12,19 @@ use Rattle.dbtg_cells.specs.declared.key.Owner.{Owner}
 use Rattle.dbtg_cells.specs.declared.name.CellName.{CellName}
 use Rattle.dbtg_cells.specs.declared.name.CellName.TheVariants.{Extent, Ring}
 use Rattle.dbtg_cells.specs.Keys.{owner_eq}
-use Rattle.dbtg_cells.proofs.Public.{key_eq_refl, same_owner}
-use Rattle.dbtg_unit.specs.declared.edit.UnitEdit.TheVariants.{Same}
+use Rattle.dbtg_cells.proofs.Public.{same_owner}
 use Rattle.dbtg_unit.specs.declared.statement.Change.{Change}
 use Rattle.dbtg_unit.specs.declared.statement.Statement.TheVariants.{Modify}
 use Rattle.dbtg_unit.specs.declared.unit.Unit.{Unit}
-use Rattle.dbtg_unit.specs.Database.State.Base.{Database, Record, is_live, items_of, owner_of}
+use Rattle.dbtg_unit.specs.Database.State.Base.{Database, is_live, owner_of}
 use Rattle.dbtg_unit.specs.Database.State.CellNames.{place_of, slot_name}
-use Rattle.dbtg_unit.specs.Hands.EditsOf.{modify_edits}
-use Rattle.dbtg_unit.specs.Database.Statements.Effect.{Outcome, changed_items, modified, names_calc, next_version, version_of, with_its_items}
+use Rattle.dbtg_unit.specs.Database.Statements.Effect.{names_calc}
 use Rattle.dbtg_unit.specs.Hands.Hands.{Hands}
-use Rattle.dbtg_unit.specs.Database.State.Legal.{Legal}
 use Rattle.dbtg_unit.specs.Hands.Local.{Agrees, holds}
 use Rattle.dbtg_unit.specs.Hands.Needs.{cells_of, is_stale, is_wrong_guess, ring_names, slot_names}
-use Rattle.dbtg_unit.specs.Hands.Prepared.{Plan, unit_after}
-use Rattle.dbtg_unit.proofs.Public.{In, any_element, any_in, in_filter, in_flat_map, in_left, in_right, member_of_owner, modify_makes, set_has_number}
+use Rattle.dbtg_unit.proofs.Public.{In, any_element, any_in, in_filter, in_flat_map, in_left, in_right, member_of_owner, set_has_number}
 use Rattle.dbtg_unit.proofs.Public.{some_and_value}
 use Rattle.dbtg_plan.specs.Modifying.{is_rekeyed}
-use Rattle.dbtg_plan.specs.Plans.{done_answer}
-use Rattle.dbtg_plan.proofs.Plans.PartByPart.{Makes}
-use Rattle.dbtg_plan.proofs.Plans.IsEffect.{noted_renoted}
 
 -- the member clause of a set in which a key item is named
 pub rekeyed_clause : (schema : Lists) (changes : List Change) (t s : ℕ) → is_rekeyed schema changes t s ≡ true → is_some (member_clause schema s t) ≡ true
@@ -86,34 +79,3 @@ module _ (schema : Lists) (capacity : ℕ) (db : Database) (hands : Hands) (unit
       (in_flat_map (λ s. ring_names s (at hands.guesses s)) s (Ring s (place_of o)) (rekeyed_sets schema k.rtype (map (λ c. c.item) changes))
       (in_filter (λ s. is_rekeyed schema changes k.rtype s) s (set_numbers schema) (rekeyed_number schema changes k.rtype s rekeyed) rekeyed)
       (subst (λ (g : Option Owner). In (Ring s (place_of o)) (ring_names s g)) (sym (guess_is s o rekeyed is)) (inl refl)))))
-
--- THE EFFECT
-
-module _ (schema : Lists) (capacity : ℕ) (db : Database) (hands : Hands) (unit : Unit) (changes : List Change) (k : DbKey) where
-  abbrev new : Outcome
-  new = modified schema capacity db unit changes k
-
-  -- the plan, as the database has it
-  abbrev pub done_plan : Plan
-  done_plan =
-      record {
-        answer = done_answer;
-        cells = modify_edits schema capacity db unit changes k;
-        versions = (k, version_of db k + 1) ∷ [];
-        unit = Same;
-      }
-
-  version_now : is_live db k ≡ true → version_of new.database k ≡ version_of db k + 1
-  version_now live =
-      ap (λ b. unwrap_or (option_map (λ (r : Record). r.version) (cond b (option_map next_version (cond b (option_map (with_its_items (changed_items changes (items_of db k))) (db.records k)) (db.records k))) (cond b (option_map (with_its_items (changed_items changes (items_of db k))) (db.records k)) (db.records k)))) 0) (key_eq_refl k)
-      ∙ of_record (db.records k) live where
-        of_record : (r : Option Record) → is_some r ≡ true → unwrap_or (option_map (λ (r : Record). r.version) (option_map next_version (option_map (with_its_items (changed_items changes (items_of db k))) r))) 0 ≡ unwrap_or (option_map (λ (r : Record). r.version) r) 0 + 1
-        of_record None h = absurd (false≢true h)
-        of_record (Some r) h = refl
-
-  unit_is : is_live db k ≡ true → unit_after schema done_plan unit ≡ new.unit
-  unit_is live = ap (λ (kept : List (DbKey × ℕ)). record unit { kept = kept }) (noted_renoted k (version_of db k + 1) new.database (version_now live) unit.kept)
-
-  -- a MODIFY that nothing refuses
-  pub done_makes : Legal schema capacity db → Legal schema capacity new.database → is_live db k ≡ true → Makes schema capacity db unit hands.guesses (Modify k.rtype changes) done_plan new
-  done_makes legal lawful live = record { answer = refl; unit_is = unit_is live; guesses_are = refl; cells = modify_makes schema capacity db unit changes k legal live lawful }

@@ -1,0 +1,130 @@
+-- What each statement plans, a line for each, over a view: so a plan stands once, for a whole database and for the cells in hand.
+-- First edits of rings and slots and plans that change no cell; then INSERT, REMOVE and MODIFY; at the end `done_plan_of`, a line for each
+-- statement, and `plan_of`, which puts the checks before it.
+-- k is a key, m a new member, o an owner, s a set, a an area.
+use Rattle.std.specs.Prelude.{ℕ, ◌+◌, true, false, List, [], ◌∷◌, ◌++◌, Option, Some, None, map, option_and_then, if◌then◌else◌}
+use Rattle.std.specs.List.{flat_map}
+use Rattle.dbtg_schema.specs.Lists.{Lists}
+use Rattle.dbtg_schema.specs.Lookups.{first_cause}
+use Rattle.dbtg_schema.specs.Structure.{order_of, rekeyed_sets}
+use Rattle.dbtg_cells.specs.declared.key.DbKey.{DbKey}
+use Rattle.dbtg_cells.specs.declared.key.Owner.{Owner}
+use Rattle.dbtg_cells.specs.declared.key.Value.{Value}
+use Rattle.dbtg_cells.specs.declared.name.CellName.TheVariants.{Usage, Extent, Ring}
+use Rattle.dbtg_cells.specs.declared.usage.Mode.{Mode}
+use Rattle.dbtg_unit.specs.declared.edit.CellEdit.{CellEdit}
+use Rattle.dbtg_unit.specs.declared.edit.Edit.{Edit}
+use Rattle.dbtg_unit.specs.declared.edit.Edit.TheVariants.{EnterUser, LeaveUser, ChangeNumber, PlaceMember, ReplaceMember, TakeOut, ChangeItems, ChangeOwner, RaiseVersion}
+use Rattle.dbtg_unit.specs.declared.edit.UnitEdit.{UnitEdit}
+use Rattle.dbtg_unit.specs.declared.edit.UnitEdit.TheVariants.{Same, Move, Leave, SetMode, Keep as KeepEdit, Forget, ForgetAll}
+use Rattle.dbtg_unit.specs.declared.statement.Change.{Change}
+use Rattle.dbtg_unit.specs.declared.statement.Statement.{Statement}
+use Rattle.dbtg_unit.specs.declared.statement.Statement.TheVariants.{OpenArea, CloseArea, Get, Insert, Remove, Modify, Keep, Free}
+use Rattle.dbtg_unit.specs.declared.unit.Answer.{Answer}
+use Rattle.dbtg_unit.specs.declared.unit.Cause.TheVariants.{NoCurrentOfRunUnit}
+use Rattle.dbtg_unit.specs.declared.unit.Place.{Place}
+use Rattle.dbtg_unit.specs.declared.unit.Status.TheVariants.{Done}
+use Rattle.dbtg_unit.specs.declared.unit.Unit.{Unit}
+use Rattle.dbtg_unit.specs.Database.State.Base.{calc_items, key_item}
+use Rattle.dbtg_unit.specs.Database.State.CellNames.{slot_name, place_of}
+use Rattle.dbtg_unit.specs.Database.State.Units.{noted, place_in}
+use Rattle.dbtg_unit.specs.Database.Statements.Checks.{checks_on_cells}
+use Rattle.dbtg_unit.specs.Database.Statements.Conditions.{changed_items, joined_place, names_calc}
+use Rattle.dbtg_unit.specs.Database.Statements.View.{View}
+use Rattle.dbtg_unit.specs.Hands.Prepared.{Plan, refusal, unless_refusal}
+
+-- these edits of the ring of an owner, where there is one
+abbrev pub ring_edits : ℕ → Option Owner → List Edit → List CellEdit
+ring_edits s None edits = []
+ring_edits s (Some o) edits = map (λ edit. record { name = Ring s (place_of o); edit = edit }) edits
+
+-- an edit of the slot of a key
+abbrev pub slot_edit : DbKey → Edit → CellEdit
+slot_edit k edit = record { name = slot_name k; edit = edit }
+
+-- m, with this sort key, into the current occurrence of set s
+abbrev pub placed_at : Lists → ℕ → DbKey → Option Value → Place → Edit
+placed_at schema s m key place = PlaceMember (order_of schema s) place.at m key
+
+-- the edit by which m, with this sort key, joins the current occurrence of set s
+abbrev pub joining_edit : Lists → Unit → ℕ → DbKey → Option Value → CellEdit
+joining_edit schema unit s m key =
+    record { name = Ring s (place_of (joined_place schema unit s).owner); edit = placed_at schema s m key (joined_place schema unit s) }
+
+-- done, with neither a key nor items
+abbrev pub done_answer : Answer
+done_answer = record { status = Done; key = None; items = None }
+
+-- done, with this change of the unit alone, and with a key and items for the answer, or none
+abbrev pub done_plan : UnitEdit → Option DbKey → Option (List Value) → Plan
+done_plan change key items = record { answer = record { status = Done; key = key; items = items }; cells = []; versions = []; unit = change }
+
+-- area a is open for the unit in a mode, or no more: an edit of its usage cell, and the unit's mode
+abbrev pub mode_plan : ℕ → Edit → Option Mode → Plan
+mode_plan a edit mode = record { answer = done_answer; cells = record { name = Usage a; edit = edit } ∷ []; versions = []; unit = SetMode a mode }
+
+-- INSERT of k: its place in the current occurrence, its owner, its version; it is current of the set
+abbrev pub inserting : Lists → View → Unit → ℕ → DbKey → Plan
+inserting schema view unit s k = record {
+  answer = done_answer;
+  cells = joining_edit schema unit s k (key_item schema s k.rtype (view.items k)) ∷ slot_edit k (ChangeOwner s (Some (joined_place schema unit s).owner)) ∷ slot_edit k RaiseVersion ∷ [];
+  versions = (k, view.version k + 1) ∷ [];
+  unit = Move s (record { owner = (joined_place schema unit s).owner; at = Some k });
+}
+
+-- REMOVE of k: out of its owner's list, no owner, its version
+abbrev pub removing : View → ℕ → DbKey → Plan
+removing view s k = record {
+  answer = done_answer;
+  cells = ring_edits s (view.owner s k) (TakeOut k ∷ []) ++ slot_edit k (ChangeOwner s None) ∷ slot_edit k RaiseVersion ∷ [];
+  versions = (k, view.version k + 1) ∷ [];
+  unit = Leave s;
+}
+
+-- k, out of its list of set s and placed anew by its new sort key
+abbrev pub replacing_edits : Lists → View → Unit → DbKey → List Value → ℕ → List CellEdit
+replacing_edits schema view unit k items s =
+    ring_edits s (view.owner s k) (ReplaceMember (order_of schema s) (option_and_then (λ place. place.at) (place_in schema unit s)) k (key_item schema s k.rtype items) ∷ [])
+
+-- the CALC values of k, where an item among them is named
+abbrev pub calc_edits : Lists → List Change → DbKey → List Value → List CellEdit
+calc_edits schema changes k items =
+    if names_calc schema k.rtype changes then record { name = Extent k.rtype; edit = ChangeNumber k.number (calc_items schema k.rtype items) } ∷ [] else []
+
+-- k has these items now: its CALC values, its places where a sort key is named, its items, its version
+abbrev pub modify_edits : Lists → View → Unit → List Change → DbKey → List Value → List CellEdit
+modify_edits schema view unit changes k items =
+    calc_edits schema changes k items
+    ++ (flat_map (replacing_edits schema view unit k items) (rekeyed_sets schema k.rtype (map (λ c. c.item) changes))
+    ++ slot_edit k (ChangeItems items) ∷ (slot_edit k RaiseVersion ∷ []))
+
+-- MODIFY of k
+abbrev pub modifying : Lists → View → Unit → List Change → DbKey → Plan
+modifying schema view unit changes k = record {
+  answer = done_answer;
+  cells = modify_edits schema view unit changes k (changed_items changes (view.items k));
+  versions = (k, view.version k + 1) ∷ [];
+  unit = Same;
+}
+
+-- what is planned about a current, where there is one
+abbrev pub planned_on_current : Option DbKey → (DbKey → Plan) → Plan
+planned_on_current None plan = refusal NoCurrentOfRunUnit
+planned_on_current (Some k) plan = plan k
+
+-- what a statement plans that no check refuses
+abbrev pub done_plan_of : Lists → View → Unit → Statement → Plan
+done_plan_of schema view unit (OpenArea a mode) = mode_plan a (EnterUser unit.number mode) (Some mode)
+done_plan_of schema view unit (CloseArea a) = mode_plan a (LeaveUser unit.number) None
+done_plan_of schema view unit (Get r) = planned_on_current unit.currency.run_unit (λ k. done_plan Same (Some k) (Some (view.items k)))
+done_plan_of schema view unit (Insert s) = planned_on_current unit.currency.run_unit (inserting schema view unit s)
+done_plan_of schema view unit (Remove s) = planned_on_current unit.currency.run_unit (removing view s)
+done_plan_of schema view unit (Modify t changes) = planned_on_current unit.currency.run_unit (modifying schema view unit changes)
+done_plan_of schema view unit Keep = planned_on_current unit.currency.run_unit (λ k. done_plan (KeepEdit (noted k (view.version k) unit.kept)) None None)
+done_plan_of schema view unit (Free true) = done_plan ForgetAll None None
+done_plan_of schema view unit (Free false) = planned_on_current unit.currency.run_unit (λ k. done_plan (Forget k) None None)
+done_plan_of schema view unit _ = done_plan Same None None
+
+-- the plan of a statement that no check without cells refuses
+abbrev pub plan_of : Lists → View → Unit → Statement → Plan
+plan_of schema view unit statement = unless_refusal (first_cause (checks_on_cells schema view unit statement)) (done_plan_of schema view unit statement)
