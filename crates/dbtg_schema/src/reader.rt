@@ -74,6 +74,7 @@ pub fn read(alloc: Global, text: &[u8]) -> Result<Vec<Labelled<'_>>, SchemaFault
     ensures sound { IfOk result (λ v. IsSchema (schema_of (views v.items))) }
     ensures fitting { IfOk result (λ v. IsSound (schema_of (views v.items))) }
     ensures limits { IfOk result (λ v. WithinLimits (views v.items)) }
+    ensures too_long { 65536 < length text.now → MatchResult result (λ _. ⊥) (λ e. e ≡ SchemaFault.Refused 1 Cause.TextTooLong) }
 {
     if text.len() > 65536 {
         return Err(SchemaFault::of(Fault {

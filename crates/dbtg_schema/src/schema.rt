@@ -1,6 +1,8 @@
 //! A schema, and what it says of its record types, sets and areas by their numbers. Look-ups take no memory.
 
-ghost use Rattle.std.specs.Prelude.{◌≡◌, ◌==◌, ◌≤◌, length, All, None, [], IfNone, IfOk, IfSome, filter, map, IfErr, OnOk, option_map, slice_get};
+ghost use Rattle.std.specs.Prelude.{◌≡◌, ◌==◌, ◌<◌, ◌≤◌, length, All, None, [], IfNone, IfOk, IfSome, MatchResult, filter, map, IfErr, OnOk, option_map, slice_get};
+ghost use Rattle.dbtg_schema.specs.declared.fault.Cause.TheVariants.{TextTooLong};
+ghost use Rattle.dbtg_schema.specs.declared.fault.SchemaFault.TheVariants.{Refused};
 ghost use Rattle.dbtg_schema.specs.Connecting.{AreConnecting};
 ghost use Rattle.dbtg_schema.specs.Erasing.{AreErased};
 ghost use Rattle.dbtg_schema.specs.Lookups.{some_and};
@@ -201,7 +203,8 @@ pub fn clause_for(members: &[Member], rtype: RecordNo) -> Option<Member>
 
 impl Schema {
     /// Reads the text of a schema, from left to right. The text may hold any bytes. What is refused is refused for
-    /// its first fault; `Memory` is the answer where a growth was refused before a fault was met.
+    /// its first fault; `Memory` is the answer where a growth was refused before a fault was met, so never for a text
+    /// that is too long.
     pub fn read(alloc: Global, text: &[u8]) -> Result<Schema, SchemaFault>
         ensures accepted { OnOk result (refusal text.now ≡ None) }
         ensures lists { IfOk result (λ s. s ≡ schema_of (labels fits schema (text_words text.now))) }
@@ -209,6 +212,7 @@ impl Schema {
         ensures derived { OnOk result (Derives fits schema (labels fits schema (text_words text.now))) }
         ensures sound { IfOk result (λ s. IsSound s) }
         ensures named { IfOk result (λ s. IsNamed s) }
+        ensures too_long { 65536 < length text.now → MatchResult result (λ _. ⊥) (λ e. e ≡ Refused 1 TextTooLong) }
     {
         let words = read_words(alloc, text)?;
         Ok(from_words(alloc, &words)?)

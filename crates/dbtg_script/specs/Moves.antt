@@ -1,5 +1,6 @@
 -- The words of a moves file, and of a turns file; the moves of a moves file.
-use Rattle.std.specs.Prelude.{◌≡◌, ℕ, ◌+◌, Bool, true, false, not, ◌&&◌, ◌||◌, ◌==◌, nat_le, nat_lt, List, [], ◌∷◌, ◌++◌, map, Option, Some, None, if◌then◌else◌, replicate}
+use Rattle.std.specs.Prelude.{◌≡◌, ℕ, ◌+◌, Bool, false, not, ◌&&◌, ◌||◌, ◌==◌, nat_le, nat_lt, List, [], ◌∷◌, ◌++◌, map, Option, Some, None, if◌then◌else◌, replicate}
+use Rattle.dbtg_schema.specs.Lookups.{first}
 use Rattle.dbtg_unit.specs.declared.moves.Move.{Move}
 use Rattle.dbtg_unit.specs.declared.moves.Move.TheVariants.{Step, Quit}
 use Rattle.dbtg_script.specs.declared.moves.MovesCause.{MovesCause}
@@ -76,28 +77,24 @@ said (s ∷ ss) = repeated s ++ said ss
 abbrev pub moves_of : List (List ℕ) → List Move
 moves_of ws = said (map spelled_move ws)
 
--- more than 1,000,000 entries behind so many?
-abbrev pub passes : {A : Type 0} → ℕ → Option (A × ℕ) → Bool
-passes total None = false
-passes total (Some m) = nat_lt 1000000 (total + m.1)
-
 -- how many entries there are with those that a word says
 abbrev pub total_after : {A : Type 0} → ℕ → Option (A × ℕ) → ℕ
 total_after total None = total
 total_after total (Some m) = total + m.1
 
--- the word is one that the file may have
-abbrev pub says_something : {A : Type 0} → Option (A × ℕ) → Bool
-says_something None = false
-says_something (Some m) = true
+-- what is wrong with a word behind so many entries: it is of another shape, or the total passes 1,000,000 with it
+abbrev pub word_faults : {A : Type 0} → ℕ → Option (A × ℕ) → List MovesCause
+word_faults total None = NotAMove ∷ []
+word_faults total (Some m) = if nat_lt 1000000 (total + m.1) then TooManyMoves ∷ [] else []
 
--- the first fault of what words say, of which the first has this number, behind so many entries
+-- every fault of what words say, of which the first has this number, behind so many entries: the number of the word, and the cause
+abbrev pub faults_from : {A : Type 0} → ℕ → ℕ → List (Option (A × ℕ)) → List (ℕ × MovesCause)
+faults_from total number [] = []
+faults_from total number (s ∷ ss) = map (λ c. (number, c)) (word_faults total s) ++ faults_from (total_after total s) (number + 1) ss
+
+-- the first of these faults
 unfoldable pub refused_word : {A : Type 0} → ℕ → ℕ → List (Option (A × ℕ)) → Option (ℕ × MovesCause)
-refused_word total number [] = None
-refused_word total number (s ∷ ss) =
-    if not (says_something s) then Some (number, NotAMove)
-    else (if passes total s then Some (number, TooManyMoves)
-    else refused_word (total_after total s) (number + 1) ss)
+refused_word total number ss = first (faults_from total number ss)
 
 -- the first fault of a moves file: the number of the word, and its cause
 abbrev pub refusal : List ℕ → Option (ℕ × MovesCause)
@@ -107,6 +104,10 @@ refusal text = refused_word 0 1 (map spelled_move (words text))
 abbrev pub Refuses : MovesFault → Option (ℕ × MovesCause) → Type 0
 Refuses Memory v = Unit {0}
 Refuses (Refused word cause) v = v ≡ Some (word, cause)
+
+-- this is told of a text whose first word is of another shape
+abbrev pub RefusedAtOnce : {A : Type 0} → (List ℕ → Option (A × ℕ)) → List ℕ → Type 0 → Type 0
+RefusedAtOnce spelled text Told = (w : List ℕ) (ws : List (List ℕ)) → words text ≡ w ∷ ws → spelled w ≡ None → Told
 
 -- the numbers by which causes are printed
 abbrev pub cause_number : MovesCause → ℕ

@@ -1,8 +1,8 @@
 //! Reading moves: words that say which unit steps or quits.
 
-ghost use Rattle.dbtg_script.specs.Moves.{Refuses, begins_with, cause_number, counted, is_gap, moves_of, plain_number, quit_of, refusal, refused_word, repeated, spelled_move, spelled_turn, steps_of, times, words};
+ghost use Rattle.dbtg_script.specs.Moves.{RefusedAtOnce, Refuses, begins_with, cause_number, counted, is_gap, moves_of, plain_number, quit_of, refusal, refused_word, repeated, spelled_move, spelled_turn, steps_of, times, words};
 ghost use Rattle.dbtg_script.specs.declared.moves.MovesFault.TheVariants.{Memory};
-ghost use Rattle.std.specs.Prelude.{◌≡◌, ◌+◌, ◌++◌, ◌<◌, ◌≤◌, ◌∷◌, ℕ, List, [], IfErr, IfOk, IfSome, Option, MatchOption, None, OnOk, OnSome, false, length, replicate, slice_index, true};
+ghost use Rattle.std.specs.Prelude.{◌≡◌, ◌+◌, ◌++◌, ◌<◌, ◌≤◌, ◌∷◌, ℕ, List, [], IfErr, IfOk, IfSome, MatchOption, MatchResult, None, OnOk, OnSome, Option, false, length, replicate, slice_index, true};
 
 use crate::spelling::{behind, has_byte, in_front, is_number, number};
 use dbtg_unit::Move;
@@ -209,6 +209,7 @@ pub fn take_word<T: Copy>(
     said: Option<(T, u64)>,
 ) -> Result<(), MovesFault>
     requires { IfSome said (λ m. m.1 ≤ 1000000) }
+    ensures at_once { said ≡ None → MatchResult result (λ _. ⊥) (λ e. e ≡ MovesFault.Refused number MovesCause.NotAMove) }
     ensures taken { OnOk result (entries.new.items ≡ entries.old.items ++ repeated said) }
     ensures reached { (left : List (Option (T × ℕ))) → OnOk result (refused_word (length entries.old.items) number (said ∷ left) ≡ refused_word (length entries.new.items) (number + 1) left) }
     ensures refused { (left : List (Option (T × ℕ))) → IfErr result (λ e. Refuses e (refused_word (length entries.old.items) number (said ∷ left))) }
@@ -232,11 +233,13 @@ pub fn take_word<T: Copy>(
 }
 
 /// Reads moves, at most 1,000,000 of them. The text may hold any bytes. What is refused is refused at its first word
-/// with a fault; `Memory` is the answer where a growth was refused before a fault was met.
+/// with a fault; `Memory` is the answer where a growth was refused before a fault was met, so never where the first word is
+/// of another shape.
 pub fn read_moves(alloc: Global, text: &[u8]) -> Result<Vec<Move>, MovesFault>
     ensures accepted { OnOk result (refusal text.now ≡ None) }
     ensures moves { IfOk result (λ v. v.items ≡ moves_of (words text.now)) }
     ensures refused { IfErr result (λ e. Refuses e (refusal text.now)) }
+    ensures at_once { RefusedAtOnce spelled_move text.now (MatchResult result (λ _. ⊥) (λ e. e ≡ MovesFault.Refused 1 MovesCause.NotAMove)) }
 {
     let mut moves = Vec::new(alloc);
     let mut number: u64 = 1;

@@ -11,7 +11,7 @@ ghost use Rattle.dbtg_script.specs.StatementFaults.{line_faults, refusal, statem
 ghost use Rattle.dbtg_script.specs.Statements.{line_statement, prepend, script, statement_of};
 ghost use Rattle.dbtg_script.specs.StatementGrammar.{fits, statement};
 ghost use Rattle.dbtg_script.specs.Tokens.{Token as SeenToken, tokens, view};
-ghost use Rattle.std.specs.Prelude.{◌≡◌, ◌∷◌, ◌++◌, ℕ, List, [], None, IfErr, IfOk, IfSome, MatchResult, OnOk, false, true, length};
+ghost use Rattle.std.specs.Prelude.{◌≡◌, ◌<◌, ◌∷◌, ◌++◌, ℕ, List, [], None, IfErr, IfOk, IfSome, MatchResult, OnOk, false, true, length};
 ghost use Rattle.std.specs.List.{list_all};
 ghost use Rattle.dbtg_schema.specs.Sound.{IsSound};
 ghost use Rattle.dbtg_unit.specs.Database.Statements.Fits.{fits as statement_fits};
@@ -231,7 +231,8 @@ fn at_line(number: u64, fault: LineFault) -> ScriptFault
 }
 
 /// Reads a script of this schema: its statements, one a line, in their order. The text may hold any bytes. What is
-/// refused is refused for its first fault; `Memory` is the answer where a growth was refused before a fault was met.
+/// refused is refused for its first fault; `Memory` is the answer where a growth was refused before a fault was met, so never
+/// for a text that is too long.
 pub fn read_script(
     alloc: Global,
     schema: &Schema,
@@ -241,6 +242,7 @@ pub fn read_script(
     ensures statements { IfOk result (λ v. v.items ≡ script schema.now text.now) }
     ensures fitting { IsSound schema.now → IfOk result (λ v. list_all (statement_fits schema.now) v.items ≡ true) }
     ensures refused { IfErr result (λ e. RefusesScript e (refusal schema.now text.now)) }
+    ensures too_long { 1048576 < length text.now → MatchResult result (λ _. ⊥) (λ e. e ≡ ScriptFault.Refused 1 Cause.TooMuch) }
 {
     if text.len() > 1_048_576 {
         return Err(ScriptFault::Refused {

@@ -1,8 +1,8 @@
 //! Reading turns: words that say which unit makes its next statement.
 
 ghost use Rattle.dbtg_script.specs.Turns.{RefusesTurns, as_turns_fault, turns_of, turns_refusal};
-ghost use Rattle.dbtg_script.specs.Moves.{words};
-ghost use Rattle.std.specs.Prelude.{◌≡◌, IfErr, IfOk, None, OnOk};
+ghost use Rattle.dbtg_script.specs.Moves.{RefusedAtOnce, spelled_turn, words};
+ghost use Rattle.std.specs.Prelude.{◌≡◌, IfErr, IfOk, MatchResult, None, OnOk};
 
 use crate::moves::{MovesCause, MovesFault, Words, spelled_turn, take_word};
 use dbtg_schema::Row;
@@ -38,6 +38,7 @@ pub fn read_turns(alloc: Global, text: &[u8]) -> Result<Row<u8>, TurnsFault>
     ensures accepted { OnOk result (turns_refusal text.now ≡ None) }
     ensures turns { IfOk result (λ units. units ≡ turns_of (words text.now)) }
     ensures refused { IfErr result (λ e. RefusesTurns e (turns_refusal text.now)) }
+    ensures at_once { RefusedAtOnce spelled_turn text.now (MatchResult result (λ _. ⊥) (λ e. e ≡ TurnsFault.Refused 1 MovesCause.NotAMove)) }
 {
     let mut units = Vec::new(alloc);
     let mut number: u64 = 1;

@@ -75,3 +75,12 @@ moves_on ms number s left m k h few =
 pub no_words : {A : Type 0} (total number : ℕ) (ss : List (Option (A × ℕ))) → ss ≡ [] → refused_word total number ss ≡ None
 unfolding refused_word
 no_words total number ss h = rw h refl
+
+-- the first word, or no bytes where there is none
+abbrev pub first_word : List (List ℕ) → List ℕ
+first_word [] = []
+first_word (w ∷ ws) = w
+
+-- the word that is taken is the first of the text, where all its words are left
+pub first_is_taken : (w taken : List ℕ) (ws rest all left : List (List ℕ)) → all ≡ w ∷ ws → left ≡ all → left ≡ taken ∷ rest → taken ≡ w
+first_is_taken w taken ws rest all left first_is same found = ap first_word (sym found ∙ same ∙ first_is)
