@@ -15,13 +15,10 @@ mod turns;
 
 use clap::error::ErrorKind;
 use dbtg_command::check::check;
-use dbtg_command::draw::draw;
+use dbtg_command::draw::{Form, draw};
 use dbtg_command::explain::{Topic, explained};
 use dbtg_command::reason::reason;
-use dbtg_command::{
-    Call, CheckCall, DrawCall, Fault, Files, Order, OutcomesCall, Paths, ReplayCall, ShellCall,
-    ThreadsCall, TimelineCall, TurnsCall, call_of, read_schema, status_of,
-};
+use dbtg_command::{Call, Fault, Files, Named, Order, Paths, call_of, read_schema, status_of};
 use dbtg_schema::Schema;
 use outcomes::print_outcomes;
 use replay::{check_count, replay};
@@ -77,40 +74,27 @@ fn told_of(rt: &HostRuntime, fault: &Fault, paths: &Paths, explains: bool) -> Ex
     status
 }
 
-fn print_check(rt: &HostRuntime, call: &CheckCall) -> ExitCode {
-    let paths = paths_of(call.schema, call.scripts.as_slice(), Order::Serial);
-    let files = Files {
-        reader: rt,
-        paths: &paths,
-    };
-    print_or_tell(rt, check(rt.alloc(), &files), &paths, call.explains)
+// What a command prints that is asked of files, whatever says their order.
+fn printed(rt: &HostRuntime, files: &Files<HostRuntime>, call: &Call) -> Result<Vec<u8>, Fault> {
+    let alloc = rt.alloc();
+    match call.named {
+        Named::Draw => draw(alloc, files, if call.svg { Form::Svg } else { Form::Dot }),
+        Named::Replay => replay(alloc, files, call.capacity, call.echo),
+        Named::Timeline => timeline(alloc, files, call.capacity, call.svg),
+        _ => check(alloc, files),
+    }
 }
 
-fn print_drawing(rt: &HostRuntime, call: &DrawCall) -> ExitCode {
-    let paths = paths_of(call.schema, call.scripts.as_slice(), Order::Serial);
-    let files = Files {
-        reader: rt,
-        paths: &paths,
-    };
-    let given = draw(rt.alloc(), &files, call.form);
-    print_or_tell(rt, given, &paths, call.explains)
-}
-
-fn print_replay(rt: &HostRuntime, call: &ReplayCall) -> ExitCode {
+fn print_files(rt: &HostRuntime, call: &Call) -> ExitCode {
     let paths = paths_of(call.schema, call.scripts.as_slice(), call.order);
     let files = Files {
         reader: rt,
         paths: &paths,
     };
-    let given = replay(rt.alloc(), &files, call.capacity, call.echo);
-    print_or_tell(rt, given, &paths, call.explains)
+    print_or_tell(rt, printed(rt, &files, call), &paths, call.explains)
 }
 
-fn print_threads<R: Threads + Wait + Sync>(
-    rt: &HostRuntime,
-    threads: &R,
-    call: &ThreadsCall,
-) -> ExitCode {
+fn print_threads<R: Threads + Wait + Sync>(rt: &HostRuntime, threads: &R, call: &Call) -> ExitCode {
     let paths = paths_of(call.schema, call.scripts.as_slice(), Order::Serial);
     let files = Files {
         reader: rt,
@@ -133,12 +117,12 @@ fn print_saved(rt: &HostRuntime, said: &OnThreads, saved: Option<&str>) -> ExitC
     print_text(rt, said.printed.as_slice())
 }
 
-fn print_turns(rt: &HostRuntime, call: &TurnsCall) -> ExitCode {
-    let paths = Paths {
-        schema: call.schema,
-        scripts: call.scripts.as_slice(),
-        order: Order::Turns(call.turns),
+fn print_turns(rt: &HostRuntime, call: &Call) -> ExitCode {
+    let turns = match call.order {
+        Order::Turns(path) => path,
+        _ => "",
     };
+    let paths = paths_of(call.schema, call.scripts.as_slice(), Order::Turns(turns));
     let files = Files {
         reader: rt,
         paths: &paths,
@@ -147,22 +131,8 @@ fn print_turns(rt: &HostRuntime, call: &TurnsCall) -> ExitCode {
     print_or_tell(rt, given, &paths, call.explains)
 }
 
-fn print_timeline(rt: &HostRuntime, call: &TimelineCall) -> ExitCode {
-    let paths = paths_of(call.schema, call.scripts.as_slice(), call.order);
-    let files = Files {
-        reader: rt,
-        paths: &paths,
-    };
-    let given = timeline(rt.alloc(), &files, call.capacity, call.svg);
-    print_or_tell(rt, given, &paths, call.explains)
-}
-
-fn tell_outcomes(rt: &HostRuntime, call: &OutcomesCall) -> ExitCode {
-    let paths = Paths {
-        schema: call.schema,
-        scripts: call.scripts.as_slice(),
-        order: Order::Serial,
-    };
+fn tell_outcomes(rt: &HostRuntime, call: &Call) -> ExitCode {
+    let paths = paths_of(call.schema, call.scripts.as_slice(), Order::Serial);
     let files = Files {
         reader: rt,
         paths: &paths,
@@ -180,26 +150,23 @@ fn paths_of<'a>(schema: &'a str, scripts: &'a [&'a str], order: Order<&'a str>) 
 }
 
 fn carry_out<R: Threads + Wait + Sync>(rt: &HostRuntime, threads: &R, call: &Call) -> ExitCode {
-    match call {
-        Call::Check(call) => print_check(rt, call),
-        Call::Replay(call) => print_replay(rt, call),
-        Call::Turns(call) => print_turns(rt, call),
-        Call::Timeline(call) => print_timeline(rt, call),
-        Call::Outcomes(call) => tell_outcomes(rt, call),
-        Call::Threads(call) => print_threads(rt, threads, call),
-        Call::Draw(call) => print_drawing(rt, call),
-        Call::Explain(topic) => print_topic(rt, topic),
-        Call::Shell(call) => run_shell(rt, call),
+    match call.named {
+        Named::Turns => print_turns(rt, call),
+        Named::Outcomes => tell_outcomes(rt, call),
+        Named::Threads => print_threads(rt, threads, call),
+        Named::Explain => print_topic(rt, &call.topic),
+        Named::Shell => run_shell(rt, call),
+        _ => print_files(rt, call),
     }
 }
 
-fn run_shell(rt: &HostRuntime, call: &ShellCall) -> ExitCode {
+fn run_shell(rt: &HostRuntime, call: &Call) -> ExitCode {
     let paths = paths_of(call.schema, call.scripts.as_slice(), Order::Serial);
     open_shell(rt, &paths, call)
 }
 
 // The fault of the schema is told with its word.
-fn open_shell(rt: &HostRuntime, paths: &Paths, call: &ShellCall) -> ExitCode {
+fn open_shell(rt: &HostRuntime, paths: &Paths, call: &Call) -> ExitCode {
     let files = Files { reader: rt, paths };
     match read_schema(rt.alloc(), &files) {
         Ok(known) => {
@@ -211,7 +178,7 @@ fn open_shell(rt: &HostRuntime, paths: &Paths, call: &ShellCall) -> ExitCode {
     }
 }
 
-fn open_units(rt: &HostRuntime, known: &Schema, call: &ShellCall) -> ExitCode
+fn open_units(rt: &HostRuntime, known: &Schema, call: &Call) -> ExitCode
     requires { IsSound known.now }
 {
     match check_count(call.units as usize) {
@@ -220,7 +187,7 @@ fn open_units(rt: &HostRuntime, known: &Schema, call: &ShellCall) -> ExitCode
     }
 }
 
-fn open_session(rt: &HostRuntime, known: &Schema, call: &ShellCall) -> ExitCode
+fn open_session(rt: &HostRuntime, known: &Schema, call: &Call) -> ExitCode
     requires sound { IsSound known.now }
     requires counted { is_count call.now.units ≡ true }
 {

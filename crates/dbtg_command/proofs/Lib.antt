@@ -1,3 +1,4 @@
+mod Rows
 mod InTurn
 mod TextsRead
 mod BytesAtHand

@@ -5,5 +5,7 @@ pub mod Capacity
 pub mod Sources
 pub mod Files
 pub mod Explaining
+pub mod Calling
+pub mod Reasons
 pub mod FaultyWord
 pub mod Drawing

@@ -81,7 +81,8 @@ fn answers_option<'a>(alloc: Global) -> Arg<'a> {
 }
 
 fn capacity_option<'a>(alloc: Global) -> Arg<'a> {
-    let help = "How many numbers each record type has, 1 to 1000";
+    let help =
+        "How many numbers each record type has, 1 to 1000; outcomes is faster, and takes less memory, with a small one";
     number_option(alloc, "capacity", "100", help)
 }
 
@@ -99,7 +100,8 @@ fn explain_option<'a>(alloc: Global) -> Arg<'a> {
 }
 
 fn limit_option<'a>(alloc: Global) -> Arg<'a> {
-    let help = "How many states may come before it gives up, 1 to 1000000000";
+    let help =
+        "How many states may come before it gives up, 1 to 1000000000; 1000000 states can take 7 GB of memory";
     number_option(alloc, "limit", "1000000", help)
 }
 

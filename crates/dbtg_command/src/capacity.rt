@@ -1,11 +1,11 @@
-//! The capacity, the number of units and the limit of states, as the command's words say them.
+//! A number, as the command's words say it.
 ghost use Rattle.std.specs.Prelude.{◌≡◌, ◌≤◌, IfSome};
-ghost use Rattle.dbtg_command.specs.Capacity.{capacity_in, count_in, limit_in, units_in};
+ghost use Rattle.dbtg_command.specs.Capacity.{count_in};
 
 use dbtg_script::{is_number, number};
 
 /// The number that a word says: digits alone, from 1 to the greatest.
-fn count_of(word: &str, most: u64) -> Option<u64>
+pub fn count_of(word: &str, most: u64) -> Option<u64>
     requires { most ≤ 1000000000 }
     ensures count { result ≡ count_in most word.now }
     ensures within { IfSome result (λ n. n ≤ most) }
@@ -20,31 +20,4 @@ fn count_of(word: &str, most: u64) -> Option<u64>
     } else {
         None
     }
-}
-
-/// The capacity that a word says: digits alone, 1 to 1,000.
-pub fn capacity_of(word: &str) -> Option<u16>
-    ensures { result ≡ capacity_in word.now }
-{
-    match count_of(word, 1000) {
-        Some(value) => Some(value as u16),
-        None => None,
-    }
-}
-
-/// The number of units that a word says: digits alone, 1 to 8.
-pub fn units_of(word: &str) -> Option<u16>
-    ensures { result ≡ units_in word.now }
-{
-    match count_of(word, 8) {
-        Some(value) => Some(value as u16),
-        None => None,
-    }
-}
-
-/// The limit of states that a word says: digits alone, 1 to 1,000,000,000.
-pub fn limit_of(word: &str) -> Option<u64>
-    ensures { result ≡ limit_in word.now }
-{
-    count_of(word, 1_000_000_000)
 }

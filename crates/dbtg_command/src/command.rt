@@ -1,107 +1,11 @@
-//! The words of the command, read by `clap`.
+//! The words of the command, as `clap` is told of them.
+ghost use Rattle.std.specs.Prelude.{◌≡◌};
+ghost use Rattle.dbtg_command.specs.Calling.{name_of};
 
 use crate::arguments::{SCHEMA, SCRIPTS, Word, arg_of};
-use crate::capacity::{capacity_of, limit_of, units_of};
-use crate::draw::Form;
-use crate::explain::{Topic, topic_of};
-use crate::files::STANDARD_INPUT;
-use crate::order::Order;
 use clap::error::ErrorKind;
-use clap::{ArgMatches, Command, Error};
+use clap::{Command, Error};
 use std::alloc::{AllocError, Global};
-
-/// What is to be done. Paths are as they were given; `-` stands for standard input. `explains` asks for a second line on a fault.
-#[derive(Drop)]
-pub enum Call<'a> {
-    Check(CheckCall<'a>),
-    Replay(ReplayCall<'a>),
-    Turns(TurnsCall<'a>),
-    Timeline(TimelineCall<'a>),
-    Outcomes(OutcomesCall<'a>),
-    Threads(ThreadsCall<'a>),
-    Draw(DrawCall<'a>),
-    Explain(Topic),
-    Shell(ShellCall<'a>),
-}
-
-/// What is wanted: how large a schema and its scripts are.
-#[derive(Drop)]
-pub struct CheckCall<'a> {
-    pub explains: bool,
-    pub schema: &'a str,
-    pub scripts: Vec<&'a str>,
-}
-
-/// What is wanted: a run of the scripts, in the order that is told.
-#[derive(Drop)]
-pub struct ReplayCall<'a> {
-    pub explains: bool,
-    pub echo: bool,
-    pub capacity: u16,
-    pub order: Order<&'a str>,
-    pub schema: &'a str,
-    pub scripts: Vec<&'a str>,
-}
-
-/// What is wanted: a run of the scripts on threads; `saved` is where the turns of the run go.
-#[derive(Drop)]
-pub struct ThreadsCall<'a> {
-    pub explains: bool,
-    pub capacity: u16,
-    pub saved: Option<&'a str>,
-    pub schema: &'a str,
-    pub scripts: Vec<&'a str>,
-}
-
-/// What is wanted: a diagram. It is of a schema alone, so `scripts` are none.
-#[derive(Drop)]
-pub struct DrawCall<'a> {
-    pub explains: bool,
-    pub form: Form,
-    pub schema: &'a str,
-    pub scripts: Vec<&'a str>,
-}
-
-/// What is wanted: the moves that turns stand for.
-#[derive(Drop)]
-pub struct TurnsCall<'a> {
-    pub explains: bool,
-    pub capacity: u16,
-    pub turns: &'a str,
-    pub schema: &'a str,
-    pub scripts: Vec<&'a str>,
-}
-
-/// What the shell is asked for. Statements are typed, so `scripts` are none.
-#[derive(Drop)]
-pub struct ShellCall<'a> {
-    pub capacity: u16,
-    pub units: u16,
-    pub schema: &'a str,
-    pub scripts: Vec<&'a str>,
-}
-
-/// What is wanted: the picture of an interleaving, as SVG or as plain text.
-#[derive(Drop)]
-pub struct TimelineCall<'a> {
-    pub explains: bool,
-    pub capacity: u16,
-    pub svg: bool,
-    pub order: Order<&'a str>,
-    pub schema: &'a str,
-    pub scripts: Vec<&'a str>,
-}
-
-/// What is wanted: all that can come out. With `answers` results are also told apart by the answers that units get.
-#[derive(Drop)]
-pub struct OutcomesCall<'a> {
-    pub explains: bool,
-    pub capacity: u16,
-    pub limit: u64,
-    pub answers: bool,
-    pub schema: &'a str,
-    pub scripts: Vec<&'a str>,
-}
 
 // The command, which can be given this word too.
 fn taking<'a>(
@@ -275,7 +179,7 @@ fn shell_command<'a>(alloc: Global, name: &'a str) -> Result<Command<'a>, AllocE
 
 /// What the program can be asked to do, in the order of its help.
 #[derive(Clone, Copy)]
-enum Named {
+pub enum Named {
     Check,
     Replay,
     Turns,
@@ -287,7 +191,7 @@ enum Named {
     Shell,
 }
 
-const ALL: [Named; 9] = [
+pub const ALL: [Named; 9] = [
     Named::Check,
     Named::Replay,
     Named::Turns,
@@ -299,18 +203,35 @@ const ALL: [Named; 9] = [
     Named::Shell,
 ];
 
-// The word that asks for it, and the name that its usage shows.
-fn names_of<'a>(named: Named) -> (&'a str, &'a str) {
+/// The word that asks for it.
+pub fn name_of<'a>(named: Named) -> &'a str
+    ensures { result.now ≡ name_of named }
+{
     match named {
-        Named::Check => ("check", "dbtg check"),
-        Named::Replay => ("replay", "dbtg replay"),
-        Named::Turns => ("turns", "dbtg turns"),
-        Named::Timeline => ("timeline", "dbtg timeline"),
-        Named::Outcomes => ("outcomes", "dbtg outcomes"),
-        Named::Threads => ("threads", "dbtg threads"),
-        Named::Draw => ("draw", "dbtg draw"),
-        Named::Explain => ("explain", "dbtg explain"),
-        Named::Shell => ("shell", "dbtg shell"),
+        Named::Check => "check",
+        Named::Replay => "replay",
+        Named::Turns => "turns",
+        Named::Timeline => "timeline",
+        Named::Outcomes => "outcomes",
+        Named::Threads => "threads",
+        Named::Draw => "draw",
+        Named::Explain => "explain",
+        Named::Shell => "shell",
+    }
+}
+
+// The name that its usage shows.
+fn shown_name<'a>(named: Named) -> &'a str {
+    match named {
+        Named::Check => "dbtg check",
+        Named::Replay => "dbtg replay",
+        Named::Turns => "dbtg turns",
+        Named::Timeline => "dbtg timeline",
+        Named::Outcomes => "dbtg outcomes",
+        Named::Threads => "dbtg threads",
+        Named::Draw => "dbtg draw",
+        Named::Explain => "dbtg explain",
+        Named::Shell => "dbtg shell",
     }
 }
 
@@ -334,8 +255,7 @@ fn asked_also<'a>(
     command: Command<'a>,
     named: Named,
 ) -> Result<Command<'a>, AllocError> {
-    let (word, _) = names_of(named);
-    match command_of(alloc, named, word) {
+    match command_of(alloc, named, name_of(named)) {
         Ok(subcommand) => command.subcommand(subcommand),
         Err(refused) => {
             drop(command);
@@ -361,311 +281,12 @@ pub fn command<'a>(alloc: Global) -> Result<Command<'a>, AllocError> {
     Ok(command)
 }
 
-// What the words cannot ask for: the text that answers them, with the usage.
-fn refused(alloc: Global, named: Named, kind: ErrorKind, told: &str) -> Result<Error, AllocError> {
-    let (_, name) = names_of(named);
-    command_of(alloc, named, name)?.error(kind, told)
-}
-
-fn words_of<'a>(
-    alloc: Global,
-    matches: &ArgMatches<'a>,
-    id: &str,
-) -> Result<Vec<&'a str>, AllocError> {
-    match matches.get_strs(id) {
-        Some(words) => Vec::from_slice(alloc, words),
-        None => Ok(Vec::new(alloc)),
-    }
-}
-
-fn capacity_wanted(alloc: Global, named: Named, matches: &ArgMatches) -> Result<u16, Error> {
-    let word = matches.get_str("capacity").unwrap_or("");
-    match capacity_of(word) {
-        Some(capacity) => Ok(capacity),
-        None => Err(no_number(alloc, named, "capacity", word, 1000)?),
-    }
-}
-
-fn units_wanted(alloc: Global, named: Named, matches: &ArgMatches) -> Result<u16, Error> {
-    let word = matches.get_str("units").unwrap_or("");
-    match units_of(word) {
-        Some(units) => Ok(units),
-        None => Err(no_number(alloc, named, "units", word, 8)?),
-    }
-}
-
-// Another word stands where a whole number is wanted.
-fn no_number(
+/// What the words cannot ask for: the text that answers them, with the usage.
+pub fn refused(
     alloc: Global,
     named: Named,
-    option: &str,
-    word: &str,
-    most: u64,
+    kind: ErrorKind,
+    told: &str,
 ) -> Result<Error, AllocError> {
-    let told = format!(in alloc;
-        "invalid value '{word}' for '--{option} <N>': a whole number from 1 to {most} is wanted"
-    )?;
-    refused(alloc, named, ErrorKind::ValueValidation, told.as_str())
-}
-
-fn limit_wanted(alloc: Global, named: Named, matches: &ArgMatches) -> Result<u64, Error> {
-    let word = matches.get_str("limit").unwrap_or("");
-    match limit_of(word) {
-        Some(limit) => Ok(limit),
-        None => Err(no_number(alloc, named, "limit", word, 1_000_000_000)?),
-    }
-}
-
-/// How often standard input is asked for.
-fn count_inputs(paths: &[&str]) -> usize {
-    paths.iter().filter(|path| **path == STANDARD_INPUT).count()
-}
-
-fn check_inputs(
-    alloc: Global,
-    named: Named,
-    schema: &str,
-    scripts: &[&str],
-    order: &str,
-) -> Result<(), Error> {
-    let is_schema = schema == STANDARD_INPUT;
-    let is_order = order == STANDARD_INPUT;
-    let inputs = count_inputs(scripts);
-    if inputs == 0 && !(is_schema && is_order) || inputs == 1 && !is_schema && !is_order {
-        return Ok(());
-    }
-    Err(refused(
-        alloc,
-        named,
-        ErrorKind::ArgumentConflict,
-        "the argument '-' cannot be used twice: standard input is one file",
-    )?)
-}
-
-fn check_call<'a>(alloc: Global, given: &ArgMatches<'a>) -> Result<Call<'a>, Error> {
-    let schema = given.get_str("schema").unwrap_or("");
-    let scripts = words_of(alloc, given, "scripts")?;
-    check_inputs(alloc, Named::Check, schema, scripts.as_slice(), "")?;
-    Ok(Call::Check(CheckCall {
-        explains: given.get_flag("explain"),
-        schema,
-        scripts,
-    }))
-}
-
-// What says the order; the reader of the words takes one of the two options.
-fn order_wanted<'a>(given: &ArgMatches<'a>) -> Order<&'a str> {
-    if let Some(turns) = given.get_str("turns") {
-        return Order::Turns(turns);
-    }
-    match given.get_str("moves") {
-        Some(moves) => Order::Moves(moves),
-        None => Order::Serial,
-    }
-}
-
-fn order_path<'a>(order: Order<&'a str>) -> &'a str {
-    match order {
-        Order::Serial => "",
-        Order::Moves(path) => path,
-        Order::Turns(path) => path,
-    }
-}
-
-fn replay_call<'a>(alloc: Global, given: &ArgMatches<'a>) -> Result<Call<'a>, Error> {
-    let schema = given.get_str("schema").unwrap_or("");
-    let order = order_wanted(given);
-    let capacity = capacity_wanted(alloc, Named::Replay, given)?;
-    let scripts = words_of(alloc, given, "scripts")?;
-    check_inputs(
-        alloc,
-        Named::Replay,
-        schema,
-        scripts.as_slice(),
-        order_path(order),
-    )?;
-    Ok(Call::Replay(ReplayCall {
-        explains: given.get_flag("explain"),
-        echo: given.get_flag("echo"),
-        capacity,
-        order,
-        schema,
-        scripts,
-    }))
-}
-
-fn turns_call<'a>(alloc: Global, given: &ArgMatches<'a>) -> Result<Call<'a>, Error> {
-    let schema = given.get_str("schema").unwrap_or("");
-    let turns = given.get_str("turns").unwrap_or("");
-    let capacity = capacity_wanted(alloc, Named::Turns, given)?;
-    let scripts = words_of(alloc, given, "scripts")?;
-    check_inputs(alloc, Named::Turns, schema, scripts.as_slice(), turns)?;
-    Ok(Call::Turns(TurnsCall {
-        explains: given.get_flag("explain"),
-        capacity,
-        turns,
-        schema,
-        scripts,
-    }))
-}
-
-fn timeline_call<'a>(alloc: Global, given: &ArgMatches<'a>) -> Result<Call<'a>, Error> {
-    let schema = given.get_str("schema").unwrap_or("");
-    let order = order_wanted(given);
-    let capacity = capacity_wanted(alloc, Named::Timeline, given)?;
-    let scripts = words_of(alloc, given, "scripts")?;
-    check_inputs(
-        alloc,
-        Named::Timeline,
-        schema,
-        scripts.as_slice(),
-        order_path(order),
-    )?;
-    Ok(Call::Timeline(TimelineCall {
-        explains: given.get_flag("explain"),
-        capacity,
-        svg: given.get_flag("svg"),
-        order,
-        schema,
-        scripts,
-    }))
-}
-
-fn outcomes_call<'a>(alloc: Global, given: &ArgMatches<'a>) -> Result<Call<'a>, Error> {
-    let schema = given.get_str("schema").unwrap_or("");
-    let capacity = capacity_wanted(alloc, Named::Outcomes, given)?;
-    let limit = limit_wanted(alloc, Named::Outcomes, given)?;
-    let scripts = words_of(alloc, given, "scripts")?;
-    check_inputs(alloc, Named::Outcomes, schema, scripts.as_slice(), "")?;
-    Ok(Call::Outcomes(OutcomesCall {
-        explains: given.get_flag("explain"),
-        capacity,
-        limit,
-        answers: given.get_flag("answers"),
-        schema,
-        scripts,
-    }))
-}
-
-// Standard input is read, and no turns go there.
-fn check_saved(alloc: Global, saved: Option<&str>) -> Result<(), Error> {
-    if !matches!(saved, Some("-")) {
-        return Ok(());
-    }
-    Err(refused(
-        alloc,
-        Named::Threads,
-        ErrorKind::ArgumentConflict,
-        "the argument '-' cannot be used with '--save-turns <FILE>': turns are written to a file",
-    )?)
-}
-
-fn threads_call<'a>(alloc: Global, given: &ArgMatches<'a>) -> Result<Call<'a>, Error> {
-    let schema = given.get_str("schema").unwrap_or("");
-    let capacity = capacity_wanted(alloc, Named::Threads, given)?;
-    let scripts = words_of(alloc, given, "scripts")?;
-    let saved = given.get_str("save-turns");
-    check_inputs(alloc, Named::Threads, schema, scripts.as_slice(), "")?;
-    check_saved(alloc, saved)?;
-    Ok(Call::Threads(ThreadsCall {
-        explains: given.get_flag("explain"),
-        capacity,
-        saved,
-        schema,
-        scripts,
-    }))
-}
-
-fn draw_call<'a>(alloc: Global, given: &ArgMatches<'a>) -> Call<'a> {
-    let form = if given.get_flag("svg") {
-        Form::Svg
-    } else {
-        Form::Dot
-    };
-    Call::Draw(DrawCall {
-        explains: given.get_flag("explain"),
-        form,
-        schema: given.get_str("schema").unwrap_or(""),
-        scripts: Vec::new(alloc),
-    })
-}
-
-fn explain_call<'a>(alloc: Global, given: &ArgMatches<'a>) -> Result<Call<'a>, Error> {
-    let words = words_of(alloc, given, "topic")?;
-    match topic_of(words.as_slice()) {
-        Some(topic) => Ok(Call::Explain(topic)),
-        None => Err(refused(
-            alloc,
-            Named::Explain,
-            ErrorKind::InvalidValue,
-            "no status and no fault is called so: a status of four digits is wanted, or schema, script, moves or turns and the number of a fault; 'dbtg explain' lists all",
-        )?),
-    }
-}
-
-// Statements come from standard input, so the schema cannot.
-fn check_schema(alloc: Global, schema: &str) -> Result<(), Error> {
-    if schema != STANDARD_INPUT {
-        return Ok(());
-    }
-    Err(refused(
-        alloc,
-        Named::Shell,
-        ErrorKind::ArgumentConflict,
-        "the argument '-' cannot be used: the shell reads statements from standard input",
-    )?)
-}
-
-fn shell_call<'a>(alloc: Global, given: &ArgMatches<'a>) -> Result<Call<'a>, Error> {
-    let schema = given.get_str("schema").unwrap_or("");
-    let capacity = capacity_wanted(alloc, Named::Shell, given)?;
-    let units = units_wanted(alloc, Named::Shell, given)?;
-    check_schema(alloc, schema)?;
-    Ok(Call::Shell(ShellCall {
-        capacity,
-        units,
-        schema,
-        scripts: Vec::new(alloc),
-    }))
-}
-
-// The command that is asked for, with what it is given.
-fn asked_for<'a, 'b>(matches: &'b ArgMatches<'a>) -> Option<(Named, &'b ArgMatches<'a>)> {
-    let (word, given) = matches.subcommand()?;
-    for named in ALL {
-        if names_of(named).0 == word {
-            return Some((named, given));
-        }
-    }
-    None
-}
-
-fn call_named<'a>(alloc: Global, named: Named, given: &ArgMatches<'a>) -> Result<Call<'a>, Error> {
-    match named {
-        Named::Check => check_call(alloc, given),
-        Named::Replay => replay_call(alloc, given),
-        Named::Turns => turns_call(alloc, given),
-        Named::Timeline => timeline_call(alloc, given),
-        Named::Outcomes => outcomes_call(alloc, given),
-        Named::Threads => threads_call(alloc, given),
-        Named::Draw => Ok(draw_call(alloc, given)),
-        Named::Explain => explain_call(alloc, given),
-        Named::Shell => shell_call(alloc, given),
-    }
-}
-
-// The reader of the words takes no others than those of the commands.
-fn call_in<'a>(alloc: Global, matches: &ArgMatches<'a>) -> Result<Call<'a>, Error> {
-    match asked_for(matches) {
-        Some((named, given)) => call_named(alloc, named, given),
-        None => Err(Error::from(AllocError)),
-    }
-}
-
-/// What the words ask for. `Err` has the text that answers other words, and help.
-pub fn call_of<'a>(alloc: Global, words: &'a [String]) -> Result<Call<'a>, Error> {
-    let matches = command(alloc)?.try_get_matches_from(words)?;
-    let call = call_in(alloc, &matches);
-    drop(matches);
-    call
+    command_of(alloc, named, shown_name(named))?.error(kind, told)
 }

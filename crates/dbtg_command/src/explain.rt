@@ -1,6 +1,26 @@
 //! `explain`: what a status means, or a fault of a schema, a script, moves or turns.
-ghost use Rattle.std.specs.Prelude.{IfSome};
-ghost use Rattle.dbtg_command.specs.Explaining.{IsAbout};
+ghost use Rattle.std.specs.Prelude.{◌≡◌, ◌++◌, IfOk, OnOk, map, option_map};
+ghost use Rattle.std.specs.List.{flat_map};
+ghost use Rattle.dbtg_script.specs.Lines.{lines};
+ghost use Rattle.dbtg_command.specs.Explaining.{
+  IsAsked,
+  IsFault,
+  IsStatus,
+  all_text,
+  cause_of,
+  fault_field,
+  fault_line,
+  fault_lines,
+  fault_text,
+  faults_of,
+  kind_in,
+  kind_row,
+  line_text,
+  number_in,
+  status_line,
+  status_text,
+  topic_text,
+};
 
 mod causes;
 mod faults;
@@ -13,7 +33,7 @@ mod word;
 pub use causes::CAUSES;
 use dbtg_script::{is_number, number};
 use faults::{MOVES_FAULTS, SCHEMA_FAULTS, SCRIPT_FAULTS, TURNS_FAULTS};
-use row::push_form;
+use row::{next_row, push_form};
 pub use row::{field, row_with};
 pub use schema_word::said_of_schema_word;
 use statuses::STATUSES;
@@ -30,7 +50,7 @@ pub enum Kind {
 }
 
 /// What is to be explained. Its rows are those of the code that was asked for.
-#[derive(Drop)]
+#[derive(Clone, Copy, Drop)]
 pub enum Topic {
     All,
     Done,
@@ -45,8 +65,9 @@ pub enum Topic {
 }
 
 /// The number that digits say, up to a greatest one.
-fn number_up_to(word: &str, most: u16) -> Option<u16> {
-    let digits = word.as_bytes();
+fn number_up_to(digits: &[u8], most: u16) -> Option<u16>
+    ensures { result ≡ number_in most digits.now }
+{
     if !is_number(digits) {
         return None;
     }
@@ -60,7 +81,7 @@ fn number_up_to(word: &str, most: u16) -> Option<u16> {
 
 /// The status of this code, which is its statement's code times 100 and its cause's.
 pub fn status_topic(code: u16) -> Option<Topic>
-    ensures { IfSome result (λ topic. IsAbout code topic) }
+    ensures { IsStatus code result }
 {
     if code == 0 {
         return Some(Topic::Done);
@@ -71,7 +92,9 @@ pub fn status_topic(code: u16) -> Option<Topic>
 }
 
 /// The faults of a kind of text.
-fn faults_of(kind: Kind) -> &'static str {
+fn faults_of(kind: Kind) -> &'static str
+    ensures { result.now ≡ faults_of kind }
+{
     match kind {
         Kind::Schema => SCHEMA_FAULTS,
         Kind::Script => SCRIPT_FAULTS,
@@ -82,33 +105,43 @@ fn faults_of(kind: Kind) -> &'static str {
 
 /// The fault with this number.
 pub fn fault_topic(kind: Kind, number: u16) -> Option<Topic>
-    ensures { IfSome result (λ topic. IsAbout number topic) }
+    ensures { IsFault kind number result }
 {
     let fault = row_with(faults_of(kind), number)?;
     Some(Topic::Fault { kind, fault })
 }
 
-fn kind_of(word: &str) -> Option<Kind> {
-    match word.as_bytes() {
-        b"schema" => Some(Kind::Schema),
-        b"script" => Some(Kind::Script),
-        b"moves" => Some(Kind::Moves),
-        b"turns" => Some(Kind::Turns),
-        _ => None,
+fn kind_of(word: &str) -> Option<Kind>
+    ensures { result ≡ kind_in word.now }
+{
+    if word == "schema" {
+        Some(Kind::Schema)
+    } else if word == "script" {
+        Some(Kind::Script)
+    } else if word == "moves" {
+        Some(Kind::Moves)
+    } else if word == "turns" {
+        Some(Kind::Turns)
+    } else {
+        None
     }
 }
 
 /// What the words behind `explain` ask for. `None` where nothing is said of it.
-pub fn topic_of(words: &[&str]) -> Option<Topic> {
+pub fn topic_of(words: &[&str]) -> Option<Topic>
+    ensures { IsAsked (map (λ word. word.now) words.now) result }
+{
     match words {
         [] => Some(Topic::All),
-        [code] if code.len() == 4 => status_topic(number_up_to(code, 9999)?),
-        [kind, number] => fault_topic(kind_of(kind)?, number_up_to(number, 99)?),
+        [code] if code.len() == 4 => status_topic(number_up_to(code.as_bytes(), 9999)?),
+        [kind, number] => fault_topic(kind_of(kind)?, number_up_to(number.as_bytes(), 99)?),
         _ => None,
     }
 }
 
-fn fault_field(kind: Kind, fault: u8, number: usize) -> &'static [u8] {
+fn fault_field(kind: Kind, fault: u8, number: usize) -> &'static [u8]
+    ensures { result.now ≡ fault_field kind fault number }
+{
     match row_with(faults_of(kind), fault as u16) {
         Some(row) => field(row, number),
         None => &[],
@@ -116,17 +149,23 @@ fn fault_field(kind: Kind, fault: u8, number: usize) -> &'static [u8] {
 }
 
 /// What a fault's number means.
-pub fn meaning_of(kind: Kind, number: u8) -> &'static [u8] {
+pub fn meaning_of(kind: Kind, number: u8) -> &'static [u8]
+    ensures { result.now ≡ fault_field kind number 1 }
+{
     fault_field(kind, number, 1)
 }
 
 /// What to do about a fault.
-pub fn advice_for(kind: Kind, number: u8) -> &'static [u8] {
+pub fn advice_for(kind: Kind, number: u8) -> &'static [u8]
+    ensures { result.now ≡ fault_field kind number 3 }
+{
     fault_field(kind, number, 3)
 }
 
 // What a kind of text is called, and the page that lists its faults.
-fn kind_row(kind: Kind) -> &'static [u8] {
+fn kind_row(kind: Kind) -> &'static [u8]
+    ensures { result.now ≡ kind_row kind }
+{
     let row = match kind {
         Kind::Schema => "schema|schema-language.md, Faults",
         Kind::Script => "script|scripts.md, Faults",
@@ -159,82 +198,117 @@ Next: 4
 More: docs/profile/5
 ";
 
-fn push_status<'a>(out: &mut Vec<u8>, status: &'a [u8], cause: &'a [u8]) -> Result<(), AllocError> {
-    push_form(
-        out,
-        STATUS.as_bytes(),
-        &[
-            field(status, 0),
-            field(status, 1),
-            field(cause, 1),
-            field(cause, 2),
-            field(status, 2),
-            field(cause, 3),
-            field(cause, 0),
-        ],
-    )
+fn status_text(alloc: Global, status: &[u8], cause: &[u8]) -> Result<Vec<u8>, AllocError>
+    ensures { IfOk result (λ out. out.items ≡ status_text status.now cause.now) }
+{
+    let parts = [
+        field(status, 0),
+        field(status, 1),
+        field(cause, 1),
+        field(cause, 2),
+        field(status, 2),
+        field(cause, 3),
+        field(cause, 0),
+    ];
+    let mut out = Vec::new(alloc);
+    push_form(&mut out, STATUS.as_bytes(), &parts)?;
+    Ok(out)
 }
 
-fn push_fault<'a>(out: &mut Vec<u8>, about: &'a [u8], fault: &'a [u8]) -> Result<(), AllocError> {
-    push_form(
-        out,
-        FAULT.as_bytes(),
-        &[
-            field(about, 0),
-            field(fault, 0),
-            field(fault, 1),
-            field(fault, 2),
-            field(fault, 3),
-            field(about, 1),
-        ],
-    )
+fn fault_text(alloc: Global, about: &[u8], fault: &[u8]) -> Result<Vec<u8>, AllocError>
+    ensures { IfOk result (λ out. out.items ≡ fault_text about.now fault.now) }
+{
+    let parts = [
+        field(about, 0),
+        field(fault, 0),
+        field(fault, 1),
+        field(fault, 2),
+        field(fault, 3),
+        field(about, 1),
+    ];
+    let mut out = Vec::new(alloc);
+    push_form(&mut out, FAULT.as_bytes(), &parts)?;
+    Ok(out)
 }
 
-fn push_statuses(out: &mut Vec<u8>) -> Result<(), AllocError> {
-    for status in STATUSES.lines() {
-        let status = status.as_bytes();
-        let code = number(field(status, 0)) % 100;
-        if let Some(cause) = row_with(CAUSES, code as u16) {
-            push_form(
-                out,
-                "0 1: 2\n".as_bytes(),
-                &[field(status, 0), field(status, 1), field(cause, 1)],
-            )?;
-        }
+// Puts a line of the list of all: what it is of, its code, and what it means.
+fn push_entry(out: &mut Vec<u8>, name: &[u8], code: &[u8], meaning: &[u8]) -> Result<(), AllocError>
+    ensures { OnOk result (out.new.items ≡ out.old.items ++ line_text name.now code.now meaning.now) }
+{
+    push_form(out, "0 1: 2\n".as_bytes(), &[name, code, meaning])
+}
+
+// The cause that has the last two digits of a status.
+fn cause_of(status: &[u8]) -> Option<&'static [u8]>
+    ensures { option_map (λ cause. cause.now) result ≡ cause_of status.now }
+{
+    let code = number_up_to(field(status, 0), 9999)?;
+    row_with(CAUSES, code % 100)
+}
+
+fn push_status_line(out: &mut Vec<u8>, status: &[u8]) -> Result<(), AllocError>
+    ensures { OnOk result (out.new.items ≡ out.old.items ++ status_line status.now) }
+{
+    match cause_of(status) {
+        Some(cause) => push_entry(out, field(status, 0), field(status, 1), field(cause, 1)),
+        None => Ok(()),
+    }
+}
+
+fn push_statuses(out: &mut Vec<u8>) -> Result<(), AllocError>
+    ensures { OnOk result (out.new.items ≡ out.old.items ++ flat_map status_line (lines STATUSES.now)) }
+{
+    let mut rest = STATUSES.as_bytes();
+    while let Some((status, behind)) = next_row(rest) {
+        push_status_line(out, status)?;
+        rest = behind;
     }
     Ok(())
 }
 
-fn push_faults(out: &mut Vec<u8>, kind: Kind) -> Result<(), AllocError> {
-    let name = field(kind_row(kind), 0);
-    for fault in faults_of(kind).lines() {
-        let fault = fault.as_bytes();
-        push_form(
-            out,
-            "0 1: 2\n".as_bytes(),
-            &[name, field(fault, 0), field(fault, 1)],
-        )?;
+fn push_fault_line(out: &mut Vec<u8>, kind: Kind, fault: &[u8]) -> Result<(), AllocError>
+    ensures { OnOk result (out.new.items ≡ out.old.items ++ fault_line kind fault.now) }
+{
+    push_entry(
+        out,
+        field(kind_row(kind), 0),
+        field(fault, 0),
+        field(fault, 1),
+    )
+}
+
+fn push_faults(out: &mut Vec<u8>, kind: Kind) -> Result<(), AllocError>
+    ensures { OnOk result (out.new.items ≡ out.old.items ++ fault_lines kind) }
+{
+    let mut rest = faults_of(kind).as_bytes();
+    while let Some((fault, behind)) = next_row(rest) {
+        push_fault_line(out, kind, fault)?;
+        rest = behind;
     }
     Ok(())
 }
 
-fn push_all(out: &mut Vec<u8>) -> Result<(), AllocError> {
+fn all_text(alloc: Global) -> Result<Vec<u8>, AllocError>
+    ensures { IfOk result (λ out. out.items ≡ all_text) }
+{
+    let mut out = Vec::new(alloc);
     out.extend_from_slice("0000: done\n".as_bytes())?;
-    push_statuses(out)?;
-    push_faults(out, Kind::Schema)?;
-    push_faults(out, Kind::Script)?;
-    push_faults(out, Kind::Moves)?;
-    push_faults(out, Kind::Turns)
+    push_statuses(&mut out)?;
+    push_faults(&mut out, Kind::Schema)?;
+    push_faults(&mut out, Kind::Script)?;
+    push_faults(&mut out, Kind::Moves)?;
+    push_faults(&mut out, Kind::Turns)?;
+    Ok(out)
 }
 
 /// What is printed of a topic.
-pub fn explained(alloc: Global, topic: &Topic) -> Result<Vec<u8>, AllocError> {
-    let mut out = Vec::new(alloc);
-    match topic {
-        Topic::All => push_all(&mut out)?,
-        Topic::Done => out.extend_from_slice(DONE.as_bytes())?,
-        Topic::Status { status, cause } => push_status(&mut out, *status, *cause)?,
-        Topic::Fault { kind, fault } => push_fault(&mut out, kind_row(*kind), *fault)?,
+pub fn explained(alloc: Global, topic: &Topic) -> Result<Vec<u8>, AllocError>
+    ensures { IfOk result (λ out. out.items ≡ topic_text topic.now) }
+{
+    match *topic {
+        Topic::All => all_text(alloc),
+        Topic::Done => Vec::from_slice(alloc, DONE.as_bytes()),
+        Topic::Status { status, cause } => status_text(alloc, status, cause),
+        Topic::Fault { kind, fault } => fault_text(alloc, kind_row(kind), fault),
     }
-    Ok(out)
 }

@@ -5,6 +5,7 @@
 
 mod arguments;
 mod at_hand;
+mod call;
 mod capacity;
 pub mod check;
 mod command;
@@ -21,10 +22,8 @@ mod source;
 mod texts;
 
 pub use at_hand::AtHand;
-pub use command::{
-    Call, CheckCall, DrawCall, OutcomesCall, ReplayCall, ShellCall, ThreadsCall, TimelineCall,
-    TurnsCall, call_of,
-};
+pub use call::{Call, call_of};
+pub use command::Named;
 pub use copies::copy_scripts;
 pub use fault::{Fault, status_of};
 pub use files::{FileReader, Files, Paths};

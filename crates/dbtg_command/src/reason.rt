@@ -1,11 +1,15 @@
 //! The second line that `--explain` asks for: where a fault is, and what it means.
+ghost use Rattle.std.specs.Prelude.{◌≡◌, [], IfOk};
+ghost use Rattle.dbtg_command.specs.Explaining.{fault_field};
+ghost use Rattle.dbtg_command.specs.Reasons.{IsToldIn, told_at, word_place};
+ghost use Rattle.dbtg_command.specs.declared.explain.Kind.TheVariants.{Schema, Script};
 
 use crate::explain::{Kind, advice_for, line_of, meaning_of, said_of_schema_word, said_of_word};
 use crate::fault::Fault;
 use crate::files::{FileReader, Files, Paths, SCRIPT_BYTES, STANDARD_INPUT};
 use crate::order::Order;
 use crate::texts::read_schema;
-use std::alloc::AllocError;
+use std::alloc::{AllocError, Global};
 use std::io;
 
 /// The first word of a text, as far as it is letters.
@@ -76,28 +80,22 @@ fn mistaken_file(rt: &HostRuntime, kind: Kind, path: &str) -> &'static str {
     }
 }
 
-/// Puts the place of a fault behind a text, then what it means, and what else there is to say.
-fn push_line(
-    out: &mut Vec<u8>,
-    place: &str,
-    meaning: &[u8],
-    other: &str,
-) -> Result<(), AllocError> {
-    out.extend_from_slice(place.as_bytes())?;
-    out.extend_from_slice(meaning)?;
-    out.extend_from_slice(other.as_bytes())
-}
-
-/// Puts the same, with what is said of a word in place of what the fault means, where there is such a word and nothing else.
-fn push_place(
-    out: &mut Vec<u8>,
+/// The place of a fault, and what is said of its word; what the fault means, where nothing is said of a word, or more of the text.
+fn told_at(
+    alloc: Global,
     place: &str,
     word: &[u8],
     meaning: &[u8],
     other: &str,
-) -> Result<(), AllocError> {
+) -> Result<Vec<u8>, AllocError>
+    ensures { IfOk result (λ out. out.items ≡ told_at place.now word.now meaning.now other.now) }
+{
     let is_plain = word.is_empty() || !other.is_empty();
-    push_line(out, place, if is_plain { meaning } else { word }, other)
+    let mut out = Vec::new(alloc);
+    out.extend_from_slice(place.as_bytes())?;
+    out.extend_from_slice(if is_plain { meaning } else { word })?;
+    out.extend_from_slice(other.as_bytes())?;
+    Ok(out)
 }
 
 /// What is said of the word of a script that is at fault; nothing where no single word is, or a file cannot be read again.
@@ -139,25 +137,21 @@ fn word_in(
     }
 }
 
-/// Puts what there is to say of a fault of the script with this number, from 1, behind a text.
-fn push_script(
+/// What there is to say of a fault of a script.
+fn script_reason(
     rt: &HostRuntime,
     paths: &Paths,
-    out: &mut Vec<u8>,
-    script: usize,
+    path: &str,
     line: u64,
     number: u8,
-) -> Result<(), AllocError> {
-    let path = paths
-        .scripts
-        .get(script.wrapping_sub(1))
-        .copied()
-        .unwrap_or("");
+) -> Result<Vec<u8>, AllocError>
+    ensures { IfOk result (λ out. IsToldIn Script path.now line number out.items) }
+{
     let place = format!(in rt.alloc(); "{path}:{line}: ")?;
     let meaning = meaning_of(Kind::Script, number);
     let other = mistaken_file(rt, Kind::Script, path);
     let word = word_line(rt, paths, path, line, number, meaning)?;
-    push_place(out, place.as_str(), word.as_slice(), meaning, other)
+    told_at(rt.alloc(), place.as_str(), word.as_slice(), meaning, other)
 }
 
 /// What is said of the word of a schema that is at fault; nothing where no single word is, or the file cannot be read again.
@@ -180,37 +174,48 @@ fn schema_word_line(
     }
 }
 
-/// Puts what there is to say of the fault of the schema behind a text.
-fn push_schema(
-    rt: &HostRuntime,
-    path: &str,
-    out: &mut Vec<u8>,
-    line: u64,
-    number: u8,
-) -> Result<(), AllocError> {
+/// What there is to say of the fault of the schema.
+fn schema_reason(rt: &HostRuntime, path: &str, line: u64, number: u8) -> Result<Vec<u8>, AllocError>
+    ensures { IfOk result (λ out. IsToldIn Schema path.now line number out.items) }
+{
     let place = format!(in rt.alloc(); "{path}:{line}: ")?;
     let meaning = meaning_of(Kind::Schema, number);
     let other = mistaken_file(rt, Kind::Schema, path);
     let word = schema_word_line(rt, path, number, meaning)?;
-    push_place(out, place.as_str(), word.as_slice(), meaning, other)
+    told_at(rt.alloc(), place.as_str(), word.as_slice(), meaning, other)
 }
 
-/// Puts what there is to say of a fault of the moves or turns behind a text.
-fn push_order(
+/// What there is to say of a fault of the moves or turns.
+fn order_reason(
     rt: &HostRuntime,
-    paths: &Paths,
-    out: &mut Vec<u8>,
+    path: &str,
     kind: Kind,
     word: u64,
     number: u8,
-) -> Result<(), AllocError> {
-    let path = match paths.order {
+) -> Result<Vec<u8>, AllocError>
+    ensures { IfOk result (λ out. out.items ≡ told_at (word_place path.now word) [] (fault_field kind number 1) []) }
+{
+    let place = format!(in rt.alloc(); "{path}: word {word}: ")?;
+    told_at(
+        rt.alloc(),
+        place.as_str(),
+        &[],
+        meaning_of(kind, number),
+        "",
+    )
+}
+
+fn order_path<'a>(paths: &Paths<'a>) -> &'a str {
+    match paths.order {
         Order::Serial => "",
         Order::Moves(path) => path,
         Order::Turns(path) => path,
-    };
-    let place = format!(in rt.alloc(); "{path}: word {word}: ")?;
-    push_line(out, place.as_str(), meaning_of(kind, number), "")
+    }
+}
+
+fn script_path<'a>(paths: &Paths<'a>, number: usize) -> &'a str {
+    let path = paths.scripts.get(number.wrapping_sub(1));
+    path.copied().unwrap_or("")
 }
 
 /// The second line of a fault, where there is one.
@@ -219,25 +224,24 @@ pub fn reason(
     paths: &Paths,
     fault: &Fault,
 ) -> Result<Option<String>, AllocError> {
-    let alloc = rt.alloc();
-    let mut out = Vec::new(alloc);
-    match fault {
-        Fault::Schema { line, cause } => {
-            push_schema(rt, paths.schema, &mut out, *line, cause.number())?;
-        }
+    let told = match fault {
+        Fault::Schema { line, cause } => schema_reason(rt, paths.schema, *line, cause.number())?,
         Fault::Script {
             number,
             line,
             cause,
-        } => push_script(rt, paths, &mut out, *number, *line, cause.number())?,
+        } => {
+            let path = script_path(paths, *number);
+            script_reason(rt, paths, path, *line, cause.number())?
+        }
         Fault::Moves { word, cause } => {
-            push_order(rt, paths, &mut out, Kind::Moves, *word, cause.number())?
+            order_reason(rt, order_path(paths), Kind::Moves, *word, cause.number())?
         }
         Fault::Turns { word, cause } => {
-            push_order(rt, paths, &mut out, Kind::Turns, *word, cause.number())?
+            order_reason(rt, order_path(paths), Kind::Turns, *word, cause.number())?
         }
         Fault::Unreadable { path } => return Ok(Some(unread_line(rt, path.as_str())?)),
         _ => return Ok(None),
-    }
-    Ok(Some(String::from_utf8_lossy(alloc, out.as_slice())?))
+    };
+    Ok(Some(String::from_utf8_lossy(rt.alloc(), told.as_slice())?))
 }

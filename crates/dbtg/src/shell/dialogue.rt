@@ -3,7 +3,7 @@
 use crate::shell::commands::{Reply, Shell};
 use crate::shell::saved::save;
 use crate::shell::session::Session;
-use dbtg_command::ShellCall;
+use dbtg_command::Call;
 use std::alloc::AllocError;
 use std::io::{self, BufRead, Input, IsTerminal, Read, Write};
 
@@ -75,7 +75,7 @@ fn write_end(rt: &HostRuntime, prompts: bool) -> Result<(), Broken> {
 fn write_saved(
     rt: &HostRuntime,
     session: &Session<'_>,
-    call: &ShellCall<'_>,
+    call: &Call<'_>,
     directory: &str,
 ) -> Result<(), Broken> {
     match save(rt, session, call.capacity, call.schema, directory) {
@@ -88,7 +88,7 @@ fn write_saved(
 fn write_reply(
     rt: &HostRuntime,
     session: &Session<'_>,
-    call: &ShellCall<'_>,
+    call: &Call<'_>,
     reply: &Result<Reply<'_>, AllocError>,
 ) -> Result<(), Broken> {
     match reply {
@@ -115,7 +115,7 @@ fn reply_to<'b>(
 fn answer(
     rt: &HostRuntime,
     shell: &mut Shell<'_>,
-    call: &ShellCall<'_>,
+    call: &Call<'_>,
     kept: Kept,
     line: &[u8],
 ) -> Result<bool, Broken> {
@@ -128,7 +128,7 @@ fn answer(
 fn answer_lines<B: BufRead>(
     rt: &HostRuntime,
     shell: &mut Shell<'_>,
-    call: &ShellCall<'_>,
+    call: &Call<'_>,
     input: &mut B,
     line: &mut Vec<u8>,
 ) -> Result<(), Broken> {
@@ -148,11 +148,7 @@ fn answer_lines<B: BufRead>(
 }
 
 /// Answers the lines of standard input, one after another, up to its end or `.quit`. A terminal is shown whose turn it is.
-pub fn converse(
-    rt: &HostRuntime,
-    session: Session<'_>,
-    call: &ShellCall<'_>,
-) -> Result<(), Broken> {
+pub fn converse(rt: &HostRuntime, session: Session<'_>, call: &Call<'_>) -> Result<(), Broken> {
     let alloc = rt.alloc();
     let mut shell = Shell::new(alloc, session);
     let mut input = rt.reader();

@@ -1,12 +1,13 @@
 //! A schema's text with each word on a line of its own: then the line of a fault says its word.
-ghost use Rattle.std.specs.Prelude.{◌≡◌, ◌<◌, ◌≤◌, ◌++◌, IfOk, OnOk, false};
+ghost use Rattle.std.specs.Prelude.{◌≡◌, ◌++◌, IfOk, OnOk, option_map};
 ghost use Rattle.dbtg_schema.specs.Texts.Words.{is_gap};
 ghost use Rattle.dbtg_schema.specs.Texts.SchemaFaults.{refusal};
-ghost use Rattle.dbtg_command.specs.FaultyWord.{apart, is_of_entry, laid_out, line_at, line_in};
+ghost use Rattle.dbtg_command.specs.FaultyWord.{apart, entry_name, faulty_word, is_label, is_of_entry, laid_out, line_at, line_in};
+ghost use Rattle.dbtg_script.specs.Lines.{lines};
 
-use crate::explain::row::behind_all;
+use crate::explain::row::{behind_all, next_row};
 use dbtg_schema::{Schema, SchemaFault};
-use dbtg_script::{behind, in_front};
+use dbtg_script::in_front;
 use std::alloc::{AllocError, Global};
 
 fn is_gap(b: u8) -> bool
@@ -64,24 +65,24 @@ pub fn line_at(text: &[u8], line: u64) -> &[u8]
     in_front(behind_all(text, b'\n', (line - 1) as usize), b'\n')
 }
 
-fn is_label(word: &[u8]) -> bool {
+fn is_label(word: &[u8]) -> bool
+    ensures { result ≡ is_label word.now }
+{
     word.is_empty() || matches!(word, b"MEMBER" | b"RECORD" | b"NAME" | b"IS" | b"ARE")
 }
 
-// The line of the name of the entry whose first word stands on this line.
-fn entry_line(laid: &[u8], line: u64) -> u64
-    requires { 0 < line }
-    ensures { line ≤ result }
+// The name of the entry whose first word stands in front of these.
+fn entry_name(words: &[u8]) -> Option<&[u8]>
+    ensures { option_map (λ word. word.now) result ≡ entry_name (lines words.now) }
 {
-    let before = (line - 1) as usize;
-    let mut rest = behind_all(laid, b'\n', before);
-    for i in before..laid.len() {
-        if !is_label(in_front(rest, b'\n')) {
-            return i as u64 + 1;
+    let mut rest = words;
+    while let Some((word, behind)) = next_row(rest) {
+        if !is_label(word) {
+            return Some(word);
         }
-        rest = behind(rest, b'\n');
+        rest = behind;
     }
-    line
+    None
 }
 
 // The owner is the member, a member twice, other keys, a key misplaced; a record type without items.
@@ -91,15 +92,13 @@ fn is_of_entry(number: u8) -> bool
     12 <= number && number <= 15 || number == 17
 }
 
-/// The line of the word that a fault on this line of a text that is laid out is about: this one, or of a fault of a whole entry
-/// the line of its name.
-pub fn faulty_line(laid: &[u8], line: u64, number: u8) -> u64
-    ensures own { is_of_entry number ≡ false → result ≡ line }
-    ensures from_there { line ≤ result }
+/// The word that a fault on this line of a text that is laid out is about: the one there, or of a fault of a whole entry its name.
+pub fn faulty_word(laid: &[u8], line: u64, number: u8) -> &[u8]
+    ensures { result.now ≡ faulty_word number line laid.now }
 {
-    if is_of_entry(number) && line > 0 {
-        entry_line(laid, line)
-    } else {
-        line
+    if line == 0 || !is_of_entry(number) {
+        return line_at(laid, line);
     }
+    let words = behind_all(laid, b'\n', (line - 1) as usize);
+    entry_name(words).unwrap_or(line_at(laid, line))
 }

@@ -1,7 +1,7 @@
 //! What is said of the word of a schema at which its fault is, and the names that there are in its place. The reader itself finds
 //! the word: it reads the text again, with each word on a line of its own.
 
-use crate::explain::laid::{fault_line, faulty_line, laid_out, line_at};
+use crate::explain::laid::{fault_line, faulty_word, laid_out};
 use crate::explain::row::behind_all;
 use crate::explain::word::{LONGEST, push_name, push_said, word_at, words_of};
 use std::alloc::{AllocError, Global};
@@ -127,7 +127,7 @@ pub fn said_of_schema_word(
     let laid = laid_out(alloc, text)?;
     let laid = laid.as_slice();
     let line = fault_line(alloc, laid, number)?;
-    let word = line_at(laid, faulty_line(laid, line, number));
+    let word = faulty_word(laid, line, number);
     if word.is_empty() || word.len() > LONGEST || number <= 2 {
         return Ok(Vec::new(alloc));
     }

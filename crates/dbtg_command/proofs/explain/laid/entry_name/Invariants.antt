@@ -1,0 +1,11 @@
+use Rattle.std.proofs.Common.{◌≡◌, length}
+use Rattle.dbtg_script.specs.Lines.{lines}
+use Rattle.dbtg_command.specs.FaultyWord.{entry_name}
+use Rattle.dbtg_command.proofs.explain.laid.entry_name.Given as goal
+
+-- no name is passed
+abbrev pub invariant-loop-word : goal.invariant-loop-word
+invariant-loop-word l = entry_name (lines l.rest) ≡ entry_name (lines l.words)
+
+abbrev pub decreases-loop-word : goal.decreases-loop-word
+decreases-loop-word l = length l.rest

@@ -1,0 +1,84 @@
+-- What the words of the command ask for, of what `clap` finds in them.
+use Rattle.std.specs.Prelude.{ℕ, ◌≡◌, Bool, true, false, List, [], Option, Some, None, codes, map, option_map, unwrap_or}
+use Rattle.clap.specs.Matches.{first_value, found_of, matched_of, one_text, raw_values}
+use Rattle.clap.specs.Simple.{App, HasMatchesOf, subcommand_rows_of}
+use Rattle.clap.specs.Walk.{rows_of}
+use Rattle.clap.specs.declared.parser.matches.ArgMatches.{ArgMatches}
+use Rattle.clap.specs.declared.parser.matches.Found.{Found}
+use Rattle.dbtg_command.specs.declared.call.Call.{Call}
+use Rattle.dbtg_command.specs.declared.command.Named.{Named}
+use Rattle.dbtg_command.specs.declared.command.Named.TheVariants as named
+use Rattle.dbtg_command.specs.declared.order.Order.{Order}
+use Rattle.dbtg_command.specs.declared.order.Order.TheVariants as by
+use Rattle.dbtg_command.specs.Capacity.{count_in}
+use Rattle.dbtg_command.specs.Explaining.{IsAsked}
+use Rattle.dbtg_command.specs.Sources.{order_map}
+
+-- the word that asks for a command
+abbrev pub name_of : Named → List ℕ
+name_of named.Check = codes "check"
+name_of named.Replay = codes "replay"
+name_of named.Turns = codes "turns"
+name_of named.Timeline = codes "timeline"
+name_of named.Outcomes = codes "outcomes"
+name_of named.Threads = codes "threads"
+name_of named.Draw = codes "draw"
+name_of named.Explain = codes "explain"
+name_of named.Shell = codes "shell"
+
+-- the flag is there, or not
+pub record IsFlag (found : Found) (id : List ℕ) (flag : Bool) : Type 0 where
+  pub none : one_text found id ≡ None → flag ≡ false
+  pub given : one_text found id ≡ Some (codes "true") → flag ≡ true
+  pub other : one_text found id ≡ Some (codes "false") → flag ≡ false
+
+-- the words with this id
+abbrev pub words_in : Found → List ℕ → List (List ℕ)
+words_in found id = unwrap_or (option_map raw_values (matched_of found id)) []
+
+-- the number that a word says, up to a greatest one, and 0 without a word
+abbrev pub count_for : ℕ → Option (List ℕ) → Option ℕ
+count_for most None = Some 0
+count_for most (Some word) = count_in most word
+
+-- the moves, where there are no turns
+abbrev pub moves_or_serial : Option (List ℕ) → Order (List ℕ)
+moves_or_serial None = by.Serial
+moves_or_serial (Some path) = by.Moves path
+
+-- what says the order
+abbrev pub order_for : Option (List ℕ) → Option (List ℕ) → Order (List ℕ)
+order_for (Some path) moves = by.Turns path
+order_for None moves = moves_or_serial moves
+
+abbrev pub order_in : Found → Order (List ℕ)
+order_in found = order_for (first_value found (codes "turns")) (first_value found (codes "moves"))
+
+-- the call is of this command, and has what was found for it
+pub record IsCall (asked : Named) (found : Found) (call : Call) : Type 0 where
+  pub named : call.named ≡ asked
+  pub explains : IsFlag found (codes "explain") call.explains
+  pub echo : IsFlag found (codes "echo") call.echo
+  pub svg : IsFlag found (codes "svg") call.svg
+  pub answers : IsFlag found (codes "answers") call.answers
+  pub capacity : count_for 1000 (first_value found (codes "capacity")) ≡ Some call.capacity
+  pub limit : count_for 1000000000 (first_value found (codes "limit")) ≡ Some call.limit
+  pub units : count_for 8 (first_value found (codes "units")) ≡ Some call.units
+  pub order : order_map (λ path. path.now) call.order ≡ order_in found
+  pub saved : option_map (λ path. path.now) call.saved ≡ first_value found (codes "save-turns")
+  pub schema : call.schema.now ≡ unwrap_or (first_value found (codes "schema")) []
+  pub scripts : map (λ path. path.now) call.scripts.items ≡ words_in found (codes "scripts")
+  pub topic : IsAsked (words_in found (codes "topic")) (Some call.topic)
+
+-- the call is that of the command which was met in a parse, with what was found for it
+pub record IsCallIn (matches : ArgMatches) (call : Call) : Type 0 where
+  pub given : ArgMatches
+  pub met : subcommand_rows_of matches ≡ Some (name_of call.named, rows_of (found_of given))
+  pub is_call : IsCall call.named (found_of given) call
+
+-- the call is that of what a command takes from these words
+pub record IsCallOf (words : List (List ℕ)) (call : Call) : Type 0 where
+  pub app : App
+  pub matches : ArgMatches
+  pub are_matches : HasMatchesOf app words matches
+  pub is_call : IsCallIn matches call

@@ -1,0 +1,218 @@
+//! What the words of the command ask for, of what `clap` finds in them.
+ghost use Rattle.std.specs.Prelude.{◌≡◌, ◌≤◌, IfOk, IfSome, codes, map, string_bytes};
+ghost use Rattle.clap.specs.Matches.{first_value, found_of};
+ghost use Rattle.dbtg_command.specs.Calling.{IsCall, IsCallIn, IsCallOf, count_for, name_of, order_in, words_in};
+ghost use Rattle.dbtg_command.specs.Capacity.{count_in};
+ghost use Rattle.dbtg_command.specs.Explaining.{IsAsked};
+ghost use Rattle.dbtg_command.specs.Sources.{order_map};
+
+use crate::capacity::count_of;
+use crate::command::{ALL, Named, command, name_of, refused};
+use crate::explain::{Topic, topic_of};
+use crate::files::STANDARD_INPUT;
+use crate::order::Order;
+use clap::error::ErrorKind;
+use clap::{ArgMatches, Error};
+use std::alloc::{AllocError, Global};
+
+/// What is to be done, and with what. What a command cannot be given is absent: false, 0, empty or none. Paths are as they were given;
+/// `-` stands for standard input.
+#[derive(Drop)]
+pub struct Call<'a> {
+    pub named: Named,
+    /// A fault has a second line.
+    pub explains: bool,
+    /// Each answer has its statement in front.
+    pub echo: bool,
+    /// A picture is drawn as SVG.
+    pub svg: bool,
+    /// Results are also told apart by the answers that units get.
+    pub answers: bool,
+    pub capacity: u16,
+    /// How many states may come.
+    pub limit: u64,
+    pub units: u16,
+    pub order: Order<&'a str>,
+    /// Where the turns of the run go.
+    pub saved: Option<&'a str>,
+    pub schema: &'a str,
+    pub scripts: Vec<&'a str>,
+    pub topic: Topic,
+}
+
+fn words_of<'a>(alloc: Global, given: &ArgMatches<'a>, id: &str) -> Result<Vec<&'a str>, AllocError>
+    ensures { IfOk result (λ words. map (λ word. word.now) words.items ≡ words_in (found_of given.now) id.now) }
+{
+    match given.get_strs(id) {
+        Some(words) => Vec::from_slice(alloc, words),
+        None => Ok(Vec::new(alloc)),
+    }
+}
+
+// The number that an option has, at most so large, and 0 where the command has no such option.
+fn count_wanted(
+    alloc: Global,
+    named: Named,
+    given: &ArgMatches,
+    option: &str,
+    most: u64,
+) -> Result<u64, Error>
+    requires { most ≤ 1000000000 }
+    ensures count { IfOk result (λ n. count_for most (first_value (found_of given.now) option.now) ≡ Some n) }
+    ensures within { IfOk result (λ n. n ≤ most) }
+{
+    match given.get_str(option) {
+        Some(word) => count_said(alloc, named, option, word, most),
+        None => Ok(0),
+    }
+}
+
+fn count_said(
+    alloc: Global,
+    named: Named,
+    option: &str,
+    word: &str,
+    most: u64,
+) -> Result<u64, Error>
+    requires { most ≤ 1000000000 }
+    ensures count { IfOk result (λ n. count_in most word.now ≡ Some n) }
+    ensures within { IfOk result (λ n. n ≤ most) }
+{
+    if let Some(n) = count_of(word, most) {
+        return Ok(n);
+    }
+    let told = format!(in alloc;
+        "invalid value '{word}' for '--{option} <N>': a whole number from 1 to {most} is wanted"
+    )?;
+    Err(refused(alloc, named, ErrorKind::ValueValidation, told.as_str())?)
+}
+
+// What says the order; the reader of the words takes one of the two options.
+fn order_wanted<'a>(given: &ArgMatches<'a>) -> Order<&'a str>
+    ensures { order_map (λ path. path.now) result ≡ order_in (found_of given.now) }
+{
+    if let Some(turns) = given.get_str("turns") {
+        return Order::Turns(turns);
+    }
+    match given.get_str("moves") {
+        Some(moves) => Order::Moves(moves),
+        None => Order::Serial,
+    }
+}
+
+fn topic_wanted(alloc: Global, given: &ArgMatches) -> Result<Topic, Error>
+    ensures { IfOk result (λ topic. IsAsked (words_in (found_of given.now) (codes "topic")) (Some topic)) }
+{
+    let words = words_of(alloc, given, "topic")?;
+    match topic_of(words.as_slice()) {
+        Some(topic) => Ok(topic),
+        None => Err(refused(
+            alloc,
+            Named::Explain,
+            ErrorKind::InvalidValue,
+            "no status and no fault is called so: a status of four digits is wanted, or schema, script, moves or turns and the number of a fault; 'dbtg explain' lists all",
+        )?),
+    }
+}
+
+fn given_call<'a>(alloc: Global, named: Named, given: &ArgMatches<'a>) -> Result<Call<'a>, Error>
+    ensures { IfOk result (IsCall named (found_of given.now)) }
+{
+    let capacity = count_wanted(alloc, named, given, "capacity", 1000)?;
+    let limit = count_wanted(alloc, named, given, "limit", 1_000_000_000)?;
+    let units = count_wanted(alloc, named, given, "units", 8)?;
+    let topic = topic_wanted(alloc, given)?;
+    let scripts = words_of(alloc, given, "scripts")?;
+    Ok(Call {
+        named,
+        explains: given.get_flag("explain"),
+        echo: given.get_flag("echo"),
+        svg: given.get_flag("svg"),
+        answers: given.get_flag("answers"),
+        capacity: capacity as u16,
+        limit,
+        units: units as u16,
+        order: order_wanted(given),
+        saved: given.get_str("save-turns"),
+        schema: given.get_str("schema").unwrap_or(""),
+        scripts,
+        topic,
+    })
+}
+
+fn is_input(path: &str) -> bool {
+    path == STANDARD_INPUT
+}
+
+// Is standard input asked for more than once?
+fn reads_twice(call: &Call) -> bool {
+    let order = match call.order {
+        Order::Serial => "",
+        Order::Moves(path) => path,
+        Order::Turns(path) => path,
+    };
+    let scripts = call.scripts.iter().filter(|path| is_input(**path)).count();
+    let is_schema = is_input(call.schema);
+    let is_order = is_input(order);
+    scripts > 1 || scripts == 1 && (is_schema || is_order) || is_schema && is_order
+}
+
+// What is wrong with the paths, where something is.
+fn misused_input(call: &Call) -> Option<&'static str> {
+    if reads_twice(call) {
+        Some("the argument '-' cannot be used twice: standard input is one file")
+    } else if matches!(call.saved, Some("-")) {
+        Some(
+            "the argument '-' cannot be used with '--save-turns <FILE>': turns are written to a file",
+        )
+    } else if matches!(call.named, Named::Shell) && is_input(call.schema) {
+        Some("the argument '-' cannot be used: the shell reads statements from standard input")
+    } else {
+        None
+    }
+}
+
+// The call that the words for a command make, unless standard input is not to be had as they want it.
+fn call_named<'a>(alloc: Global, named: Named, given: &ArgMatches<'a>) -> Result<Call<'a>, Error>
+    ensures { IfOk result (IsCall named (found_of given.now)) }
+{
+    let call = given_call(alloc, named, given)?;
+    match misused_input(&call) {
+        None => Ok(call),
+        Some(told) => Err(refused(alloc, named, ErrorKind::ArgumentConflict, told)?),
+    }
+}
+
+// The command of this name.
+fn named_of(word: &str) -> Option<Named>
+    ensures { IfSome result (λ named. name_of named ≡ word.now) }
+{
+    for named in ALL {
+        if name_of(named) == word {
+            return Some(named);
+        }
+    }
+    None
+}
+
+// The reader of the words takes no others than those of the commands.
+fn call_in<'a>(alloc: Global, matches: &ArgMatches<'a>) -> Result<Call<'a>, Error>
+    ensures { IfOk result (IsCallIn matches.now) }
+{
+    if let Some((word, given)) = matches.subcommand() {
+        if let Some(named) = named_of(word) {
+            return call_named(alloc, named, given);
+        }
+    }
+    Err(Error::from(AllocError))
+}
+
+/// What the words ask for. `Err` has the text that answers other words, and help.
+pub fn call_of<'a>(alloc: Global, words: &'a [String]) -> Result<Call<'a>, Error>
+    ensures { IfOk result (IsCallOf (map string_bytes words.now)) }
+{
+    let matches = command(alloc)?.try_get_matches_from(words)?;
+    let call = call_in(alloc, &matches);
+    drop(matches);
+    call
+}
