@@ -82,7 +82,7 @@ pub(crate) fn close(
 ) -> Result<Prepared, AllocError>
     ensures { IfOk result (λ plan. plan ≡ plan_of schema.now (in_hand held.now) unit.now (Statement.CloseArea area)) }
 {
-    // Only the contract names them.
+    // Used by the contract alone.
     let _ = schema;
     let _ = held;
     let edit = Edit::LeaveUser { unit: unit.number };

@@ -14,9 +14,9 @@ use dbtg_schema::Schema;
 use dbtg_unit::{Held, Prepared, Statement, Unit, refused, refused_at_once};
 use std::alloc::{AllocError, Global};
 
-#[tactic(auto, using(crate::proofs::Plans::OpenClose::close_can_finish, crate::proofs::Plans::GetKeepFree::get_finishes, crate::proofs::Plans::GetKeepFree::keep_finishes, crate::proofs::Plans::GetKeepFree::free_finishes, crate::proofs::Connect::RemoveIsEffect::remove_finishes, crate::proofs::Modify::ModifyReady::modify_finishes))]
 /// Prepares a statement other than DELETE that needs nothing more: makes room for what it adds to the cells in hand, which show
 /// what they did, and fixes its answer and its changes. Where no memory is found, only room was made.
+#[tactic(auto, using(crate::proofs::Plans::OpenClose::close_can_finish, crate::proofs::Plans::GetKeepFree::get_finishes, crate::proofs::Plans::GetKeepFree::keep_finishes, crate::proofs::Plans::GetKeepFree::free_finishes, crate::proofs::Connect::RemoveIsEffect::remove_finishes, crate::proofs::Modify::ModifyReady::modify_finishes))]
 pub fn prepare(
     alloc: Global,
     schema: &Schema,

@@ -74,7 +74,7 @@ pub(crate) fn remove(
     requires { HaveNextVersions held.now.cells }
     ensures { IfOk result (λ plan. plan ≡ plan_of schema.now (in_hand held.now) unit.now (Remove set)) }
 {
-    // Only the contract names the schema.
+    // Used by the contract alone.
     let _ = schema;
     let Some(key) = unit.currency.run_unit else {
         return Ok(refused(alloc, Cause::NoCurrentOfRunUnit));
