@@ -4,8 +4,7 @@ use Rattle.std.specs.Prelude.{ℕ, Option}
 use Rattle.dbtg_schema.specs.Lists.{Lists}
 use Rattle.dbtg_cells.specs.declared.ring.Occurrence.{Occurrence}
 use Rattle.dbtg_unit.specs.declared.unit.Unit.{Unit}
-pub use Rattle.dbtg_unit.specs.Database.Statements.Conditions.{joined_place}
-pub use Rattle.dbtg_unit.specs.Hands.PlanOf.{joining_edit}
+use Rattle.dbtg_unit.specs.Database.Statements.Conditions.{joined_place}
 use Rattle.dbtg_unit.specs.Hands.Hands.{Hands}
 use Rattle.dbtg_unit.specs.Hands.InHand.{occurrence_in}
 

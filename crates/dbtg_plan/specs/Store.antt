@@ -28,7 +28,7 @@ use Rattle.dbtg_unit.specs.Hands.Needs.{current_owner, ring_names, store_rings}
 use Rattle.dbtg_unit.specs.Hands.Prepared.{Plan, unless_refusal}
 use Rattle.dbtg_unit.specs.Hands.Reserving.{CanTakeMember, OfHeld}
 use Rattle.dbtg_plan.specs.Calc.{fresh_key}
-use Rattle.dbtg_plan.specs.Joining.{joined_place}
+use Rattle.dbtg_unit.specs.Database.Statements.Conditions.{joined_place}
 use Rattle.dbtg_plan.specs.Missing.{first_missing}
 
 -- WHAT IT NEEDS

@@ -12,7 +12,8 @@ ghost use Rattle.dbtg_unit.specs.Database.Statements.Found.{is_lost};
 ghost use Rattle.dbtg_unit.specs.Hands.Making.{ShowsTheSame};
 ghost use Rattle.dbtg_unit.specs.Hands.Needs.{current_owner};
 ghost use Rattle.dbtg_unit.specs.Hands.Reserving.{CanTakeMember, KeepsOthers, OfHeld};
-ghost use Rattle.dbtg_plan.specs.Joining.{joined_place, joining_edit};
+ghost use Rattle.dbtg_unit.specs.Database.Statements.Conditions.{joined_place};
+ghost use Rattle.dbtg_unit.specs.Hands.PlanOf.{joining_edit};
 
 use dbtg_cells::{CellName, DbKey, Owner, Ring, Value};
 use dbtg_schema::{Duplicates, Order, Schema, SetNo};

@@ -53,7 +53,9 @@ use Rattle.dbtg_unit.specs.Database.Statements.View.{View, whole}
 use Rattle.dbtg_unit.specs.Hands.PlanOf.{inserting, plan_of, planned_on_current}
 use Rattle.dbtg_plan.proofs.Plans.EffectIsPlan.{current_plan_is_effect, effect_in_hand, planned_cells}
 use Rattle.dbtg_plan.proofs.Plans.SamePlan.{in_sets, insert_ring, insert_slot, insert_stands}
-use Rattle.dbtg_plan.specs.Joining.{joined_occurrence, joined_place, joining_edit}
+use Rattle.dbtg_unit.specs.Database.Statements.Conditions.{joined_place}
+use Rattle.dbtg_unit.specs.Hands.PlanOf.{joining_edit}
+use Rattle.dbtg_plan.specs.Joining.{joined_occurrence}
 use Rattle.dbtg_plan.proofs.Connect.PlacesDecide.{can_join_in_hand, place_checks_in_hand}
 use Rattle.dbtg_plan.proofs.Plans.IsEffect.{done_is_effect, noted_renoted}
 use Rattle.dbtg_plan.proofs.Plans.RingEdits.{can_edit_ring, free_owner}

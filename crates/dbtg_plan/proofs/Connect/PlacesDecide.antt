@@ -35,7 +35,8 @@ use Rattle.dbtg_unit.proofs.Public.{all_members, checks_at_agree, divided_by_new
 use Rattle.dbtg_unit.proofs.Public.{same_occurrence}
 use Rattle.dbtg_unit.specs.Hands.InHand.{in_hand}
 use Rattle.dbtg_unit.specs.Database.Statements.View.{whole}
-use Rattle.dbtg_plan.specs.Joining.{joined_occurrence, joined_place}
+use Rattle.dbtg_unit.specs.Database.Statements.Conditions.{joined_place}
+use Rattle.dbtg_plan.specs.Joining.{joined_occurrence}
 
 -- A PLACE FOR A NEW MEMBER
 

@@ -38,7 +38,7 @@ use Rattle.dbtg_unit.proofs.Public.{In, MayPlan, any_in, calc_taken_agrees, free
 use Rattle.dbtg_unit.proofs.Public.{no_number_passes, numbers_in_hand, of_filter, owners_first, passes_check, passes_without_cells, prepared_has_all}
 use Rattle.dbtg_unit.proofs.Public.{same_numbers, same_occurrence, some_from_not_none, store_checks_agree, store_found}
 use Rattle.dbtg_plan.specs.Calc.{fresh_key}
-use Rattle.dbtg_plan.specs.Joining.{joined_place}
+use Rattle.dbtg_unit.specs.Database.Statements.Conditions.{joined_place}
 use Rattle.dbtg_plan.specs.Missing.{first_missing}
 use Rattle.dbtg_plan.specs.Store.{cells_of_key, missing_of_store, store_cells_in, store_plan, stored_key, stored_plan}
 use Rattle.dbtg_plan.proofs.Plans.IsEffect.{done_is_effect, effect_is_on_cells, refusal_is_effect}
