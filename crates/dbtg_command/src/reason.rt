@@ -1,7 +1,7 @@
 //! The second line that `--explain` asks for: where a fault is, and what it means.
-ghost use Rattle.std.specs.Prelude.{◌≡◌, [], IfOk};
+ghost use Rattle.std.specs.Prelude.{◌≡◌, [], IfOk, codes};
 ghost use Rattle.dbtg_command.specs.Explaining.{fault_field};
-ghost use Rattle.dbtg_command.specs.Reasons.{IsToldIn, told_at, word_place};
+ghost use Rattle.dbtg_command.specs.Reasons.{IsToldIn, place_of, told_at};
 ghost use Rattle.dbtg_command.specs.declared.explain.Kind.TheVariants.{Schema, Script};
 
 use crate::explain::{Kind, advice_for, line_of, meaning_of, said_of_schema_word, said_of_word};
@@ -9,6 +9,7 @@ use crate::fault::Fault;
 use crate::files::{FileReader, Files, Paths, SCRIPT_BYTES, STANDARD_INPUT};
 use crate::order::Order;
 use crate::texts::read_schema;
+use dbtg_script::push_number;
 use std::alloc::{AllocError, Global};
 use std::io;
 
@@ -80,10 +81,21 @@ fn mistaken_file(rt: &HostRuntime, kind: Kind, path: &str) -> &'static str {
     }
 }
 
+/// A place in a file, by the number of its line or word.
+fn place_of(alloc: Global, path: &str, mark: &str, number: u64) -> Result<Vec<u8>, AllocError>
+    ensures { IfOk result (λ out. out.items ≡ place_of path.now mark.now number) }
+{
+    let mut out = Vec::from_slice(alloc, path.as_bytes())?;
+    out.extend_from_slice(mark.as_bytes())?;
+    push_number(&mut out, number)?;
+    out.extend_from_slice(": ".as_bytes())?;
+    Ok(out)
+}
+
 /// The place of a fault, and what is said of its word; what the fault means, where nothing is said of a word, or more of the text.
 fn told_at(
     alloc: Global,
-    place: &str,
+    place: &[u8],
     word: &[u8],
     meaning: &[u8],
     other: &str,
@@ -92,7 +104,7 @@ fn told_at(
 {
     let is_plain = word.is_empty() || !other.is_empty();
     let mut out = Vec::new(alloc);
-    out.extend_from_slice(place.as_bytes())?;
+    out.extend_from_slice(place)?;
     out.extend_from_slice(if is_plain { meaning } else { word })?;
     out.extend_from_slice(other.as_bytes())?;
     Ok(out)
@@ -147,11 +159,17 @@ fn script_reason(
 ) -> Result<Vec<u8>, AllocError>
     ensures { IfOk result (λ out. IsToldIn Script path.now line number out.items) }
 {
-    let place = format!(in rt.alloc(); "{path}:{line}: ")?;
+    let place = place_of(rt.alloc(), path, ":", line)?;
     let meaning = meaning_of(Kind::Script, number);
     let other = mistaken_file(rt, Kind::Script, path);
     let word = word_line(rt, paths, path, line, number, meaning)?;
-    told_at(rt.alloc(), place.as_str(), word.as_slice(), meaning, other)
+    told_at(
+        rt.alloc(),
+        place.as_slice(),
+        word.as_slice(),
+        meaning,
+        other,
+    )
 }
 
 /// What is said of the word of a schema that is at fault; nothing where no single word is, or the file cannot be read again.
@@ -178,11 +196,17 @@ fn schema_word_line(
 fn schema_reason(rt: &HostRuntime, path: &str, line: u64, number: u8) -> Result<Vec<u8>, AllocError>
     ensures { IfOk result (λ out. IsToldIn Schema path.now line number out.items) }
 {
-    let place = format!(in rt.alloc(); "{path}:{line}: ")?;
+    let place = place_of(rt.alloc(), path, ":", line)?;
     let meaning = meaning_of(Kind::Schema, number);
     let other = mistaken_file(rt, Kind::Schema, path);
     let word = schema_word_line(rt, path, number, meaning)?;
-    told_at(rt.alloc(), place.as_str(), word.as_slice(), meaning, other)
+    told_at(
+        rt.alloc(),
+        place.as_slice(),
+        word.as_slice(),
+        meaning,
+        other,
+    )
 }
 
 /// What there is to say of a fault of the moves or turns.
@@ -193,12 +217,12 @@ fn order_reason(
     word: u64,
     number: u8,
 ) -> Result<Vec<u8>, AllocError>
-    ensures { IfOk result (λ out. out.items ≡ told_at (word_place path.now word) [] (fault_field kind number 1) []) }
+    ensures { IfOk result (λ out. out.items ≡ told_at (place_of path.now (codes ": word ") word) [] (fault_field kind number 1) []) }
 {
-    let place = format!(in rt.alloc(); "{path}: word {word}: ")?;
+    let place = place_of(rt.alloc(), path, ": word ", word)?;
     told_at(
         rt.alloc(),
-        place.as_str(),
+        place.as_slice(),
         &[],
         meaning_of(kind, number),
         "",

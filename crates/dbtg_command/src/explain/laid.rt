@@ -68,7 +68,12 @@ pub fn line_at(text: &[u8], line: u64) -> &[u8]
 fn is_label(word: &[u8]) -> bool
     ensures { result ≡ is_label word.now }
 {
-    word.is_empty() || matches!(word, b"MEMBER" | b"RECORD" | b"NAME" | b"IS" | b"ARE")
+    word.is_empty()
+        || word == "MEMBER".as_bytes()
+        || word == "RECORD".as_bytes()
+        || word == "NAME".as_bytes()
+        || word == "IS".as_bytes()
+        || word == "ARE".as_bytes()
 }
 
 // The name of the entry whose first word stands in front of these.
