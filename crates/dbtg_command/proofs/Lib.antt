@@ -1,3 +1,4 @@
+mod Calls
 mod Rows
 mod InTurn
 mod TextsRead

@@ -1,6 +1,6 @@
 -- The rows of a table are its lines: the first stands in front of the first line feed, the others behind it.
-use Rattle.std.proofs.Common.{◌≡◌, ◌<◌, ◌≤◌, ◌∙◌, ℕ, Bool, true, false, eqb, List, [], ◌∷◌, length, refl, ap, arith}
-use Rattle.dbtg_script.specs.Lines.{lines, onto_line}
+use Rattle.std.proofs.Common.{◌≡◌, ◌<◌, ◌≤◌, ℕ, Bool, true, false, eqb, List, [], ◌∷◌, length, refl, arith}
+use Rattle.dbtg_script.specs.Lines.{lines}
 use Rattle.dbtg_script.specs.Printing.Spelling.{in_front, behind}
 
 pub no_row : (text : List ℕ) → length text ≡ 0 → lines text ≡ []
