@@ -1,6 +1,6 @@
 -- What `explain` says: the rows of the tables, laid into forms. A table has a row on each line, a row has fields between bars, and the
 -- first field is the row's code.
-use Rattle.std.specs.Prelude.{ℕ, ◌≡◌, ◌==◌, ◌&&◌, nat_le, ◌%◌, ◌-◌, Bool, true, false, List, [], ◌∷◌, ◌++◌, Option, Some, None, find, length, map, option_and_then, option_map, slice_get, unwrap_or, codes, if◌then◌else◌}
+use Rattle.std.specs.Prelude.{ℕ, ◌≡◌, ◌==◌, ◌&&◌, nat_le, ◌%◌, ◌-◌, List, [], ◌∷◌, ◌++◌, Option, Some, None, find, length, option_and_then, option_map, slice_get, unwrap_or, codes, if◌then◌else◌}
 use Rattle.std.specs.List.{flat_map}
 use Rattle.std.specs.Str.{bytes_eq}
 use Rattle.dbtg_schema.specs.Texts.Spelling.{is_digit}

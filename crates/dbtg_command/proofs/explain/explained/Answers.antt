@@ -1,4 +1,3 @@
-use Rattle.std.proofs.Common.{◌≡◌}
 use Rattle.dbtg_command.proofs.explain.explained.Goals as goal
 
 pub returns-in-Status : goal.returns-in-Status
