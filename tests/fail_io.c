@@ -1,5 +1,6 @@
 // Loaded in front of the C library: the read with the number that FAIL_READ says, from 1, or the write to standard output that
-// FAIL_WRITE says, fails with the error that FAIL_ERROR says; with FAIL_SHORT each of them moves one byte.
+// FAIL_WRITE says, fails with the error that FAIL_ERROR says; with FAIL_SHORT each of them moves one byte. With FAIL_SYNC what was
+// written to a file cannot be written out.
 #define _GNU_SOURCE
 #include <dlfcn.h>
 #include <errno.h>
@@ -43,4 +44,15 @@ ssize_t write(int file, const void *text, size_t size)
     if (file != 1)
         return next(file, text, size);
     return fails(&turns, "FAIL_WRITE") ? -1 : next(file, text, moved(size));
+}
+
+int fsync(int file)
+{
+    static int (*next)(int);
+    if (!next)
+        next = (int (*)(int))dlsym(RTLD_NEXT, "fsync");
+    if (!getenv("FAIL_SYNC"))
+        return next(file);
+    errno = (int)number_in("FAIL_ERROR");
+    return -1;
 }

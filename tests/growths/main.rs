@@ -20,7 +20,10 @@ use replay::replay_bytes;
 use std::alloc::{AllocError, Global};
 use std::io::{self, Write};
 use std::process::ExitCode;
+use std::sync::Wait;
+use std::thread::Threads;
 use std::{fs, slice};
+use threads::threads_bytes;
 
 const CAPACITY: u16 = 100;
 
@@ -273,8 +276,33 @@ fn call_bytes<F: Fn() -> Result<Vec<u8>, Fault>>(rt: &HostRuntime, call: &str, m
     None
 }
 
+// What `threads` prints of one script: what `replay` does of it alone, and the line of the audit.
+fn one_on_threads<R: Threads + Wait + Sync>(
+    rt: &HostRuntime,
+    threads: &R,
+    schema: &[u8],
+    script: &[Row<u8>],
+) -> Option<()> {
+    let alloc = rt.alloc();
+    let on_threads = call_bytes(rt, "threads_bytes", &|| -> Result<Vec<u8>, Fault> {
+        match threads_bytes(threads, alloc, schema, script, CAPACITY) {
+            Ok((text, true)) => Ok(text),
+            Ok((_, false)) => Err(Fault::ScriptCount),
+            Err(fault) => Err(fault),
+        }
+    })?;
+    let alone = call_bytes(rt, "replay_bytes", &|| -> Result<Vec<u8>, Fault> {
+        replay_bytes(alloc, schema, script, Order::Serial, CAPACITY)
+    })?;
+    let behind = on_threads.as_slice().strip_prefix(alone.as_slice());
+    if behind != Some(b"AUDIT EQUAL\n".as_slice()) {
+        tell(rt, "threads that come to something else");
+    }
+    Some(())
+}
+
 // What `check` and `replay` print, from bytes to bytes.
-fn from_bytes(rt: &HostRuntime) -> Option<(Vec<u8>, Vec<u8>)> {
+fn from_bytes<R: Threads + Wait + Sync>(rt: &HostRuntime, threads: &R) -> Option<(Vec<u8>, Vec<u8>)> {
     let alloc = rt.alloc();
     let schema = file(rt, "schema")?;
     let scripts = script_bytes(rt)?;
@@ -285,12 +313,13 @@ fn from_bytes(rt: &HostRuntime) -> Option<(Vec<u8>, Vec<u8>)> {
     let replayed = call_bytes(rt, "replay_bytes", &|| -> Result<Vec<u8>, Fault> {
         replay_bytes(alloc, schema.as_slice(), scripts.as_slice(), Order::Moves(moves.as_slice()), CAPACITY)
     })?;
+    one_on_threads(rt, threads, schema.as_slice(), &scripts.as_slice()[..1])?;
     Some((checked, replayed))
 }
 
-fn all(rt: &HostRuntime) -> Option<(Vec<u8>, Vec<u8>)> {
+fn all<R: Threads + Wait + Sync>(rt: &HostRuntime, threads: &R) -> Option<(Vec<u8>, Vec<u8>)> {
     by_hand(rt)?;
-    let (checked, replayed) = from_bytes(rt)?;
+    let (checked, replayed) = from_bytes(rt, threads)?;
     let schema = schema(rt)?;
     let moves = moves(rt)?;
     let whole = run_whole(rt, &schema, moves.as_slice())?;
@@ -317,7 +346,7 @@ fn print(rt: &HostRuntime, texts: &(Vec<u8>, Vec<u8>)) -> io::Result<()> {
 }
 
 fn main(rt: HostRuntime) -> ExitCode {
-    match all(&rt) {
+    match all(&rt, &rt) {
         Some(texts) => match print(&rt, &texts) {
             Ok(()) => ExitCode::SUCCESS,
             Err(_) => ExitCode::FAILURE,

@@ -20,6 +20,7 @@ use Rattle.dbtg_command.specs.Refusals.{AcceptsOrder, is_count, moves_in, turns_
 use Rattle.dbtg_command.specs.Sources.{HoldsOrder, ReadMoves, ReadSchema, ReadScripts, ReadTurns, StandsIn, kind_of}
 use Rattle.dbtg_command.proofs.Public.{all_accepted, all_are, order_is, read_texts}
 use Rattle.dbtg.specs.Replaying.{IsPrinted, IsPrintedRun, IsReplay, ReplaysHeld, RunByTurnsIs, echo_of, shown_text}
+use Rattle.dbtg.specs.Threading.{IsThreads, ThreadsHeld}
 
 -- statements that fit behind scripts that fit
 pub fit_behind : (lists : Lists) (statements : List Statement) (before after : List (List Statement)) → after ≡ before ++ statements ∷ [] → scripts_fit lists before ≡ true → list_all (fits lists) statements ≡ true → scripts_fit lists after ≡ true
@@ -72,3 +73,9 @@ at_hand_replay schema scripts order which capacity out e held =
     subst (λ (s : List ℕ). IsReplay s scripts order capacity out) texts.holds_schema
     (subst (λ (ss : List (List ℕ)). IsReplay texts.schema ss order capacity out) (all_are schema order scripts texts.scripts texts.holds_scripts texts.many)
     (subst (λ (o : Order (List ℕ)). IsReplay texts.schema texts.scripts o capacity out) (order_is schema scripts order texts.order texts.holds_order (texts.is_kind ∙ e)) held.1))
+
+pub at_hand_threads : (schema : List ℕ) (scripts : List (List ℕ)) (capacity : ℕ) (out turns : List ℕ) → ThreadsHeld (StandsIn schema scripts Serial) (length scripts) capacity out turns → IsThreads schema scripts capacity out turns
+at_hand_threads schema scripts capacity out turns held =
+    let texts = held.0 in
+    subst (λ (s : List ℕ). IsThreads s scripts capacity out turns) texts.holds_schema
+    (subst (λ (ss : List (List ℕ)). IsThreads texts.schema ss capacity out turns) (all_are schema Serial scripts texts.scripts texts.holds_scripts texts.many) held.1)

@@ -1,14 +1,13 @@
 -- What is told of a line.
-use Rattle.std.proofs.Common.{◌≡◌, ℕ, ◌+◌, ◌-◌, List, [], ◌∷◌, ◌++◌, length, None, Some, slice_get, inl, inr, ap, sym, ◌∙◌, subst, arith, length-append, IfOk, Result, Ok, Err}
-use Rattle.std.proofs.lemmas.Result.{IfOk-weaker}
+use Rattle.std.proofs.Common.{◌≡◌, ℕ, suc, ◌+◌, ◌-◌, ◌<◌, ◌≤◌, Bool, true, false, List, [], ◌∷◌, ◌++◌, length, Some, slice_get, inl, inr, ap, sym, ◌∙◌, subst, arith, length-append, IfOk, Result, Ok, Err}
+use Rattle.std.specs.Prelude.{OnErr, ◌==◌, if◌then◌else◌}
 use Rattle.dbtg_schema.specs.Lists.{Lists}
 use Rattle.dbtg_cells.proofs.Public.{get_behind}
 use Rattle.dbtg_unit.specs.declared.unit.Entry.{Entry}
-use Rattle.dbtg_script.specs.Lines.{trimmed}
-use Rattle.dbtg_script.specs.Statements.{line_statement}
+use Rattle.dbtg_script.specs.Printing.Spelling.{behind}
 use Rattle.dbtg_script.specs.declared.fault.Cause.{Cause}
-use Rattle.dbtg.specs.Asking.{asked_of, turn_after}
-use Rattle.dbtg.specs.Sessions.{IsAnswerReply, IsLastAnswer, IsNoUnit, IsTold, IsUnmade, RefusesLine, TakesAsked, TakesLine, Typed}
+use Rattle.dbtg.specs.Asking.{asked_of, behind_spaces, turn_after}
+use Rattle.dbtg.specs.Sessions.{Answers, IsAnswerReply, IsFaultText, IsLastAnswer, IsNoUnit, IsText, IsUnmade, RefusesLine, TakesAsked, TakesLine, Typed, no_unit_text}
 use Rattle.dbtg.specs.declared.shell.asked.Asked.{Asked}
 use Rattle.dbtg.specs.declared.shell.commands.Reply.{Reply}
 use Rattle.dbtg.specs.declared.shell.commands.Reply.TheVariants as reply
@@ -22,49 +21,75 @@ last_entry history before e is =
     let place : length history - 1 ≡ length before = omega (arith, many) in
     ap (slice_get history) place ∙ ap (λ (es : List Entry). slice_get es (length before)) is ∙ get_behind before e []
 
-pub no_last : (typed : Typed) (out : List ℕ) → None ≡ slice_get typed.making.history (length typed.making.history - 1) → IsLastAnswer typed out
-no_last typed out none = λ before e is. let some = none ∙ last_entry typed.making.history before e is in absurd (cc (some))
-
 pub is_last : (typed : Typed) (schema : Lists) (one : Entry) (out : List ℕ) → Some one ≡ slice_get typed.making.history (length typed.making.history - 1) → schema ≡ typed.making.schema → IsAnswerReply schema one out → IsLastAnswer typed out
 is_last typed schema one out at same told = λ before e is.
     let found : Some one ≡ Some e = at ∙ last_entry typed.making.history before e is in
     let entry : one ≡ e = cc (found) in
     subst (λ (s : Lists). IsAnswerReply s e out) same (subst (λ (x : Entry). IsAnswerReply schema x out) entry told)
 
+-- THE ROWS OF A TABLE
+
+at_most : (c : ℕ) (text : List ℕ) → length (behind c text) ≤ length text
+at_most c [] = omega arith
+at_most c (b ∷ bs) = step (b == c) (at_most c bs)
+  where
+    step : (is : Bool) → length (behind c bs) ≤ length bs → length (if is then bs else behind c bs) ≤ suc (length bs)
+    step true h = omega arith
+    step false h = omega (arith, h)
+
+pub behind_is_shorter : (c : ℕ) (text : List ℕ) → 0 < length text → length (behind c text) < length text
+behind_is_shorter c [] some = absurd (omega (arith, some))
+behind_is_shorter c (b ∷ bs) some = step (b == c) (at_most c bs)
+  where
+    step : (is : Bool) → length (behind c bs) ≤ length bs → length (if is then bs else behind c bs) < suc (length bs)
+    step true h = omega arith
+    step false h = omega (arith, h)
+
+pub not_empty : (text : List ℕ) (is : Bool) → is ≡ (length text == 0) → is ≡ false → 0 < length text
+not_empty [] is e false_is = absurd (cc (e, false_is))
+not_empty (b ∷ bs) is e false_is = omega arith
+
 -- WHAT IS TOLD
 
 -- what holds whatever comes out
-pub always : {A E : Type 0} (result : Result A E) (P : Type 0) → P → IfOk result (λ x. P)
-always (Ok x) P p = p
-always (Err e) P p = tt
+pub if_ok : {A E : Type 0} (result : Result A E) (P : Type 0) → P → IfOk result (λ x. P)
+if_ok (Ok x) P p = p
+if_ok (Err e) P p = tt
 
-told_weaker : (A B : List ℕ → Type 0) (r : Reply) → ((out : List ℕ) → A out → B out) → IsTold A r → IsTold B r
-told_weaker A B (reply.Text out) f told = f out.items told
-told_weaker A B (reply.Save directory) f told = told
-told_weaker A B reply.Quit f told = told
+pub on_err : {A E : Type 0} (result : Result A E) (P : Type 0) → P → OnErr result P
+on_err (Ok x) P p = tt
+on_err (Err e) P p = p
 
-pub if_told : {E : Type 0} (result : Result Reply E) (A B : List ℕ → Type 0) → ((out : List ℕ) → A out → B out) → IfOk result (IsTold A) → IfOk result (IsTold B)
-if_told result A B f told = IfOk-weaker result (IsTold A) (IsTold B) (λ r. told_weaker A B r f) told
+is_text : (A B : List ℕ → Type 0) (r : Reply) → ((out : List ℕ) → A out → B out) → IsText A r → IsText B r
+is_text A B (reply.Text out) f told = f out.items told
+is_text A B reply.Untold f told = told
+is_text A B (reply.Save directory) f told = told
+is_text A B reply.Quit f told = told
 
--- a line comes to nothing where there is no such unit, where it holds no statement, and where it has a fault
+-- a line comes to nothing where there is no such unit, and where it has a fault
 module _ {E : Type 0} (u : ℕ) (old new : Typed) (line : List ℕ) (result : Result Reply E) (same : new ≡ old) where
-  pub without_unit : (A : List ℕ → Type 0) → IsNoUnit old.making.units u → IfOk result (IsTold A) → TakesLine u old line result new
-  without_unit A none told = inr (same, if_told result A (IsUnmade old u line) (λ out h. inl none) told)
+  unmade : (A : List ℕ → Type 0) → ((out : List ℕ) → A out → IsUnmade old u line out) → IfOk result (IsText A) → TakesLine u old line result new
+  unmade A f told = taken result told
+    where
+      taken : (r : Result Reply E) → IfOk r (IsText A) → TakesLine u old line r new
+      taken (Ok it) h = inr (same, is_text A (IsUnmade old u line) it f h)
+      taken (Err e) h = same
 
-  pub without_statement : line_statement old.making.schema (trimmed line) ≡ None → IfOk result (IsTold (λ out. out ≡ [])) → TakesLine u old line result new
-  without_statement none told = inr (same, if_told result (λ out. out ≡ []) (IsUnmade old u line) (λ out h. inr (inl (none, h))) told)
+  pub without_unit : IsNoUnit old.making.units u → IfOk result (IsText (λ out. out ≡ no_unit_text old.making.units)) → TakesLine u old line result new
+  without_unit none told = unmade (λ out. out ≡ no_unit_text old.making.units) (λ out h. inl (none, h)) told
 
-  pub with_fault : (A : List ℕ → Type 0) (cause : Cause) → RefusesLine (Fault cause) old u line → IfOk result (IsTold A) → TakesLine u old line result new
-  with_fault A cause refused told = inr (same, if_told result A (IsUnmade old u line) (λ out h. inr (inr (cause, refused))) told)
+  pub with_fault : (cause : Cause) → RefusesLine (Fault cause) old u line → IfOk result (IsText (IsFaultText cause)) → TakesLine u old line result new
+  with_fault cause refused told = unmade (IsFaultText cause) (λ out h. inr (inr (cause, refused, h))) told
 
 -- WHAT A LINE ASKS FOR IS DONE
 
-pub is_done : {E : Type 0} (line bare : List ℕ) (turn new_turn : ℕ) (old new : Typed) (result : Result Reply E) (one asked : Asked)
-    → asked_of line bare one → one ≡ asked → TakesAsked turn old asked result new → IfOk result (λ x. new_turn ≡ turn_after old.making.units turn asked)
-    → (it : Asked) × asked_of line bare it × TakesAsked turn old it result new × IfOk result (λ x. new_turn ≡ turn_after old.making.units turn it)
-is_done line bare turn new_turn old new result one asked said is taken given = (
-  one,
-  said,
-  subst (λ (it : Asked). TakesAsked turn old it result new) (sym is) taken,
-  subst (λ (it : Asked). IfOk result (λ x. new_turn ≡ turn_after old.making.units turn it)) (sym is) given,
-)
+pub answered : {E : Type 0} (line : List ℕ) (turn turn_now : ℕ) (old new : Typed) (told : Result Reply E) (one asked : Asked)
+    → asked_of line (behind_spaces line) one → one ≡ asked → TakesAsked turn old asked told new → IfOk told (λ x. turn_now ≡ turn_after old.making.units turn asked) → OnErr told (turn_now ≡ turn)
+    → Answers line turn old told turn_now new
+answered line turn turn_now old new told one asked read is done given kept = record {
+  one = one;
+  is_read = read;
+  is_done = subst (λ (it : Asked). TakesAsked turn old it told new) (sym is) done;
+  given = subst (λ (it : Asked). IfOk told (λ x. turn_now ≡ turn_after old.making.units turn it)) (sym is) given;
+  kept = kept;
+}

@@ -1,6 +1,6 @@
 -- A session of the shell: statements that are made whole on one database, and the script of each unit, which grows by a line with
 -- each statement.
-use Rattle.std.specs.Prelude.{ℕ, ◌≡◌, ◌+◌, ◌-◌, ◌≤◌, ◌<◌, ◌∷◌, ◌++◌, ◌⊎◌, ◌%◌, Bool, true, false, IfOk, List, [], length, map, None, Some, Result, slice_get, slice_set, unwrap_or}
+use Rattle.std.specs.Prelude.{ℕ, ◌≡◌, ◌+◌, ◌-◌, ◌≤◌, ◌<◌, ◌∷◌, ◌++◌, ◌⊎◌, ◌%◌, Bool, true, false, IfOk, OnErr, List, [], codes, decimal, length, map, None, Some, Result, Ok, Err, slice_get, slice_set, unwrap_or}
 use Rattle.dbtg_schema.specs.Lists.{Lists}
 use Rattle.dbtg_schema.specs.Lookups.{first}
 use Rattle.dbtg_schema.specs.Texts.SchemaFaults.{refusal as schema_refusal}
@@ -12,6 +12,7 @@ use Rattle.dbtg_unit.specs.declared.statement.Statement.{Statement}
 use Rattle.dbtg_unit.specs.declared.unit.Entry.{Entry}
 use Rattle.dbtg_step.specs.Core.Whole.{HasMade, Making, state_now}
 use Rattle.dbtg_script.specs.Lines.{closes, trimmed}
+use Rattle.dbtg_script.specs.Printing.Causes.{cause_number}
 use Rattle.dbtg_script.specs.Printing.Spelling.{in_front}
 use Rattle.dbtg_script.specs.StatementFaults.{line_faults, refusal as script_refusal}
 use Rattle.dbtg_script.specs.Statements.{line_statement, script}
@@ -27,9 +28,11 @@ use Rattle.dbtg.specs.declared.shell.asked.Asked.{Asked}
 use Rattle.dbtg.specs.declared.shell.asked.Asked.TheVariants as asked
 use Rattle.dbtg.specs.declared.shell.commands.Reply.{Reply}
 use Rattle.dbtg.specs.declared.shell.commands.Reply.TheVariants as reply
+use Rattle.dbtg_command.specs.declared.explain.causes.TheConstants.{CAUSES}
 use Rattle.dbtg_command.specs.Explaining.{code_in}
 use Rattle.dbtg_command.specs.FaultyWord.{behind_all}
 use Rattle.dbtg_command.specs.Refusals.{is_count, schema_in}
+use Rattle.dbtg.specs.Asking.{asked_of, behind_spaces, turn_after}
 use Rattle.dbtg.specs.Replaying.{IsReplay}
 
 -- WHAT A CALLER SEES
@@ -124,10 +127,16 @@ HasNoRoom (Fault cause) size = (cause ≡ TooMuch) × (1048576 ≤ size)
 
 -- WHAT IS PRINTED
 
--- the name that the table of causes has for a code
+-- a row of a table, which has one on each line, with this code
+pub record IsRow (table : List ℕ) (code : ℕ) (row : List ℕ) : Type 0 where
+  pub place : ℕ
+  pub is_line : row ≡ in_front 10 (behind_all 10 place table)
+  pub of_code : code_in row ≡ code
+
+-- the name in the row that the table of causes has of this code
 pub record IsCauseName (code : ℕ) (name : List ℕ) : Type 0 where
   pub row : List ℕ
-  pub of_code : code_in row ≡ code
+  pub is_row : IsRow CAUSES.now code row
   pub is_name : name ≡ in_front 124 (behind_all 124 1 row)
 
 -- the answer as `replay` prints it; a refusal may have the name of its cause behind it
@@ -140,32 +149,59 @@ IsAnswerReply schema e out =
 abbrev pub IsLastAnswer : Typed → List ℕ → Type 0
 IsLastAnswer typed out = (before : List Entry) (e : Entry) → typed.making.history ≡ before ++ e ∷ [] → IsAnswerReply typed.making.schema e out
 
+-- the line that tells that there is no such unit
+abbrev pub no_unit_text : ℕ → List ℕ
+no_unit_text units = codes "there is no such unit: they are numbered from 1 to " ++ decimal units ++ 10 ∷ []
+
+-- the line that tells of a fault: its number, and what is said of it
+abbrev pub IsFaultText : Cause → List ℕ → Type 0
+IsFaultText cause out = (said : List ℕ) × (out ≡ codes "fault " ++ decimal (cause_number cause) ++ codes ": " ++ said ++ 10 ∷ [])
+
+-- the reply is a text, and this is true of it
+abbrev pub IsText : (List ℕ → Type 0) → Reply → Type 0
+IsText Is (reply.Text out) = Is out.items
+IsText Is reply.Untold = ⊥
+IsText Is (reply.Save directory) = ⊥
+IsText Is reply.Quit = ⊥
+
+-- the same, where the room for it was enough
+abbrev pub MayBeText : (List ℕ → Type 0) → Reply → Type 0
+MayBeText Is (reply.Text out) = Is out.items
+MayBeText Is reply.Untold = Unit {0}
+MayBeText Is (reply.Save directory) = ⊥
+MayBeText Is reply.Quit = ⊥
+
 -- WHAT A LINE COMES TO
 
 -- there is no unit of this number
 abbrev pub IsNoUnit : ℕ → ℕ → Type 0
 IsNoUnit units u = (u ≡ 0) ⊎ (units < u)
 
--- why this line of unit u comes to nothing: there is no such unit; the line holds no statement, and nothing is told; or it has a fault
+-- why this line of unit u comes to nothing, and what is told of it: there is no such unit; the line holds no statement, and nothing
+-- is told; or it has a fault
 abbrev pub IsUnmade : Typed → ℕ → List ℕ → List ℕ → Type 0
 IsUnmade typed u line out =
-    IsNoUnit typed.making.units u
+    (IsNoUnit typed.making.units u × (out ≡ no_unit_text typed.making.units))
     ⊎ ((line_statement typed.making.schema (trimmed line) ≡ None) × (out ≡ []))
-    ⊎ ((cause : Cause) × RefusesLine (Fault cause) typed u line)
+    ⊎ ((cause : Cause) × RefusesLine (Fault cause) typed u line × IsFaultText cause out)
 
--- the reply is a text, and this is true of it
-abbrev pub IsTold : (List ℕ → Type 0) → Reply → Type 0
-IsTold Is (reply.Text out) = Is out.items
-IsTold Is (reply.Save directory) = ⊥
-IsTold Is reply.Quit = ⊥
-
--- the statement of the line is made by unit u, and its answer is told; or all is as it was, for a reason. Where memory is wanting
--- nothing is told
+-- a line of unit u: its statement is made, and its answer told; or all is as it was, and why is told. Without memory all is as it was,
+-- and nothing is told
 abbrev pub TakesLine : {E : Type 0} → ℕ → Typed → List ℕ → Result Reply E → Typed → Type 0
-TakesLine u old line told new = (HasTyped old u line new × IfOk told (IsTold (IsLastAnswer new))) ⊎ ((new ≡ old) × IfOk told (IsTold (IsUnmade old u line)))
+TakesLine u old line (Ok told) new =
+    (HasTyped old u line new × MayBeText (IsLastAnswer new) told) ⊎ ((new ≡ old) × IsText (IsUnmade old u line) told)
+TakesLine u old line (Err error) new = new ≡ old
 
 -- a command changes nothing; a statement is of the unit that has the turn, or of the unit that the line names
 abbrev pub TakesAsked : {E : Type 0} → ℕ → Typed → Asked → Result Reply E → Typed → Type 0
 TakesAsked turn old (asked.Command command) told new = new ≡ old
 TakesAsked turn old (asked.Statement line) told new = TakesLine turn old line.now told new
 TakesAsked turn old (asked.StatementOf unit line) told new = TakesLine unit old line.now told new
+
+-- a line is read as what it asks for, and that is done. The turn is then as that says, and without memory as it was
+pub record Answers {E : Type 0} (line : List ℕ) (turn : ℕ) (old : Typed) (told : Result Reply E) (turn_now : ℕ) (new : Typed) : Type 0 where
+  pub one : Asked
+  pub is_read : asked_of line (behind_spaces line) one
+  pub is_done : TakesAsked turn old one told new
+  pub given : IfOk told (λ reply. turn_now ≡ turn_after old.making.units turn one)
+  pub kept : OnErr told (turn_now ≡ turn)

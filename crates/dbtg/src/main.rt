@@ -1,9 +1,10 @@
 //! The program: reads the command's words and the files that they name, and prints what comes of them.
 #![tactic(auto)]
 
-ghost use Rattle.std.specs.Prelude.{◌≡◌, true};
+ghost use Rattle.std.specs.Prelude.{◌≡◌, IfErr, true};
+ghost use Rattle.std.specs.Process.{exit_status};
 ghost use Rattle.dbtg_schema.specs.Sound.{IsSound};
-ghost use Rattle.dbtg_command.specs.Refusals.{is_count};
+ghost use Rattle.dbtg_command.specs.Refusals.{is_count, status_of};
 
 mod outcomes;
 mod replay;
@@ -12,6 +13,7 @@ mod shell;
 mod threads;
 mod timeline;
 mod turns;
+mod writing;
 
 use clap::error::ErrorKind;
 use dbtg_command::check::check;
@@ -24,16 +26,19 @@ use outcomes::print_outcomes;
 use replay::{check_count, replay};
 use shell::session::Session;
 use shell::{Broken, converse};
+use std::env;
 use std::io::{self, Write};
 use std::process::ExitCode;
 use std::sync::Wait;
 use std::thread::Threads;
-use std::{env, fs};
 use threads::{OnThreads, run_on_threads};
 use timeline::timeline;
 use turns::moves_for_turns;
+use writing::write_file;
 
-fn told(rt: &HostRuntime, fault: &Fault) -> ExitCode {
+fn told(rt: &HostRuntime, fault: &Fault) -> ExitCode
+    ensures { exit_status result ≡ status_of fault.now }
+{
     let _ = eprintln!(rt; "{fault}");
     ExitCode::from(status_of(fault))
 }
@@ -57,14 +62,18 @@ fn print_or_tell(
     given: Result<Vec<u8>, Fault>,
     paths: &Paths,
     explains: bool,
-) -> ExitCode {
+) -> ExitCode
+    ensures { IfErr given (λ fault. exit_status result ≡ status_of fault) }
+{
     match given {
         Ok(text) => print_text(rt, text.as_slice()),
         Err(fault) => told_of(rt, &fault, paths, explains),
     }
 }
 
-fn told_of(rt: &HostRuntime, fault: &Fault, paths: &Paths, explains: bool) -> ExitCode {
+fn told_of(rt: &HostRuntime, fault: &Fault, paths: &Paths, explains: bool) -> ExitCode
+    ensures { exit_status result ≡ status_of fault.now }
+{
     let status = told(rt, fault);
     if explains {
         if let Ok(Some(line)) = reason(rt, paths, fault) {
@@ -109,7 +118,7 @@ fn print_threads<R: Threads + Wait + Sync>(rt: &HostRuntime, threads: &R, call: 
 // The turns into their file, where one is named, and then what is printed.
 fn print_saved(rt: &HostRuntime, said: &OnThreads, saved: Option<&str>) -> ExitCode {
     if let Some(path) = saved {
-        if fs::write(rt, path, said.turns.as_slice()).is_err() {
+        if write_file(rt, path, said.turns.as_slice()).is_err() {
             let _ = eprintln!(rt; "cannot write {path}");
             return ExitCode::FAILURE;
         }
@@ -201,6 +210,7 @@ fn end_of(rt: &HostRuntime, ended: Result<(), Broken>) -> ExitCode {
     match ended {
         Ok(()) => ExitCode::SUCCESS,
         Err(Broken::NotWritten) => not_written(rt),
+        Err(Broken::Memory) => told(rt, &Fault::Memory),
         Err(Broken::NotRead) => {
             let _ = eprintln!(rt; "cannot read standard input");
             ExitCode::FAILURE

@@ -1,17 +1,18 @@
 //! Running scripts on threads, and the text of what comes of it.
-ghost use Rattle.std.specs.Prelude.{◌≡◌, ◌++◌, IfErr, IfOk, length, map, true};
+ghost use Rattle.std.specs.Prelude.{◌≡◌, ◌++◌, ℕ, List, IfErr, IfOk, length, map, true};
 ghost use Rattle.dbtg_schema.specs.Sound.{IsSound};
 ghost use Rattle.dbtg_script.specs.Printing.Texts.{run_text};
 ghost use Rattle.dbtg_script.specs.Printing.WordTexts.{turns_text};
 ghost use Rattle.dbtg_step.specs.Laws.{scripts_fit};
-ghost use Rattle.dbtg_command.specs.Refusals.{is_count};
-ghost use Rattle.dbtg.specs.Threading.{IsHistoryOfAll, IsPrintedOnThreads, ThreadsHeld, audit_line};
+ghost use Rattle.dbtg_command.specs.Refusals.{RefusesReplay, is_count};
+ghost use Rattle.dbtg.specs.Threading.{IsHistoryOfAll, IsPrintedOnThreads, IsThreads, ThreadsHeld, audit_line};
 ghost use Rattle.dbtg_command.specs.Sources.{ToldOfRun};
+ghost use Rattle.dbtg_command.specs.declared.order.Order.TheVariants as by;
 ghost use Rattle.dbtg_command.specs.declared.order.OrderKind.TheVariants.{Serial};
 
 use crate::replay::schema_for_run;
 use crate::scripts::read_scripts;
-use dbtg_command::{Fault, Source};
+use dbtg_command::{AtHand, Fault, Order, Source};
 use dbtg_run::{Database, NoGate, Settled, run_units};
 use dbtg_schema::{Row, Schema};
 use dbtg_script::{push_run, turns_text};
@@ -125,5 +126,28 @@ pub fn run_on_threads<R: Threads + Wait + Sync, S: Source>(
             known.discard();
             Err(fault)
         }
+    }
+}
+
+/// What `threads` prints of a schema and scripts at hand, and that the audit of the history is equal, or their first fault.
+pub fn threads_bytes<'a, R: Threads + Wait + Sync>(
+    rt: &R,
+    alloc: Global,
+    schema: &'a [u8],
+    scripts: &'a [Row<u8>],
+    capacity: u16,
+) -> Result<(Vec<u8>, bool), Fault>
+    ensures done { IfOk result (λ said. (turns : List ℕ) × IsThreads schema.now scripts.now capacity said.0.items turns) }
+    ensures equal { IfOk result (λ said. said.1 ≡ true) }
+    ensures refused { IfErr result (λ fault. RefusesReplay fault schema.now scripts.now by.Serial) }
+{
+    let texts = AtHand {
+        schema,
+        scripts,
+        order: Order::Serial,
+    };
+    match run_on_threads(rt, alloc, &texts, capacity) {
+        Ok(said) => Ok((said.printed, true)),
+        Err(fault) => Err(fault),
     }
 }

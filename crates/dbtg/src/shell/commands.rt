@@ -1,12 +1,14 @@
 //! The commands of the shell, and what each line comes to.
-ghost use Rattle.std.specs.Prelude.{◌≡◌, ◌≤◌, ◌<◌, IfNone, IfOk, IfSome, ⊤};
+ghost use Rattle.std.specs.Prelude.{◌≡◌, ◌≤◌, ◌<◌, [], IfNone, IfOk, IfSome, OnErr};
 ghost use Rattle.dbtg_script.specs.Printing.Spelling.{in_front};
-ghost use Rattle.dbtg.specs.Asking.{asked_of, behind_spaces, turn_after, turn_behind, turn_given};
-ghost use Rattle.dbtg.specs.Sessions.{IsLastAnswer, IsNoUnit, IsTold, TakesAsked, TakesLine};
-ghost use Rattle.dbtg.specs.declared.shell.asked.Asked.{Asked as AskedOf};
+ghost use Rattle.dbtg_script.specs.declared.fault.Cause.TheVariants.{LineNotAllowed};
+ghost use Rattle.dbtg.specs.Asking.{behind_spaces, turn_behind, turn_given};
+ghost use Rattle.dbtg.specs.Sessions.{Answers, IsFaultText, IsLastAnswer, IsNoUnit, IsText, MayBeText, TakesLine, no_unit_text};
 
 use crate::shell::asked::{Asked, behind_spaces, read_asked};
-use crate::shell::replies::{answer_reply, database_reply, fault_reply, unit_reply, units_reply};
+use crate::shell::replies::{
+    database_reply, fault_reply, no_unit_reply, push_answer_reply, unit_reply, units_reply,
+};
 use crate::shell::session::{Refusal, Session};
 use dbtg_command::explain::{Kind, Topic, explained, fault_topic, status_topic, topic_of};
 use dbtg_script::{Cause, behind, in_front, is_number, number};
@@ -16,6 +18,8 @@ use std::alloc::{AllocError, Global};
 #[derive(Drop)]
 pub enum Reply<'a> {
     Text(Vec<u8>),
+    /// A statement is made, and its answer is longer than the room that was found for it.
+    Untold,
     Save(&'a str),
     Quit,
 }
@@ -36,6 +40,9 @@ pub struct Shell<'a> {
     alloc: Global,
     last: Last,
 }
+
+// No answer's line is longer: sixteen items, each with its name and its value, have at most 1,568 bytes of it.
+const ANSWER_BYTES: usize = 2048;
 
 const HELP: &str = "\
 STATEMENT         is made by the unit whose turn it is
@@ -92,14 +99,14 @@ impl<'a> Shell<'a> {
     }
 
     fn text<'b>(&self, text: &str) -> Result<Reply<'b>, AllocError>
-        ensures { IfOk result (IsTold (λ out. out ≡ text.now)) }
+        ensures { IfOk result (IsText (λ out. out ≡ text.now)) }
     {
         Ok(Reply::Text(Vec::from_slice(self.alloc, text.as_bytes())?))
     }
 
-    /// What a line comes to, and whose turn it is then.
+    /// What a line comes to, and whose turn it is then. Without memory the session and the turn stay as they were.
     pub fn take_line<'b>(&mut self, line: &'b [u8]) -> Result<Reply<'b>, AllocError>
-        ensures { (one : AskedOf) × asked_of line.now (behind_spaces line.now) one × TakesAsked self.old.turn self.old.session one result self.new.session × IfOk result (λ _. self.new.turn ≡ turn_after self.old.session.making.units self.old.turn one) }
+        ensures { Answers line.now self.old.turn self.old.session result self.new.turn self.new.session }
     {
         match read_asked(line) {
             Asked::Command(command) => self.carry_out(command),
@@ -112,7 +119,7 @@ impl<'a> Shell<'a> {
     pub fn take_long_line<'b>(&mut self) -> Result<Reply<'b>, AllocError>
         ensures unchanged { self.new.session ≡ self.old.session }
         ensures turn { self.new.turn ≡ self.old.turn }
-        ensures told { IfOk result (IsTold (λ out. ⊤)) }
+        ensures told { IfOk result (IsText (IsFaultText LineNotAllowed)) }
     {
         self.tell_fault(b"", Cause::LineNotAllowed)
     }
@@ -132,19 +139,16 @@ impl<'a> Shell<'a> {
     }
 
     fn no_unit<'b>(&self) -> Result<Reply<'b>, AllocError>
-        ensures { IfOk result (IsTold (λ out. ⊤)) }
+        ensures { IfOk result (IsText (λ out. out ≡ no_unit_text self.now.session.making.units)) }
     {
         let count = self.session.units().len();
-        let told = format!(in self.alloc;
-            "there is no such unit: they are numbered from 1 to {count}\n"
-        )?;
-        self.text(told.as_str())
+        Ok(Reply::Text(no_unit_reply(self.alloc, count)?))
     }
 
     fn tell_fault<'b>(&mut self, line: &[u8], cause: Cause) -> Result<Reply<'b>, AllocError>
         ensures unchanged { self.new.session ≡ self.old.session }
         ensures turn { self.new.turn ≡ self.old.turn }
-        ensures told { IfOk result (IsTold (λ out. ⊤)) }
+        ensures told { IfOk result (IsText (IsFaultText cause)) }
     {
         let told = fault_reply(self.alloc, self.session.schema(), line, cause)?;
         self.last = Last::Fault(cause.number());
@@ -168,27 +172,31 @@ impl<'a> Shell<'a> {
         ensures taken { TakesLine unit self.old.session line.now result self.new.session }
         ensures turn { self.new.turn ≡ self.old.turn }
     {
+        let room = Vec::with_capacity(self.alloc, ANSWER_BYTES)?;
         match self.session.make_line(unit, line) {
-            Ok(false) => self.text(""),
-            Ok(true) => self.tell_last(),
+            Ok(false) => Ok(Reply::Text(room)),
+            Ok(true) => Ok(self.tell_last(room)),
             Err(Refusal::Fault(cause)) => self.tell_fault(line, cause),
             Err(Refusal::Memory) => Err(AllocError),
         }
     }
 
-    // The answer of the statement that was made last.
-    fn tell_last<'b>(&mut self) -> Result<Reply<'b>, AllocError>
+    // The answer of the statement that was made last, in the room for it.
+    fn tell_last<'b>(&mut self, room: Vec<u8>) -> Reply<'b>
+        requires { room.items ≡ [] }
         ensures unchanged { self.new.session ≡ self.old.session }
         ensures turn { self.new.turn ≡ self.old.turn }
-        ensures told { IfOk result (IsTold (IsLastAnswer self.old.session)) }
+        ensures told { MayBeText (IsLastAnswer self.old.session) result }
     {
+        let mut out = room;
         let schema = self.session.schema();
-        match self.session.last() {
-            None => self.text(""),
-            Some(entry) => {
-                self.last = Last::Status(entry.answer.status.code(&entry.statement));
-                Ok(Reply::Text(answer_reply(self.alloc, schema, entry)?))
-            }
+        let Some(entry) = self.session.last() else {
+            return Reply::Untold;
+        };
+        self.last = Last::Status(entry.answer.status.code(&entry.statement));
+        match push_answer_reply(&mut out, schema, entry) {
+            Ok(()) => Reply::Text(out),
+            Err(_) => Reply::Untold,
         }
     }
 
@@ -196,6 +204,7 @@ impl<'a> Shell<'a> {
     fn carry_out<'b>(&mut self, command: &'b [u8]) -> Result<Reply<'b>, AllocError>
         ensures unchanged { self.new.session ≡ self.old.session }
         ensures turn { IfOk result (λ _. self.new.turn ≡ turn_behind self.old.session.making.units self.old.turn (behind_spaces (in_front 13 command.now))) }
+        ensures kept { OnErr result (self.new.turn ≡ self.old.turn) }
     {
         let command = behind_spaces(in_front(command, b'\r'));
         if in_front(command, b' ') == b"unit".as_slice() {
@@ -246,12 +255,14 @@ impl<'a> Shell<'a> {
     fn give_turn<'b>(&mut self, rest: &[u8]) -> Result<Reply<'b>, AllocError>
         ensures unchanged { self.new.session ≡ self.old.session }
         ensures turn { IfOk result (λ _. self.new.turn ≡ turn_given self.old.session.making.units self.old.turn rest.now) }
+        ensures kept { OnErr result (self.new.turn ≡ self.old.turn) }
     {
         match self.unit_named(rest) {
             None => self.no_unit(),
             Some(unit) => {
+                let shown = unit_reply(self.alloc, &self.session, unit)?;
                 self.turn = unit;
-                Ok(Reply::Text(unit_reply(self.alloc, &self.session, unit)?))
+                Ok(Reply::Text(shown))
             }
         }
     }

@@ -12,6 +12,8 @@ const LINE_BYTES: u64 = 8192;
 
 const WANT_OF_MEMORY: &str = "want of memory\n";
 
+const UNTOLD: &str = "made, and there is no room for its answer\n";
+
 /// How much of a line was kept: all of it, or the beginning of one that is too long.
 #[derive(Clone, Copy)]
 enum Kept {
@@ -47,6 +49,13 @@ fn next_line<B: BufRead>(input: &mut B, line: &mut Vec<u8>) -> io::Result<Option
 pub enum Broken {
     NotRead,
     NotWritten,
+    Memory,
+}
+
+impl From<AllocError> for Broken {
+    fn from(_error: AllocError) -> Broken {
+        Broken::Memory
+    }
 }
 
 fn write(rt: &HostRuntime, text: &[u8]) -> Result<(), Broken> {
@@ -93,6 +102,7 @@ fn write_reply(
 ) -> Result<(), Broken> {
     match reply {
         Ok(Reply::Text(text)) => write(rt, text.as_slice()),
+        Ok(Reply::Untold) => write(rt, UNTOLD.as_bytes()),
         Ok(Reply::Save(directory)) => write_saved(rt, session, call, *directory),
         Ok(Reply::Quit) => Ok(()),
         Err(_) => write(rt, WANT_OF_MEMORY.as_bytes()),
@@ -124,7 +134,7 @@ fn answer(
     Ok(!matches!(reply, Ok(Reply::Quit)))
 }
 
-// Answers the lines of an input. What is large is lent to it, since each way out of the loop would have to drop it.
+// Answers the lines of an input, each in the same room.
 fn answer_lines<B: BufRead>(
     rt: &HostRuntime,
     shell: &mut Shell<'_>,
@@ -147,13 +157,18 @@ fn answer_lines<B: BufRead>(
     Ok(())
 }
 
-/// Answers the lines of standard input, one after another, up to its end or `.quit`. A terminal is shown whose turn it is.
-pub fn converse(rt: &HostRuntime, session: Session<'_>, call: &Call<'_>) -> Result<(), Broken> {
-    let alloc = rt.alloc();
-    let mut shell = Shell::new(alloc, session);
+// Answers standard input. The room for its longest line is found before the first is read, so that no line is lost for want of it.
+fn answer_input(rt: &HostRuntime, shell: &mut Shell<'_>, call: &Call<'_>) -> Result<(), Broken> {
+    let mut line = Vec::with_capacity(rt.alloc(), LINE_BYTES as usize)?;
     let mut input = rt.reader();
-    let mut line = Vec::new(alloc);
-    let ended = answer_lines(rt, &mut shell, call, &mut input, &mut line);
+    answer_lines(rt, shell, call, &mut input, &mut line)
+}
+
+/// Answers the lines of standard input, one after another, up to its end or `.quit`. A terminal is shown whose turn it is. The session
+/// is lent to what has several ways out, since each of them would have to drop it.
+pub fn converse(rt: &HostRuntime, session: Session<'_>, call: &Call<'_>) -> Result<(), Broken> {
+    let mut shell = Shell::new(rt.alloc(), session);
+    let ended = answer_input(rt, &mut shell, call);
     shell.session.discard();
     ended
 }

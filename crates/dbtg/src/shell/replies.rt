@@ -1,36 +1,60 @@
 //! What the shell replies to a line: texts of answers, faults and currents.
-ghost use Rattle.std.specs.Prelude.{◌≡◌, ◌-◌, ◌%◌, ◌≤◌, ◌<◌, IfOk, IfSome, Some, option_map, slice_get};
+ghost use Rattle.std.specs.Prelude.{◌≡◌, ◌-◌, ◌%◌, ◌≤◌, ◌<◌, [], IfOk, IfSome, OnOk, Some, option_map, slice_get};
 ghost use Rattle.dbtg_script.specs.Printing.Texts.{image_text, unit_text, units_text};
 ghost use Rattle.dbtg_step.specs.Core.Whole.{state_now};
 ghost use Rattle.dbtg_unit.specs.Database.State.Image.{image_of};
-ghost use Rattle.dbtg.specs.Sessions.{IsAnswerReply, IsCauseName};
+ghost use Rattle.dbtg.specs.Sessions.{IsAnswerReply, IsCauseName, IsFaultText, IsRow, no_unit_text};
 
 use crate::shell::session::Session;
-use dbtg_command::explain::{CAUSES, Kind, field, line_of, meaning_of, row_with, said_of_word};
+use dbtg_command::explain::{CAUSES, Kind, field, line_of, meaning_of, said_of_word};
 use dbtg_schema::Schema;
-use dbtg_script::{Cause, image_text, push_answer, push_named_answer, push_unit, units_text};
+use dbtg_script::{
+    Cause, behind, image_text, in_front, number, push_answer, push_named_answer, push_number,
+    push_unit, units_text,
+};
 use dbtg_unit::Entry;
 use std::alloc::{AllocError, Global};
+
+// The first row of a table, a row a line, that has this code.
+fn row_of(table: &'static [u8], code: u16) -> Option<&'static [u8]>
+    ensures { IfSome result (λ row. IsRow table.now code row.now) }
+{
+    let mut rest = table;
+    while !rest.is_empty() {
+        let row = in_front(rest, b'\n');
+        if number(in_front(row, b'|')) == code as u64 {
+            return Some(row);
+        }
+        rest = behind(rest, b'\n');
+    }
+    None
+}
 
 /// What the cause of a refusal is called, as the command explain names it.
 fn cause_name(status: u16) -> Option<&'static [u8]>
     ensures { IfSome result (λ name. IsCauseName (status % 100) name.now) }
 {
-    let row = row_with(CAUSES, status % 100)?;
+    let row = row_of(CAUSES.as_bytes(), status % 100)?;
     Some(field(row, 1))
 }
 
 /// The answer of an entry, as `replay` prints it; a refusal with the name of its cause.
-pub fn answer_reply(alloc: Global, schema: &Schema, entry: &Entry) -> Result<Vec<u8>, AllocError>
-    ensures { IfOk result (λ out. IsAnswerReply schema.now entry.now out.items) }
+pub fn push_answer_reply(
+    out: &mut Vec<u8>,
+    schema: &Schema,
+    entry: &Entry,
+) -> Result<(), AllocError>
+    requires { out.old.items ≡ [] }
+    ensures { OnOk result (IsAnswerReply schema.now entry.now out.new.items) }
 {
-    let mut out = Vec::new(alloc);
     let status = entry.answer.status.code(&entry.statement);
-    match cause_name(status) {
-        Some(name) if status > 0 => push_named_answer(&mut out, schema, entry, name)?,
-        _ => push_answer(&mut out, schema, entry)?,
+    if status == 0 {
+        return push_answer(out, schema, entry);
     }
-    Ok(out)
+    match cause_name(status) {
+        Some(name) => push_named_answer(out, schema, entry, name),
+        None => push_answer(out, schema, entry),
+    }
 }
 
 /// The fault of a line: its number, and what is said of the word that is at fault, or what the fault means.
@@ -39,17 +63,33 @@ pub fn fault_reply(
     schema: &Schema,
     line: &[u8],
     cause: Cause,
-) -> Result<Vec<u8>, AllocError> {
+) -> Result<Vec<u8>, AllocError>
+    ensures { IfOk result (λ out. IsFaultText cause out.items) }
+{
     let number = cause.number();
     let meaning = meaning_of(Kind::Script, number);
     let word = said_of_word(alloc, schema, line_of(line, 1), number, meaning)?;
-    let front = format!(in alloc; "fault {number}: ")?;
-    let mut out = Vec::from_slice(alloc, front.as_bytes())?;
+    let mut out = Vec::from_slice(alloc, b"fault ")?;
+    push_number(&mut out, number as u64)?;
+    out.extend_from_slice(b": ")?;
     out.extend_from_slice(if word.is_empty() {
         meaning
     } else {
         word.as_slice()
     })?;
+    out.push(b'\n')?;
+    Ok(out)
+}
+
+/// The line that tells that there is no such unit among so many.
+pub fn no_unit_reply(alloc: Global, units: usize) -> Result<Vec<u8>, AllocError>
+    ensures { IfOk result (λ out. out.items ≡ no_unit_text units) }
+{
+    let mut out = Vec::from_slice(
+        alloc,
+        b"there is no such unit: they are numbered from 1 to ",
+    )?;
+    push_number(&mut out, units as u64)?;
     out.push(b'\n')?;
     Ok(out)
 }

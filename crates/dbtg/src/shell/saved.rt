@@ -1,12 +1,13 @@
 //! Saving a session: a file for the script of each unit, and one for the turns.
 
 use crate::shell::session::{Script, Session};
+use crate::writing::write_file;
 use std::alloc::AllocError;
 use std::fs;
 
 // What comes of writing a file: nothing to tell, or the line that tells that it cannot be written.
 fn written(rt: &HostRuntime, path: &str, bytes: &[u8]) -> Result<Option<String>, AllocError> {
-    match fs::write(rt, path, bytes) {
+    match write_file(rt, path, bytes) {
         Ok(()) => Ok(None),
         Err(_) => Ok(Some(format!(in rt.alloc(); "cannot write {path}\n")?)),
     }
@@ -59,14 +60,47 @@ fn save_all(
     }
 }
 
+// Does a shell take the byte as it stands?
+fn is_plain(b: u8) -> bool {
+    b.is_ascii_alphanumeric()
+        || matches!(
+            b,
+            b'/' | b'.' | b'_' | b'-' | b'+' | b',' | b':' | b'@' | b'%'
+        )
+}
+
+// In quotes all stands for itself but a quote, which is put between two quoted parts.
+fn push_quoted(told: &mut String, path: &str) -> Result<(), AllocError> {
+    told.push_str("'")?;
+    for (i, part) in path.split('\'').enumerate() {
+        if i > 0 {
+            told.push_str("'\\''")?;
+        }
+        told.push_str(part)?;
+    }
+    told.push_str("'")
+}
+
+// A path as a word of a command that is typed to a shell. One that begins with a hyphen would be taken for an option.
+fn push_path(told: &mut String, path: &str) -> Result<(), AllocError> {
+    told.push_str(" ")?;
+    if path.starts_with("-") {
+        told.push_str("./")?;
+    }
+    if path.bytes().all(is_plain) {
+        return told.push_str(path);
+    }
+    push_quoted(told, path)
+}
+
 fn push_script(
     rt: &HostRuntime,
     told: &mut String,
     directory: &str,
     number: usize,
 ) -> Result<(), AllocError> {
-    let path = format!(in rt.alloc(); " {directory}/script.{number}")?;
-    told.push_str(path.as_str())
+    let path = format!(in rt.alloc(); "{directory}/script.{number}")?;
+    push_path(told, path.as_str())
 }
 
 // The command that makes the statements of so many saved scripts again.
@@ -77,9 +111,11 @@ fn command_for(
     schema: &str,
     directory: &str,
 ) -> Result<String, AllocError> {
-    let mut told = format!(in rt.alloc();
-        "saved: dbtg replay --capacity {capacity} --turns {directory}/turns {schema}"
-    )?;
+    let alloc = rt.alloc();
+    let mut told = format!(in alloc; "saved: dbtg replay --capacity {capacity} --turns")?;
+    let turns = format!(in alloc; "{directory}/turns")?;
+    push_path(&mut told, turns.as_str())?;
+    push_path(&mut told, schema)?;
     for i in 0..count {
         push_script(rt, &mut told, directory, i.saturating_add(1))?;
     }
@@ -96,11 +132,9 @@ pub fn save(
     schema: &str,
     directory: &str,
 ) -> Result<String, AllocError> {
+    let command = command_for(rt, session.scripts().len(), capacity, schema, directory)?;
     if fs::create_dir_all(rt, directory).is_err() {
         return format!(in rt.alloc(); "cannot write {directory}\n");
     }
-    match save_all(rt, directory, session)? {
-        Some(told) => Ok(told),
-        None => command_for(rt, session.scripts().len(), capacity, schema, directory),
-    }
+    Ok(save_all(rt, directory, session)?.unwrap_or(command))
 }
