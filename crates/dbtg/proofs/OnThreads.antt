@@ -1,5 +1,5 @@
 -- What the units of a new database make on threads.
-use Rattle.std.proofs.Common.{◌≡◌, ℕ, zero, suc, ◌+◌, ◌<◌, ◌≤◌, List, [], ◌∷◌, ◌++◌, length, map, refl, sym, ap, ◌∙◌, subst, inl, inr, ⊎_elim, arith, get_or, Some, All, Result, Ok, Err, IfOk}
+use Rattle.std.proofs.Common.{◌≡◌, ℕ, zero, suc, ◌+◌, ◌<◌, ◌≤◌, List, [], ◌∷◌, ◌++◌, length, map, refl, sym, ap, ◌∙◌, subst, inl, inr, ⊎_elim, arith, get_or, Some, Result, Ok, Err, IfOk}
 use Rattle.std.specs.Prelude.{slice_get}
 use Rattle.std.specs.List.{range_with_len}
 use Rattle.std.proofs.lemmas.List.{get_or-map, length-append, length-map, nil_from_length}
@@ -10,7 +10,7 @@ use Rattle.dbtg_unit.specs.declared.unit.Entry.{Entry}
 use Rattle.dbtg_unit.specs.Database.Laws.Replay.{entries_of}
 use Rattle.dbtg_step.specs.Core.Audit.{LeadsTo}
 use Rattle.dbtg_run.specs.Running.{IsRun, IsWhole, Ran}
-use Rattle.dbtg_run.specs.UnitView.{BelongsTo, UnitView, opening_view, opening_views}
+use Rattle.dbtg_run.specs.UnitView.{UnitView, opening_view, opening_views}
 use Rattle.dbtg_run.specs.Views.{Has}
 use Rattle.dbtg_run.specs.declared.database.Database.{Database}
 use Rattle.dbtg_run.specs.declared.settled.Settled.{Settled}
@@ -29,17 +29,13 @@ opened db count = opening_views db.board.shared.table_id db.about count
 abbrev opened_unit : Database → ℕ → UnitView
 opened_unit db number = opening_view db.board.shared.table_id db.about number
 
-pub opened_count : (db : Database) (count : ℕ) → length (opening_views db.board.shared.table_id db.about count) ≡ count
+opened_count : (db : Database) (count : ℕ) → length (opening_views db.board.shared.table_id db.about count) ≡ count
 opened_count db count = length-map (range_with_len 1 count) (opened_unit db) ∙ length-range_with_len 1 count
 
 opened_at : (db : Database) (count k : ℕ) (d : UnitView) → k < count → get_or (opened db count) k d ≡ opened_unit db (1 + k)
 opened_at db count k d below =
     let l = length-range_with_len 1 count in
     get_or-map (opened_unit db) (range_with_len 1 count) k 0 d (omega arith) ∙ ap (opened_unit db) (get_or-range_with_len 1 count k 0 below)
-
-pub opened_belong : (db : Database) (count : ℕ) → All (BelongsTo db) (opening_views db.board.shared.table_id db.about count)
-opened_belong db count k d below =
-    subst (BelongsTo db) (sym (opened_at db count k d (let l = opened_count db count in omega arith))) (record { about = refl; table = refl })
 
 one_more : (k : ℕ) → 1 + k ≡ k + 1
 one_more k = omega arith

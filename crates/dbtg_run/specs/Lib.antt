@@ -2,6 +2,7 @@ pub mod Views
 pub mod Kept
 pub mod Posed
 pub mod Works
+pub mod Tries
 pub mod UnitView
 pub mod Drawn
 pub mod Outcomes

@@ -3,10 +3,12 @@ ghost use Rattle.std.specs.Prelude.{◌≡◌, ◌≢◌, ◌↔◌, ◌<◌, �
 ghost use Rattle.dbtg_unit.specs.Database.Statements.Fits.{fits};
 ghost use Rattle.dbtg_run.specs.Drawn.{IsDone};
 ghost use Rattle.dbtg_run.specs.Outcomes.{IfDone, IfNotDone, NeedsNoLatch};
+ghost use Rattle.dbtg_run.specs.Tries.{AreUsedUp, Suffice};
 ghost use Rattle.dbtg_run.specs.UnitView.{BelongsTo};
 
 use crate::database::Database;
 use crate::outcome::{Gate, NoGate, Outcome};
+use crate::tries::Tries;
 use crate::unit::RunUnit;
 use dbtg_unit::Statement;
 use std::alloc::Global;
@@ -55,7 +57,34 @@ impl Database {
         ensures free { NeedsNoLatch self.now.about unit.old.unit statement.now → result ≢ Outcome.Busy }
         ensures alone { self.now.about.units ≡ 1 → 0 < tries → result ≢ Outcome.Busy }
     {
-        unit.work.execute(alloc, self, statement, tries, gate)
+        let mut tries = Tries::of(tries);
+        unit.work.execute(alloc, self, statement, &mut tries, gate)
+    }
+
+    // A round of `insist`: makes a statement of the unit, with 64 tries. Says what became of the tries too.
+    fn round<G: Gate>(
+        &self,
+        alloc: Global,
+        unit: &mut RunUnit,
+        statement: &Statement,
+        gate: &G,
+    ) -> (Outcome, Tries)
+        requires belongs { BelongsTo self.now unit.old }
+        requires fits { fits self.now.schema statement.now ≡ true }
+        ensures belongs { BelongsTo self.now unit.new }
+        ensures number { unit.new.unit.number ≡ unit.old.unit.number }
+        ensures done { IfDone result.0 (λ a. IsDone self.now.about unit.old.journal unit.new.journal unit.new.unit statement.now a) }
+        ensures unchanged { IfNotDone result.0 (unit.new ≡ unit.old) }
+        ensures spent { (result.0 ≡ Outcome.Spent) ↔ (65535 ≤ length unit.old.journal) }
+        ensures given { result.1.given ≡ 64 }
+        ensures busy { result.0 ≡ Outcome.Busy → AreUsedUp result.1 }
+        ensures tries { IfDone result.0 (λ _. Suffice result.1) }
+    {
+        let mut tries = Tries::of(64);
+        let outcome = unit
+            .work
+            .execute(alloc, self, statement, &mut tries, gate);
+        (outcome, tries)
     }
 
     /// Makes a statement of the unit, again and again until it is done, spent or out of memory; others go on between.
@@ -97,7 +126,7 @@ impl Database {
         ensures busy { result ≢ Outcome.Busy }
     {
         'tries: for _ in rt.forever() {
-            let outcome = self.execute_at(alloc, unit, statement, 64, gate);
+            let (outcome, _) = self.round(alloc, unit, statement, gate);
             if !outcome.is_busy() {
                 return outcome;
             }

@@ -1,9 +1,11 @@
 //! The ticket of a unit at work.
 ghost use Rattle.std.specs.Prelude.{◌≡◌, ◌<◌, length, vec_len, vec_capacity, true};
 ghost use Rattle.dbtg_unit.specs.Database.Statements.Fits.{fits};
+ghost use Rattle.dbtg_unit.specs.Hands.EditsOf.{is_delete};
 ghost use Rattle.dbtg_unit.specs.Hands.Making.{CanFinish, IsReady};
 ghost use Rattle.dbtg_unit.specs.Hands.Prepared.{unit_after};
 ghost use Rattle.dbtg_run.specs.Drawn.{IsDone, cells_after};
+ghost use Rattle.dbtg_run.specs.Posed.{HoldsSo};
 ghost use Rattle.dbtg_run.specs.Works.{Belongs, IsAtWork};
 
 use crate::database::Database;
@@ -27,6 +29,7 @@ impl Work {
         requires room { (vec_len self.old.journal < vec_capacity self.old.journal) × (length self.old.journal.items < 65535) }
         requires fits { fits self.old.about.schema.value statement ≡ true }
         requires ready { IsReady self.old.about.schema.value self.old.about.capacity self.old.unit self.old.held statement }
+        requires so { HoldsSo (is_delete statement) self.old.exclusive self.old.held }
         requires can { CanFinish self.old.about.schema.value self.old.about.capacity self.old.unit self.old.held statement prepared }
         requires noted { noted ≡ prepared.answer }
         requires picked { (O.statement ≡ statement) × (O.answer ≡ noted) × (O.unit ≡ unit_after self.old.about.schema.value prepared self.old.unit) × (O.held ≡ cells_after prepared self.old.held.cells) }

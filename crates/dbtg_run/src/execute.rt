@@ -2,12 +2,16 @@
 ghost use Rattle.std.specs.Prelude.{◌≡◌, ◌≢◌, ◌↔◌, ◌<◌, ◌≤◌, ◌∷◌, [], true, length, vec_len, vec_capacity, IfOk, IfNone, IfSome, IsSome, OnErr};
 ghost use Rattle.dbtg_unit.specs.Database.Statements.Fits.{fits};
 ghost use Rattle.dbtg_unit.specs.Hands.Making.{CanFinish, IsReady};
+ghost use Rattle.dbtg_unit.specs.Hands.EditsOf.{is_delete};
 ghost use Rattle.dbtg_run.specs.Drawn.{IsDone};
 ghost use Rattle.dbtg_run.specs.Outcomes.{IfDone, IfNotDone, NeedsNoLatch};
+ghost use Rattle.dbtg_run.specs.Posed.{HoldsSo};
+ghost use Rattle.dbtg_run.specs.Tries.{AreUsedUp, Suffice};
 ghost use Rattle.dbtg_run.specs.Works.{Belongs, IsAtWork, IsSameUnit};
 
 use crate::database::Database;
 use crate::outcome::{Gate, Outcome, Point};
+use crate::tries::Tries;
 use crate::work::Work;
 use dbtg_step::prepare;
 use dbtg_unit::{Answer, Prepared, Statement};
@@ -40,9 +44,11 @@ impl Work {
         requires work { IsAtWork self.old }
         requires fits { fits self.old.about.schema.value statement.now ≡ true }
         requires ready { IsReady self.old.about.schema.value self.old.about.capacity self.old.unit self.old.held statement.now }
+        requires so { HoldsSo (is_delete statement.now) self.old.exclusive self.old.held }
         ensures same { IsSameUnit self.old self.new }
         ensures work { IsAtWork self.new }
         ensures ready { IsReady self.new.about.schema.value self.new.about.capacity self.new.unit self.new.held statement.now }
+        ensures so { HoldsSo (is_delete statement.now) self.new.exclusive self.new.held }
         ensures can { IfOk result (λ plan. CanFinish self.new.about.schema.value self.new.about.capacity self.new.unit self.new.held statement.now plan) }
     {
         prepare(
@@ -69,6 +75,7 @@ impl Work {
         requires fits { fits self.old.about.schema.value statement.now ≡ true }
         requires room { (vec_len self.old.journal < vec_capacity self.old.journal) × (length self.old.journal.items < 65535) }
         requires ready { IsReady self.old.about.schema.value self.old.about.capacity self.old.unit self.old.held statement.now }
+        requires so { HoldsSo (is_delete statement.now) self.old.exclusive self.old.held }
         requires copied { copy ≡ statement.now }
         ensures same { (self.new.about ≡ self.old.about) × (self.new.seat.table_id ≡ self.old.seat.table_id) × (self.new.unit.number ≡ self.old.unit.number) }
         ensures work { IsAtWork self.new }
@@ -88,13 +95,13 @@ impl Work {
         }
     }
 
-    // Takes what the statement needs and makes it, with so many tries more. None where the tries are used up.
+    // Takes what the statement needs and makes it. None where the tries are used up.
     fn attempt<G: Gate>(
         &mut self,
         alloc: Global,
         db: &Database,
         statement: &Statement,
-        tries: u32,
+        tries: &mut Tries,
         gate: &G,
     ) -> Result<Option<Answer>, AllocError>
         requires belongs { Belongs db.now self.old }
@@ -102,13 +109,16 @@ impl Work {
         requires idle { (self.old.held.areas ≡ []) × (self.old.held.cells ≡ []) }
         requires fits { fits self.old.about.schema.value statement.now ≡ true }
         requires room { length self.old.journal.items < 65535 }
+        requires fresh { tries.old.vain ≡ 0 }
         ensures same { (self.new.about ≡ self.old.about) × (self.new.seat.table_id ≡ self.old.seat.table_id) × (self.new.unit.number ≡ self.old.unit.number) }
         ensures work { IsAtWork self.new }
         ensures done { IfOk result (λ o. IfSome o (λ a. IsDone self.old.about self.old.journal.items self.new.journal.items self.new.unit statement.now a)) }
         ensures none { IfOk result (λ o. IfNone o ((self.new.unit ≡ self.old.unit) × (self.new.journal.items ≡ self.old.journal.items))) }
         ensures err { OnErr result ((self.new.unit ≡ self.old.unit) × (self.new.journal.items ≡ self.old.journal.items)) }
+        ensures given { tries.new.given ≡ tries.old.given }
+        ensures tries { IfOk result (λ o. IfNone o (AreUsedUp tries.new) × IfSome o (λ _. Suffice tries.new)) }
         ensures free { NeedsNoLatch self.old.about self.old.unit statement.now → IfOk result (λ o. IsSome o) }
-        ensures alone { self.old.about.units ≡ 1 → 0 < tries → IfOk result (λ o. IsSome o) }
+        ensures alone { self.old.about.units ≡ 1 → 0 < tries.old.given → IfOk result (λ o. IsSome o) }
     {
         self.journal.reserve(1)?;
         if !self.gather(alloc, db, statement, tries)? {
@@ -128,27 +138,31 @@ impl Work {
         }
     }
 
-    /// Makes a statement, with so many tries. It waits for nobody.
+    /// Makes a statement. It waits for nobody.
     pub(crate) fn execute<G: Gate>(
         &mut self,
         alloc: Global,
         db: &Database,
         statement: &Statement,
-        tries: u32,
+        tries: &mut Tries,
         gate: &G,
     ) -> Outcome
         requires belongs { Belongs db.now self.old }
         requires work { IsAtWork self.old }
         requires idle { (self.old.held.areas ≡ []) × (self.old.held.cells ≡ []) }
         requires fits { fits self.old.about.schema.value statement.now ≡ true }
+        requires fresh { tries.old.vain ≡ 0 }
         ensures same { (self.new.about ≡ self.old.about) × (self.new.seat.table_id ≡ self.old.seat.table_id) × (self.new.unit.number ≡ self.old.unit.number) }
         ensures work { IsAtWork self.new }
         ensures idle { (self.new.held.areas ≡ []) × (self.new.held.cells ≡ []) }
         ensures done { IfDone result (λ a. IsDone self.old.about self.old.journal.items self.new.journal.items self.new.unit statement.now a) }
         ensures unchanged { IfNotDone result ((self.new.unit ≡ self.old.unit) × (self.new.journal.items ≡ self.old.journal.items)) }
         ensures spent { (result ≡ Outcome.Spent) ↔ (65535 ≤ length self.old.journal.items) }
+        ensures given { tries.new.given ≡ tries.old.given }
+        ensures busy { result ≡ Outcome.Busy → AreUsedUp tries.new }
+        ensures tries { IfDone result (λ _. Suffice tries.new) }
         ensures free { NeedsNoLatch self.old.about self.old.unit statement.now → result ≢ Outcome.Busy }
-        ensures alone { self.old.about.units ≡ 1 → 0 < tries → result ≢ Outcome.Busy }
+        ensures alone { self.old.about.units ≡ 1 → 0 < tries.old.given → result ≢ Outcome.Busy }
     {
         if self.journal.as_slice().len() >= 65535 {
             return Outcome::Spent;

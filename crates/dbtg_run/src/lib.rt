@@ -17,6 +17,7 @@ mod settled;
 mod settlement;
 mod takes;
 mod threads;
+mod tries;
 mod unit;
 mod view;
 mod work;

@@ -1,10 +1,10 @@
 //! How a database is made: its table with all cells at home, and a seat there for each of its units.
-ghost use Rattle.std.specs.Prelude.{◌≡◌, ◌<◌, ◌≤◌, [], false, map, Some, IfOk};
+ghost use Rattle.std.specs.Prelude.{◌≡◌, ◌<◌, ◌≤◌, [], false, length, map, Some, All, IfOk};
 ghost use Rattle.dbtg_schema.specs.Sound.{IsSound};
 ghost use Rattle.dbtg_unit.specs.Database.State.Units.{opening_unit};
 ghost use Rattle.dbtg_run.specs.Kept.{first_view};
 ghost use Rattle.dbtg_run.specs.Posed.{posed, IsSized};
-ghost use Rattle.dbtg_run.specs.UnitView.{opening_view, opening_views};
+ghost use Rattle.dbtg_run.specs.UnitView.{BelongsTo, opening_view, opening_views};
 
 use crate::database::Database;
 use crate::rule::{Board, Chair};
@@ -83,7 +83,7 @@ fn newcomer(
         held: Held::new(alloc, guesses),
         seat,
     };
-    Ok(RunUnit::of(work))
+    RunUnit::of(alloc, work)
 }
 
 // The units before their first statements, each at a seat that is cut off from the first. The last unit has the first seat: a seat
@@ -161,6 +161,8 @@ impl Database {
         requires units { (1 ≤ units) × (units ≤ 8) }
         ensures database { IfOk result (λ t. (t.0.schema ≡ schema) × (t.0.about.capacity ≡ capacity) × (t.0.about.units ≡ units)) }
         ensures units { IfOk result (λ t. t.1.items ≡ opening_views t.0.board.shared.table_id t.0.about units) }
+        ensures belong { IfOk result (λ t. All (BelongsTo t.0) t.1.items) }
+        ensures count { IfOk result (λ t. length t.1.items ≡ units) }
     {
         let about = About {
             schema: Snapshot::of(&schema),

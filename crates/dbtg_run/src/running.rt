@@ -1,5 +1,5 @@
 //! A unit makes a script, on whatever thread it is.
-ghost use Rattle.std.specs.Prelude.{◌≡◌, ◌⊎◌, ◌≤◌, true, length, All, IfOk};
+ghost use Rattle.std.specs.Prelude.{◌≡◌, ◌⊎◌, ◌<◌, ◌≤◌, true, length, All, IfOk, OnErr};
 ghost use Rattle.dbtg_unit.specs.Database.Statements.Fits.{fits};
 ghost use Rattle.dbtg_run.specs.Running.{IsWhole, Ran};
 ghost use Rattle.dbtg_run.specs.UnitView.{BelongsTo};
@@ -26,6 +26,7 @@ pub fn run_script<R: Wait, G: Gate>(
     requires fits { All (λ x. fits db.now.schema x ≡ true) script.now }
     ensures belongs { BelongsTo db.now unit.new }
     ensures ran { Ran script.now unit.old unit.new }
+    ensures room { OnErr result (length unit.new.journal < 65535) }
     ensures whole { IfOk result (λ _. IsWhole script.now unit.old unit.new) }
 {
     'script: for statement in script {

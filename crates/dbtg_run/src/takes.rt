@@ -15,12 +15,14 @@ ghost use Rattle.dbtg_unit.specs.Hands.Needs.{need};
 ghost use Rattle.dbtg_erase.specs.Course.{HasAllOf};
 ghost use Rattle.dbtg_step.specs.Core.Events.{HaveRings};
 ghost use Rattle.dbtg_run.specs.Posed.{HoldsSo, turns_left};
+ghost use Rattle.dbtg_run.specs.Tries.{AreUsedUp, IsVain, Suffice};
 ghost use Rattle.dbtg_run.specs.Views.{times};
 ghost use Rattle.dbtg_run.specs.Kept.{area_count};
 ghost use Rattle.dbtg_run.specs.Works.{Belongs, IsAtWork, IsSameUnit, KnowsBetter};
 
 use crate::database::Database;
 use crate::plays::{LookAtArea, PutCell, TakeAlone, TakeCell, TakeShared};
+use crate::tries::Tries;
 use crate::work::Work;
 use dbtg_cells::{CellName, cell_number};
 use dbtg_erase::Course;
@@ -152,7 +154,7 @@ impl Work {
         ensures alone { self.old.about.units ≡ 1 → IfOk result (λ b. b ≡ true) }
     {
         // Only the contract names the statement.
-        let _ = statement.fits(&db.schema);
+        let _ = statement;
         let word = 1 + db.schema.areas().len() + number;
         let board = &db.board.shared;
         if board.compare_exchange::<TakeCell>(&mut self.seat, word, 0, self.unit.number as u64)
@@ -187,7 +189,7 @@ impl Work {
         self.held.set_guesses(guesses);
     }
 
-    // Meets a need. False where another unit is in the way, or where the statement turned back.
+    // Meets a need. False where the look at it was in vain.
     fn meet(
         &mut self,
         db: &Database,
@@ -204,6 +206,7 @@ impl Work {
         ensures same { IsSameUnit self.old self.new }
         ensures work { IsAtWork self.new }
         ensures so { IfOk result (λ _. HoldsSo exclusive self.new.exclusive self.new.held) }
+        ensures vain { IfOk result (λ b. b ≡ false → IsVain wanted self.old.held self.new.held) }
         ensures more { IfOk result (λ b. b ≡ true → HasAllOf self.old.held self.new.held) }
         ensures nearer { IfOk result (λ b. b ≡ true → (tries : ℕ) → turns_left self.new.about tries self.new.held < turns_left self.old.about tries self.old.held) }
         ensures alone { self.old.about.units ≡ 1 → IfOk result (λ b. KnowsBetter statement.now self.old self.new b) }
@@ -223,29 +226,31 @@ impl Work {
         }
     }
 
-    // Takes all that the statement needs, with so many tries more, and keeps how far a DELETE has come. False where the tries are
-    // used up.
+    // Takes all that the statement needs, and keeps how far a DELETE has come. False where the tries are used up.
     fn gather_along(
         &mut self,
         alloc: Global,
         db: &Database,
         statement: &Statement,
-        tries: u32,
+        tries: &mut Tries,
         course: &mut Option<Course>,
     ) -> Result<bool, AllocError>
         requires belongs { Belongs db.now self.old }
         requires work { IsAtWork self.old }
         requires idle { (self.old.held.areas ≡ []) × (self.old.held.cells ≡ []) }
         requires fits { fits self.old.about.schema.value statement.now ≡ true }
+        requires fresh { tries.old.vain ≡ 0 }
         requires course { course.old ≡ None }
         ensures same { IsSameUnit self.old self.new }
         ensures work { IsAtWork self.new }
         ensures ready { IfOk result (λ b. b ≡ true → IsReady self.new.about.schema.value self.new.about.capacity self.new.unit self.new.held statement.now) }
+        ensures so { IfOk result (λ b. b ≡ true → HoldsSo (is_delete statement.now) self.new.exclusive self.new.held) }
+        ensures given { tries.new.given ≡ tries.old.given }
+        ensures tries { IfOk result (λ b. MatchBool b (Suffice tries.new) (AreUsedUp tries.new)) }
         ensures free { IsReady self.old.about.schema.value self.old.about.capacity self.old.unit self.old.held statement.now → IfOk result (λ b. b ≡ true) }
-        ensures alone { self.old.about.units ≡ 1 → 0 < tries → IfOk result (λ b. b ≡ true) }
+        ensures alone { self.old.about.units ≡ 1 → 0 < tries.old.given → IfOk result (λ b. b ≡ true) }
     {
         let exclusive = takes_alone(statement);
-        let mut tries = tries;
         'needs: loop {
             let wanted = next_need(
                 alloc,
@@ -262,32 +267,36 @@ impl Work {
             if self.meet(db, statement, exclusive, wanted)? {
                 continue;
             }
-            if tries == 0 {
+            tries.use_one();
+            if tries.are_used_up() {
                 return Ok(false);
             }
-            tries -= 1;
             // The statement may have turned back: then its cells are home again.
             forget(course);
         }
     }
 
-    // Takes all that the statement needs, with so many tries more. False where the tries are used up.
+    // Takes all that the statement needs. False where the tries are used up.
     pub(crate) fn gather(
         &mut self,
         alloc: Global,
         db: &Database,
         statement: &Statement,
-        tries: u32,
+        tries: &mut Tries,
     ) -> Result<bool, AllocError>
         requires belongs { Belongs db.now self.old }
         requires work { IsAtWork self.old }
         requires idle { (self.old.held.areas ≡ []) × (self.old.held.cells ≡ []) }
         requires fits { fits self.old.about.schema.value statement.now ≡ true }
+        requires fresh { tries.old.vain ≡ 0 }
         ensures same { IsSameUnit self.old self.new }
         ensures work { IsAtWork self.new }
         ensures ready { IfOk result (λ b. b ≡ true → IsReady self.new.about.schema.value self.new.about.capacity self.new.unit self.new.held statement.now) }
+        ensures so { IfOk result (λ b. b ≡ true → HoldsSo (is_delete statement.now) self.new.exclusive self.new.held) }
+        ensures given { tries.new.given ≡ tries.old.given }
+        ensures tries { IfOk result (λ b. MatchBool b (Suffice tries.new) (AreUsedUp tries.new)) }
         ensures free { IsReady self.old.about.schema.value self.old.about.capacity self.old.unit self.old.held statement.now → IfOk result (λ b. b ≡ true) }
-        ensures alone { self.old.about.units ≡ 1 → 0 < tries → IfOk result (λ b. b ≡ true) }
+        ensures alone { self.old.about.units ≡ 1 → 0 < tries.old.given → IfOk result (λ b. b ≡ true) }
     {
         // Kept from need to need, so that a DELETE's cells are not gone through anew at each.
         let mut course = None;

@@ -1,5 +1,5 @@
 //! A run-unit as callers see it. Between statements it holds nothing.
-ghost use Rattle.std.specs.Prelude.{◌≡◌, ◌<◌, [], Bool};
+ghost use Rattle.std.specs.Prelude.{◌≡◌, ◌<◌, [], Bool, IfOk};
 ghost use Rattle.dbtg_run.specs.Posed.{IsOurs};
 ghost use Rattle.dbtg_run.specs.Settling.{resting};
 ghost use Rattle.dbtg_run.specs.Views.{lone};
@@ -9,12 +9,14 @@ use crate::rule::Chair;
 use crate::view::About;
 use crate::work::Work;
 use dbtg_unit::{Currency, Entry, Kept};
+use std::alloc::{AllocError, Global};
 use std::marker::Model;
 
 /// A run-unit of a database. It belongs to the database that made it, and contracts see which one by its table.
 #[derive(Drop)]
 pub struct RunUnit {
-    pub(crate) work: Work,
+    // In a box: a unit is handed from function to function and from thread to thread, and would take 2.6 KB of each one's stack.
+    pub(crate) work: Box<Work>,
 }
 
 impl Model for RunUnit {
@@ -25,19 +27,21 @@ impl Model for RunUnit {
 
     ghost use Rattle.dbtg_run.specs.Works.{IsAtWork};
 
-    ghost view = { λ r. record { table = r.work.seat.table_id; about = r.work.about; unit = r.work.unit; journal = r.work.journal.items } };
+    ghost view = { λ r. record { table = r.work.value.seat.table_id; about = r.work.value.about; unit = r.work.value.unit; journal = r.work.value.journal.items } };
 
-    ghost invariant = { λ r. ((r.work.held.areas ≡ []) × (r.work.held.cells ≡ [])) × IsAtWork r.work };
+    ghost invariant = { λ r. ((r.work.value.held.areas ≡ []) × (r.work.value.held.cells ≡ [])) × IsAtWork r.work.value };
 }
 
 impl RunUnit {
     // Of a unit at work that holds nothing.
-    pub(crate) fn of(work: Work) -> Self
+    pub(crate) fn of(alloc: Global, work: Work) -> Result<Self, AllocError>
         requires idle { (work.held.areas ≡ []) × (work.held.cells ≡ []) }
         requires work { IsAtWork work }
-        ensures { result ≡ record { table = work.seat.table_id; about = work.about; unit = work.unit; journal = work.journal.items } }
+        ensures { IfOk result (λ unit. unit ≡ record { table = work.seat.table_id; about = work.about; unit = work.unit; journal = work.journal.items }) }
     {
-        Self { work }
+        Ok(Self {
+            work: Box::new(alloc, work)?,
+        })
     }
 
     /// The number, from 1 on.
@@ -82,7 +86,7 @@ impl RunUnit {
         ensures seat { (x : Bool) × (result.me ≡ (lone self.about (resting (self, x)), [])) }
     {
         let Self { work } = self;
-        let Work { seat, .. } = work;
+        let Work { seat, .. } = Box::into_inner(work);
         seat
     }
 }

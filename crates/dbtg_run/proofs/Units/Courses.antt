@@ -27,3 +27,12 @@ all_with_area false old new a P Q is e = absurd (cc (e))
 pub all_with_cell : (taken : Bool) (old new : Hands) (c : CellName) (Q : Type 0) → MatchBool taken ((x : Cell) × (new ≡ record old { cells = old.cells ++ (c, x) ∷ [] })) Q → taken ≡ true → HasAllOf old new
 all_with_cell true old new c Q is e = one_more_cell old new (c, is.0) (ap (λ (h : Hands). h.cells) is.1)
 all_with_cell false old new c Q is e = absurd (cc (e))
+
+-- where none was taken, all is as it was
+pub same_without_area : (taken : Bool) (old new : Hands) (P Q : Type 0) → MatchBool taken P ((new ≡ old) × Q) → taken ≡ false → new ≡ old
+same_without_area false old new P Q is e = is.0
+same_without_area true old new P Q is e = absurd (cc (e))
+
+pub same_without_cell : (taken : Bool) (old new : Hands) (P : Type 0) → MatchBool taken P (new ≡ old) → taken ≡ false → new ≡ old
+same_without_cell false old new P is e = is
+same_without_cell true old new P is e = absurd (cc (e))

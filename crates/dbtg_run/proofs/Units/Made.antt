@@ -1,7 +1,8 @@
 -- The table as it is made, and its units, which are cut off one by one.
-use Rattle.std.proofs.Common.{◌≡◌, ℕ, zero, suc, ◌+◌, ◌-◌, ◌<◌, ◌≤◌, true, false, List, [], ◌∷◌, ◌++◌, map, length, get_or, replicate, Option, Some, slice_get, refl, sym, ap, ◌∙◌, subst, arith}
-use Rattle.std.proofs.lemmas.List.{length-replicate}
-use Rattle.std.proofs.lemmas.List.FromFn.{map-range_with_len_more}
+use Rattle.std.proofs.Common.{◌≡◌, ℕ, zero, suc, ◌+◌, ◌-◌, ◌<◌, ◌≤◌, true, false, List, [], ◌∷◌, ◌++◌, map, length, get_or, replicate, Option, Some, slice_get, refl, sym, ap, ◌∙◌, subst, arith, All}
+use Rattle.std.specs.List.{range_with_len}
+use Rattle.std.proofs.lemmas.List.{length-map, length-replicate}
+use Rattle.std.proofs.lemmas.List.FromFn.{length-range_with_len, map-range_with_len_more}
 use mathlib.Core.Option.{some}
 use lib.ListN.{get_elem?}
 use Rattle.atomic_table.specs.Seated.{TableId}
@@ -28,7 +29,8 @@ use Rattle.dbtg_run.specs.declared.view.View.{View}
 use Rattle.dbtg_run.specs.Views.{lone}
 use Rattle.dbtg_run.specs.Kept.{Sat, IsReal, Kept, first_view, numbered, one_of, others_of}
 use Rattle.dbtg_run.specs.Posed.{IsOurs, posed}
-use Rattle.dbtg_run.specs.UnitView.{UnitView, opening_view, opening_views}
+use Rattle.dbtg_run.specs.UnitView.{BelongsTo, UnitView, opening_view, opening_views}
+use Rattle.dbtg_run.specs.declared.database.Database.{Database}
 use Rattle.dbtg_run.proofs.TheRule.Opens.{newcomer, opens}
 
 -- THE TABLE
@@ -156,3 +158,18 @@ pub views_more : (table : TableId) (about : About) (place number : ℕ) (views a
 views_more table about place number views after new e all one more =
     let next : 1 + place ≡ number = omega arith in
     more ∙ (λ j. all j ++ one j ∷ []) ∙ sym (ap (λ n. opening_views table about n) e ∙ map-range_with_len_more (opening_view table about) 1 place number next)
+
+-- ALL UNITS
+
+views_belong : (db : Database) (numbers : List ℕ) → All (BelongsTo db) (map (opening_view db.board.shared.table_id db.about) numbers)
+views_belong db [] k d below = absurd (omega arith)
+views_belong db (n ∷ numbers) zero d below = record { about = refl; table = refl }
+views_belong db (n ∷ numbers) (suc k) d below = views_belong db numbers k d (omega arith)
+
+-- the units that a database is made with belong to it
+pub opened_belong : (db : Database) (units : List UnitView) (count : ℕ) → units ≡ opening_views db.board.shared.table_id db.about count → All (BelongsTo db) units
+opened_belong db units count is = subst (All (BelongsTo db)) (sym is) (views_belong db (range_with_len 1 count))
+
+-- and are as many
+pub opened_count : (table : TableId) (about : About) (units : List UnitView) (count : ℕ) → units ≡ opening_views table about count → length units ≡ count
+opened_count table about units count is = ap length is ∙ (length-map (range_with_len 1 count) (opening_view table about) ∙ length-range_with_len 1 count)

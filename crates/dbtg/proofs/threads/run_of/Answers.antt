@@ -1,17 +1,8 @@
-use Rattle.std.proofs.Common.{◌≡◌, ◌∙◌, sym, ap, subst, All, arith, length}
+use Rattle.std.proofs.Common.{◌∙◌, subst}
 use Rattle.dbtg_run.specs.Running.{IsRun}
-use Rattle.dbtg_run.specs.UnitView.{BelongsTo}
 use Rattle.dbtg.specs.Threading.{IsHistoryOfAll}
-use Rattle.dbtg.proofs.OnThreads.{history_of_all, opened_belong, opened_count}
+use Rattle.dbtg.proofs.OnThreads.{history_of_all}
 use Rattle.dbtg.proofs.threads.run_of.Goals as goal
-
-pub run_units-requires-clause-belong : goal.run_units-requires-clause-belong
-run_units-requires-clause-belong g c κs within =
-    subst (All (BelongsTo c.in_ok-db.db)) (sym c.in_ok-db.ensures.units) (opened_belong c.in_ok-db.db (length c.args.scripts.now))
-
-pub run_units-requires-clause-scripts : goal.run_units-requires-clause-scripts
-run_units-requires-clause-scripts g c κs within =
-    let e = ap length c.in_ok-db.ensures.units ∙ opened_count c.in_ok-db.db (length c.args.scripts.now) in omega arith
 
 pub returns-in-Ok-clause-history : goal.returns-in-Ok-clause-history
 returns-in-Ok-clause-history g c =

@@ -1,4 +1,4 @@
-use Rattle.std.proofs.Common.{rules, ◌≡◌, ◌≢◌, ◌⊎◌, ◌<◌, ◌-◌, ◌∙◌, ℕ, Bool, true, false, inl, inr, ap, arith, sym, subst}
+use Rattle.std.proofs.Common.{rules, ◌≡◌, ◌≢◌, ◌⊎◌, ◌<◌, ◌+◌, ◌-◌, ◌∙◌, ℕ, Bool, true, false, inl, inr, ap, arith, sym, subst}
 use Rattle.dbtg_schema.specs.Lists.{Lists}
 use Rattle.dbtg_unit.specs.Database.State.Base.{Database}
 use Rattle.dbtg_unit.specs.declared.held.Need.{Need}
@@ -11,6 +11,8 @@ use Rattle.dbtg_run.specs.declared.view.About.{About}
 use Rattle.dbtg_run.specs.declared.work.Work.{Work}
 use Rattle.dbtg_run.specs.Kept.{database_after}
 use Rattle.dbtg_run.specs.Posed.{turns_left}
+use Rattle.dbtg_run.specs.Tries.{Suffice}
+use Rattle.dbtg_run.specs.declared.tries.Tries.{Tries}
 use Rattle.dbtg_run.specs.Works.{IsAtWork, KnowsBetter}
 use Rattle.dbtg_step.specs.Core.Courses.{IsCourseKept}
 use Rattle.dbtg_step.proofs.Public.{no_course}
@@ -27,6 +29,8 @@ needs-preserved-then-branch c =
       so = search rules;
       free = search rules;
       known = search rules;
+      given = search rules;
+      tries = search rules;
       course = course_goes_on db.schema db.about.capacity old.held new.held old.unit new.unit c.args.statement.now c.next_need.new.course c.meet.ensures.same.unit (c.in_ok-meet.ensures.more c.if-branch.true) c.next_need.ensures.kept;
     }
 
@@ -39,14 +43,23 @@ needs-preserved c =
       so = search rules;
       free = search rules;
       known = search rules;
+      given = search rules;
+      tries = search rules;
       course = subst (IsCourseKept db.schema db.about.capacity new.held new.unit c.args.statement.now) (sym c.forget.ensures) (no_course db.schema db.about.capacity new.held new.unit c.args.statement.now);
     }
 
+-- a look in vain that has a try leaves one fewer
+fewer : (old new : Tries) → new ≡ record old { vain = old.vain + 1 } → Suffice new → (0 < old.given - old.vain) × (new.given - new.vain + 1 ≡ old.given - old.vain)
+fewer old new is left =
+    let given = ap (λ (t : Tries). t.given) is in let vain = ap (λ (t : Tries). t.vain) is in
+    (omega arith, omega arith)
+
 pub needs-smaller : goal.needs-smaller
 needs-smaller c =
-    let n : 0 < c.needs.tries = let z = c.if-tries-eq0.false in omega arith in
-    subst (λ (a : About). turns_left a (c.needs.tries - 1) c.meet.new.self.held < turns_left c.needs.self.about c.needs.tries c.needs.self.held) (sym c.meet.ensures.same.about)
-    (try_nearer c.needs.self.about c.needs.tries c.needs.self.held c.meet.new.self.held n (c.needs.tries - 1) (omega arith))
+    let left = c.needs.tries.given - c.needs.tries.vain in
+    let n : (0 < left) × (c.use_one.new.tries.given - c.use_one.new.tries.vain + 1 ≡ left) = fewer c.needs.tries c.use_one.new.tries c.use_one.ensures c.if-are_used_up.false in
+    subst (λ (a : About). turns_left a (c.use_one.new.tries.given - c.use_one.new.tries.vain) c.meet.new.self.held < turns_left c.needs.self.about left c.needs.self.held) (sym c.meet.ensures.same.about)
+    (try_nearer c.needs.self.about left c.needs.self.held c.meet.new.self.held n.0 (c.use_one.new.tries.given - c.use_one.new.tries.vain) n.1)
 
 -- what is wanted of the database's schema is wanted of the unit's
 not_ready : (known : About) (schema : Lists) (w : Work) (x : Statement) (wanted : Need) → w.about ≡ known → known.schema.value ≡ schema → IsAtWork w → IsReady w.about.schema.value w.about.capacity w.unit w.held x
@@ -68,13 +81,13 @@ turned_back x old new tries nearer none is (inr fresh) knows = let stale = subst
     false_is_not_true : false ≡ true → ⊥
     false_is_not_true same = absurd (cc)
 
-pub returns-then-tries-eq0-clause-free : goal.returns-then-tries-eq0-clause-free
-returns-then-tries-eq0-clause-free c ready =
+pub returns-then-are_used_up-clause-free : goal.returns-then-are_used_up-clause-free
+returns-then-are_used_up-clause-free c ready =
     let i = c.needs.invariant in let db = c.args.db.now in
     absurd (not_ready db.about db.schema c.needs.self c.args.statement.now c.in_ok-wanted.wanted i.belongs.about db.same i.work (i.free ready) c.in_ok-wanted.ensures.need c.if-is_ready.ensures)
 
-pub returns-then-tries-eq0-clause-alone : goal.returns-then-tries-eq0-clause-alone
-returns-then-tries-eq0-clause-alone c one some =
+pub returns-then-are_used_up-clause-alone : goal.returns-then-are_used_up-clause-alone
+returns-then-are_used_up-clause-alone c one some =
     let i = c.needs.invariant in
     let units = ap (λ (a : About). a.units) i.same.about ∙ one in
-    absurd (turned_back c.args.statement.now c.needs.self c.meet.new.self c.needs.tries c.in_ok-meet.field-0 c.if-tries-eq0.true c.if-branch.false (i.known units some) (c.in_ok-meet.ensures.alone units))
+    absurd (turned_back c.args.statement.now c.needs.self c.meet.new.self c.needs.tries c.in_ok-meet.field-0 c.if-are_used_up.true c.if-branch.false (i.known units some) (c.in_ok-meet.ensures.alone units))

@@ -12,7 +12,8 @@ use Rattle.dbtg_step.proofs.Public.{match_true, need_owners_fit, needed_not_in_h
 use Rattle.dbtg_step.specs.Core.Events.{HaveRings}
 use Rattle.dbtg_run.specs.declared.view.About.{About}
 use Rattle.dbtg_run.specs.Posed.{turns_left}
-use Rattle.dbtg_run.proofs.Units.Courses.{all_with_area, all_with_cell}
+use Rattle.dbtg_run.specs.Tries.{IsVain}
+use Rattle.dbtg_run.proofs.Units.Courses.{all_with_area, all_with_cell, same_without_area, same_without_cell}
 use Rattle.dbtg_run.proofs.Units.Needing.{area_needed, stale_needed, not_stale_then, area_nearer, cell_nearer, no_times}
 use Rattle.dbtg_run.proofs.Units.Rings.{needed_has_number, rings_turned}
 use Rattle.dbtg_run.proofs.work.Work.meet.Goals as goal
@@ -44,6 +45,19 @@ unreachable-requires c =
     let r = c.requires.work.real in
     let number = ap (λ (a : About). cell_number a.schema.value a.capacity c.in-Take.name) c.requires.belongs.about ∙ ap (λ (s : Lists). cell_number s c.args.db.now.about.capacity c.in-Take.name) c.args.db.now.same ∙ sym c.cell_number.ensures ∙ c.in-None.is in
     needed_has_number w.about w.unit w.journal.items w.held c.args.statement.now c.requires.work.ours r c.requires.fits c.requires.work.rings c.in-Take.name (sym c.in-Take.is ∙ c.requires.needed r.db r.agrees) number
+
+pub returns-in-Area-clause-vain : goal.returns-in-Area-clause-vain
+returns-in-Area-clause-vain c =
+    ok_also c.take_area.result _ _ (λ b took no. subst (λ wanted. IsVain wanted c.args.self.now.held c.take_area.new.self.held) (sym c.in-Area.is) (same_without_area b c.args.self.now.held c.take_area.new.self.held _ _ took no)) c.take_area.ensures.took
+
+pub returns-in-Some-clause-vain : goal.returns-in-Some-clause-vain
+returns-in-Some-clause-vain c =
+    ok_also c.take_cell.result _ _ (λ b took no. subst (λ wanted. IsVain wanted c.args.self.now.held c.take_cell.new.self.held) (sym c.in-Take.is) (same_without_cell b c.args.self.now.held c.take_cell.new.self.held _ took no)) c.take_cell.ensures.took
+
+pub returns-in-Stale-clause-vain : goal.returns-in-Stale-clause-vain
+returns-in-Stale-clause-vain c no =
+    subst (λ wanted. IsVain wanted c.args.self.now.held c.guess.new.self.held) (sym c.in-Stale.is)
+    (c.guess.ensures.held ∙ ap (λ (h : Hands). record h { guesses = with_owners h.guesses c.in-Stale.owners }) c.put_cells.ensures.held)
 
 pub returns-in-Area-clause-more : goal.returns-in-Area-clause-more
 returns-in-Area-clause-more c =

@@ -1,5 +1,6 @@
-use Rattle.std.proofs.Common.{ℕ, IfOk, sym, ap, ◌∙◌, subst}
+use Rattle.std.proofs.Common.{◌≡◌, ◌⊎◌, ℕ, List, [], IfOk, sym, ap, ◌∙◌, subst}
 use Rattle.dbtg_schema.specs.Lists.{Lists}
+use Rattle.dbtg_unit.specs.Hands.EditsOf.{is_delete}
 use Rattle.dbtg_unit.specs.Hands.Making.{CanFinish, MayPrepare}
 use Rattle.dbtg_step.specs.Core.Events.{HaveRings}
 use Rattle.dbtg_run.specs.declared.view.About.{About}
@@ -45,6 +46,11 @@ pub returns-clause-ready : goal.returns-clause-ready
 returns-clause-ready c =
     let w = c.args.self.now in
     ready_same w.about w.held c.prepare.new.held c.prepare.ensures.shows w.unit c.args.statement.now c.requires.ready
+
+pub returns-clause-so : goal.returns-clause-so
+returns-clause-so c =
+    let w = c.args.self.now in
+    subst (λ (areas : List ℕ). (areas ≡ []) ⊎ (w.exclusive ≡ is_delete c.args.statement.now)) (sym c.prepare.ensures.shows.areas) c.requires.so
 
 pub returns-clause-can : goal.returns-clause-can
 returns-clause-can c =

@@ -1,0 +1,24 @@
+-- What uses a try, and when none is left.
+use Rattle.std.specs.Prelude.{◌≡◌, ◌+◌, ◌≤◌, []}
+use Rattle.dbtg_unit.specs.declared.held.Need.{Need}
+use Rattle.dbtg_unit.specs.declared.held.Need.TheVariants.{Ready, Area, Take, Stale}
+use Rattle.dbtg_unit.specs.Hands.Guesses.{with_owners}
+use Rattle.dbtg_unit.specs.Hands.Hands.{Hands}
+use Rattle.dbtg_run.specs.declared.tries.Tries.{Tries}
+
+-- WHAT USES A TRY: a look in vain at what the statement needs next. An area or a cell that another unit has, and an area whose word
+-- another unit changed meanwhile, leave in hand what was there. Where guesses were wrong the statement turns back: its cells go home,
+-- and the true owners are noted, also where no try is left
+abbrev pub IsVain : Need → Hands → Hands → Type 0
+IsVain Ready old new = ⊥
+IsVain (Area a) old new = new ≡ old
+IsVain (Take c) old new = new ≡ old
+IsVain (Stale owners) old new = new ≡ record old { cells = []; guesses = with_owners old.guesses owners }
+
+-- no look was in vain for which there was no try
+abbrev pub Suffice : Tries → Type 0
+Suffice tries = tries.vain ≤ tries.given
+
+-- the first look was in vain for which there was no try
+abbrev pub AreUsedUp : Tries → Type 0
+AreUsedUp tries = tries.vain ≡ tries.given + 1
