@@ -55,7 +55,7 @@ returns-in-Some-clause-vain c =
     ok_also c.take_cell.result _ _ (λ b took no. subst (λ wanted. IsVain wanted c.args.self.now.held c.take_cell.new.self.held) (sym c.in-Take.is) (same_without_cell b c.args.self.now.held c.take_cell.new.self.held _ took no)) c.take_cell.ensures.took
 
 pub returns-in-Stale-clause-vain : goal.returns-in-Stale-clause-vain
-returns-in-Stale-clause-vain c no =
+returns-in-Stale-clause-vain c failed =
     subst (λ wanted. IsVain wanted c.args.self.now.held c.guess.new.self.held) (sym c.in-Stale.is)
     (c.guess.ensures.held ∙ ap (λ (h : Hands). record h { guesses = with_owners h.guesses c.in-Stale.owners }) c.put_cells.ensures.held)
 
