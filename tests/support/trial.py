@@ -88,7 +88,7 @@ class Trial:
             for it in batch:
                 for file, lines in it.left_out.items():
                     Path(copy, "proofs", file).write_text(without(kit.text_of(f"{copy}/proofs/{file}"), lines), "utf-8")
-            asked = [word for it in batch for path in it.paths for word in ("--only", f"{self.crate}::{path}")]
+            asked = [word for it in batch for path in it.paths for word in ("--only", path if it.refused else f"{self.crate}::{path}")]
             words = [kit.rattle(), "check", *kit.check_words(kit.crates_of(), self.crate, self.libraries, "stand_in"), *asked]
             with self.room:
                 text = subprocess.run(words, cwd=copy, stdin=subprocess.DEVNULL, stdout=subprocess.PIPE, stderr=subprocess.STDOUT, text=True, errors="replace", check=False).stdout

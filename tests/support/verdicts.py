@@ -38,9 +38,9 @@ class Said:
         self.errors = ERROR.findall(text)
 
     def names(self, edit):
-        """The functions that an edit changes, with their closures, as the lines name them."""
-        inner = tuple(f"{self.crate}::{it}::" for it in edit.closures)
-        return [it for it in self.lines if it in [f"{self.crate}::{path}" for path in edit.paths] or it.startswith(inner)]
+        """The functions that an edit changes, with their closures, or names, as the lines name them."""
+        own, inner = {f"{self.crate}::{it}" for it in edit.paths}, tuple(f"{self.crate}::{it}::" for it in edit.closures)
+        return [it for it in self.lines if it in own or it.startswith(inner) or it.endswith(tuple(f"::{path}" for path in edit.refused))]
 
     def is_shown_false(self, edit):
         """Whether values were found at which a goal of the edit is false."""

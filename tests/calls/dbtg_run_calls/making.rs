@@ -3,6 +3,7 @@
 use dbtg_cells::Mode;
 use dbtg_run::{Database, Outcome, RunUnit};
 use dbtg_schema::{AreaNo, Schema};
+use dbtg_script::read_script;
 use dbtg_unit::{Cause, Statement, Status};
 use std::alloc::Global;
 use std::test::*;
@@ -70,4 +71,28 @@ fn units_see_one_database(rt: HostRuntime) {
     let alone = both_open(rt.alloc(), Mode::ExclusiveUpdate, Mode::Retrieval);
     let conflict = Status::Refused(Cause::UsageConflict);
     assert_eq!(rt; alone, Some((Some((0, Status::Done)), Some((1, conflict)))));
+}
+
+// The number of the record that a STORE answers with, and the number in the answer that the journal has.
+fn stored(alloc: Global) -> Option<(u32, u32)> {
+    let (db, mut units) = made(alloc, 1)?;
+    let mut unit = units.pop()?;
+    let text = b"OPEN AREA MAIN USAGE-MODE IS UPDATE\nSTORE CUSTOMER CNO = 7\n";
+    let script = read_script(alloc, &db.schema, text).ok()?;
+    let mut numbers = None;
+    for statement in &script {
+        numbers = match db.execute(alloc, &mut unit, statement, 1) {
+            Outcome::Done(answer) => match (answer.key, &unit.journal().last()?.answer.key) {
+                (Some(given), Some(noted)) => Some((given.number, noted.number)),
+                _ => None,
+            },
+            _ => None,
+        };
+    }
+    numbers
+}
+
+#[test]
+fn a_store_answers_with_the_key_that_is_noted(rt: HostRuntime) {
+    assert_eq!(rt; stored(rt.alloc()), Some((1, 1)));
 }
