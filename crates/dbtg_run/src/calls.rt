@@ -81,9 +81,7 @@ impl Database {
         ensures tries { IfDone result.0 (λ _. Suffice result.1) }
     {
         let mut tries = Tries::of(64);
-        let outcome = unit
-            .work
-            .execute(alloc, self, statement, &mut tries, gate);
+        let outcome = unit.work.execute(alloc, self, statement, &mut tries, gate);
         (outcome, tries)
     }
 
