@@ -38,8 +38,12 @@ seat_send S V s = record { owned = λ d vs. ((λ vss. (tt, ((λ uss. (tt, tt)), 
 field_send : IsSend Work.the_field.row
 field_send = search (sendable, crosses, seat_send, cell_send, entry_send, held_send) depth 60 fits 20000
 
+work_send : IsSend Work.the_row
+work_send = search (sendable, crosses, field_send, seat_send, cell_send, entry_send, held_send) depth 60 fits 20000
+
+-- a unit's one field is a box of its work
 fields_send : IsSend inside.the_row
-fields_send = recorded_send inside.the_field.row _ _ inside.the_type.to_one (struct_send (shape inside.the_type) (field_send, tt))
+fields_send = recorded_send inside.the_field.row _ _ inside.the_type.to_one (struct_send (shape inside.the_type) (search (sendable, crosses, work_send, field_send) depth 60 fits 20000, tt))
 
 pub unit_send : IsSend RunUnit.the_row
 unit_send = view_send _ _ _ _ _ fields_send

@@ -1,8 +1,14 @@
-use Rattle.std.proofs.Common.{◌∙◌, subst}
+use Rattle.std.proofs.Common.{◌∙◌, subst, arith}
 use Rattle.dbtg_run.specs.Running.{IsRun}
 use Rattle.dbtg.specs.Threading.{IsHistoryOfAll}
 use Rattle.dbtg.proofs.OnThreads.{history_of_all}
 use Rattle.dbtg.proofs.threads.run_of.Goals as goal
+
+pub run_units-requires-clause-belong : goal.run_units-requires-clause-belong
+run_units-requires-clause-belong g c κs within = c.in_ok-db.ensures.belong
+
+pub run_units-requires-clause-scripts : goal.run_units-requires-clause-scripts
+run_units-requires-clause-scripts g c κs within = let e = c.in_ok-db.ensures.count in omega arith
 
 pub returns-in-Ok-clause-history : goal.returns-in-Ok-clause-history
 returns-in-Ok-clause-history g c =
