@@ -6,7 +6,7 @@ use dbtg_cells::{Cell, CellName, Owner, Ring, Slot, Usage};
 use dbtg_schema::{AreaNo, RecordNo, Row, Schema, SetNo};
 use dbtg_unit::{
     Answer, CellEdit, Edit, Held, Owners, Place, Prepared, Status, Unit, UnitEdit, finish,
-    has_next_versions, reserve_member, reserve_user,
+    reserve_member, reserve_user,
 };
 use std::alloc::{AllocError, Global};
 use std::test::*;
@@ -72,7 +72,6 @@ fn room_is_made(rt: HostRuntime) -> Result<(), Fail> {
     reserve_user(&mut held, &usage_name())?;
     assert!(rt; has_room(&held) && has_user_room(&held));
     assert_eq!(rt; held.cells().len(), 3);
-    assert!(rt; has_next_versions(&held));
     Ok(())
 }
 
