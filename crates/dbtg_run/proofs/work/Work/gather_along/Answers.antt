@@ -54,12 +54,18 @@ fewer old new is left =
     let given = ap (λ (t : Tries). t.given) is in let vain = ap (λ (t : Tries). t.vain) is in
     (omega arith, omega arith)
 
+-- no look in vain is left after the first for which there was no try
+none_left : (old new : Tries) → new ≡ record old { vain = old.vain + 1 } → new.given < new.vain → old.given - old.vain ≡ 0
+none_left old new is over =
+    let given = ap (λ (t : Tries). t.given) is in let vain = ap (λ (t : Tries). t.vain) is in
+    omega arith
+
 pub needs-smaller : goal.needs-smaller
 needs-smaller c =
     let left = c.needs.tries.given - c.needs.tries.vain in
-    let n : (0 < left) × (c.use_one.new.tries.given - c.use_one.new.tries.vain + 1 ≡ left) = fewer c.needs.tries c.use_one.new.tries c.use_one.ensures c.if-are_used_up.false in
-    subst (λ (a : About). turns_left a (c.use_one.new.tries.given - c.use_one.new.tries.vain) c.meet.new.self.held < turns_left c.needs.self.about left c.needs.self.held) (sym c.meet.ensures.same.about)
-    (try_nearer c.needs.self.about left c.needs.self.held c.meet.new.self.held n.0 (c.use_one.new.tries.given - c.use_one.new.tries.vain) n.1)
+    let n : (0 < left) × (c.use_one.new.self.given - c.use_one.new.self.vain + 1 ≡ left) = fewer c.needs.tries c.use_one.new.self c.use_one.ensures c.if-are_used_up.ensures in
+    subst (λ (a : About). turns_left a (c.use_one.new.self.given - c.use_one.new.self.vain) c.meet.new.self.held < turns_left c.needs.self.about left c.needs.self.held) (sym c.meet.ensures.same.about)
+    (try_nearer c.needs.self.about left c.needs.self.held c.meet.new.self.held n.0 (c.use_one.new.self.given - c.use_one.new.self.vain) n.1)
 
 -- what is wanted of the database's schema is wanted of the unit's
 not_ready : (known : About) (schema : Lists) (w : Work) (x : Statement) (wanted : Need) → w.about ≡ known → known.schema.value ≡ schema → IsAtWork w → IsReady w.about.schema.value w.about.capacity w.unit w.held x
@@ -90,4 +96,4 @@ pub returns-then-are_used_up-clause-alone : goal.returns-then-are_used_up-clause
 returns-then-are_used_up-clause-alone c one some =
     let i = c.needs.invariant in
     let units = ap (λ (a : About). a.units) i.same.about ∙ one in
-    absurd (turned_back c.args.statement.now c.needs.self c.meet.new.self c.needs.tries c.in_ok-meet.field-0 c.if-are_used_up.true c.if-branch.false (i.known units some) (c.in_ok-meet.ensures.alone units))
+    absurd (turned_back c.args.statement.now c.needs.self c.meet.new.self (c.needs.tries.given - c.needs.tries.vain) c.in_ok-meet.field-0 (none_left c.needs.tries c.use_one.new.self c.use_one.ensures c.if-are_used_up.ensures) c.if-branch.false (i.known units some) (c.in_ok-meet.ensures.alone units))
