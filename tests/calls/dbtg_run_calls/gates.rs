@@ -21,12 +21,15 @@ fn make(alloc: Global, db: &Database, unit: &mut RunUnit, text: &[u8], tries: u3
     Some(db.execute(alloc, unit, last, tries))
 }
 
-// A database on SHOP with two units that have made their scripts.
-fn begun(alloc: Global) -> Option<(Database, RunUnit, RunUnit)> {
+// The second unit takes the first one's item to another order.
+const MOVE: &[u8] = b"OPEN AREA MAIN USAGE-MODE IS UPDATE\nOPEN AREA SIDE USAGE-MODE IS UPDATE\nFIND KEY ORDR:2\nFIND KEY ITEM:1 SUPPRESS LINES\nREMOVE FROM LINES\nINSERT INTO LINES\n";
+
+// A database on SHOP with two units that have made their scripts, the second this one.
+fn begun(alloc: Global, second_text: &[u8]) -> Option<(Database, RunUnit, RunUnit)> {
     let (db, mut units) = Database::make(alloc, Schema::read(alloc, SHOP).ok()?, 10, 2).ok()?;
     let (mut second, mut first) = (units.pop()?, units.pop()?);
     make(alloc, &db, &mut first, FIRST, 8)?;
-    make(alloc, &db, &mut second, SECOND, 8)?;
+    make(alloc, &db, &mut second, second_text, 8)?;
     Some((db, first, second))
 }
 
@@ -66,7 +69,7 @@ type Seen = (Option<Told>, Option<Told>, bool, bool, u64);
 
 // The first unit makes a statement, and the second one of its own at each of its points.
 fn seen(alloc: Global, first_text: &[u8], second_text: &[u8]) -> Option<Seen> {
-    let (db, mut first, second) = begun(alloc)?;
+    let (db, mut first, second) = begun(alloc, SECOND)?;
     let statements = script(alloc, &db, first_text)?;
     let watch = Watch {
         alloc,
@@ -96,10 +99,10 @@ fn two_units_share_an_area(rt: HostRuntime) {
     assert_eq!(rt; (at_the_ticket, at_the_answer), (true, true));
 }
 
-// What becomes of the first unit's REMOVE with so many tries, made as often as is said. Its guess of the owner is wrong at first: it
-// stored another line last.
+// What becomes of the first unit's REMOVE with so many tries, made as often as is said. Its guess of the owner is wrong at first, since
+// the second unit has moved the item.
 fn removes(alloc: Global, tries: u32, count: usize) -> Option<Outcome> {
-    let (db, mut first, _) = begun(alloc)?;
+    let (db, mut first, _) = begun(alloc, MOVE)?;
     let statements = script(alloc, &db, REMOVE)?;
     for _ in 1..count {
         db.execute(alloc, &mut first, statements.first()?, tries);
@@ -151,7 +154,7 @@ impl Gate for Hold {
 
 // Whether both are done: the first unit's REMOVE, held at its ticket, and the second's DELETE with so many tries, which wants its areas.
 fn both_done<R: Threads + Sync>(rt: &R, alloc: Global, tries: u32) -> Option<(bool, bool)> {
-    let (db, first, second) = begun(alloc)?;
+    let (db, first, second) = begun(alloc, SECOND)?;
     let (remove, delete) = (script(alloc, &db, REMOVE)?, script(alloc, &db, DELETE)?);
     let hold = Hold { is_held: AtomicBool::new(false), is_wanted: AtomicBool::new(false) };
     let (db, hold, remove, delete) = (&db, &hold, remove.first()?, delete.first()?);
