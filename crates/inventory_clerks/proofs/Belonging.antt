@@ -29,7 +29,19 @@ last_two_belong db units others rest second first v u is less second_is first_is
     let part : others ≡ rest ++ u ∷ [] = subst (λ o. others ≡ rest ++ option_to_list o) first_is less in
     (last_belongs db others rest u part (others_belong db units others v whole all), last_belongs db units others v whole all)
 
+-- a database for two has as many
+pub opened_two : (table : TableId) (about : About) (units : List UnitView) → units ≡ opening_views table about 2 → length units ≡ 2
+opened_two table about units is = ap length is
+
 pub both_belong : (db : Database) (a b : UnitView) → BelongsTo db a → BelongsTo db b → All (BelongsTo db) (a ∷ b ∷ [])
 both_belong db a b p q zero d below = p
 both_belong db a b p q (suc zero) d below = q
 both_belong db a b p q (suc (suc k)) d below = absurd (omega arith)
+
+views_belong : (db : Database) (numbers : List ℕ) → All (BelongsTo db) (map (opening_view db.board.shared.table_id db.about) numbers)
+views_belong db [] k d below = absurd (omega arith)
+views_belong db (n ∷ numbers) zero d below = record { about = refl; table = refl }
+views_belong db (n ∷ numbers) (suc k) d below = views_belong db numbers k d (omega arith)
+
+pub opened_belong : (db : Database) (units : List UnitView) (count : ℕ) → units ≡ opening_views db.board.shared.table_id db.about count → All (BelongsTo db) units
+opened_belong db units count is = subst (All (BelongsTo db)) (sym is) (views_belong db (range_with_len 1 count))
