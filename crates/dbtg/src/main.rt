@@ -131,7 +131,11 @@ fn print_turns(rt: &HostRuntime, call: &Call) -> ExitCode {
         Order::Turns(path) => path,
         _ => "",
     };
-    let paths = paths_of(call.schema, call.scripts.as_slice(), Order::Turns(turns));
+    let paths = Paths {
+        schema: call.schema,
+        scripts: call.scripts.as_slice(),
+        order: Order::Turns(turns),
+    };
     let files = Files {
         reader: rt,
         paths: &paths,
@@ -141,7 +145,11 @@ fn print_turns(rt: &HostRuntime, call: &Call) -> ExitCode {
 }
 
 fn tell_outcomes(rt: &HostRuntime, call: &Call) -> ExitCode {
-    let paths = paths_of(call.schema, call.scripts.as_slice(), Order::Serial);
+    let paths = Paths {
+        schema: call.schema,
+        scripts: call.scripts.as_slice(),
+        order: Order::Serial,
+    };
     let files = Files {
         reader: rt,
         paths: &paths,
