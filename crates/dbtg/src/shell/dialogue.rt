@@ -48,7 +48,7 @@ fn next_line<B: BufRead>(input: &mut B, line: &mut Vec<u8>) -> io::Result<Option
 #[derive(Drop)]
 pub enum Broken {
     NotRead,
-    NotWritten,
+    NotWritten(io::Error),
     Memory,
 }
 
@@ -59,10 +59,7 @@ impl From<AllocError> for Broken {
 }
 
 fn write(rt: &HostRuntime, text: &[u8]) -> Result<(), Broken> {
-    match io::writer(rt).write_all(text) {
-        Ok(()) => Ok(()),
-        Err(_) => Err(Broken::NotWritten),
-    }
+    io::writer(rt).write_all(text).map_err(Broken::NotWritten)
 }
 
 // A terminal is shown whose turn it is.
