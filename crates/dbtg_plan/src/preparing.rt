@@ -1,6 +1,7 @@
 //! What a statement prepares once it needs nothing more: its answer and its changes, with room for all of them.
 ghost use Rattle.std.specs.Prelude.{◌≡◌, false, IfOk};
 ghost use Rattle.dbtg_unit.specs.Hands.EditsOf.{is_delete};
+ghost use Rattle.dbtg_unit.specs.Hands.Locality.{IsMadeOnEach, made_by};
 ghost use Rattle.dbtg_unit.specs.Hands.Making.{CanFinish, MayPrepare, ShowsTheSame};
 
 use crate::finding::prepare_find;
@@ -29,6 +30,7 @@ pub fn prepare(
     requires other { is_delete statement.now ≡ false }
     ensures shows { ShowsTheSame held.old held.new }
     ensures prepared { IfOk result (λ plan. CanFinish schema.now capacity unit.now held.new statement.now plan) }
+    ensures made { IfOk result (λ plan. IsMadeOnEach schema.now capacity unit.now held.old statement.now (made_by schema.now unit.now held.new plan)) }
 {
     if let Some(cause) = refused_at_once(schema, capacity, unit, statement) {
         return Ok(refused(alloc, cause));

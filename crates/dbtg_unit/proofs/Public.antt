@@ -320,6 +320,8 @@ pub use Rattle.dbtg_unit.proofs.Hands.Reading.ReadyParts.{HasAll}
 pub use Rattle.dbtg_unit.proofs.Hands.Reading.ReadyParts.{prepared_has_all}
 -- hands that show the same agree with the same databases
 pub use Rattle.dbtg_unit.proofs.Hands.Reading.SameHands.{agrees_same}
+-- cells that show the same are, where the others are, as the database has them
+pub use Rattle.dbtg_unit.proofs.Hands.Reading.SameHands.{all_agree_same}
 -- hands that show the same hold the same cells
 pub use Rattle.dbtg_unit.proofs.Hands.Reading.SameHands.{holds_same}
 -- who may prepare a statement with hands may with others that show the same
@@ -430,6 +432,10 @@ pub use Rattle.dbtg_unit.proofs.Hands.Untouched.LocalReady.{modify_typed}
 pub use Rattle.dbtg_unit.proofs.Hands.Untouched.LocalStatements.{names_once_complete}
 -- a new key is not live
 pub use Rattle.dbtg_unit.proofs.Hands.Untouched.LocalStore.{new_is_fresh}
+-- the cells in hand after a plan that is the effect show what the database has after it
+pub use Rattle.dbtg_unit.proofs.Hands.Untouched.MadeOnEach.{cells_made}
+-- a plan that can be finished makes the statement on every database of which the cells in hand are
+pub use Rattle.dbtg_unit.proofs.Hands.Untouched.MadeOnEach.{plan_makes}
 -- WHAT IS HELD WHILE EDITS ARE MADE
 
 -- a cell of a name is there where one is held
