@@ -33,8 +33,8 @@ use Rattle.dbtg_unit.specs.Database.State.Legal.{Legal}
 use Rattle.dbtg_unit.specs.Hands.Needs.{cells_of, find_cells, found_slot, store_cells, store_rings}
 use Rattle.dbtg_unit.specs.Database.State.Units.{place_in}
 use Rattle.dbtg_unit.proofs.Public.{In, in_map}
+use Rattle.dbtg_unit.proofs.Public.{find_none_of}
 use Rattle.dbtg_step.specs.Machine.Network.{is_delete}
-use Rattle.dbtg_step.proofs.Network.NeededCells.{find_none_of}
 use Rattle.dbtg_step.proofs.Network.SameCells.{area_keys_same, free_same, items_same, keyed_same, lists_same, live_same, new_same, taken_same, with_calc_same, with_key}
 
 -- where none of the first list passes, what is found behind it counts

@@ -2,7 +2,7 @@ use Rattle.std.proofs.Common.{sym, ◌∙◌, subst}
 use Rattle.dbtg_unit.specs.Hands.Making.{CanFinish}
 use Rattle.dbtg_unit.specs.Hands.Prepared.{Plan}
 use Rattle.dbtg_plan.proofs.Plans.PartByPart.{refused_finishes}
-use Rattle.dbtg_plan.proofs.preparing.prepare.Goals as goal
+use Rattle.dbtg_plan.proofs.preparing.planned.Goals as goal
 
 pub returns-in-Some-clause-prepared : goal.returns-in-Some-clause-prepared
 returns-in-Some-clause-prepared c =

@@ -34,10 +34,11 @@ use Rattle.dbtg_unit.specs.Database.Statements.Found.{found, has_type, keys_in_a
 use Rattle.dbtg_unit.specs.Database.State.Legal.{Legal}
 use Rattle.dbtg_unit.specs.Hands.Needs.{cells_of, current_owner, find_cells, found_slot, ring_names, slot_names, store_cells, store_rings}
 use Rattle.dbtg_unit.specs.Database.State.Units.{key_of_owner, key_of_place, place_in}
-use Rattle.dbtg_unit.proofs.Public.{In, all_in, any_element, any_in, find_element, in_filter, in_map, in_member, in_range, of_filter, of_flat_map}
-use Rattle.dbtg_unit.proofs.Public.{of_live_keys, of_map}
-use Rattle.dbtg_step.specs.Machine.Network.{is_delete}
-use Rattle.dbtg_step.proofs.Network.FoundKeys.{chosen_in, chosen_by_key_in, current_is, first_is_in, first_of_filter, found_is}
+use Rattle.dbtg_unit.proofs.Database.Records.LiveKeys.{in_member, of_live_keys}
+use Rattle.dbtg_unit.proofs.Hands.Taking.FoundKeys.{chosen_by_key_in, chosen_in, current_is, first_is_in, first_of_filter, found_is}
+use Rattle.dbtg_unit.proofs.Lists.Agreeing.{all_in}
+use Rattle.dbtg_unit.proofs.Lists.Membership.{In, any_element, any_in, find_element, in_filter, in_map, in_range, of_filter, of_flat_map, of_map}
+use Rattle.dbtg_unit.specs.Hands.EditsOf.{is_delete}
 
 -- LISTS OF WHICH ALL PASS
 
