@@ -23,12 +23,11 @@ use Rattle.dbtg_unit.specs.Hands.Hands.{Hands}
 use Rattle.dbtg_unit.specs.Hands.InHand.{in_hand}
 use Rattle.dbtg_unit.specs.Hands.Local.{Agrees}
 use Rattle.dbtg_unit.specs.Hands.Locality.{DoTheSame}
-use Rattle.dbtg_unit.specs.Hands.Needs.{areas_in_order, cells_of, need}
+use Rattle.dbtg_unit.specs.Hands.Needs.{areas_in_order, cells_of, first_missing, need}
 use Rattle.dbtg_unit.proofs.Public.{HasPlan, MayPlan, one_plan_does_the_same}
 use Rattle.dbtg_unit.specs.Hands.Prepared.{refusal, unless_refusal}
 use Rattle.dbtg_plan.specs.Finding.{found_in, plan_of_found}
 use Rattle.dbtg_plan.specs.Locality.{EachIsDetermined}
-use Rattle.dbtg_plan.specs.Missing.{first_missing}
 use Rattle.dbtg_plan.specs.Store.{store_plan}
 use Rattle.dbtg_unit.specs.Hands.PlanOf.{plan_of}
 use Rattle.dbtg_plan.proofs.Plans.EffectIsPlan.{effect_in_hand}

@@ -1,7 +1,7 @@
 -- STORE, read off the cells in hand: the cells that it needs; what it does; and then, set by set as the code goes, the occurrences that
 -- it opens and its room.
 -- k is the key of the new record, s a set, t its record type, c the name of a cell.
-use Rattle.std.specs.Prelude.{◌≡◌, ℕ, Bool, true, false, ◌==◌, List, [], ◌∷◌, ◌++◌, Option, Some, None, if◌then◌else◌, unwrap_or}
+use Rattle.std.specs.Prelude.{◌≡◌, ℕ, true, List, [], ◌∷◌, Option, Some, None, unwrap_or}
 use Rattle.std.specs.List.{list_any}
 use Rattle.dbtg_schema.specs.Lists.{Lists}
 use Rattle.dbtg_schema.specs.Lookups.{first, first_cause}
@@ -24,30 +24,17 @@ use Rattle.dbtg_unit.specs.Database.State.CellNames.{place_of, slot_name}
 use Rattle.dbtg_unit.specs.Hands.EditsOf.{first_owners, store_edits}
 use Rattle.dbtg_unit.specs.Hands.Hands.{Hands}
 use Rattle.dbtg_unit.specs.Hands.InHand.{numbers_in, in_hand, next_key_of}
-use Rattle.dbtg_unit.specs.Hands.Needs.{current_owner, ring_names, store_rings}
+use Rattle.dbtg_unit.specs.Hands.Needs.{first_missing, store_cells}
 use Rattle.dbtg_unit.specs.Hands.Prepared.{Plan, unless_refusal}
 use Rattle.dbtg_unit.specs.Hands.Reserving.{CanTakeMember, OfHeld}
 use Rattle.dbtg_plan.specs.Calc.{fresh_key}
 use Rattle.dbtg_unit.specs.Database.Statements.Conditions.{joined_place}
-use Rattle.dbtg_plan.specs.Missing.{first_missing}
 
 -- WHAT IT NEEDS
 
--- its rings in set s: the current owner's where it is connected, its own where it is the owner
-abbrev pub store_rings_in : Lists → Unit → DbKey → ℕ → List CellName
-store_rings_in schema unit k s =
-    (if list_any (λ s'. s' == s) (automatic_sets schema k.rtype) then ring_names s (current_owner schema unit s) else [])
-    ++ (if owns schema s k.rtype then Ring s (Some (k.rtype, k.number)) ∷ [] else [])
-
--- its cells beside its extent; none where there is no key, or its CALC items are taken
-abbrev pub cells_of_key : Lists → Unit → Option DbKey → Bool → List CellName
-cells_of_key schema unit None taken = []
-cells_of_key schema unit (Some k) true = []
-cells_of_key schema unit (Some k) false = store_rings schema unit k ++ slot_name k ∷ []
-
 -- its cells, by the numbers of its type
 abbrev pub store_cells_in : Lists → Unit → Hands → ℕ → List Value → List CellName
-store_cells_in schema unit hands t items = Extent t ∷ cells_of_key schema unit (fresh_key (numbers_in hands t) t) (calc_taken schema (in_hand hands) t items None)
+store_cells_in schema unit hands t items = Extent t ∷ store_cells schema unit (fresh_key (numbers_in hands t) t) (calc_taken schema (in_hand hands) t items None)
 
 -- the first of them that is not in hand
 abbrev pub missing_of_store : Lists → Unit → Hands → ℕ → List Value → Option CellName

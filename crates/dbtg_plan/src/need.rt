@@ -8,8 +8,7 @@ ghost use Rattle.dbtg_unit.specs.Hands.EditsOf.{is_delete};
 ghost use Rattle.dbtg_unit.specs.Database.Statements.Fits.{fits};
 ghost use Rattle.dbtg_unit.specs.Hands.Local.{Agrees};
 ghost use Rattle.dbtg_unit.specs.Hands.NeedOrder.{IsAbove, IsInHeldArea, IsInTurn};
-ghost use Rattle.dbtg_unit.specs.Hands.Needs.{cells_of, need};
-ghost use Rattle.dbtg_plan.specs.Missing.{first_missing};
+ghost use Rattle.dbtg_unit.specs.Hands.Needs.{cells_of, first_missing, need};
 
 use crate::finding::next_cell_of_find;
 use crate::inserting::next_cell_of_insert;

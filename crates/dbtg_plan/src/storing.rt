@@ -12,11 +12,10 @@ ghost use Rattle.dbtg_unit.specs.Hands.EditsOf.{first_owners, joining_edits, slo
 ghost use Rattle.dbtg_unit.specs.Hands.InHand.{numbers_in, in_hand};
 ghost use Rattle.dbtg_unit.specs.Hands.Local.{Agrees};
 ghost use Rattle.dbtg_unit.specs.Hands.Making.{CanFinish, MayPrepare, ShowsTheSame};
-ghost use Rattle.dbtg_unit.specs.Hands.Needs.{cells_of, current_owner, ring_names, store_rings};
+ghost use Rattle.dbtg_unit.specs.Hands.Needs.{cells_of, current_owner, first_missing, ring_names, store_rings, store_rings_of};
 ghost use Rattle.dbtg_unit.specs.Hands.Prepared.{unless_refusal};
 ghost use Rattle.dbtg_plan.specs.Calc.{fresh_key};
-ghost use Rattle.dbtg_plan.specs.Missing.{first_missing};
-ghost use Rattle.dbtg_plan.specs.Store.{HasRoom, missing_of_store, opening_edit, store_plan, store_rings_in, stored_plan};
+ghost use Rattle.dbtg_plan.specs.Store.{HasRoom, missing_of_store, opening_edit, store_plan, stored_plan};
 
 use crate::calc::{copy_calc, fresh_key, is_calc_taken};
 use crate::joining::{current_owner, joining_edit, make_room, place_refusal};
@@ -73,7 +72,7 @@ fn missing_in_set(
     key: &DbKey,
     set: SetNo,
 ) -> Option<CellName>
-    ensures { result ≡ first_missing held.now (store_rings_in schema.now unit.now key.now set) }
+    ensures { result ≡ first_missing held.now (store_rings_of schema.now unit.now key.now set) }
 {
     let joined = missing_joined(schema, unit, held, key, set);
     if joined.is_some() {

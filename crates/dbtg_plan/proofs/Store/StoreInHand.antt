@@ -31,7 +31,7 @@ use Rattle.dbtg_unit.specs.Hands.Hands.{Hands}
 use Rattle.dbtg_unit.specs.Hands.InHand.{in_hand, numbers_in}
 use Rattle.dbtg_unit.specs.Database.State.Legal.{Legal}
 use Rattle.dbtg_unit.specs.Hands.Local.{Agrees, holds}
-use Rattle.dbtg_unit.specs.Hands.Needs.{cells_of, current_owner, ring_names, store_cells, store_rings}
+use Rattle.dbtg_unit.specs.Hands.Needs.{cells_of, current_owner, first_missing, ring_names, store_cells, store_rings}
 use Rattle.dbtg_unit.specs.Hands.Prepared.{IsEffect, unless_refusal}
 use Rattle.dbtg_unit.specs.Database.State.Units.{owners_of, place_in, seen_with}
 use Rattle.dbtg_unit.proofs.Public.{In, MayPlan, any_in, calc_taken_agrees, free_in_hand, holds_any, in_flat_map, in_left, legal_after, new_key_in_hand}
@@ -39,8 +39,7 @@ use Rattle.dbtg_unit.proofs.Public.{no_number_passes, numbers_in_hand, of_filter
 use Rattle.dbtg_unit.proofs.Public.{same_numbers, same_occurrence, some_from_not_none, store_checks_agree, store_found}
 use Rattle.dbtg_plan.specs.Calc.{fresh_key}
 use Rattle.dbtg_unit.specs.Database.Statements.Conditions.{joined_place}
-use Rattle.dbtg_plan.specs.Missing.{first_missing}
-use Rattle.dbtg_plan.specs.Store.{cells_of_key, missing_of_store, store_cells_in, store_plan, stored_key, stored_plan}
+use Rattle.dbtg_plan.specs.Store.{missing_of_store, store_cells_in, store_plan, stored_key, stored_plan}
 use Rattle.dbtg_plan.proofs.Plans.IsEffect.{done_is_effect, effect_is_on_cells, refusal_is_effect}
 
 -- CELLS
@@ -51,13 +50,6 @@ missing_first hands c xs ys free =
     let h : list_any (λ e. name_eq c e.0) hands.cells ≡ false = holds_any hands.cells c ∙ free in
     ap (λ b. cond (not b) (Some c) (first_missing hands xs)) h ∙ sym (ap (λ b. cond (not b) (Some c) (first_missing hands ys)) h)
 
--- the key of a new record decides the cells
-cells_by_key : (schema : Lists) (unit : Unit) (capacity : ℕ) (db : Database) (t : ℕ) (o : Option ℕ) (taken : Bool)
-    → store_cells schema unit capacity db t o taken ≡ cells_of_key schema unit (option_map (new_key db t) o) taken
-cells_by_key schema unit capacity db t None taken = refl
-cells_by_key schema unit capacity db t (Some n) true = refl
-cells_by_key schema unit capacity db t (Some n) false = refl
-
 module _ (schema : Lists) (capacity : ℕ) (unit : Unit) (hands : Hands) (t : ℕ) (items : List Value) where
   module _ (db : Database) (agrees : Agrees schema capacity db hands unit) (extent : holds hands.cells (Extent t) ≡ true) where
     fresh_in_hand : option_map (new_key db t) (free_number capacity db t) ≡ fresh_key (numbers_in hands t) t
@@ -67,9 +59,7 @@ module _ (schema : Lists) (capacity : ℕ) (unit : Unit) (hands : Hands) (t : �
 
     cells_in_hand : (guesses : List (Option Owner)) (suppress : Suppress) → cells_of schema capacity db unit guesses (Store t items suppress) ≡ store_cells_in schema unit hands t items
     cells_in_hand guesses suppress =
-        ap (λ cs. Extent t ∷ cs)
-        (cells_by_key schema unit capacity db t (free_number capacity db t) (calc_taken schema (whole schema capacity db) t items None)
-        ∙ (λ i. cells_of_key schema unit (fresh_in_hand i) (sym (calc_taken_agrees (in_hand hands) (whole schema capacity db) unit schema t items None (same_numbers schema capacity db hands unit agrees t extent).has_calc) i)))
+        λ i. Extent t ∷ store_cells schema unit (fresh_in_hand i) (sym (calc_taken_agrees (in_hand hands) (whole schema capacity db) unit schema t items None (same_numbers schema capacity db hands unit agrees t extent).has_calc) i)
 
   -- what is missing is the first cell of the statement that is not in hand
   pub missing_in_hand : (db : Database) → Agrees schema capacity db hands unit → (guesses : List (Option Owner)) (suppress : Suppress)
@@ -108,7 +98,7 @@ module _ (schema : Lists) (capacity : ℕ) (unit : Unit) (hands : Hands) (t : �
     all_held room untaken c i =
         let n = some_from_not_none (free_number capacity db t) room in
         let is : n.0 ≡ number = ap (λ (o : Option ℕ). unwrap_or o 0) (sym n.1) in
-        held c (subst (λ (cs : List CellName). In c (Extent t ∷ cs)) (λ j. store_cells schema unit capacity db t (sym n.1 j) (sym untaken j)) (subst (λ m. In c (Extent t ∷ (store_rings schema unit (new_key db t m) ++ slot_name (new_key db t m) ∷ []))) (sym is) i))
+        held c (subst (λ (cs : List CellName). In c (Extent t ∷ cs)) (λ j. store_cells schema unit (option_map (new_key db t) (sym n.1 j)) (sym untaken j)) (subst (λ m. In c (Extent t ∷ (store_rings schema unit (new_key db t m) ++ slot_name (new_key db t m) ∷ []))) (sym is) i))
 
     joined_held : is_none (free_number capacity db t) ≡ false → calc_taken schema (whole schema capacity db) t items None ≡ false → (s : ℕ) → In s (automatic_sets schema t)
         → holds hands.cells (Ring s (place_of (joined_place schema unit s).owner)) ≡ true

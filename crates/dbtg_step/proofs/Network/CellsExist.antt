@@ -279,7 +279,7 @@ module _ (schema : Lists) (capacity : ℕ) (sound : IsSound schema) (db : Databa
       own_exist : (s : ℕ) → all_exist schema capacity (own s) ≡ true
       own_exist s = cond_both (owns schema s k.rtype) _ _ (λ cs. all_exist schema capacity cs ≡ true) (λ e. and_from _ _ (and_from _ _ e number) refl) (λ e. refl)
 
-  store_cells_exist : (t : ℕ) → is_type schema t ≡ true → (o : Option ℕ) → ((n : ℕ) → o ≡ Some n → is_number capacity n ≡ true) → (taken : Bool) → all_exist schema capacity (store_cells schema unit capacity db t o taken) ≡ true
+  store_cells_exist : (t : ℕ) → is_type schema t ≡ true → (o : Option ℕ) → ((n : ℕ) → o ≡ Some n → is_number capacity n ≡ true) → (taken : Bool) → all_exist schema capacity (store_cells schema unit (option_map (new_key db t) o) taken) ≡ true
   store_cells_exist t h None g taken = refl
   store_cells_exist t h (Some n) g true = refl
   store_cells_exist t h (Some n) g false =

@@ -121,17 +121,13 @@ module _ (schema : Lists) (capacity : ℕ) (db eb : Database) (ldb : Legal schem
   find_stable (NextDuplicate r) = next_duplicate r _ refl
   find_stable (Sorted v s) = sorted v s _ refl
 
-  store_stable : (t : ℕ) (items : List Value) → find p (Extent t ∷ store_cells schema unit capacity db t (free_number capacity db t) (calc_taken schema (whole schema capacity db) t items None)) ≡ find p (Extent t ∷ store_cells schema unit capacity eb t (free_number capacity eb t) (calc_taken schema (whole schema capacity eb) t items None))
+  store_stable : (t : ℕ) (items : List Value) → find p (Extent t ∷ store_cells schema unit (option_map (new_key db t) (free_number capacity db t)) (calc_taken schema (whole schema capacity db) t items None))
+      ≡ find p (Extent t ∷ store_cells schema unit (option_map (new_key eb t) (free_number capacity eb t)) (calc_taken schema (whole schema capacity eb) t items None))
   store_stable t items = find_join p (Extent t ∷ []) _ _ (λ n.
       let c = alike_one (Extent t) n in
       let free = free_same schema capacity db eb ldb leb t c in
       let taken = taken_same schema capacity db eb ldb leb t c items None in
-      ap (find p) (stored c (free_number capacity db t) (calc_taken schema (whole schema capacity db) t items None) ∙ λ i. store_cells schema unit capacity eb t (free i) (taken i)))
-    where
-      stored : (c : cell schema capacity db (Extent t) ≡ cell schema capacity eb (Extent t)) (n : Option ℕ) (b : Bool) → store_cells schema unit capacity db t n b ≡ store_cells schema unit capacity eb t n b
-      stored c None b = refl
-      stored c (Some n) true = refl
-      stored c (Some n) false = ap (λ k. store_rings schema unit k ++ slot_name k ∷ []) (new_same schema capacity db eb ldb leb t c n)
+      λ i. find p (store_cells schema unit (option_map (λ m. new_same schema capacity db eb ldb leb t c m i) (free i)) (taken i)))
 
   pub cells_stable : (g : List (Option Owner)) (x : Statement) → is_delete x ≡ false → find p (cells_of schema capacity db unit g x) ≡ find p (cells_of schema capacity eb unit g x)
   cells_stable g (OpenArea a mode) d = refl

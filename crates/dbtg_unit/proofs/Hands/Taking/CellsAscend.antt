@@ -242,10 +242,10 @@ module _ (schema : Lists) (sound : IsSound schema) (capacity : ℕ) (db : Databa
   one_extent t c (inl e) = (t, sym e)
   one_extent t c (inr i) = absurd i
 
-  store_ascends : (t : ℕ) (n : Option ℕ) (b : Bool) → pairwise name_lt (Extent t ∷ store_cells schema unit capacity db t n b) ≡ true
+  store_ascends : (t : ℕ) (key : Option DbKey) (b : Bool) → pairwise name_lt (Extent t ∷ store_cells schema unit key b) ≡ true
   store_ascends t None b = refl
-  store_ascends t (Some n) true = refl
-  store_ascends t (Some n) false = in_kinds (Extent t ∷ []) (store_rings schema unit (new_key db t n)) (slot_name (new_key db t n) ∷ []) refl (one_extent t) (store_rings_ascend (new_key db t n)) (store_rings_are (new_key db t n)) refl refl
+  store_ascends t (Some k) true = refl
+  store_ascends t (Some k) false = in_kinds (Extent t ∷ []) (store_rings schema unit k) (slot_name k ∷ []) refl (one_extent t) (store_rings_ascend k) (store_rings_are k) refl refl
 
   modify_ascends : (g : List (Option Owner)) (t : ℕ) (named : List ℕ) (calc : Bool) → pairwise name_lt ((if calc then Extent t ∷ [] else []) ++ flat_map (λ s. ring_names s (at g s)) (rekeyed_sets schema t named) ++ slot_names unit.currency.run_unit) ≡ true
   modify_ascends g t named calc =
