@@ -186,8 +186,8 @@ pub use Rattle.dbtg_unit.proofs.Database.Legal.PassedChecks.{passes_each}
 pub use Rattle.dbtg_unit.proofs.Database.Legal.SameView.{calc_taken_agrees}
 -- the same occurrence and key have the same checks at a place
 pub use Rattle.dbtg_unit.proofs.Database.Legal.SameView.{checks_at_agree}
--- a record is the same in two views, and an occurrence
-pub use Rattle.dbtg_unit.proofs.Database.Legal.SameView.{SameRecord, SameOccurrence}
+-- a record is the same in two views, an occurrence, and the numbers of a type
+pub use Rattle.dbtg_unit.proofs.Database.Legal.SameView.{SameNumbers, SameOccurrence, SameRecord}
 -- an INSERT has the same checks where the record, its owner and the occurrence are the same
 pub use Rattle.dbtg_unit.proofs.Database.Legal.SameView.{insert_checks_agree}
 -- of its sets a MODIFY asks only those in which the record has an owner

@@ -53,6 +53,10 @@ is_unspent db t n = nat_lt (db.last t n) 255
 abbrev pub free_number : ℕ → Database → ℕ → Option ℕ
 free_number capacity db t = first (filter (λ n. not (is_live db (key_at db t n)) && is_unspent db t n) (range_with_len 1 capacity))
 
+-- the key of a new record: the next generation of number n
+abbrev pub new_key : Database → ℕ → ℕ → DbKey
+new_key db t n = record { rtype = t; number = n; generation = db.last t n + 1 }
+
 -- the live keys of type t, in key order
 abbrev pub live_keys : ℕ → Database → ℕ → List DbKey
 live_keys capacity db t = filter (is_live db) (map (key_at db t) (range_with_len 1 capacity))
