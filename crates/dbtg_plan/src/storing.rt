@@ -8,12 +8,11 @@ ghost use Rattle.dbtg_unit.specs.Database.Statements.Checks.{place_checks, store
 ghost use Rattle.dbtg_unit.specs.declared.statement.Statement.TheVariants.{Store};
 ghost use Rattle.dbtg_unit.specs.Database.State.Base.{Database, key_item};
 ghost use Rattle.dbtg_unit.specs.Database.Statements.Checks.{refused_at_once};
-ghost use Rattle.dbtg_unit.specs.Hands.EditsOf.{first_owners, joining_edits, slot_edit, store_edits};
 ghost use Rattle.dbtg_unit.specs.Hands.InHand.{numbers_in, in_hand};
 ghost use Rattle.dbtg_unit.specs.Hands.Local.{Agrees};
 ghost use Rattle.dbtg_unit.specs.Hands.Making.{CanFinish, MayPrepare, ShowsTheSame};
 ghost use Rattle.dbtg_unit.specs.Hands.Needs.{cells_of, current_owner, first_missing, ring_names, store_rings, store_rings_of};
-ghost use Rattle.dbtg_unit.specs.Hands.PlanOf.{plan_of, storing};
+ghost use Rattle.dbtg_unit.specs.Hands.PlanOf.{first_owners, joining_edits, plan_of, slot_edit, store_edits, storing};
 ghost use Rattle.dbtg_unit.specs.Hands.Prepared.{unless_refusal};
 ghost use Rattle.dbtg_plan.specs.Calc.{fresh_key};
 ghost use Rattle.dbtg_plan.specs.Store.{HasRoom, missing_of_store, opening_edit};

@@ -1,5 +1,5 @@
 -- The areas of a statement are the schema's, and each of its cells lies in one of them.
-use Rattle.std.proofs.Common.{◌≡◌, refl, ap, ℕ, ◌<◌, Bool, true, false, List, [], ◌∷◌, length, map, Option, Some, None}
+use Rattle.std.proofs.Common.{◌≡◌, refl, ◌∙◌, ap, ℕ, ◌<◌, Bool, true, false, List, [], ◌∷◌, length, map, Option, Some, None}
 use Rattle.std.specs.Prelude.{nat_lt, option_map, option_and_then, unwrap_or}
 use Rattle.std.specs.List.{list_all}
 use Rattle.std.proofs.lemmas.Bool.{and_parts, and_from, ltb-true, lt-ltb}
@@ -92,6 +92,6 @@ module _ (schema : Lists) (capacity : ℕ) where
   all_cells_lie db unit g (Insert s) legal of f r = cells_lie schema capacity db legal unit of g (Insert s) f refl (λ t changes e. absurd (cc (e)))
   all_cells_lie db unit g (Remove s) legal of f r = cells_lie schema capacity db legal unit of g (Remove s) f refl (λ t changes e. absurd (cc (e)))
   all_cells_lie db unit g (Modify t changes) legal of f r = cells_lie schema capacity db legal unit of g (Modify t changes) f refl
-      (λ t' changes' e k h. let q : t ≡ t' = cc (e) in modify_typed schema capacity unit t changes r k h ∙ q)
+      (λ t' changes' e k h. let q : t ≡ t' = cc (e) in modify_typed schema capacity db unit (record { areas = []; cells = []; guesses = [] }) t changes r k h ∙ q)
   all_cells_lie db unit g Keep legal of f r = cells_lie schema capacity db legal unit of g Keep f refl (λ t changes e. absurd (cc (e)))
   all_cells_lie db unit g (Free all) legal of f r = cells_lie schema capacity db legal unit of g (Free all) f refl (λ t changes e. absurd (cc (e)))

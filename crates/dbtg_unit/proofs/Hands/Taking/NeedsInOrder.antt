@@ -58,10 +58,10 @@ above_first lt p zero xs c asc e none h i = absurd i
 above_first lt p (suc n) [] c asc e none h i = absurd i
 above_first {X} lt p (suc n) (x ∷ xs) c asc e none h i =
     let behind : find p xs ≡ Some c = let f = none x (inl refl) in cc (e, f) in
-    let as = and_parts _ _ asc in
+    let ascend = and_parts _ _ asc in
     elim i [
-      | inl q ↦ subst (λ (y : X). lt y c ≡ true) q (all_at (lt x) c xs as.0 (find_element p xs c behind).0)
-      | inr j ↦ above_first lt p n xs c as.1 behind (λ y k. none y (inr k)) h j
+      | inl q ↦ subst (λ (y : X). lt y c ≡ true) q (all_at (lt x) c xs ascend.0 (find_element p xs c behind).0)
+      | inr j ↦ above_first lt p n xs c ascend.1 behind (λ y k. none y (inr k)) h j
     ]
 
 module _ (schema : Lists) (capacity : ℕ) (db : Database) (unit : Unit) (hands : Hands) (x : Statement) where
