@@ -1,7 +1,7 @@
 -- STORE, read off the cells in hand: the cells that it needs; and then, set by set as the code goes, the occurrences that it opens and
 -- its room.
 -- k is the key of the new record, s a set, t its record type, c the name of a cell.
-use Rattle.std.specs.Prelude.{◌≡◌, ℕ, ◌==◌, true, List, ◌∷◌, Some, None}
+use Rattle.std.specs.Prelude.{◌≡◌, ℕ, ◌==◌, true, List, ◌∷◌, Option, Some, None}
 use Rattle.std.specs.List.{list_any}
 use Rattle.dbtg_schema.specs.Lists.{Lists}
 use Rattle.dbtg_schema.specs.Structure.{automatic_sets}

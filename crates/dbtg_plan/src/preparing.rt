@@ -63,7 +63,6 @@ fn planned(
 
 /// Prepares a statement other than DELETE that needs nothing more: makes room for what it adds to the cells in hand, which show
 /// what they did, and fixes its answer and its changes. Where no memory is found, only room was made.
-#[tactic(auto, using(dbtg_unit::proofs::Public::plan_makes))]
 pub fn prepare(
     alloc: Global,
     schema: &Schema,
