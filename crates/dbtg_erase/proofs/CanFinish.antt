@@ -1,6 +1,6 @@
 -- What a DELETE that needs nothing more prepares can be made of the cells in hand.
 use Rattle.std.proofs.Common.{◌≡◌, refl, sym, ◌∙◌, ap, subst, ℕ, ◌≤◌, arith, true, false, cond, List, [], length, Option, Some, None, map}
-use Rattle.std.specs.Prelude.{is_some, option_map, unwrap_or}
+use Rattle.std.specs.Prelude.{Result, Ok, Err, IfOk, is_some, option_map, unwrap_or}
 use Rattle.std.specs.List.{flat_map, list_all, list_any}
 use Rattle.std.proofs.lemmas.Bool.{and_parts, eqb-true, false≢true, false_from_ne_true, not-true, not_from_false}
 use Rattle.std.proofs.lemmas.Option.{none-some}
@@ -165,6 +165,9 @@ module _ (schema : Lists) (capacity : ℕ) (unit : Unit) (hands : Hands) (option
   pub delete_can_finish : CanFinish schema capacity unit hands (Delete option) (whole_plan schema capacity hands unit option)
   delete_can_finish = record { prepared = is_prepared schema capacity unit hands option (may_plan may); can_make = can_make }
 
-  -- and so makes it on every database of which the cells in hand are
-  pub delete_makes : IsMadeOnEach schema capacity unit hands (Delete option) (made_by schema unit hands (whole_plan schema capacity hands unit option))
-  delete_makes = plan_makes schema capacity unit (Delete option) (whole_plan schema capacity hands unit option) hands hands may (record { areas = refl; cells = refl; guesses = refl }) delete_can_finish
+  -- and so it makes it, if memory was found, on every database of which the cells in hand are
+  pub delete_makes : {E : Type 0} (prepared : Result Plan E) → IfOk prepared (λ plan. plan ≡ whole_plan schema capacity hands unit option) → IfOk prepared (λ plan. IsMadeOnEach schema capacity unit hands (Delete option) (made_by schema unit hands plan))
+  delete_makes (Ok plan) is =
+      subst (λ (p : Plan). IsMadeOnEach schema capacity unit hands (Delete option) (made_by schema unit hands p)) (sym is)
+      (plan_makes schema capacity unit (Delete option) (whole_plan schema capacity hands unit option) hands hands may (record { areas = refl; cells = refl; guesses = refl }) delete_can_finish)
+  delete_makes (Err e) is = tt

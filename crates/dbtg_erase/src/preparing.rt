@@ -153,7 +153,7 @@ fn planned(
 
 /// What a DELETE of the current of run-unit does that needs nothing more: its records go, with their places in lists and
 /// their own lists, and each member that stays loses the owners that go. The cells in hand stay as they are until it is done.
-#[tactic(auto, using(crate::proofs::CanFinish::delete_can_finish, crate::proofs::CanFinish::delete_makes))]
+#[tactic(auto, using(crate::proofs::CanFinish::delete_can_finish))]
 pub fn prepare(
     alloc: Global,
     schema: &Schema,
