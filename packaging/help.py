@@ -1,7 +1,11 @@
 """What the program says of itself, read from its own help: the commands, and of each its words and options."""
+
+import os
 import re
 import subprocess
 from dataclasses import dataclass
+
+TEST = f"{os.path.dirname(os.path.realpath(__file__))}/test"
 
 # An entry of a list: what is typed, and at least two blanks behind it what it means.
 ENTRY = re.compile(r" {2,6}(\S.*?)(?: {2,}(\S.*))?")
@@ -78,10 +82,12 @@ def read(name, text):
 
 
 def of_program(program):
-    """The help of the program, and of each of its commands."""
+    """The help of the program with that of `dbtg test`, which stands beside it, and of each command."""
 
-    def told(words):
-        return subprocess.run([program, *words, "--help"], check=True, capture_output=True, text=True, env={"COLUMNS": "1000"}).stdout
+    def told(*words):
+        return subprocess.run([*words, "--help"], check=True, capture_output=True, text=True, env={**os.environ, "COLUMNS": "1000"}).stdout
 
-    whole = read("dbtg", told([]))
-    return whole, [read(f"dbtg-{it.words}", told([it.words])) for it in whole.commands()]
+    whole, test = read("dbtg", told(program)), read("dbtg-test", told(TEST, program))
+    commands = [read(f"dbtg-{it.words}", told(program, it.words)) for it in whole.commands()]
+    whole.lists["Commands"].append(Entry("test", test.about))
+    return whole, [*commands, test]

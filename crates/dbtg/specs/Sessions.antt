@@ -162,6 +162,7 @@ abbrev pub IsText : (List ℕ → Type 0) → Reply → Type 0
 IsText Is (reply.Text out) = Is out.items
 IsText Is reply.Untold = ⊥
 IsText Is (reply.Save directory) = ⊥
+IsText Is (reply.Load path) = ⊥
 IsText Is reply.Quit = ⊥
 
 -- the same, where the room for it was enough
@@ -169,6 +170,7 @@ abbrev pub MayBeText : (List ℕ → Type 0) → Reply → Type 0
 MayBeText Is (reply.Text out) = Is out.items
 MayBeText Is reply.Untold = Unit {0}
 MayBeText Is (reply.Save directory) = ⊥
+MayBeText Is (reply.Load path) = ⊥
 MayBeText Is reply.Quit = ⊥
 
 -- WHAT A LINE COMES TO

@@ -36,6 +36,9 @@ use timeline::timeline;
 use turns::moves_for_turns;
 use writing::write_file;
 
+/// The exit status of a program whose reader has gone away: the one by which a shell tells that the signal SIGPIPE ended it.
+const READER_GONE: u8 = 141;
+
 fn told(rt: &HostRuntime, fault: &Fault) -> ExitCode
     ensures { exit_status result ≡ status_of fault.now }
 {
@@ -47,11 +50,15 @@ fn print_text(rt: &HostRuntime, text: &[u8]) -> ExitCode {
     let mut out = io::writer(rt);
     match out.write_all(text) {
         Ok(()) => ExitCode::SUCCESS,
-        Err(_) => not_written(rt),
+        Err(error) => not_written(rt, &error),
     }
 }
 
-fn not_written(rt: &HostRuntime) -> ExitCode {
+// Where a reader such as `head` has read enough and gone away, that is no fault, and nothing is told.
+fn not_written(rt: &HostRuntime, error: &io::Error) -> ExitCode {
+    if error.kind() == io::ErrorKind::BrokenPipe {
+        return ExitCode::from(READER_GONE);
+    }
     let _ = eprintln!(rt; "cannot write to standard output");
     ExitCode::FAILURE
 }
@@ -217,7 +224,7 @@ fn open_session(rt: &HostRuntime, known: &Schema, call: &Call) -> ExitCode
 fn end_of(rt: &HostRuntime, ended: Result<(), Broken>) -> ExitCode {
     match ended {
         Ok(()) => ExitCode::SUCCESS,
-        Err(Broken::NotWritten) => not_written(rt),
+        Err(Broken::NotWritten(error)) => not_written(rt, &error),
         Err(Broken::Memory) => told(rt, &Fault::Memory),
         Err(Broken::NotRead) => {
             let _ = eprintln!(rt; "cannot read standard input");
@@ -253,7 +260,7 @@ fn without_call(rt: &HostRuntime, error: &clap::Error) -> ExitCode {
     }
     match printed {
         Ok(()) => ExitCode::SUCCESS,
-        Err(_) => not_written(rt),
+        Err(error) => not_written(rt, &error),
     }
 }
 

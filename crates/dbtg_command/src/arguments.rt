@@ -76,13 +76,12 @@ fn answers_option<'a>(alloc: Global) -> Arg<'a> {
     flag(
         alloc,
         "answers",
-        "Tells results apart also by the answers of each unit [default: by what is printed behind -- alone]",
+        "Tells results apart by the units' answers too [default: by the rest alone]",
     )
 }
 
 fn capacity_option<'a>(alloc: Global) -> Arg<'a> {
-    let help =
-        "How many numbers each record type has, 1 to 1000; outcomes is faster, and takes less memory, with a small one";
+    let help = "How many numbers each record type has, 1 to 1000";
     number_option(alloc, "capacity", "100", help)
 }
 
@@ -95,13 +94,13 @@ fn explain_option<'a>(alloc: Global) -> Arg<'a> {
     flag(
         alloc,
         "explain",
-        "Tells of a fault also the file, the line, the word and what is wrong [default: the fault's number alone]",
+        "Tells also where a fault is and what is wrong [default: its number alone]",
     )
 }
 
 fn limit_option<'a>(alloc: Global) -> Arg<'a> {
     let help =
-        "How many states may come before it gives up, 1 to 1000000000; 1000000 states can take 7 GB of memory";
+        "States to allow, 1 to 1000000000; a million can take 7 GB";
     number_option(alloc, "limit", "1000000", help)
 }
 
@@ -109,7 +108,7 @@ fn moves_option<'a>(alloc: Global) -> Arg<'a> {
     file_option(
         alloc,
         "moves",
-        "The file of the moves, - for standard input [default: one script runs after the other]",
+        "The file of the moves; - for standard input [default: script after script]",
     )
 }
 
@@ -117,7 +116,7 @@ fn save_turns_option<'a>(alloc: Global) -> Arg<'a> {
     file_option(
         alloc,
         "save-turns",
-        "The file to write the turns to by which replay --turns prints the same [default: they are not kept]",
+        "Writes the turns, for replay --turns, to a file [default: does not]",
     )
 }
 
@@ -126,7 +125,7 @@ fn topic_words<'a>(alloc: Global) -> Arg<'a> {
         alloc,
         "topic",
         "TOPIC",
-        "A status of four digits, or the number of a fault: schema 1 to 18, script 1 to 14, moves 1 to 2, turns 1 to 2 [default: a list of all]",
+        "A status of four digits, or a fault by its number, as script 7 [default: a list of all]",
     )
 }
 
@@ -134,7 +133,7 @@ fn turns_option<'a>(alloc: Global) -> Result<Arg<'a>, AllocError> {
     file_option(
         alloc,
         "turns",
-        "The file of the turns, which say whose next statement is made, - for standard input; not with --moves",
+        "The turns: whose statement is next; - for standard input; not with --moves",
     )
     .conflicts_with("moves")
 }

@@ -67,7 +67,7 @@ fn explain_command<'a>(alloc: Global, name: &'a str) -> Result<Command<'a>, Allo
         alloc,
         name,
         "Tells what a status or a fault means, when it comes and what to do next",
-        "Examples: dbtg explain 0505, dbtg explain schema 7",
+        "Examples: dbtg explain 0505, dbtg explain schema 7\nFaults have numbers: schema 1 to 18, script 1 to 14, moves 1 to 2, turns 1 to 2",
         &[Word::Topic],
     )?
     .override_usage("dbtg explain [CODE | schema N | script N | moves N | turns N]"))
@@ -133,8 +133,8 @@ fn outcomes_command<'a>(alloc: Global, name: &'a str) -> Result<Command<'a>, All
     described(
         alloc,
         name,
-        "Prints all that can come out when scripts run at the same time, each with an order that shows it",
-        "Example: dbtg outcomes shop.schema unit1.script unit2.script",
+        "Prints all that can come out when scripts meet, each with an order that shows it",
+        "Example: dbtg outcomes shop.schema unit1.script unit2.script\nWith a small --capacity it is several times as fast, and takes less memory",
         &[
             Word::Capacity,
             Word::Limit,
@@ -149,7 +149,7 @@ fn outcomes_command<'a>(alloc: Global, name: &'a str) -> Result<Command<'a>, All
 // The command `threads`, by the name that its usage shows.
 fn threads_command<'a>(alloc: Global, name: &'a str) -> Result<Command<'a>, AllocError> {
     let scripts =
-        "Files of the scripts of units 1, 2, ..: 1 to 8 of them, each on a thread of its own; - for standard input, once";
+        "Files of the scripts of units 1, 2, ..: 1 to 8, a thread each; - for standard input, once";
     described(
         alloc,
         name,

@@ -1,6 +1,6 @@
 -- What a DELETE that needs nothing more prepares can be made of the cells in hand.
 use Rattle.std.proofs.Common.{◌≡◌, refl, sym, ◌∙◌, ap, subst, ℕ, ◌≤◌, arith, true, false, cond, List, [], length, Option, Some, None, map}
-use Rattle.std.specs.Prelude.{is_some, option_map, unwrap_or}
+use Rattle.std.specs.Prelude.{Result, Ok, Err, IfOk, is_some, option_map, unwrap_or}
 use Rattle.std.specs.List.{flat_map, list_all, list_any}
 use Rattle.std.proofs.lemmas.Bool.{and_parts, eqb-true, false≢true, false_from_ne_true, not-true, not_from_false}
 use Rattle.std.proofs.lemmas.Option.{none-some}
@@ -33,10 +33,11 @@ use Rattle.dbtg_unit.specs.Hands.Erasing.{delete_cells, doomed_in_turn, members_
 use Rattle.dbtg_unit.specs.Hands.Hands.{Hands}
 use Rattle.dbtg_unit.specs.Database.State.Legal.{differ, pairwise}
 use Rattle.dbtg_unit.specs.Hands.Local.{Agrees, holds}
+use Rattle.dbtg_unit.specs.Hands.Locality.{IsMadeOnEach, made_by}
 use Rattle.dbtg_unit.specs.Hands.Prepared.{Plan}
 use Rattle.dbtg_unit.specs.Hands.Making.{CanFinish, CanMake, HaveNextVersions, MayPrepare}
 use Rattle.dbtg_unit.proofs.Public.{In, all_at, all_from, firsts_pairs, held_cell_agrees, held_shows, in_member, left_live, left_once, listed_has_occurrence}
-use Rattle.dbtg_unit.proofs.Public.{live_is_latest, may_plan, member_of_owner, met_are_live, met_once, owner_stands_at_place, pairwise_weaker}
+use Rattle.dbtg_unit.proofs.Public.{live_is_latest, may_plan, member_of_owner, met_are_live, met_once, owner_stands_at_place, pairwise_weaker, plan_makes}
 use Rattle.dbtg_unit.proofs.Public.{range_distinct, skips_closings, skips_leavings, skips_map, slots_vacated}
 use Rattle.dbtg_erase.specs.ErasePlan.{whole_plan}
 use Rattle.dbtg_erase.proofs.CanErase.{HasNext, IsIn, apart, closings_possible, losings_possible, numbers_possible, places_possible, vacatings_possible}
@@ -163,3 +164,10 @@ module _ (schema : Lists) (capacity : ℕ) (unit : Unit) (hands : Hands) (option
   -- a DELETE that needs nothing more can finish what it prepares
   pub delete_can_finish : CanFinish schema capacity unit hands (Delete option) (whole_plan schema capacity hands unit option)
   delete_can_finish = record { prepared = is_prepared schema capacity unit hands option (may_plan may); can_make = can_make }
+
+  -- and so it makes it, if memory was found, on every database of which the cells in hand are
+  pub delete_makes : {E : Type 0} (prepared : Result Plan E) → IfOk prepared (λ plan. plan ≡ whole_plan schema capacity hands unit option) → IfOk prepared (λ plan. IsMadeOnEach schema capacity unit hands (Delete option) (made_by schema unit hands plan))
+  delete_makes (Ok plan) is =
+      subst (λ (p : Plan). IsMadeOnEach schema capacity unit hands (Delete option) (made_by schema unit hands p)) (sym is)
+      (plan_makes schema capacity unit (Delete option) (whole_plan schema capacity hands unit option) hands hands may (record { areas = refl; cells = refl; guesses = refl }) delete_can_finish)
+  delete_makes (Err e) is = tt

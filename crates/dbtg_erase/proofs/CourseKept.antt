@@ -1,10 +1,10 @@
 -- What is kept of a DELETE's course stays right while more cells come to hand.
 -- Uses: what a DELETE reads off the cells in hand. Promises: `course_stays`, and what has all of what.
-use Rattle.std.proofs.Common.{◌≡◌, ◌&&◌, refl, sym, ◌∙◌, ap, ℕ, zero, suc, ◌+◌, ◌<◌, Bool, true, false, cond, not, List, [], ◌∷◌, ◌++◌, Option, Some, None, arith, inl, inr, map, take}
+use Rattle.std.proofs.Common.{◌≡◌, ◌&&◌, refl, sym, ◌∙◌, ap, ℕ, zero, suc, ◌+◌, ◌<◌, Bool, true, false, cond, not, List, [], ◌∷◌, ◌++◌, Option, Some, None, arith, inl, inr, map, subst, take}
 use Rattle.std.specs.Prelude.{filter, is_some, option_and_then, slice_get, ◌==◌}
 use Rattle.std.specs.List.{flat_map}
 use Rattle.std.proofs.lemmas.Bool.{false≢true}
-use Rattle.std.proofs.lemmas.Option.{none-some}
+use Rattle.std.proofs.lemmas.Option.{none-some, same_Some}
 use Rattle.dbtg_schema.specs.Lists.{Lists}
 use Rattle.dbtg_schema.specs.Lookups.{at, some_and}
 use Rattle.dbtg_schema.specs.Structure.{set_numbers}
@@ -29,7 +29,7 @@ use Rattle.dbtg_unit.specs.Hands.Needs.{ring_names}
 use Rattle.dbtg_unit.proofs.Public.{In, any_agrees, filter_agrees, flat_map_agrees, holds_there, in_flat_map, in_left, in_map, in_right, of_flat_map}
 use Rattle.dbtg_erase.specs.declared.course.Course.{Course}
 use Rattle.dbtg_erase.specs.declared.names.Names.{Names}
-use Rattle.dbtg_erase.specs.Course.{AroundKept, HasAllOf, IsCourse, IsKept, MembersKept}
+use Rattle.dbtg_erase.specs.Course.{AroundKept, HasAllOf, IsCourse, IsKept, IsKeptFor, MembersKept}
 use Rattle.dbtg_erase.specs.NextCell.{first_missing, least_name, outer_names}
 use Rattle.dbtg_erase.specs.WorkList.{cells_of_gone, elsewhere_in, list_in, members_in_hand, most_gone, own_sets, taken_in, taken_of_set}
 use Rattle.dbtg_erase.proofs.Bringing.{kept_at, still_at}
@@ -189,7 +189,24 @@ module _ (schema : Lists) (hands hands' : Hands) (all : HasAllOf hands hands') w
           around = around_stays course.gone course.around was.around;
         }
 
+-- THE CURRENT OF RUN-UNIT
+
+-- nothing kept is right
+pub nothing_kept : (schema : Lists) (capacity : ℕ) (hands : Hands) (unit : Unit) (option : Erase) → IsKept schema capacity hands unit option None
+unfolding IsKept
+nothing_kept schema capacity hands unit option = λ k e. tt
+
 -- with more in hand, what is kept is right
 pub kept_stays : (schema : Lists) (capacity : ℕ) (hands hands' : Hands) (unit : Unit) (option : Erase) (course : Option Course) → HasAllOf hands hands' → IsKept schema capacity hands unit option course → IsKept schema capacity hands' unit option course
+unfolding IsKept
 kept_stays schema capacity hands hands' unit option None all kept = λ k e. tt
 kept_stays schema capacity hands hands' unit option (Some course) all kept = λ k e. course_goes_on schema hands hands' all capacity option k course (kept k e)
+
+-- what is kept of a DELETE is kept of the current, and the other way round
+pub kept_of : (schema : Lists) (capacity : ℕ) (hands : Hands) (unit : Unit) (option : Erase) (course : Option Course) (k : DbKey) → unit.currency.run_unit ≡ Some k → IsKept schema capacity hands unit option course → IsKeptFor schema capacity hands option k course
+unfolding IsKept
+kept_of schema capacity hands unit option course k is kept = kept k is
+
+pub kept_by : (schema : Lists) (capacity : ℕ) (hands : Hands) (unit : Unit) (option : Erase) (course : Option Course) (k : DbKey) → unit.currency.run_unit ≡ Some k → IsKeptFor schema capacity hands option k course → IsKept schema capacity hands unit option course
+unfolding IsKept
+kept_by schema capacity hands unit option course k is kept = λ j e. subst (λ (d : DbKey). IsKeptFor schema capacity hands option d course) (same_Some k j (sym is ∙ e)) kept

@@ -4,6 +4,8 @@
 
 -- with more in hand, what is kept is right
 pub use Rattle.dbtg_erase.proofs.CourseKept.{kept_stays}
+-- nothing kept is right
+pub use Rattle.dbtg_erase.proofs.CourseKept.{nothing_kept}
 -- hands with one cell more have all that they had
 pub use Rattle.dbtg_erase.proofs.CourseKept.{one_more_cell}
 -- hands with the same cells have all of them

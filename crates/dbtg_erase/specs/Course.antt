@@ -63,6 +63,7 @@ abbrev pub IsKeptFor : Lists → ℕ → Hands → Erase → DbKey → Option Co
 IsKeptFor schema capacity hands option k None = ⊤
 IsKeptFor schema capacity hands option k (Some course) = IsCourse schema capacity hands option k course
 
--- of a DELETE of the current of run-unit
-abbrev pub IsKept : Lists → ℕ → Hands → Unit → Erase → Option Course → Type 0
+-- of a DELETE of the current of run-unit. Callers know no more of it than the public lemmas say: nothing kept is right, and what is
+-- kept stays right while more comes to hand
+unfoldable pub IsKept : Lists → ℕ → Hands → Unit → Erase → Option Course → Type 0
 IsKept schema capacity hands unit option course = (k : DbKey) → unit.currency.run_unit ≡ Some k → IsKeptFor schema capacity hands option k course

@@ -2,13 +2,16 @@
 ghost use Rattle.std.specs.Prelude.{◌≡◌, ℕ, ◌==◌, not, None, if◌then◌else◌, IfOk, OnErr};
 ghost use Rattle.std.specs.List.{find, list_any};
 ghost use Rattle.dbtg_schema.specs.Lists.{Lists};
+ghost use Rattle.dbtg_schema.specs.Sound.{IsSound};
 ghost use Rattle.dbtg_schema.specs.Structure.{set_numbers};
 ghost use Rattle.dbtg_unit.specs.Database.State.Base.{Database};
+ghost use Rattle.dbtg_unit.specs.Database.State.Belongs.{IsUnitOf};
 ghost use Rattle.dbtg_unit.specs.declared.statement.Statement.TheVariants.{Delete};
 ghost use Rattle.dbtg_unit.specs.Database.Statements.Effect.{is_plain};
 ghost use Rattle.dbtg_unit.specs.declared.statement.Erase.{Erase};
 ghost use Rattle.dbtg_unit.specs.Hands.Hands.{Hands};
 ghost use Rattle.dbtg_unit.specs.Hands.Local.{Agrees};
+ghost use Rattle.dbtg_unit.specs.Hands.NeedOrder.{IsAbove, IsInHeldArea, IsInTurn};
 ghost use Rattle.dbtg_unit.specs.Hands.Needs.{areas_in_order, need};
 ghost use Rattle.dbtg_erase.specs.Course.{IsCourse, IsKept, IsKeptFor};
 ghost use Rattle.dbtg_erase.specs.NextCell.{need_of, next_cell_in, next_cell_of, next_of_gone, next_of_passed, stops_at};
@@ -134,6 +137,7 @@ fn next_cell(
     }
 }
 
+#[tactic(auto, using(crate::proofs::CourseKept::kept_of, crate::proofs::CourseKept::kept_by))]
 fn next_cell_of(
     alloc: Global,
     schema: &Schema,
@@ -163,7 +167,7 @@ fn need_of(name: Option<CellName>) -> Need
 }
 
 /// What a DELETE needs next, on every database of which these cells may be in hand: its areas, ascending; then its cells in
-/// the order of taking, each record that goes in turn, first in, first out. `course` keeps
+/// the order of taking, each record that goes in turn, first in, first out, and each in an area in hand. `course` keeps
 /// how far it has come, from `None` before the first need: it has to be of this DELETE, with all that was in hand before still in
 /// hand. Memory is refused only once it has its areas, and the course is then lost, and found anew at the next need.
 pub fn next_need(
@@ -178,6 +182,8 @@ pub fn next_need(
     requires kept { IsKept schema.now capacity held.now unit.now option course.old }
     ensures kept { IsKept schema.now capacity held.now unit.now option course.new }
     ensures need { IfOk result (λ next. (db : Database) → Agrees schema.now capacity db held.now unit.now → next ≡ need schema.now capacity db unit.now held.now (Delete option)) }
+    ensures above { IfOk result (λ next. (db : Database) → IsSound schema.now → Agrees schema.now capacity db held.now unit.now → IsInTurn schema.now capacity db unit.now (Delete option) held.now → IsAbove (Delete option) held.now next) }
+    ensures in_area { IfOk result (λ next. (db : Database) → IsSound schema.now → IsUnitOf schema.now unit.now → Agrees schema.now capacity db held.now unit.now → IsInHeldArea schema.now held.now next) }
     ensures refused { OnErr result (find (λ a. not (list_any (λ b. b == a) held.now.areas)) (areas_in_order schema.now unit.now (Delete option)) ≡ None) }
 {
     let statement = Statement::Delete(option);

@@ -5,6 +5,7 @@ ghost use Rattle.dbtg_unit.specs.Database.Statements.Checks.{delete_checks};
 ghost use Rattle.dbtg_unit.specs.Database.Statements.Conditions.{has_members};
 ghost use Rattle.dbtg_unit.specs.Hands.EditsOf.{erasing_edits};
 ghost use Rattle.dbtg_unit.specs.Hands.InHand.{in_hand, owner_in, version_in};
+ghost use Rattle.dbtg_unit.specs.Hands.Locality.{IsMadeOnEach, made_by};
 ghost use Rattle.dbtg_unit.specs.Hands.Making.{CanFinish, HaveNextVersions, MayPrepare};
 ghost use Rattle.dbtg_unit.specs.declared.statement.Statement.TheVariants.{Delete};
 ghost use Rattle.dbtg_erase.specs.ErasePlan.{erasing_plan, raised_versions, whole_plan};
@@ -162,7 +163,8 @@ pub fn prepare(
     held: &Held,
 ) -> Result<Prepared, AllocError>
     requires { MayPrepare schema.now capacity unit.now held.now (Delete option) }
-    ensures { IfOk result (λ plan. CanFinish schema.now capacity unit.now held.now (Delete option) plan) }
+    ensures prepared { IfOk result (λ plan. CanFinish schema.now capacity unit.now held.now (Delete option) plan) }
+    ensures made { IfOk result (λ plan. IsMadeOnEach schema.now capacity unit.now held.now (Delete option) (made_by schema.now unit.now held.now plan)) }
 {
     planned(alloc, schema, capacity, unit, option, held)
 }

@@ -23,13 +23,11 @@ use Rattle.dbtg_unit.specs.Hands.Hands.{Hands}
 use Rattle.dbtg_unit.specs.Hands.InHand.{in_hand}
 use Rattle.dbtg_unit.specs.Hands.Local.{Agrees}
 use Rattle.dbtg_unit.specs.Hands.Locality.{DoTheSame}
-use Rattle.dbtg_unit.specs.Hands.Needs.{areas_in_order, cells_of, need}
+use Rattle.dbtg_unit.specs.Hands.Needs.{areas_in_order, cells_of, first_missing, need}
 use Rattle.dbtg_unit.proofs.Public.{HasPlan, MayPlan, one_plan_does_the_same}
 use Rattle.dbtg_unit.specs.Hands.Prepared.{refusal, unless_refusal}
 use Rattle.dbtg_plan.specs.Finding.{found_in, plan_of_found}
 use Rattle.dbtg_plan.specs.Locality.{EachIsDetermined}
-use Rattle.dbtg_plan.specs.Missing.{first_missing}
-use Rattle.dbtg_plan.specs.Store.{store_plan}
 use Rattle.dbtg_unit.specs.Hands.PlanOf.{plan_of}
 use Rattle.dbtg_plan.proofs.Plans.EffectIsPlan.{effect_in_hand}
 use Rattle.dbtg_plan.proofs.Find.FindPlans.{find_is_effect, next_cell_is}
@@ -40,7 +38,8 @@ use Rattle.dbtg_plan.proofs.Plans.OpenClose.{close_is_effect, open_is_effect}
 use Rattle.dbtg_plan.proofs.Plans.PartByPart.{refused_finishes}
 use Rattle.dbtg_plan.proofs.Connect.RemoveIsEffect.{remove_is_effect}
 use Rattle.dbtg_plan.proofs.Needs.WrongGuesses.{area_needed, cell_needed, guesses_needed, refused_needs}
-use Rattle.dbtg_plan.proofs.Store.StoreInHand.{missing_in_hand, plan_is_effect}
+use Rattle.dbtg_plan.proofs.Plans.StoreHolds.{missing_in_hand}
+use Rattle.dbtg_plan.proofs.Store.StoreIsEffect.{plan_is_effect}
 
 -- two databases whose statement wants the same first cell need the same
 module _ (schema : Lists) (capacity : ℕ) (db eb : Database) (hands : Hands) (unit : Unit) (statement : Statement) (fit : fits schema statement ≡ true)
@@ -105,7 +104,7 @@ module _ (schema : Lists) (capacity : ℕ) (db eb : Database) (hands : Hands) (u
   of_each (Store t items suppress) fit other =
       by_plan (Store t items suppress) fit
       (λ o there. sym (missing_in_hand schema capacity unit hands t items db agrees hands.guesses suppress) ∙ missing_in_hand schema capacity unit hands t items o there hands.guesses suppress)
-      (λ passes may. (store_plan schema unit hands t items suppress, plan_is_effect schema capacity unit hands t items suppress may passes))
+      (λ passes may. (plan_of schema (in_hand hands) unit (Store t items suppress), plan_is_effect schema capacity unit hands t items suppress may passes))
   of_each (Insert s) fit other = by_plan (Insert s) fit (λ o there. refl) (λ passes may. (plan_of schema (in_hand hands) unit (Insert s), effect_in_hand schema capacity unit hands (Insert s) may passes refl (λ d there. insert_is_effect schema capacity unit hands s may passes d there)))
   of_each (Remove s) fit other = by_plan (Remove s) fit (λ o there. refl) (λ passes may. (plan_of schema (in_hand hands) unit (Remove s), effect_in_hand schema capacity unit hands (Remove s) may passes refl (λ d there. remove_is_effect schema capacity unit hands s may passes d there)))
   of_each (Modify t changes) fit other = by_plan (Modify t changes) fit (λ o there. refl) (λ passes may. (plan_of schema (in_hand hands) unit (Modify t changes), effect_in_hand schema capacity unit hands (Modify t changes) may passes refl (λ d there. modify_is_effect schema capacity unit hands t changes may passes d there)))

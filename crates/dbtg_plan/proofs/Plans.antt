@@ -9,3 +9,4 @@ pub mod OpenClose
 pub mod PartByPart
 pub mod RingEdits
 pub mod SamePlan
+pub mod StoreHolds

@@ -1,9 +1,9 @@
 -- STORE: its plan is its effect, and can be made.
 -- May use: `Connect`, for the places in its sets.
--- Promises: `StoreInHand`: its plan is its effect; `StoreFinish`: it can be made.
+-- Promises: `StoreIsEffect`: its plan is its effect; `StoreFinish`: it can be made.
 pub mod NumberSteps
 pub mod SetSteps
 pub mod StoreFinish
-pub mod StoreInHand
+pub mod StoreIsEffect
 pub mod StoreMaking
 pub mod StoreSteps

@@ -10,7 +10,6 @@ use Rattle.dbtg_cells.specs.declared.key.DbKey.{DbKey}
 use Rattle.dbtg_cells.specs.declared.key.Owner.{Owner}
 use Rattle.dbtg_cells.specs.declared.key.Value.{Value}
 use Rattle.dbtg_cells.specs.declared.name.CellName.{CellName}
-use Rattle.dbtg_cells.specs.declared.name.CellName.TheVariants.{Extent}
 use Rattle.dbtg_cells.specs.declared.ring.Occurrence.{Occurrence}
 use Rattle.dbtg_cells.specs.Keys.{has_type, key_lt, value_eq}
 use Rattle.dbtg_cells.specs.Members.{keys_in, members_in}
@@ -23,14 +22,12 @@ use Rattle.dbtg_unit.specs.declared.statement.Which.{Which}
 use Rattle.dbtg_unit.specs.declared.unit.Cause.{Cause}
 use Rattle.dbtg_unit.specs.declared.unit.Cause.TheVariants.{Deleted, End, NoneSatisfies, PositionLost}
 use Rattle.dbtg_unit.specs.declared.unit.Unit.{Unit}
-use Rattle.dbtg_unit.specs.Database.State.CellNames.{slot_name}
 use Rattle.dbtg_unit.specs.Database.Statements.Found.{chosen, chosen_by_key, found_unless, is_lost, needs_position, with_current}
 use Rattle.dbtg_unit.specs.Hands.Hands.{Hands}
 use Rattle.dbtg_unit.specs.Hands.InHand.{key_of, numbers_in, occurrence_in, stored_in, values_of_key}
-use Rattle.dbtg_unit.specs.Hands.Needs.{current_owner, found_slot, ring_names, slot_names}
+use Rattle.dbtg_unit.specs.Hands.Needs.{cells_to_find, first_missing, found_slot}
 use Rattle.dbtg_unit.specs.Hands.Prepared.{Plan, refusal}
 use Rattle.dbtg_unit.specs.Database.State.Units.{key_of_owner, key_of_place, place_in}
-use Rattle.dbtg_plan.specs.Missing.{first_missing}
 use Rattle.dbtg_unit.specs.Hands.PlanOf.{done_plan}
 
 -- the record k in hand, or this cause where it is not there
@@ -115,20 +112,6 @@ found_in schema unit hands (OwnerOf s) = with_current (option_and_then (λ place
 found_in schema unit hands (Calc r values) = calc_found r values (numbers_in hands r)
 found_in schema unit hands (NextDuplicate r) = with_current (at unit.currency.types r) (duplicate_found r (numbers_in hands r))
 found_in schema unit hands (Sorted v s) = with_current (place_in schema unit s) (λ place. sorted_found v (occurrence_in hands s place.owner))
-
--- the cells by which it is found
-abbrev pub cells_to_find : Lists → Unit → Form → List CellName
-cells_to_find schema unit (Key k) = slot_name k ∷ []
-cells_to_find schema unit CurrentOfUnit = slot_names unit.currency.run_unit
-cells_to_find schema unit (CurrentOfType r) = slot_names (at unit.currency.types r)
-cells_to_find schema unit (CurrentOfSet s) = slot_names (option_and_then key_of_place (place_in schema unit s))
-cells_to_find schema unit (CurrentOfArea a) = slot_names (at unit.currency.areas a)
-cells_to_find schema unit (InSet which r s) = ring_names s (current_owner schema unit s)
-cells_to_find schema unit (InArea which r a) = map Extent (filter (is_wanted schema r a) (range_with_len 0 (length schema.types)))
-cells_to_find schema unit (OwnerOf s) = slot_names (option_and_then (λ place. key_of_owner place.owner) (place_in schema unit s))
-cells_to_find schema unit (Calc r values) = Extent r ∷ []
-cells_to_find schema unit (NextDuplicate r) = Extent r ∷ []
-cells_to_find schema unit (Sorted v s) = ring_names s (current_owner schema unit s)
 
 -- the first cell that is not in hand, of those by which it is found and then the slot of what is found
 abbrev pub next_cell_in : Lists → Unit → Hands → Form → Option CellName

@@ -3,6 +3,5 @@ pub mod Modifying
 pub mod Store
 pub mod Joining
 pub mod Finding
-pub mod Missing
 pub mod Stale
 pub mod Locality

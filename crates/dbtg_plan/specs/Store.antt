@@ -1,78 +1,35 @@
--- STORE, read off the cells in hand: the cells that it needs; what it does; and then, set by set as the code goes, the occurrences that
--- it opens and its room.
+-- STORE, read off the cells in hand: the cells that it needs; and then, set by set as the code goes, the occurrences that it opens and
+-- its room.
 -- k is the key of the new record, s a set, t its record type, c the name of a cell.
-use Rattle.std.specs.Prelude.{◌≡◌, ℕ, Bool, true, false, ◌==◌, List, [], ◌∷◌, ◌++◌, Option, Some, None, if◌then◌else◌, unwrap_or}
+use Rattle.std.specs.Prelude.{◌≡◌, ℕ, ◌==◌, true, List, ◌∷◌, Option, Some, None}
 use Rattle.std.specs.List.{list_any}
 use Rattle.dbtg_schema.specs.Lists.{Lists}
-use Rattle.dbtg_schema.specs.Lookups.{first, first_cause}
-use Rattle.dbtg_schema.specs.Structure.{automatic_sets, owns}
+use Rattle.dbtg_schema.specs.Structure.{automatic_sets}
 use Rattle.dbtg_cells.specs.declared.key.DbKey.{DbKey}
 use Rattle.dbtg_cells.specs.declared.key.Owner.TheVariants.{Rec}
 use Rattle.dbtg_cells.specs.declared.key.Value.{Value}
 use Rattle.dbtg_cells.specs.declared.name.CellName.{CellName}
 use Rattle.dbtg_cells.specs.declared.name.CellName.TheVariants.{Extent, Ring}
-use Rattle.dbtg_unit.specs.Database.Statements.Checks.{store_checks}
-use Rattle.dbtg_unit.specs.Database.Statements.Conditions.{calc_taken}
-use Rattle.dbtg_cells.specs.Numbers.{is_free, numbers_where}
+use Rattle.dbtg_unit.specs.Database.Statements.Conditions.{calc_taken, joined_place}
 use Rattle.dbtg_unit.specs.declared.edit.CellEdit.{CellEdit}
 use Rattle.dbtg_unit.specs.declared.edit.Edit.TheVariants.{OpenRing}
-use Rattle.dbtg_unit.specs.declared.edit.UnitEdit.TheVariants.{See}
-use Rattle.dbtg_unit.specs.declared.statement.Suppress.{Suppress}
-use Rattle.dbtg_unit.specs.declared.unit.Status.TheVariants.{Done}
 use Rattle.dbtg_unit.specs.declared.unit.Unit.{Unit}
-use Rattle.dbtg_unit.specs.Database.State.CellNames.{place_of, slot_name}
-use Rattle.dbtg_unit.specs.Hands.EditsOf.{first_owners, store_edits}
+use Rattle.dbtg_unit.specs.Database.State.CellNames.{place_of}
 use Rattle.dbtg_unit.specs.Hands.Hands.{Hands}
-use Rattle.dbtg_unit.specs.Hands.InHand.{numbers_in, in_hand, next_key_of}
-use Rattle.dbtg_unit.specs.Hands.Needs.{current_owner, ring_names, store_rings}
-use Rattle.dbtg_unit.specs.Hands.Prepared.{Plan, unless_refusal}
+use Rattle.dbtg_unit.specs.Hands.InHand.{numbers_in, in_hand}
+use Rattle.dbtg_unit.specs.Hands.Needs.{first_missing, store_cells}
 use Rattle.dbtg_unit.specs.Hands.Reserving.{CanTakeMember, OfHeld}
 use Rattle.dbtg_plan.specs.Calc.{fresh_key}
-use Rattle.dbtg_unit.specs.Database.Statements.Conditions.{joined_place}
-use Rattle.dbtg_plan.specs.Missing.{first_missing}
 
 -- WHAT IT NEEDS
 
--- its rings in set s: the current owner's where it is connected, its own where it is the owner
-abbrev pub store_rings_in : Lists → Unit → DbKey → ℕ → List CellName
-store_rings_in schema unit k s =
-    (if list_any (λ s'. s' == s) (automatic_sets schema k.rtype) then ring_names s (current_owner schema unit s) else [])
-    ++ (if owns schema s k.rtype then Ring s (Some (k.rtype, k.number)) ∷ [] else [])
-
--- its cells beside its extent; none where there is no key, or its CALC items are taken
-abbrev pub cells_of_key : Lists → Unit → Option DbKey → Bool → List CellName
-cells_of_key schema unit None taken = []
-cells_of_key schema unit (Some k) true = []
-cells_of_key schema unit (Some k) false = store_rings schema unit k ++ slot_name k ∷ []
-
 -- its cells, by the numbers of its type
 abbrev pub store_cells_in : Lists → Unit → Hands → ℕ → List Value → List CellName
-store_cells_in schema unit hands t items = Extent t ∷ cells_of_key schema unit (fresh_key (numbers_in hands t) t) (calc_taken schema (in_hand hands) t items None)
+store_cells_in schema unit hands t items = Extent t ∷ store_cells schema unit (fresh_key (numbers_in hands t) t) (calc_taken schema (in_hand hands) t items None)
 
 -- the first of them that is not in hand
 abbrev pub missing_of_store : Lists → Unit → Hands → ℕ → List Value → Option CellName
 missing_of_store schema unit hands t items = first_missing hands (store_cells_in schema unit hands t items)
-
--- WHAT IT DOES
-
--- k is stored, and seen
-abbrev pub stored_plan : Lists → Unit → List Value → Suppress → DbKey → Plan
-stored_plan schema unit items suppress k =
-    record {
-      answer = record { status = Done; key = Some k; items = None };
-      cells = store_edits schema unit k items;
-      versions = [];
-      unit = See k (first_owners schema unit k.rtype) suppress;
-    }
-
--- the key of the new record, where there is a number
-abbrev pub stored_key : Hands → ℕ → DbKey
-stored_key hands t = next_key_of (numbers_in hands t) t (unwrap_or (first (numbers_where is_free (numbers_in hands t))) 0)
-
--- what STORE of a record of type t does, unless it is refused
-abbrev pub store_plan : Lists → Unit → Hands → ℕ → List Value → Suppress → Plan
-store_plan schema unit hands t items suppress =
-    unless_refusal (first_cause (store_checks schema (in_hand hands) unit t items)) (stored_plan schema unit items suppress (stored_key hands t))
 
 -- STEP BY STEP
 

@@ -6,10 +6,9 @@ ghost use Rattle.dbtg_unit.specs.Database.Statements.Checks.{refused_at_once};
 ghost use Rattle.dbtg_unit.specs.Database.Statements.Fits.{form_fits};
 ghost use Rattle.dbtg_unit.specs.Hands.Local.{Agrees};
 ghost use Rattle.dbtg_unit.specs.Hands.Making.{CanFinish, MayPrepare};
-ghost use Rattle.dbtg_unit.specs.Hands.Needs.{current_owner, find_cells};
+ghost use Rattle.dbtg_unit.specs.Hands.Needs.{cells_to_find, current_owner, find_cells, first_missing};
 ghost use Rattle.dbtg_unit.specs.declared.statement.Statement.TheVariants.{Find};
-ghost use Rattle.dbtg_plan.specs.Finding.{cells_to_find, found_in, next_cell_in, owners_in, plan_of_found};
-ghost use Rattle.dbtg_plan.specs.Missing.{first_missing};
+ghost use Rattle.dbtg_plan.specs.Finding.{found_in, next_cell_in, owners_in, plan_of_found};
 
 mod area;
 mod current;
@@ -58,6 +57,7 @@ fn find_key(
 
 // The first cell that is not in hand, of those by which it is found.
 fn missing_to_find(schema: &Schema, unit: &Unit, form: &Form, held: &Held) -> Option<CellName>
+    requires { form_fits schema.now form.now ≡ true }
     ensures { result ≡ first_missing held.now (cells_to_find schema.now unit.now form.now) }
 {
     match form {

@@ -8,11 +8,10 @@ ghost use Rattle.dbtg_unit.specs.Database.Statements.Checks.{refused_at_once};
 ghost use Rattle.dbtg_unit.specs.Hands.EditsOf.{slot_edit};
 ghost use Rattle.dbtg_unit.specs.Hands.InHand.{items_in, in_hand};
 ghost use Rattle.dbtg_unit.specs.Hands.Making.{CanFinish, HaveNextVersions, MayPrepare, ShowsTheSame};
-ghost use Rattle.dbtg_unit.specs.Hands.Needs.{cells_of};
+ghost use Rattle.dbtg_unit.specs.Hands.Needs.{cells_of, first_missing};
 ghost use Rattle.dbtg_unit.specs.Hands.PlanOf.{inserting};
 ghost use Rattle.dbtg_unit.specs.Database.Statements.Conditions.{joined_place};
 ghost use Rattle.dbtg_unit.specs.Hands.PlanOf.{joining_edit};
-ghost use Rattle.dbtg_plan.specs.Missing.{first_missing};
 
 use crate::joining::{current_owner, joined_place, joining_edit, make_room, place_refusal};
 use crate::members::{slot_edit, sort_key_in};

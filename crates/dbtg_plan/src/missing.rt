@@ -1,7 +1,6 @@
 //! The cells that are not in hand, in the order of taking. Nothing here takes memory.
 ghost use Rattle.std.specs.Prelude.{◌≡◌, [], ◌∷◌};
-ghost use Rattle.dbtg_unit.specs.Hands.Needs.{ring_names, slot_names};
-ghost use Rattle.dbtg_plan.specs.Missing.{first_missing, is_missing};
+ghost use Rattle.dbtg_unit.specs.Hands.Needs.{first_missing, is_missing, ring_names, slot_names};
 
 use dbtg_cells::{CellName, DbKey, Owner};
 use dbtg_schema::SetNo;

@@ -11,9 +11,8 @@ ghost use Rattle.dbtg_unit.specs.Database.Statements.Conditions.{calc_taken, cha
 ghost use Rattle.dbtg_unit.specs.Hands.PlanOf.{calc_edits, modify_edits, modifying, plan_of, replacing_edits, slot_edit};
 ghost use Rattle.dbtg_unit.specs.Hands.InHand.{in_hand, items_in};
 ghost use Rattle.dbtg_unit.specs.Hands.Making.{HaveNextVersions};
-ghost use Rattle.dbtg_unit.specs.Hands.Needs.{cells_of, ring_names};
+ghost use Rattle.dbtg_unit.specs.Hands.Needs.{cells_of, first_missing, ring_names};
 ghost use Rattle.dbtg_unit.specs.Database.State.Units.{place_in};
-ghost use Rattle.dbtg_plan.specs.Missing.{first_missing};
 ghost use Rattle.dbtg_plan.specs.Modifying.{is_refused, is_rekeyed};
 
 use crate::calc::{copy_calc, is_calc_taken};

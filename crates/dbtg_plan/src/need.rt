@@ -1,13 +1,14 @@
 //! What a statement needs next: its areas in order, then its cells in order, then other guesses where the record in hand shows
 //! them to be wrong. Nothing here takes memory.
 ghost use Rattle.std.specs.Prelude.{◌≡◌, true, false};
+ghost use Rattle.dbtg_schema.specs.Sound.{IsSound};
 ghost use Rattle.dbtg_unit.specs.Database.State.Base.{Database};
 ghost use Rattle.dbtg_unit.specs.Database.State.Belongs.{IsUnitOf, IsWithin};
 ghost use Rattle.dbtg_unit.specs.Hands.EditsOf.{is_delete};
 ghost use Rattle.dbtg_unit.specs.Database.Statements.Fits.{fits};
 ghost use Rattle.dbtg_unit.specs.Hands.Local.{Agrees};
-ghost use Rattle.dbtg_unit.specs.Hands.Needs.{cells_of, need};
-ghost use Rattle.dbtg_plan.specs.Missing.{first_missing};
+ghost use Rattle.dbtg_unit.specs.Hands.NeedOrder.{IsAbove, IsInHeldArea, IsInTurn};
+ghost use Rattle.dbtg_unit.specs.Hands.Needs.{cells_of, first_missing, need};
 
 use crate::finding::next_cell_of_find;
 use crate::inserting::next_cell_of_insert;
@@ -56,7 +57,8 @@ fn next_cell(
     }
 }
 
-/// What a statement other than DELETE needs next, on every database of which these cells may be in hand.
+/// What a statement other than DELETE needs next, on every database of which these cells may be in hand. It lies above what was
+/// taken in turn, and a cell in an area in hand.
 pub fn next_need(
     schema: &Schema,
     capacity: u16,
@@ -68,7 +70,9 @@ pub fn next_need(
     requires of_schema { IsUnitOf schema.now unit.now }
     requires within { IsWithin capacity unit.now }
     requires other { is_delete statement.now ≡ false }
-    ensures { (db : Database) → Agrees schema.now capacity db held.now unit.now → result ≡ need schema.now capacity db unit.now held.now statement.now }
+    ensures need { (db : Database) → Agrees schema.now capacity db held.now unit.now → result ≡ need schema.now capacity db unit.now held.now statement.now }
+    ensures above { (db : Database) → IsSound schema.now → Agrees schema.now capacity db held.now unit.now → IsInTurn schema.now capacity db unit.now statement.now held.now → IsAbove statement.now held.now result }
+    ensures in_area { (db : Database) → IsSound schema.now → Agrees schema.now capacity db held.now unit.now → IsInHeldArea schema.now held.now result }
 {
     match refused_at_once(schema, capacity, unit, statement) {
         Some(_cause) => Need::Ready,

@@ -1,6 +1,7 @@
 //! What a statement prepares once it needs nothing more: its answer and its changes, with room for all of them.
 ghost use Rattle.std.specs.Prelude.{◌≡◌, false, IfOk};
 ghost use Rattle.dbtg_unit.specs.Hands.EditsOf.{is_delete};
+ghost use Rattle.dbtg_unit.specs.Hands.Locality.{IsMadeOnEach, made_by};
 ghost use Rattle.dbtg_unit.specs.Hands.Making.{CanFinish, MayPrepare, ShowsTheSame};
 
 use crate::finding::prepare_find;
@@ -14,10 +15,9 @@ use dbtg_schema::Schema;
 use dbtg_unit::{Held, Prepared, Statement, Unit, refused, refused_at_once};
 use std::alloc::{AllocError, Global};
 
-/// Prepares a statement other than DELETE that needs nothing more: makes room for what it adds to the cells in hand, which show
-/// what they did, and fixes its answer and its changes. Where no memory is found, only room was made.
+// The plan of each statement, and room for it.
 #[tactic(auto, using(crate::proofs::Plans::OpenClose::close_can_finish, crate::proofs::Plans::GetKeepFree::get_finishes, crate::proofs::Plans::GetKeepFree::keep_finishes, crate::proofs::Plans::GetKeepFree::free_finishes, crate::proofs::Connect::RemoveIsEffect::remove_finishes, crate::proofs::Modify::ModifyReady::modify_finishes))]
-pub fn prepare(
+fn planned(
     alloc: Global,
     schema: &Schema,
     capacity: u16,
@@ -59,4 +59,23 @@ pub fn prepare(
         // The contract: a DELETE is another crate's.
         Statement::Delete(_) => unreachable!(),
     }
+}
+
+/// Prepares a statement other than DELETE that needs nothing more: makes room for what it adds to the cells in hand, which show
+/// what they did, and fixes its answer and its changes. Where no memory is found, only room was made.
+pub fn prepare(
+    alloc: Global,
+    schema: &Schema,
+    capacity: u16,
+    unit: &Unit,
+    statement: &Statement,
+    held: &mut Held,
+) -> Result<Prepared, AllocError>
+    requires may { MayPrepare schema.now capacity unit.now held.old statement.now }
+    requires other { is_delete statement.now ≡ false }
+    ensures shows { ShowsTheSame held.old held.new }
+    ensures prepared { IfOk result (λ plan. CanFinish schema.now capacity unit.now held.new statement.now plan) }
+    ensures made { IfOk result (λ plan. IsMadeOnEach schema.now capacity unit.now held.old statement.now (made_by schema.now unit.now held.new plan)) }
+{
+    planned(alloc, schema, capacity, unit, statement, held)
 }

@@ -8,15 +8,14 @@ ghost use Rattle.dbtg_unit.specs.Database.Statements.Checks.{place_checks, store
 ghost use Rattle.dbtg_unit.specs.declared.statement.Statement.TheVariants.{Store};
 ghost use Rattle.dbtg_unit.specs.Database.State.Base.{Database, key_item};
 ghost use Rattle.dbtg_unit.specs.Database.Statements.Checks.{refused_at_once};
-ghost use Rattle.dbtg_unit.specs.Hands.EditsOf.{first_owners, joining_edits, slot_edit, store_edits};
 ghost use Rattle.dbtg_unit.specs.Hands.InHand.{numbers_in, in_hand};
 ghost use Rattle.dbtg_unit.specs.Hands.Local.{Agrees};
 ghost use Rattle.dbtg_unit.specs.Hands.Making.{CanFinish, MayPrepare, ShowsTheSame};
-ghost use Rattle.dbtg_unit.specs.Hands.Needs.{cells_of, current_owner, ring_names, store_rings};
+ghost use Rattle.dbtg_unit.specs.Hands.Needs.{cells_of, current_owner, first_missing, ring_names, store_rings, store_rings_of};
+ghost use Rattle.dbtg_unit.specs.Hands.PlanOf.{first_owners, joining_edits, plan_of, slot_edit, store_edits, storing};
 ghost use Rattle.dbtg_unit.specs.Hands.Prepared.{unless_refusal};
 ghost use Rattle.dbtg_plan.specs.Calc.{fresh_key};
-ghost use Rattle.dbtg_plan.specs.Missing.{first_missing};
-ghost use Rattle.dbtg_plan.specs.Store.{HasRoom, missing_of_store, opening_edit, store_plan, store_rings_in, stored_plan};
+ghost use Rattle.dbtg_plan.specs.Store.{HasRoom, missing_of_store, opening_edit};
 
 use crate::calc::{copy_calc, fresh_key, is_calc_taken};
 use crate::joining::{current_owner, joining_edit, make_room, place_refusal};
@@ -73,7 +72,7 @@ fn missing_in_set(
     key: &DbKey,
     set: SetNo,
 ) -> Option<CellName>
-    ensures { result ≡ first_missing held.now (store_rings_in schema.now unit.now key.now set) }
+    ensures { result ≡ first_missing held.now (store_rings_of schema.now unit.now key.now set) }
 {
     let joined = missing_joined(schema, unit, held, key, set);
     if joined.is_some() {
@@ -330,7 +329,7 @@ fn stored(
     items: &Row<Value>,
     suppress: Suppress,
 ) -> Result<Prepared, AllocError>
-    ensures { IfOk result (λ plan. plan ≡ stored_plan schema.now unit.now items.now suppress key.now) }
+    ensures { IfOk result (λ plan. plan ≡ storing schema.now unit.now items.now suppress key.now) }
 {
     let owners = first_owners(schema, unit, key.rtype);
     let edits = edits_of(alloc, schema, unit, key, items, &owners)?;
@@ -373,7 +372,7 @@ fn plan_of_key(
 ) -> Result<Prepared, AllocError>
     requires { (in_hand held.old).is_full rtype ≡ false }
     ensures same { ShowsTheSame held.old held.new }
-    ensures plan { IfOk result (λ plan. plan ≡ unless_refusal (first_cause (store_checks schema.now (in_hand held.old) unit.now rtype items.now)) (stored_plan schema.now unit.now items.now suppress key.now)) }
+    ensures plan { IfOk result (λ plan. plan ≡ unless_refusal (first_cause (store_checks schema.now (in_hand held.old) unit.now rtype items.now)) (storing schema.now unit.now items.now suppress key.now)) }
     ensures rooms { IfOk result (λ plan. (k : DbKey) (s : ℕ) → plan.answer.key ≡ Some k → HasRoom schema.now unit.now held.new k s) }
 {
     if let Some(cause) = refusal(alloc, schema, unit, held, rtype, items.as_slice())? {
@@ -394,7 +393,7 @@ fn plan_store(
     held: &mut Held,
 ) -> Result<Prepared, AllocError>
     ensures same { ShowsTheSame held.old held.new }
-    ensures plan { IfOk result (λ plan. plan ≡ store_plan schema.now unit.now held.old rtype items.now suppress) }
+    ensures plan { IfOk result (λ plan. plan ≡ plan_of schema.now (in_hand held.old) unit.now (Store rtype items.now suppress)) }
     ensures rooms { IfOk result (λ plan. (k : DbKey) (s : ℕ) → plan.answer.key ≡ Some k → HasRoom schema.now unit.now held.new k s) }
 {
     match new_key(held, rtype) {

@@ -2,19 +2,14 @@
 -- needs come to an end.
 -- May use: the lemmas that dbtg_unit passes on.
 -- Promises: `NetworkFacts`: all that the machine asks of a sequential database; `TurnsBack`: needs come to an end.
-pub mod AreasOfCells
-pub mod AreasOfDelete
 pub mod Ascending
-pub mod CellsAscend
 pub mod CellsExist
-pub mod FoundKeys
 pub mod NameOrder
 pub mod NeededCells
 pub mod NeededCellsExist
 pub mod NetworkFacts
 pub mod NetworkNeeds
 pub mod SameCells
-pub mod SoundSchemas
 pub mod StableCells
 pub mod StatementsLocal
 pub mod TakingOrder

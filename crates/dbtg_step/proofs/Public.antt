@@ -108,10 +108,6 @@ pub use Rattle.dbtg_step.proofs.TheCore.DrawnShown.{held_are_due}
 pub use Rattle.dbtg_step.proofs.TheCore.DrawnShown.{versions_next}
 -- what stands at a number of a list is in the list
 pub use Rattle.dbtg_step.proofs.TheCore.EventsShown.{slice_get_in}
--- what shows the same agrees with the same databases
-pub use Rattle.dbtg_step.proofs.TheCore.Makings.{agrees_also}
--- what a plan makes of the cells in hand is the statement's effect on each database that agrees with them
-pub use Rattle.dbtg_step.proofs.TheCore.Makings.{made_on}
 -- some element of a reversed list passes a test just where one of the list does
 pub use Rattle.dbtg_step.proofs.TheCore.NeedsShown.{any_reverse}
 -- what is made of an element is made of the list

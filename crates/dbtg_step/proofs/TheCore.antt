@@ -10,7 +10,6 @@ pub mod DrawnShown
 pub mod EventsShown
 pub mod FollowsShown
 pub mod ImagesRead
-pub mod Makings
 pub mod NeedsOrdered
 pub mod NeedsRefused
 pub mod NeedsShown

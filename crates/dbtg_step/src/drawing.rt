@@ -7,10 +7,11 @@ ghost use Rattle.dbtg_unit.specs.Database.State.Base.{Database};
 ghost use Rattle.dbtg_cells.specs.Names.{name_eq};
 ghost use Rattle.dbtg_unit.specs.Database.State.Legal.{pairwise};
 ghost use Rattle.dbtg_unit.specs.Hands.Local.{Agrees};
+ghost use Rattle.dbtg_unit.specs.Hands.Locality.{IsMadeOn, seen};
 ghost use Rattle.dbtg_unit.specs.Hands.Making.{MayPrepare, ShowsTheSame};
 ghost use Rattle.dbtg_step.specs.declared.parts.Runner.{Runner};
 ghost use Rattle.dbtg_step.specs.Core.Stands.{StandsNeeding};
-ghost use Rattle.dbtg_step.specs.Core.Leaves.{IsDrawn, IsMadeOn, IsUnmade};
+ghost use Rattle.dbtg_step.specs.Core.Leaves.{IsDrawn, IsUnmade};
 ghost use Rattle.dbtg_step.specs.Core.Parts.{stage_while_held};
 ghost use Rattle.dbtg_step.specs.Core.Events.{IsStepped, IsWell, NeedsNext};
 
@@ -33,7 +34,7 @@ pub fn make(
     requires may { MayPrepare schema.now capacity unit.old held.old statement.now }
     requires agrees { (db : Database) × Agrees schema.now capacity db held.old unit.old }
     requires once { pairwise (λ e f. not (name_eq e.0 f.0)) held.old.cells ≡ true }
-    ensures made { IfOk result (λ answer. (db : Database) → Agrees schema.now capacity db held.old unit.old → IsMadeOn schema.now capacity db statement.now unit.old held.old unit.new held.new answer) }
+    ensures made { IfOk result (λ answer. (db : Database) → Agrees schema.now capacity db held.old unit.old → IsMadeOn schema.now capacity db unit.old held.old statement.now (seen answer unit.new held.new)) }
     ensures unit { OnErr result (unit.new ≡ unit.old) }
     ensures shows { OnErr result (ShowsTheSame held.old held.new) }
 {

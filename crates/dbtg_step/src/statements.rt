@@ -6,6 +6,7 @@ ghost use Rattle.dbtg_unit.specs.Database.State.Belongs.{IsUnitOf, IsWithin};
 ghost use Rattle.dbtg_unit.specs.Hands.EditsOf.{is_delete};
 ghost use Rattle.dbtg_unit.specs.Database.Statements.Fits.{fits};
 ghost use Rattle.dbtg_unit.specs.Hands.Local.{Agrees};
+ghost use Rattle.dbtg_unit.specs.Hands.Locality.{IsMadeOnEach, made_by};
 ghost use Rattle.dbtg_unit.specs.Hands.Making.{CanFinish, MayPrepare, ShowsTheSame};
 ghost use Rattle.dbtg_unit.specs.Hands.Needs.{need};
 ghost use Rattle.dbtg_step.specs.Core.Courses.{IsCourseKept};
@@ -64,6 +65,7 @@ pub fn prepare(
     requires may { MayPrepare schema.now capacity unit.now held.old statement.now }
     ensures shows { ShowsTheSame held.old held.new }
     ensures prepared { IfOk result (λ plan. CanFinish schema.now capacity unit.now held.new statement.now plan) }
+    ensures made { IfOk result (λ plan. IsMadeOnEach schema.now capacity unit.now held.old statement.now (made_by schema.now unit.now held.new plan)) }
 {
     match delete_option(statement) {
         Some(option) => dbtg_erase::prepare(alloc, schema, capacity, unit, option, held),

@@ -3,4 +3,5 @@
 pub mod Changes
 pub mod Holding
 pub mod Reading
+pub mod Taking
 pub mod Untouched

@@ -34,6 +34,8 @@ pub use Rattle.dbtg_unit.proofs.Lists.Membership.{any_element}
 pub use Rattle.dbtg_unit.proofs.Lists.Membership.{any_in}
 -- the first that passes is an element of the list and passes
 pub use Rattle.dbtg_unit.proofs.Lists.Membership.{find_element}
+-- where none is found, no element passes
+pub use Rattle.dbtg_unit.proofs.Lists.Membership.{find_none_of}
 -- an element that passes is among those that are kept
 pub use Rattle.dbtg_unit.proofs.Lists.Membership.{in_filter}
 -- an element of what one element is mapped to is in the joined list
@@ -184,8 +186,8 @@ pub use Rattle.dbtg_unit.proofs.Database.Legal.PassedChecks.{passes_each}
 pub use Rattle.dbtg_unit.proofs.Database.Legal.SameView.{calc_taken_agrees}
 -- the same occurrence and key have the same checks at a place
 pub use Rattle.dbtg_unit.proofs.Database.Legal.SameView.{checks_at_agree}
--- a record is the same in two views, and an occurrence
-pub use Rattle.dbtg_unit.proofs.Database.Legal.SameView.{SameRecord, SameOccurrence}
+-- a record is the same in two views, an occurrence, and the numbers of a type
+pub use Rattle.dbtg_unit.proofs.Database.Legal.SameView.{SameNumbers, SameOccurrence, SameRecord}
 -- an INSERT has the same checks where the record, its owner and the occurrence are the same
 pub use Rattle.dbtg_unit.proofs.Database.Legal.SameView.{insert_checks_agree}
 -- of its sets a MODIFY asks only those in which the record has an owner
@@ -320,6 +322,8 @@ pub use Rattle.dbtg_unit.proofs.Hands.Reading.ReadyParts.{HasAll}
 pub use Rattle.dbtg_unit.proofs.Hands.Reading.ReadyParts.{prepared_has_all}
 -- hands that show the same agree with the same databases
 pub use Rattle.dbtg_unit.proofs.Hands.Reading.SameHands.{agrees_same}
+-- cells that show the same are, where the others are, as the database has them
+pub use Rattle.dbtg_unit.proofs.Hands.Reading.SameHands.{all_agree_same}
 -- hands that show the same hold the same cells
 pub use Rattle.dbtg_unit.proofs.Hands.Reading.SameHands.{holds_same}
 -- who may prepare a statement with hands may with others that show the same
@@ -430,6 +434,52 @@ pub use Rattle.dbtg_unit.proofs.Hands.Untouched.LocalReady.{modify_typed}
 pub use Rattle.dbtg_unit.proofs.Hands.Untouched.LocalStatements.{names_once_complete}
 -- a new key is not live
 pub use Rattle.dbtg_unit.proofs.Hands.Untouched.LocalStore.{new_is_fresh}
+-- the cells in hand after a plan that is the effect show what the database has after it
+pub use Rattle.dbtg_unit.proofs.Hands.Untouched.MadeOnEach.{cells_made}
+-- a plan that can be finished makes the statement on every database of which the cells in hand are
+pub use Rattle.dbtg_unit.proofs.Hands.Untouched.MadeOnEach.{plan_makes}
+-- THE ORDER OF TAKING
+
+-- where each element of a list gives a list of which all pass, all pass of all these
+pub use Rattle.dbtg_unit.proofs.Hands.Taking.AreasOfCells.{all_flat}
+-- where all of two lists pass, all of them joined do
+pub use Rattle.dbtg_unit.proofs.Hands.Taking.AreasOfCells.{all_join}
+-- where the slot of what is found passes, all slots of what is found do
+pub use Rattle.dbtg_unit.proofs.Hands.Taking.AreasOfCells.{found_passes}
+-- what a DELETE takes passes, where the record passes and each record's own members do
+pub use Rattle.dbtg_unit.proofs.Hands.Taking.AreasOfDelete.{brought_all}
+-- where all names pass, those listed once do
+pub use Rattle.dbtg_unit.proofs.Hands.Taking.AreasOfDelete.{once_all}
+-- the cells of a statement ascend, those of a DELETE apart
+pub use Rattle.dbtg_unit.proofs.Hands.Taking.CellsAscend.{cells_ascend}
+-- a key that is chosen by its place in key order is among the keys
+pub use Rattle.dbtg_unit.proofs.Hands.Taking.FoundKeys.{chosen_by_key_in}
+-- a key that is chosen is among the keys, and passes
+pub use Rattle.dbtg_unit.proofs.Hands.Taking.FoundKeys.{chosen_in}
+-- what is found by a current: there is one, by which it is found
+pub use Rattle.dbtg_unit.proofs.Hands.Taking.FoundKeys.{current_is}
+-- the first of a list is in it
+pub use Rattle.dbtg_unit.proofs.Hands.Taking.FoundKeys.{first_in}
+-- the first of some keys, where there is one, is among them
+pub use Rattle.dbtg_unit.proofs.Hands.Taking.FoundKeys.{first_is_in}
+-- the first of those that a test keeps is in the list, and passes
+pub use Rattle.dbtg_unit.proofs.Hands.Taking.FoundKeys.{first_of_filter}
+-- what is found, where nothing keeps it from being found
+pub use Rattle.dbtg_unit.proofs.Hands.Taking.FoundKeys.{found_is}
+-- an element of a list turned round is in the list
+pub use Rattle.dbtg_unit.proofs.Hands.Taking.FoundKeys.{of_reverse}
+-- a need is above what was taken in turn
+pub use Rattle.dbtg_unit.proofs.Hands.Taking.NeedsInOrder.{above_hands}
+-- a cell that is needed lies in an area in hand
+pub use Rattle.dbtg_unit.proofs.Hands.Taking.NeedsInOrder.{area_held}
+-- the areas of a statement ascend
+pub use Rattle.dbtg_unit.proofs.Hands.Taking.NeedsInOrder.{areas_ascend}
+-- of a cell that is needed, what decided it
+pub use Rattle.dbtg_unit.proofs.Hands.Taking.NeedsInOrder.{chose_take}
+-- a cell that is needed is not in hand, and lies in an area in hand
+pub use Rattle.dbtg_unit.proofs.Hands.Taking.NeedsInOrder.{in_held_area}
+-- the owner type of a set is a record type of the schema
+pub use Rattle.dbtg_unit.proofs.Hands.Taking.SoundSchemas.{owner_is_type}
 -- WHAT IS HELD WHILE EDITS ARE MADE
 
 -- a cell of a name is there where one is held

@@ -16,6 +16,7 @@ pub mod Lends
 pub mod Local
 pub mod Locality
 pub mod Making
+pub mod NeedOrder
 pub mod Needs
 pub mod PlanOf
 pub mod Prepared

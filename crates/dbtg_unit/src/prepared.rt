@@ -1,5 +1,6 @@
 //! What a statement has prepared, and how it is done: without memory and without a refusal.
 ghost use Rattle.std.specs.Prelude.{◌≡◌, slice_set};
+ghost use Rattle.dbtg_unit.specs.Hands.Locality.{made_by, seen};
 ghost use Rattle.dbtg_unit.specs.Hands.Making.{CanEditHeld, CanMake, IsMade};
 ghost use Rattle.dbtg_unit.specs.Hands.Prepared.{edited_values, guesses_edited, refusal, renoted_at, unit_after, unit_edited, values_of};
 
@@ -141,7 +142,8 @@ fn change_unit(schema: &Schema, change: UnitEdit, held: &mut Held, unit: &mut Un
     }
 }
 
-/// Makes what was prepared of the cells in hand, of the guesses and of the unit. It takes no memory and cannot fail.
+/// Makes what was prepared of the cells in hand, of the guesses and of the unit. It takes no memory and cannot fail. What the plan
+/// makes is then seen; on which databases that is the statement's effect, the call that prepared it says.
 pub fn finish(schema: &Schema, prepared: Prepared, held: &mut Held, unit: &mut Unit) -> Answer
     requires { CanMake prepared.cells held.old.cells }
     ensures answer { result ≡ prepared.answer }
@@ -149,6 +151,7 @@ pub fn finish(schema: &Schema, prepared: Prepared, held: &mut Held, unit: &mut U
     ensures cells { values_of held.new.cells ≡ edited_values prepared.cells (values_of held.old.cells) }
     ensures guesses { held.new.guesses ≡ guesses_edited prepared.unit held.old.guesses }
     ensures unit { unit.new ≡ unit_after schema.now prepared unit.old }
+    ensures made { seen result unit.new held.new ≡ made_by schema.now unit.old held.old prepared }
 {
     let Prepared {
         answer,

@@ -14,13 +14,14 @@ use dbtg_command::explain::{Kind, Topic, explained, fault_topic, status_topic, t
 use dbtg_script::{Cause, behind, in_front, is_number, number};
 use std::alloc::{AllocError, Global};
 
-/// What is left to be done for a line: to print a text, to save the session in a directory, or to end.
+/// What is left to be done for a line: to print a text, to save the session in a directory, to take the lines of a file, or to end.
 #[derive(Drop)]
 pub enum Reply<'a> {
     Text(Vec<u8>),
     /// A statement is made, and its answer is longer than the room that was found for it.
     Untold,
     Save(&'a str),
+    Load(&'a str),
     Quit,
 }
 
@@ -39,6 +40,7 @@ pub struct Shell<'a> {
     pub turn: u8,
     alloc: Global,
     last: Last,
+    saved: Option<String>,
 }
 
 // No answer's line is longer: sixteen items, each with its name and its value, have at most 1,568 bytes of it.
@@ -52,6 +54,7 @@ STATEMENT         is made by the unit whose turn it is
 .database         shows the records, the lists of the sets and the areas
 .explain          explains the last status or fault
 .explain 0307     explains this status; .explain script 7 this fault
+.load FILE        takes the lines of this file, as if they were typed
 .save DIRECTORY   writes the scripts and the turns so far, for replay --turns
 .help             shows this
 .quit             ends, as the end of the input does
@@ -62,6 +65,8 @@ const NOTHING_YET: &str = "nothing was answered yet\n";
 const NO_TOPIC: &str = "no status and no fault is called so\n";
 
 const NO_COMMAND: &str = "there is no such command: .help shows those that there are\n";
+
+const NO_FILE: &str = "the name of a file is wanted, as text in UTF-8\n";
 
 const NO_DIRECTORY: &str = "the name of a directory is wanted, as text in UTF-8\n";
 
@@ -95,7 +100,22 @@ impl<'a> Shell<'a> {
             turn: 1,
             alloc,
             last: Last::Nothing,
+            saved: None,
         }
+    }
+
+    /// Is this the directory in which the session was saved last?
+    pub fn has_saved(&self, directory: &str) -> bool {
+        self.saved.as_ref().is_some_and(|saved| saved.as_str() == directory)
+    }
+
+    /// Notes the directory in which the session is saved.
+    pub fn note_saved(&mut self, directory: &str) -> Result<(), AllocError>
+        ensures unchanged { self.new.session ≡ self.old.session }
+        ensures turn { self.new.turn ≡ self.old.turn }
+    {
+        self.saved = Some(String::from_str(self.alloc, directory)?);
+        Ok(())
     }
 
     fn text<'b>(&self, text: &str) -> Result<Reply<'b>, AllocError>
@@ -226,6 +246,8 @@ impl<'a> Shell<'a> {
                 Ok(Reply::Text(units_reply(self.alloc, &self.session)?))
             }
             b"explain" => self.explain(rest),
+            b"load" if rest.is_empty() => self.text(NO_FILE),
+            b"load" => Ok(Reply::Load(rest)),
             b"save" if rest.is_empty() => self.text(NO_DIRECTORY),
             b"save" => Ok(Reply::Save(rest)),
             b"help" if rest.is_empty() => self.text(HELP),

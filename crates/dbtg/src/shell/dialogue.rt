@@ -1,11 +1,12 @@
 //! The dialogue of the shell: lines come from standard input, and what each comes to goes to standard output at once.
 
 use crate::shell::commands::{Reply, Shell};
-use crate::shell::saved::save;
+use crate::shell::saved::{first_there, save};
 use crate::shell::session::Session;
 use dbtg_command::Call;
 use std::alloc::AllocError;
-use std::io::{self, BufRead, Input, IsTerminal, Read, Write};
+use std::fs::File;
+use std::io::{self, BufRead, BufReader, Input, IsTerminal, Read, Write};
 
 // Of a longer line no more is kept: a statement has at most 1,000 bytes.
 const LINE_BYTES: u64 = 8192;
@@ -13,6 +14,8 @@ const LINE_BYTES: u64 = 8192;
 const WANT_OF_MEMORY: &str = "want of memory\n";
 
 const UNTOLD: &str = "made, and there is no room for its answer\n";
+
+const LOADING: &str = "a file that is loaded cannot load another\n";
 
 /// How much of a line was kept: all of it, or the beginning of one that is too long.
 #[derive(Clone, Copy)]
@@ -48,7 +51,7 @@ fn next_line<B: BufRead>(input: &mut B, line: &mut Vec<u8>) -> io::Result<Option
 #[derive(Drop)]
 pub enum Broken {
     NotRead,
-    NotWritten,
+    NotWritten(io::Error),
     Memory,
 }
 
@@ -59,10 +62,7 @@ impl From<AllocError> for Broken {
 }
 
 fn write(rt: &HostRuntime, text: &[u8]) -> Result<(), Broken> {
-    match io::writer(rt).write_all(text) {
-        Ok(()) => Ok(()),
-        Err(_) => Err(Broken::NotWritten),
-    }
+    io::writer(rt).write_all(text).map_err(Broken::NotWritten)
 }
 
 // A terminal is shown whose turn it is.
@@ -81,29 +81,46 @@ fn write_end(rt: &HostRuntime, prompts: bool) -> Result<(), Broken> {
     write(rt, b"\n")
 }
 
+// Saves the session, but not over files that this shell has not written.
+fn saved(
+    rt: &HostRuntime,
+    shell: &mut Shell<'_>,
+    call: &Call<'_>,
+    directory: &str,
+) -> Result<String, AllocError> {
+    if !shell.has_saved(directory) {
+        if let Some(told) = first_there(rt, &shell.session, directory)? {
+            return Ok(told);
+        }
+        shell.note_saved(directory)?;
+    }
+    save(rt, &shell.session, call.capacity, call.schema, directory)
+}
+
 fn write_saved(
     rt: &HostRuntime,
-    session: &Session<'_>,
+    shell: &mut Shell<'_>,
     call: &Call<'_>,
     directory: &str,
 ) -> Result<(), Broken> {
-    match save(rt, session, call.capacity, call.schema, directory) {
+    match saved(rt, shell, call, directory) {
         Ok(told) => write(rt, told.as_bytes()),
         Err(_) => write(rt, WANT_OF_MEMORY.as_bytes()),
     }
 }
 
-// Prints what a line came to.
+// Prints what a line came to; a line that asks to load is one of a file that is loaded already.
 fn write_reply(
     rt: &HostRuntime,
-    session: &Session<'_>,
+    shell: &mut Shell<'_>,
     call: &Call<'_>,
     reply: &Result<Reply<'_>, AllocError>,
 ) -> Result<(), Broken> {
     match reply {
         Ok(Reply::Text(text)) => write(rt, text.as_slice()),
         Ok(Reply::Untold) => write(rt, UNTOLD.as_bytes()),
-        Ok(Reply::Save(directory)) => write_saved(rt, session, call, *directory),
+        Ok(Reply::Save(directory)) => write_saved(rt, shell, call, *directory),
+        Ok(Reply::Load(_)) => write(rt, LOADING.as_bytes()),
         Ok(Reply::Quit) => Ok(()),
         Err(_) => write(rt, WANT_OF_MEMORY.as_bytes()),
     }
@@ -121,6 +138,76 @@ fn reply_to<'b>(
     }
 }
 
+// Answers a line of a file; whether the dialogue goes on.
+fn answer_loaded(
+    rt: &HostRuntime,
+    shell: &mut Shell<'_>,
+    call: &Call<'_>,
+    kept: Kept,
+    line: &[u8],
+) -> Result<bool, Broken> {
+    let reply = reply_to(shell, kept, line);
+    write_reply(rt, shell, call, &reply)?;
+    Ok(!matches!(reply, Ok(Reply::Quit)))
+}
+
+// Answers the lines of a file, as if they were typed; whether the dialogue goes on, or why no further line can be read.
+fn answer_file<B: BufRead>(
+    rt: &HostRuntime,
+    shell: &mut Shell<'_>,
+    call: &Call<'_>,
+    input: &mut B,
+    line: &mut Vec<u8>,
+) -> Result<io::Result<bool>, Broken> {
+    for _ in 0..u64::MAX {
+        let kept = match next_line(input, line) {
+            Ok(Some(kept)) => kept,
+            Ok(None) => return Ok(Ok(true)),
+            Err(error) => return Ok(Err(error)),
+        };
+        if !answer_loaded(rt, shell, call, kept, line.as_slice())? {
+            return Ok(Ok(false));
+        }
+    }
+    Ok(Ok(true))
+}
+
+fn load_file(
+    rt: &HostRuntime,
+    shell: &mut Shell<'_>,
+    call: &Call<'_>,
+    path: &str,
+) -> Result<io::Result<bool>, Broken> {
+    let opened = File::open(rt, path).and_then(|file| BufReader::new(rt.alloc(), file));
+    let mut input = match opened {
+        Ok(input) => input,
+        Err(error) => return Ok(Err(error)),
+    };
+    let mut line = Vec::with_capacity(rt.alloc(), LINE_BYTES as usize)?;
+    answer_file(rt, shell, call, &mut input, &mut line)
+}
+
+// Loads a file, and tells where it cannot be read; whether the dialogue goes on.
+fn load(
+    rt: &HostRuntime,
+    shell: &mut Shell<'_>,
+    call: &Call<'_>,
+    path: &str,
+) -> Result<bool, Broken> {
+    match load_file(rt, shell, call, path)? {
+        Ok(goes_on) => Ok(goes_on),
+        Err(error) if error.kind() == io::ErrorKind::OutOfMemory => {
+            write(rt, WANT_OF_MEMORY.as_bytes())?;
+            Ok(true)
+        }
+        Err(_) => {
+            let told = format!(in rt.alloc(); "cannot read {path}\n")?;
+            write(rt, told.as_bytes())?;
+            Ok(true)
+        }
+    }
+}
+
 // Answers a line; whether the dialogue goes on.
 fn answer(
     rt: &HostRuntime,
@@ -129,9 +216,13 @@ fn answer(
     kept: Kept,
     line: &[u8],
 ) -> Result<bool, Broken> {
-    let reply = reply_to(shell, kept, line);
-    write_reply(rt, &shell.session, call, &reply)?;
-    Ok(!matches!(reply, Ok(Reply::Quit)))
+    match reply_to(shell, kept, line) {
+        Ok(Reply::Load(path)) => load(rt, shell, call, path),
+        reply => {
+            write_reply(rt, shell, call, &reply)?;
+            Ok(!matches!(reply, Ok(Reply::Quit)))
+        }
+    }
 }
 
 // Answers the lines of an input, each in the same room.

@@ -57,6 +57,15 @@ pub fn push_answer_reply(
     }
 }
 
+// What is meant where a command is typed without its period.
+fn hint_for(line: &[u8]) -> &'static [u8] {
+    match in_front(in_front(line, b'\r'), b' ') {
+        b"quit" | b"exit" | b"QUIT" | b"EXIT" | b"q" => b"; .quit ends the shell",
+        b"help" | b"HELP" | b"?" => b"; .help shows what can be typed",
+        _ => b"",
+    }
+}
+
 /// The fault of a line: its number, and what is said of the word that is at fault, or what the fault means.
 pub fn fault_reply(
     alloc: Global,
@@ -77,6 +86,7 @@ pub fn fault_reply(
     } else {
         word.as_slice()
     })?;
+    out.extend_from_slice(hint_for(line))?;
     out.push(b'\n')?;
     Ok(out)
 }

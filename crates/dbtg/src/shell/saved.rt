@@ -123,6 +123,32 @@ fn command_for(
     Ok(told)
 }
 
+// Tells of a file that is there.
+fn if_there(rt: &HostRuntime, path: &str) -> Result<Option<String>, AllocError> {
+    if fs::metadata(rt, path).is_err() {
+        return Ok(None);
+    }
+    let told = format!(in rt.alloc(); "{path} is there, and this shell has not saved it: name another directory\n")?;
+    Ok(Some(told))
+}
+
+/// The first file that saving a session in a directory would write over, if there is one, and what is told of it.
+pub fn first_there(
+    rt: &HostRuntime,
+    session: &Session<'_>,
+    directory: &str,
+) -> Result<Option<String>, AllocError> {
+    for i in 0..session.scripts().len() {
+        let number = i.saturating_add(1);
+        let path = format!(in rt.alloc(); "{directory}/script.{number}")?;
+        if let Some(told) = if_there(rt, path.as_str())? {
+            return Ok(Some(told));
+        }
+    }
+    let path = format!(in rt.alloc(); "{directory}/turns")?;
+    if_there(rt, path.as_str())
+}
+
 /// Writes the scripts and the turns of a session into a directory, which is made where there is none, and says how they are made
 /// again, or which file could not be written.
 pub fn save(

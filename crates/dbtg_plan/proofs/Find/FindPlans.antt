@@ -5,12 +5,11 @@ use Rattle.std.specs.Prelude.{◌==◌, nat_lt, option_and_then, option_map, unw
 use Rattle.std.specs.List.{list_all, range_with_len}
 use Rattle.std.specs.Option.{option_or}
 use Rattle.std.proofs.lemmas.Bool.{and_parts}
-use Rattle.std.proofs.lemmas.Bool.Decides.{nat_tests}
 use Rattle.std.proofs.lemmas.List.{take_all}
 use Rattle.std.proofs.lemmas.List.FromFn.{length-map-range_with_len}
 use Rattle.dbtg_schema.specs.Lists.{Lists}
 use Rattle.dbtg_schema.specs.Lookups.{at}
-use Rattle.dbtg_schema.specs.Structure.{area_of, types_in}
+use Rattle.dbtg_schema.specs.Structure.{types_in}
 use Rattle.dbtg_schema.proofs.Public.{some_is}
 use Rattle.dbtg_cells.specs.declared.key.DbKey.{DbKey}
 use Rattle.dbtg_cells.specs.declared.key.Owner.{Owner}
@@ -39,13 +38,12 @@ use Rattle.dbtg_unit.specs.Hands.Hands.{Hands}
 use Rattle.dbtg_unit.specs.Hands.InHand.{stored_in}
 use Rattle.dbtg_unit.specs.Hands.Local.{Agrees, holds}
 use Rattle.dbtg_unit.specs.Hands.Making.{CanFinish, CanMake}
-use Rattle.dbtg_unit.specs.Hands.Needs.{current_owner, find_cells, found_slot, ring_names, slot_names}
+use Rattle.dbtg_unit.specs.Hands.Needs.{cells_to_find, current_owner, find_cells, first_missing, found_slot, ring_names, slot_names}
 use Rattle.dbtg_unit.specs.Hands.Prepared.{IsEffect}
 use Rattle.dbtg_unit.specs.Database.State.Units.{key_of_place, owners_of, place_in, seen, seen_with}
 use Rattle.dbtg_unit.proofs.Public.{In, MayPlan, all_held, found_live, in_left, in_right, live_in_hand, owners_in_hand, prepared_has_all}
-use Rattle.dbtg_plan.specs.Finding.{cells_to_find, found_in, is_wanted, next_cell_in, owners_in, plan_of_found}
-use Rattle.dbtg_plan.proofs.Find.FindsTheSame.{found_reads, only_named}
-use Rattle.dbtg_plan.specs.Missing.{first_missing}
+use Rattle.dbtg_plan.specs.Finding.{found_in, next_cell_in, owners_in, plan_of_found}
+use Rattle.dbtg_plan.proofs.Find.FindsTheSame.{found_reads}
 use Rattle.dbtg_plan.proofs.Needs.MissingCells.{missing_append, none_missing}
 use Rattle.dbtg_plan.proofs.Plans.IsEffect.{effect_is_on_cells, refusal_is_effect}
 
@@ -113,13 +111,6 @@ next_slot schema unit hands form result none is =
     ∙ sym (missing_append hands (cells_to_find schema unit form) (found_slot (found_in schema unit hands form)))
 
 module _ (schema : Lists) (capacity : ℕ) (db : Database) (hands : Hands) (unit : Unit) where
-  extents_named : (r : Option ℕ) (a : ℕ) → if_named (λ t. is_type schema t && area_of schema t == a) r ≡ true
-      → unwrap_or (option_map (λ t. t ∷ []) r) (types_in schema a) ≡ filter (is_wanted schema r a) (range_with_len 0 (length schema.types))
-  extents_named None a fit = refl
-  extents_named (Some u) a fit = sym (only_named u 0 (length schema.types) (omega arith) (below (and_parts _ _ fit).0)) where
-    below : nat_lt u (length schema.types) ≡ true → u < 0 + length schema.types
-    below h = grind (arith, nat_tests)
-
   slot_here : (form : Form) → find_cells schema capacity db unit form ≡ cells_to_find schema unit form
       → first_missing hands (find_cells schema capacity db unit form) ≡ first_missing hands (cells_to_find schema unit form ++ found_slot (found schema capacity db unit form))
   slot_here form same =
@@ -127,26 +118,24 @@ module _ (schema : Lists) (capacity : ℕ) (db : Database) (hands : Hands) (unit
       ∙ ap (λ names. first_missing hands (names ++ found_slot (found schema capacity db unit form))) same
 
   -- the cells of a FIND are those by which it is found, and then the slot of what is found
-  cells_are : (form : Form) → form_fits schema form ≡ true
-      → first_missing hands (find_cells schema capacity db unit form) ≡ first_missing hands (cells_to_find schema unit form ++ found_slot (found schema capacity db unit form))
-  cells_are (Key k) fit = slot_here (Key k) refl
-  cells_are CurrentOfUnit fit = slot_here CurrentOfUnit refl
-  cells_are (CurrentOfType r) fit = slot_here (CurrentOfType r) refl
-  cells_are (CurrentOfSet s) fit = slot_here (CurrentOfSet s) refl
-  cells_are (CurrentOfArea a) fit = slot_here (CurrentOfArea a) refl
-  cells_are (InSet which r s) fit = refl
-  cells_are (InArea which r a) fit =
-      ap (λ types. first_missing hands (map Extent types ++ found_slot (found schema capacity db unit (InArea which r a)))) (extents_named r a (and_parts _ _ fit).1)
-  cells_are (OwnerOf s) fit = slot_here (OwnerOf s) refl
-  cells_are (Calc r values) fit = refl
-  cells_are (NextDuplicate r) fit = refl
-  cells_are (Sorted v s) fit = refl
+  cells_are : (form : Form) → first_missing hands (find_cells schema capacity db unit form) ≡ first_missing hands (cells_to_find schema unit form ++ found_slot (found schema capacity db unit form))
+  cells_are (Key k) = slot_here (Key k) refl
+  cells_are CurrentOfUnit = slot_here CurrentOfUnit refl
+  cells_are (CurrentOfType r) = slot_here (CurrentOfType r) refl
+  cells_are (CurrentOfSet s) = slot_here (CurrentOfSet s) refl
+  cells_are (CurrentOfArea a) = slot_here (CurrentOfArea a) refl
+  cells_are (InSet which r s) = refl
+  cells_are (InArea which r a) = refl
+  cells_are (OwnerOf s) = slot_here (OwnerOf s) refl
+  cells_are (Calc r values) = refl
+  cells_are (NextDuplicate r) = refl
+  cells_are (Sorted v s) = refl
 
   module _ (agrees : Agrees schema capacity db hands unit) (of_schema : IsUnitOf schema unit) where
     pub next_cell_is : (form : Form) → form_fits schema form ≡ true → next_cell_in schema unit hands form ≡ first_missing hands (find_cells schema capacity db unit form)
     next_cell_is form fit =
         missing_append hands names (found_slot (found_in schema unit hands form)) ∙ by_missing (first_missing hands names) refl
-        ∙ sym (missing_append hands names (found_slot (found schema capacity db unit form))) ∙ sym (cells_are form fit) where
+        ∙ sym (missing_append hands names (found_slot (found schema capacity db unit form))) ∙ sym (cells_are form) where
           names : List CellName
           names = cells_to_find schema unit form
 
@@ -172,7 +161,7 @@ module _ (schema : Lists) (capacity : ℕ) (unit : Unit) (hands : Hands) (form :
 
     ready_reads : found schema capacity db unit form ≡ found_in schema unit hands form
     ready_reads =
-        let none = sym (cells_are schema capacity db hands unit form fit) ∙ none_missing hands (find_cells schema capacity db unit form) in_hand in
+        let none = sym (cells_are schema capacity db hands unit form) ∙ none_missing hands (find_cells schema capacity db unit form) in_hand in
         found_reads schema capacity db hands unit agrees may.of_schema form fit
         (λ c i. all_held hands.cells (cells_to_find schema unit form ++ found_slot (found schema capacity db unit form)) none c (in_left c (cells_to_find schema unit form) (found_slot (found schema capacity db unit form)) i))
 

@@ -1,13 +1,14 @@
 -- What a FIND finds off the cells in hand is what it finds in each database that agrees with them.
 -- k is a key, s a set, r and t record types, a an area, v a value, c the name of a cell, db a database.
-use Rattle.std.proofs.Common.{◌≡◌, refl, sym, ◌∙◌, ap, ℕ, zero, suc, ◌+◌, ◌<◌, ◌≤◌, ◌≢◌, Bool, true, false, cond, not, ◌&&◌, List, [], ◌∷◌, ◌++◌, length, Option, Some, None, eqb, map, arith, inl, inr}
+use Rattle.std.proofs.Common.{◌≡◌, refl, sym, ◌∙◌, ap, subst, ℕ, zero, suc, ◌+◌, ◌<◌, ◌≤◌, ◌≢◌, Bool, true, false, cond, not, ◌&&◌, List, [], ◌∷◌, ◌++◌, length, Option, Some, None, eqb, map, arith, inl, inr}
 use Rattle.std.specs.Prelude.{◌==◌, nat_lt, is_none, is_some, option_and_then, option_map, unwrap_or, filter, Result, Ok, Err, if◌then◌else◌}
 use Rattle.std.specs.List.{find, flat_map, range_with_len}
 use Rattle.std.proofs.lemmas.Bool.{and_parts, cases_Bool, cond-true, cond-false, eqb-true, eq-eqb, false≢true, false_from_ne_true}
+use Rattle.std.proofs.lemmas.Bool.Decides.{nat_tests}
 use Rattle.std.proofs.lemmas.List.Elements.{filter-append}
 use Rattle.dbtg_schema.specs.Lists.{Lists}
 use Rattle.dbtg_schema.specs.Lookups.{at, first, first_cause, some_and}
-use Rattle.dbtg_schema.specs.Structure.{area_of}
+use Rattle.dbtg_schema.specs.Structure.{area_of, types_in}
 use Rattle.dbtg_cells.specs.declared.key.DbKey.{DbKey}
 use Rattle.dbtg_cells.specs.declared.key.Value.{Value}
 use Rattle.dbtg_cells.specs.declared.name.CellName.{CellName}
@@ -32,11 +33,11 @@ use Rattle.dbtg_unit.specs.Database.Statements.Found.{chosen, chosen_by_key, fou
 use Rattle.dbtg_unit.specs.Hands.Hands.{Hands}
 use Rattle.dbtg_unit.specs.Hands.InHand.{key_of, numbers_in, occurrence_in, values_of_key}
 use Rattle.dbtg_unit.specs.Hands.Local.{Agrees, holds}
-use Rattle.dbtg_unit.specs.Hands.Needs.{ring_names, slot_names}
+use Rattle.dbtg_unit.specs.Hands.Needs.{cells_to_find, ring_names, slot_names}
 use Rattle.dbtg_unit.specs.Database.State.Units.{key_of_owner, key_of_place, place_in}
 use Rattle.dbtg_unit.proofs.Public.{In, calc_items_in_hand, entries_in_hand, first_map, in_filter, in_map, keys_behind_in_hand, list_in_hand, live_by_extent}
 use Rattle.dbtg_unit.proofs.Public.{live_in_hand, live_keys_in_hand, none_pass, numbers_in_hand, of_filter, of_map, of_range, with_calc_in_hand}
-use Rattle.dbtg_plan.specs.Finding.{area_keys_in, cells_to_find, duplicate_found, found_in, is_wanted, keys_of_type, keys_wanted, member_found, sorted_found, stored_or}
+use Rattle.dbtg_plan.specs.Finding.{area_keys_in, duplicate_found, found_in, is_wanted, keys_of_type, keys_wanted, member_found, sorted_found, stored_or}
 
 -- LISTS
 
@@ -74,6 +75,14 @@ only_named u a (suc n) low high =
           cond-false (eqb a u) (a ∷ filter (λ t. eqb t u) (range_with_len (a + 1) n)) (filter (λ t. eqb t u) (range_with_len (a + 1) n)) e
           ∙ only_named u (a + 1) n (omega arith) (omega arith)
     ]
+
+-- the types that a FIND in an area goes over
+pub extents_named : (schema : Lists) (r : Option ℕ) (a : ℕ) → if_named (λ t. is_type schema t && area_of schema t == a) r ≡ true
+    → unwrap_or (option_map (λ t. t ∷ []) r) (types_in schema a) ≡ filter (is_wanted schema r a) (range_with_len 0 (length schema.types))
+extents_named schema None a fit = refl
+extents_named schema (Some u) a fit = sym (only_named u 0 (length schema.types) (omega arith) (below (and_parts _ _ fit).0)) where
+  below : nat_lt u (length schema.types) ≡ true → u < 0 + length schema.types
+  below h = grind (arith, nat_tests)
 
 -- the first with a value, of elements with their values
 find_pairs : {X Y : Type 0} (p : Y → Bool) (f : X → Y) (xs : List X) → option_map (λ (e : X × Y). e.0) (find (λ (e : X × Y). p e.1) (map (λ x. (x, f x)) xs)) ≡ find (λ x. p (f x)) xs
@@ -218,7 +227,7 @@ module _ (schema : Lists) (capacity : ℕ) (db : Database) (hands : Hands) (unit
   found_reads of_schema (CurrentOfSet s) fit held = current_reads (option_and_then key_of_place (place_in schema unit s)) held
   found_reads of_schema (CurrentOfArea a) fit held = current_reads (at unit.currency.areas a) held
   found_reads of_schema (InSet which r s) fit held = in_set_reads which r s (place_in schema unit s) held
-  found_reads of_schema (InArea which r a) fit held = ap (λ keys. found_unless None (chosen_by_key which (at unit.currency.areas a) keys) End) (area_reads r a (and_parts _ _ fit).1 held)
+  found_reads of_schema (InArea which r a) fit held = ap (λ keys. found_unless None (chosen_by_key which (at unit.currency.areas a) keys) End) (area_reads r a (and_parts _ _ fit).1 (subst (λ ts. InHand (map Extent ts)) (extents_named schema r a (and_parts _ _ fit).1) held))
   found_reads of_schema (OwnerOf s) fit held = current_reads (option_and_then (λ (place : Place). key_of_owner place.owner) (place_in schema unit s)) held
   found_reads of_schema (Calc r values) fit held = ap (λ (o : Option DbKey). found_unless None o NoneSatisfies) (calc_reads r (held (Extent r) (inl refl)) values)
   found_reads of_schema (NextDuplicate r) fit held = duplicate_reads r (held (Extent r) (inl refl)) (at unit.currency.types r) (of_schema.of_types r)

@@ -8,7 +8,7 @@ use Rattle.dbtg_cells.specs.declared.cell.Cell.{Cell}
 use Rattle.dbtg_cells.specs.Names.{name_eq}
 use Rattle.dbtg_unit.specs.Hands.Hands.{Hands, cell_of}
 use Rattle.dbtg_unit.specs.Hands.Local.{holds}
-use Rattle.dbtg_plan.specs.Missing.{is_missing}
+use Rattle.dbtg_unit.specs.Hands.Needs.{is_missing}
 
 found_by_name : (c : CellName) (cells : List (CellName × Cell)) → is_some (cell_of c cells) ≡ list_any (λ e. name_eq c e.0) cells
 found_by_name c [] = refl

@@ -7,7 +7,7 @@ use Rattle.dbtg_cells.specs.Names.{name_eq}
 use Rattle.dbtg_unit.specs.Hands.Hands.{Hands}
 use Rattle.dbtg_unit.specs.Hands.Local.{holds}
 use Rattle.dbtg_unit.proofs.Public.{In, holds_any}
-use Rattle.dbtg_plan.specs.Missing.{first_missing}
+use Rattle.dbtg_unit.specs.Hands.Needs.{first_missing}
 
 -- of two lists
 pub missing_append : (hands : Hands) (xs ys : List CellName) → first_missing hands (xs ++ ys) ≡ option_or (first_missing hands xs) (first_missing hands ys)

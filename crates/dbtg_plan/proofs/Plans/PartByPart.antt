@@ -1,6 +1,7 @@
 -- A plan makes an outcome, part by part.
 -- k is a key, c the name of a cell.
 use Rattle.std.proofs.Common.{◌≡◌, refl, sym, ◌∙◌, ap, subst, ℕ, Bool, true, List, [], Option, Some, None}
+use Rattle.std.specs.Prelude.{Result, Ok, Err, IfOk}
 use Rattle.std.specs.List.{list_all}
 use Rattle.dbtg_schema.specs.Lists.{Lists}
 use Rattle.dbtg_schema.specs.Lookups.{first_cause}
@@ -22,9 +23,11 @@ use Rattle.dbtg_unit.specs.Database.Statements.Effect.{Outcome, done, effect, ef
 use Rattle.dbtg_unit.specs.Hands.Guesses.{guesses_after}
 use Rattle.dbtg_unit.specs.Hands.Hands.{Hands}
 use Rattle.dbtg_unit.specs.Hands.Local.{Agrees, holds}
-use Rattle.dbtg_unit.specs.Hands.Making.{CanFinish, CanMake}
+use Rattle.dbtg_unit.specs.Hands.Locality.{IsMadeOnEach, made_by}
+use Rattle.dbtg_unit.specs.Hands.Making.{CanFinish, CanMake, MayPrepare, ShowsTheSame}
 use Rattle.dbtg_unit.specs.Hands.Prepared.{IsEffect, Plan, guesses_edited, unit_after, unit_edited, refusal, unless_refusal}
 use Rattle.dbtg_unit.specs.Hands.PlanOf.{done_plan}
+use Rattle.dbtg_unit.proofs.Public.{plan_makes}
 use Rattle.dbtg_plan.proofs.Plans.IsEffect.{effect_is_on_cells, refusal_is_effect}
 
 module _ (schema : Lists) (capacity : ℕ) (db : Database) (unit : Unit) (guesses : List (Option Owner)) (statement : Statement) where
@@ -79,3 +82,11 @@ pub refused_finishes : (schema : Lists) (capacity : ℕ) (unit : Unit) (hands : 
 refused_finishes schema capacity unit hands statement cause e =
     no_cells_can_finish schema capacity unit hands statement (refusal cause) refl
     (λ db agrees. refusal_is_effect schema capacity db unit hands.guesses statement cause (effect_refused schema capacity db unit statement cause e))
+
+-- WHAT IS MADE
+
+-- a plan that can be finished, if memory was found for it, makes the statement
+pub makes_if_ok : {E : Type 0} (schema : Lists) (capacity : ℕ) (unit : Unit) (old new : Hands) (statement : Statement) → MayPrepare schema capacity unit old statement → ShowsTheSame old new
+    → (prepared : Result Plan E) → IfOk prepared (λ plan. CanFinish schema capacity unit new statement plan) → IfOk prepared (λ plan. IsMadeOnEach schema capacity unit old statement (made_by schema unit new plan))
+makes_if_ok schema capacity unit old new statement may same (Ok plan) can = plan_makes schema capacity unit statement plan old new may same can
+makes_if_ok schema capacity unit old new statement may same (Err e) can = tt

@@ -7,7 +7,7 @@ use Rattle.std.specs.List.{flat_map, list_any}
 use Rattle.std.proofs.lemmas.Bool.{false≢true, ltb-true}
 use Rattle.dbtg_schema.specs.Lists.{Lists}
 use Rattle.dbtg_schema.specs.Lookups.{at, first_cause}
-use Rattle.dbtg_schema.specs.Structure.{order_of, rekeyed_sets, set_numbers}
+use Rattle.dbtg_schema.specs.Structure.{automatic_sets, order_of, rekeyed_sets, set_numbers}
 use Rattle.dbtg_cells.specs.declared.key.DbKey.{DbKey}
 use Rattle.dbtg_cells.specs.declared.key.Owner.{Owner}
 use Rattle.dbtg_cells.specs.declared.key.Owner.TheVariants.{System}
@@ -27,24 +27,24 @@ use Rattle.dbtg_unit.specs.Database.State.Base.{Database, key_item}
 use Rattle.dbtg_unit.specs.Database.State.CellNames.{place_of, slot_name}
 use Rattle.dbtg_unit.specs.Database.State.Units.{noted, place_in}
 use Rattle.dbtg_unit.specs.Database.Statements.Checks.{about, insert_checks, live_checks, modify_checks, refused_at_once, remove_checks}
-use Rattle.dbtg_unit.specs.Database.Statements.Conditions.{changed_items, joined_place, names_calc}
+use Rattle.dbtg_unit.specs.Database.Statements.Conditions.{calc_taken, changed_items, joined_place, names_calc}
 use Rattle.dbtg_unit.specs.Database.Statements.Effect.{conflict}
 use Rattle.dbtg_unit.specs.Database.Statements.View.{View, whole}
 use Rattle.dbtg_unit.specs.Hands.Hands.{Hands}
 use Rattle.dbtg_unit.specs.Hands.InHand.{in_hand}
 use Rattle.dbtg_unit.specs.Hands.Local.{Agrees, holds}
 use Rattle.dbtg_unit.specs.Hands.Needs.{current_owner, ring_names, slot_names}
-use Rattle.dbtg_unit.specs.Hands.PlanOf.{calc_edits, done_answer, done_plan, inserting, joining_edit, mode_plan, modify_edits, modifying, plan_of, planned_on_current, removing, replacing_edits, ring_edits, slot_edit}
+use Rattle.dbtg_unit.specs.Hands.PlanOf.{calc_edits, done_answer, done_plan, inserting, joining_edit, mode_plan, modify_edits, modifying, plan_of, planned_on_current, removing, replacing_edits, ring_edits, slot_edit, storing}
 use Rattle.dbtg_unit.specs.Hands.Prepared.{Plan, unless_refusal}
 use Rattle.dbtg_unit.proofs.Public.{HasAll, flat_map_agrees, live_in_hand, modify_checks_agree, modify_typed, of_filter, same_calc_beside}
 use Rattle.dbtg_plan.specs.Modifying.{is_rekeyed}
 use Rattle.dbtg_plan.proofs.Plans.ModifyHolds.{extent_held, rings_held, slot_held}
-use Rattle.dbtg_unit.proofs.Public.{In, MayPlan, SameOccurrence, SameRecord, in_left, in_range, in_right, insert_checks_agree, owner_in_hand, passes_without_cells, prepared_has_all, remove_checks_agree, same_occurrence, same_record, some_from_not_none, users_in_hand}
+use Rattle.dbtg_plan.proofs.Plans.StoreHolds.{extent, joined_held, key_in_hand}
+use Rattle.dbtg_unit.proofs.Public.{In, MayPlan, SameNumbers, SameOccurrence, SameRecord, same_numbers, store_checks_agree, in_left, in_range, in_right, insert_checks_agree, owner_in_hand, passes_without_cells, prepared_has_all, remove_checks_agree, same_occurrence, same_record, some_from_not_none, users_in_hand}
 
 -- the statements that are planned over a view
 abbrev pub is_planned : Statement → Bool
 is_planned (Find form suppress) = false
-is_planned (Store t items suppress) = false
 is_planned (Delete option) = false
 is_planned _ = true
 
@@ -60,10 +60,17 @@ pub record SameToChange (schema : Lists) (v w : View) (changes : List Change) (k
   pub owners : (s : ℕ) → In s (rekeyed_sets schema k.rtype (map (λ c. c.item) changes)) → v.owner s k ≡ w.owner s k
   pub rings : (s : ℕ) (o : Owner) → In s (rekeyed_sets schema k.rtype (map (λ c. c.item) changes)) → w.owner s k ≡ Some o → SameOccurrence v w s o
 
+-- the same of a record type and of the occurrences that a new record of it joins, where it gets a number and its CALC items are not taken
+pub record SameToStore (schema : Lists) (v w : View) (unit : Unit) (t : ℕ) (items : List Value) : Type 0 where
+  pub numbers : SameNumbers v w t
+  pub fresh : v.fresh t ≡ w.fresh t
+  pub places : w.is_full t ≡ false → calc_taken schema w t items None ≡ false → (s : ℕ) → In s (automatic_sets schema t) → SameOccurrence v w s (joined_place schema unit s).owner
+
 -- the same where a statement asks
 abbrev pub SameFor : Lists → View → View → Unit → Statement → Type 0
 SameFor schema v w unit (OpenArea a mode) = v.users a ≡ w.users a
 SameFor schema v w unit (Get r) = OfCurrent unit (SameRecord v w)
+SameFor schema v w unit (Store t items suppress) = SameToStore schema v w unit t items
 SameFor schema v w unit (Insert s) = OfCurrent unit (λ k. SameRecord v w k × (v.owner s k ≡ w.owner s k) × SameOccurrence v w s (joined_place schema unit s).owner)
 SameFor schema v w unit (Remove s) = OfCurrent unit (λ k. SameRecord v w k × (v.owner s k ≡ w.owner s k))
 SameFor schema v w unit (Modify t changes) = OfCurrent unit (SameToChange schema v w changes)
@@ -103,7 +110,7 @@ plan_agrees schema v w unit (Find form suppress) planned same = absurd (false≢
 plan_agrees schema v w unit (Get r) planned same =
     current_agrees unit.currency.run_unit (live_checks v) (live_checks w) (λ k. done_plan Same (Some k) (Some (v.items k))) (λ k. done_plan Same (Some k) (Some (w.items k)))
     (λ k is. let record_is = same k is in ((λ i. first_cause ((not (record_is.is_live i), Deleted) ∷ [])), (λ i. done_plan Same (Some k) (Some (record_is.items i)))))
-plan_agrees schema v w unit (Store t items suppress) planned same = absurd (false≢true planned)
+plan_agrees schema v w unit (Store t items suppress) planned same = λ i. unless_refusal (store_checks_agree v w unit schema t items same.numbers same.places i) (storing schema unit items suppress (same.fresh i))
 plan_agrees schema v w unit (Insert s) planned same =
     current_agrees unit.currency.run_unit (insert_checks schema v unit s) (insert_checks schema w unit s) (inserting schema v unit s) (inserting schema w unit s)
     (λ k is. let all = same k is in (
@@ -180,7 +187,11 @@ module _ (schema : Lists) (capacity : ℕ) (unit : Unit) (hands : Hands) (db : D
   alike_in_hand (Find form suppress) may passes = tt
   alike_in_hand (Get r) may passes = λ k is.
       same_record schema capacity db hands unit agrees k ((prepared_has_all schema capacity unit hands (Get r) passes may.ready db agrees).cells (slot_name k) (current_slot unit.currency.run_unit k is))
-  alike_in_hand (Store t items suppress) may passes = tt
+  alike_in_hand (Store t items suppress) may passes = record {
+    numbers = same_numbers schema capacity db hands unit agrees t (extent schema capacity unit hands t items suppress may passes db agrees);
+    fresh = key_in_hand schema capacity unit hands t items suppress may passes db agrees;
+    places = λ room untaken s i. same_occurrence schema capacity db hands unit agrees s (joined_place schema unit s).owner (joined_held schema capacity unit hands t items suppress may passes db agrees room untaken s i);
+  }
   alike_in_hand (Insert s) may passes = λ k is. (
     same_record schema capacity db hands unit agrees k (insert_slot s may passes k is),
     sym (owner_in_hand schema capacity db hands unit agrees k (insert_slot s may passes k is) s (in_sets schema s (ltb-true s (length schema.sets) may.fits))),

@@ -23,10 +23,12 @@ use Rattle.dbtg_unit.specs.Hands.Hands.{Hands}
 use Rattle.dbtg_unit.specs.Hands.InHand.{in_hand}
 use Rattle.dbtg_unit.specs.Hands.Local.{Agrees, holds}
 use Rattle.dbtg_unit.specs.Hands.Making.{CanFinish, CanMake, MayPrepare, ShowsTheSame}
+use Rattle.dbtg_unit.specs.Hands.PlanOf.{plan_of, storing}
 use Rattle.dbtg_unit.specs.Hands.Prepared.{IsEffect, Plan, refusal, unless_refusal}
 use Rattle.dbtg_unit.proofs.Public.{agrees_same, holds_same, may_plan, same_sym, some_from_not_none}
-use Rattle.dbtg_plan.specs.Store.{HasRoom, store_plan, stored_key, stored_plan}
-use Rattle.dbtg_plan.proofs.Store.StoreInHand.{checks_in_hand, has_places, key_in_hand, number, passed_held, plan_is_effect}
+use Rattle.dbtg_plan.specs.Store.{HasRoom}
+use Rattle.dbtg_plan.proofs.Plans.StoreHolds.{checks_in_hand, has_places, key_in_hand, number, passed_held}
+use Rattle.dbtg_plan.proofs.Store.StoreIsEffect.{plan_is_effect}
 use Rattle.dbtg_plan.proofs.Store.StoreMaking.{edits_held, store_can_make}
 
 module _ (schema : Lists) (capacity : ℕ) (unit : Unit) (old new : Hands) (t : ℕ) (items : List Value) (suppress : Suppress)
@@ -35,9 +37,9 @@ module _ (schema : Lists) (capacity : ℕ) (unit : Unit) (old new : Hands) (t : 
   checked = first_cause (store_checks schema (in_hand old) unit t items)
 
   -- what holds of a refusal, and of what is stored where no check refuses, holds of the plan
-  by_cause : (P : Plan → Type 0) (k : DbKey) → stored_key old t ≡ k → ((cause : Cause) → P (refusal cause)) → (checked ≡ None → P (stored_plan schema unit items suppress k)) → P (store_plan schema unit old t items suppress)
-  by_cause P k is none stored = subst (λ (key : DbKey). P (unless_refusal checked (stored_plan schema unit items suppress key))) (sym is) (of checked refl) where
-    of : (o : Option Cause) → checked ≡ o → P (unless_refusal o (stored_plan schema unit items suppress k))
+  by_cause : (P : Plan → Type 0) (k : DbKey) → (in_hand old).fresh t ≡ k → ((cause : Cause) → P (refusal cause)) → (checked ≡ None → P (storing schema unit items suppress k)) → P (plan_of schema (in_hand old) unit (Store t items suppress))
+  by_cause P k is none stored = subst (λ (key : DbKey). P (unless_refusal checked (storing schema unit items suppress key))) (sym is) (of checked refl) where
+    of : (o : Option Cause) → checked ≡ o → P (unless_refusal o (storing schema unit items suppress k))
     of (Some cause) e = none cause
     of None e = stored e
 
@@ -48,11 +50,11 @@ module _ (schema : Lists) (capacity : ℕ) (unit : Unit) (old new : Hands) (t : 
     abbrev k : DbKey
     k = new_key db t (number schema capacity unit old t items suppress (may_plan may) passes db agrees_old)
 
-    key : stored_key old t ≡ k
+    key : (in_hand old).fresh t ≡ k
     key = key_in_hand schema capacity unit old t items suppress (may_plan may) passes db agrees_old
 
     -- the plan changes cells in hand alone
-    all_held : list_all (λ (e : CellEdit). holds old.cells e.name) (store_plan schema unit old t items suppress).cells ≡ true
+    all_held : list_all (λ (e : CellEdit). holds old.cells e.name) (plan_of schema (in_hand old) unit (Store t items suppress)).cells ≡ true
     all_held =
         by_cause (λ (plan : Plan). list_all (λ (e : CellEdit). holds old.cells e.name) plan.cells ≡ true) k key (λ cause. refl)
         (λ e. edits_held schema unit k items old (passed_held schema capacity unit old t items suppress (may_plan may) passes db agrees_old e).1)
@@ -60,7 +62,7 @@ module _ (schema : Lists) (capacity : ℕ) (unit : Unit) (old new : Hands) (t : 
     fit : values_fit (pictures schema t) items ≡ true
     fit = (and_parts (is_type schema t) (values_fit (pictures schema t) items) (and_parts (is_type schema t && values_fit (pictures schema t) items) (suppress_fits schema suppress) may.fits).0).1
 
-    made : ((k : DbKey) (s : ℕ) → (store_plan schema unit old t items suppress).answer.key ≡ Some k → HasRoom schema unit new k s) → CanMake (store_plan schema unit old t items suppress).cells new.cells
+    made : ((k : DbKey) (s : ℕ) → (plan_of schema (in_hand old) unit (Store t items suppress)).answer.key ≡ Some k → HasRoom schema unit new k s) → CanMake (plan_of schema (in_hand old) unit (Store t items suppress)).cells new.cells
     made =
         by_cause (λ (plan : Plan). ((k : DbKey) (s : ℕ) → plan.answer.key ≡ Some k → HasRoom schema unit new k s) → CanMake plan.cells new.cells) k key (λ cause rooms. tt)
         (λ e rooms.
@@ -70,21 +72,21 @@ module _ (schema : Lists) (capacity : ℕ) (unit : Unit) (old new : Hands) (t : 
         (sym (checks_in_hand schema capacity unit old t items suppress (may_plan may) passes db agrees_old) ∙ e) may.sound fit (λ s. rooms k s refl))
 
   -- what is prepared can be finished, where there is a place for the new record
-  pub store_finishes : ((k : DbKey) (s : ℕ) → (store_plan schema unit old t items suppress).answer.key ≡ Some k → HasRoom schema unit new k s)
-      → CanFinish schema capacity unit new (Store t items suppress) (store_plan schema unit old t items suppress)
+  pub store_finishes : ((k : DbKey) (s : ℕ) → (plan_of schema (in_hand old) unit (Store t items suppress)).answer.key ≡ Some k → HasRoom schema unit new k s)
+      → CanFinish schema capacity unit new (Store t items suppress) (plan_of schema (in_hand old) unit (Store t items suppress))
   store_finishes rooms =
       record {
         prepared = record {
-          held = λ db agrees. (λ i. list_all (λ (e : CellEdit). holds_same old new same e.name i) (store_plan schema unit old t items suppress).cells) ∙ all_held db agrees;
+          held = λ db agrees. (λ i. list_all (λ (e : CellEdit). holds_same old new same e.name i) (plan_of schema (in_hand old) unit (Store t items suppress)).cells) ∙ all_held db agrees;
           effects = λ db agrees.
-              subst (λ (guesses : List (Option Owner)). IsEffect schema capacity db unit guesses (Store t items suppress) (store_plan schema unit old t items suppress)) (sym same.guesses)
+              subst (λ (guesses : List (Option Owner)). IsEffect schema capacity db unit guesses (Store t items suppress) (plan_of schema (in_hand old) unit (Store t items suppress))) (sym same.guesses)
               (plan_is_effect schema capacity unit old t items suppress (may_plan may) passes db (agrees_old db agrees));
         };
         can_make = λ db agrees. made db agrees rooms;
       }
 
   -- the same of what was prepared, if memory was found
-  pub finishes_if_ok : (prepared : Result Plan AllocError) → IfOk prepared (λ plan. plan ≡ store_plan schema unit old t items suppress)
+  pub finishes_if_ok : (prepared : Result Plan AllocError) → IfOk prepared (λ plan. plan ≡ plan_of schema (in_hand old) unit (Store t items suppress))
       → IfOk prepared (λ plan. (k : DbKey) (s : ℕ) → plan.answer.key ≡ Some k → HasRoom schema unit new k s)
       → IfOk prepared (λ plan. CanFinish schema capacity unit new (Store t items suppress) plan)
   finishes_if_ok (Ok plan) is rooms = subst (CanFinish schema capacity unit new (Store t items suppress)) (sym is) (store_finishes (λ k s h. rooms k s (ap (λ (p : Plan). p.answer.key) is ∙ h)))

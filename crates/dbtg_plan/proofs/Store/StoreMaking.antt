@@ -42,7 +42,7 @@ use Rattle.dbtg_unit.specs.Hands.Hands.{Hands, cell_of}
 use Rattle.dbtg_unit.specs.Hands.InHand.{numbers_in, numbers_of, occurrence_of, of_owner, in_hand}
 use Rattle.dbtg_unit.specs.Hands.Local.{Agrees, holds}
 use Rattle.dbtg_unit.specs.Hands.Making.{CanMake}
-use Rattle.dbtg_unit.specs.Hands.Needs.{current_owner, ring_names, store_rings}
+use Rattle.dbtg_unit.specs.Hands.Needs.{current_owner, ring_names, store_rings, store_rings_of}
 use Rattle.dbtg_unit.specs.Database.State.Units.{place_in}
 use Rattle.dbtg_unit.proofs.Public.{EachCanEdit, In, StoreFound, all_at, all_in, any_in, are_distinct, can_make_distinct, distinct, each_append}
 use Rattle.dbtg_unit.proofs.Public.{free_in_hand, held_cell_agrees, holds_there, in_flat_map, in_left, in_right, members_in_hand, new_is_fresh, not_member}
@@ -50,7 +50,7 @@ use Rattle.dbtg_unit.proofs.Public.{numbers_in_hand, of_append, of_filter, of_fl
 use Rattle.dbtg_unit.proofs.Public.{passes_each, range_distinct, ring_in, some_and_value, some_from_not_none, store_found}
 use Rattle.dbtg_unit.specs.Database.Statements.Conditions.{joined_place}
 use Rattle.dbtg_plan.specs.Joining.{joined_occurrence}
-use Rattle.dbtg_plan.specs.Store.{HasRoom, store_rings_in}
+use Rattle.dbtg_plan.specs.Store.{HasRoom}
 use Rattle.dbtg_plan.proofs.Connect.PlacesDecide.{can_join_in_hand, place_checks_in_hand}
 use Rattle.dbtg_plan.proofs.Store.NumberSteps.{free_entry}
 use Rattle.dbtg_plan.proofs.Plans.RingEdits.{ring_is}
@@ -150,9 +150,9 @@ module _ (schema : Lists) (unit : Unit) (k : DbKey) (items : List Value) where
   -- each is a cell that STORE needs
   edit_needed : (e : CellEdit) → In e (store_edits schema unit k items) → In e.name (Extent k.rtype ∷ (store_rings schema unit k ++ slot_name k ∷ []))
   edit_needed e i = ⊎_elim (λ h. inl (ap (λ (f : CellEdit). f.name) h)) (λ j. inr (⊎_elim of_joins (λ j. ⊎_elim of_opens of_filling (of_append e (flat_map opening owned) filling j)) (of_append e (flat_map joining (automatic_sets schema k.rtype)) (flat_map opening owned ++ filling) j))) i where
-    in_rings : (s : ℕ) (c : CellName) → In s (set_numbers schema) → In c (store_rings_in schema unit k s) → e.name ≡ c → In e.name (store_rings schema unit k ++ slot_name k ∷ [])
+    in_rings : (s : ℕ) (c : CellName) → In s (set_numbers schema) → In c (store_rings_of schema unit k s) → e.name ≡ c → In e.name (store_rings schema unit k ++ slot_name k ∷ [])
     in_rings s c in_sets named is =
-        subst (λ (d : CellName). In d (store_rings schema unit k ++ slot_name k ∷ [])) (sym is) (in_left c (store_rings schema unit k) (slot_name k ∷ []) (in_flat_map (store_rings_in schema unit k) s c (set_numbers schema) in_sets named))
+        subst (λ (d : CellName). In d (store_rings schema unit k ++ slot_name k ∷ [])) (sym is) (in_left c (store_rings schema unit k) (slot_name k ∷ []) (in_flat_map (store_rings_of schema unit k) s c (set_numbers schema) in_sets named))
 
     of_joins : In e (flat_map joining (automatic_sets schema k.rtype)) → In e.name (store_rings schema unit k ++ slot_name k ∷ [])
     of_joins j =

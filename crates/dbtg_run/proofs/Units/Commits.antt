@@ -30,8 +30,8 @@ use Rattle.dbtg_unit.specs.Hands.Local.{Agrees, names_of}
 use Rattle.dbtg_unit.specs.Hands.Making.{CanFinish, IsReady}
 use Rattle.dbtg_unit.specs.Hands.Prepared.{Plan, edited_values, guesses_edited, unit_after, value_edited, values_of}
 use Rattle.dbtg_unit.specs.Database.Laws.Replay.{IsHistoryOf, entries_of, opening_state, replay as replay_entries, unit_of}
-use Rattle.dbtg_unit.proofs.Public.{entries_mine, opening_is_legal, replay_keeps_legal}
-use Rattle.dbtg_step.proofs.Public.{agrees_also, guesses_length, made_on}
+use Rattle.dbtg_unit.proofs.Public.{agrees_same, cells_made, entries_mine, opening_is_legal, replay_keeps_legal}
+use Rattle.dbtg_step.proofs.Public.{guesses_length}
 use Rattle.dbtg_run.specs.declared.view.About.{About}
 use Rattle.dbtg_run.specs.declared.view.Member.{Member}
 use Rattle.dbtg_run.specs.declared.view.View.{View}
@@ -122,14 +122,18 @@ module _ (about : About) (unit : Unit) (journal : List Entry) (exclusive : Bool)
   m = member_of unit journal exclusive hands
 
   in_hand : (db : Database) → Agrees about.schema.value about.capacity db (hands_of m) unit → Agrees about.schema.value about.capacity db hands unit
-  in_hand db a = agrees_also about.schema.value about.capacity db (record { areas = hands.areas; cells = bared hands.cells; guesses = hands.guesses }) hands unit
+  in_hand db a = agrees_same about.schema.value about.capacity db unit (record { areas = hands.areas; cells = bared hands.cells; guesses = hands.guesses }) hands
       (record { areas = refl; cells = sym (values_bared hands.cells); guesses = refl }) (record { legal = a.legal; cells = a.cells; usage = a.usage })
 
   comes : (answer : Answer) (unit' : Unit) (held' : List (CellName × Cell)) → answer ≡ plan.answer → unit' ≡ unit_after about.schema.value plan unit → held' ≡ cells_after plan hands.cells → (db : Database) → Agrees about.schema.value about.capacity db (hands_of m) unit → Comes about m x answer unit' held' db
   comes answer unit' held' a u h db agrees =
-      let made = made_on about.schema.value about.capacity unit hands hands x plan can (record { areas = refl; cells = refl; guesses = refl }) once unit' (record { areas = hands.areas; cells = held'; guesses = guesses_edited plan.unit hands.guesses }) answer a refl
-      (ap values_of h ∙ values_back (edited_values plan.cells (values_of hands.cells))) refl u db (in_hand db agrees) in
-      record { answer_is = made.answer_is; unit_is = made.unit_is; cells_are = made.cells_are ∙ sym (due_bared about (effect about.schema.value about.capacity db unit x).database hands.cells) }
+      let e = can.prepared.effects db (in_hand db agrees) in
+      record {
+        answer_is = a ∙ e.answer;
+        unit_is = u ∙ e.unit_is;
+        cells_are = ap values_of h ∙ values_back (edited_values plan.cells (values_of hands.cells)) ∙ cells_made about.schema.value about.capacity unit x plan db hands once (in_hand db agrees) e
+            ∙ sym (due_bared about (effect about.schema.value about.capacity db unit x).database hands.cells);
+      }
 
   pub draws_as : (key : About) (id slots : ℕ) (me : Sat) (picked : Statement) (answer : Answer) (unit' : Unit) (held' : List (CellName × Cell)) → key ≡ about → me ≡ posed about unit journal exclusive hands
       → picked ≡ x → answer ≡ plan.answer → unit' ≡ unit_after about.schema.value plan unit → held' ≡ cells_after plan hands.cells

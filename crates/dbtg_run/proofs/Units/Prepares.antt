@@ -18,8 +18,7 @@ use Rattle.dbtg_unit.specs.Hands.Local.{names_of}
 use Rattle.dbtg_unit.specs.Hands.Making.{HaveNextVersions, IsReady, ShowsTheSame}
 use Rattle.dbtg_unit.specs.Hands.Needs.{need}
 use Rattle.dbtg_unit.specs.Hands.Prepared.{values_of}
-use Rattle.dbtg_unit.proofs.Public.{slot_shown}
-use Rattle.dbtg_step.proofs.Public.{agrees_also}
+use Rattle.dbtg_unit.proofs.Public.{agrees_same, slot_shown}
 use Rattle.dbtg_run.specs.declared.view.About.{About}
 use Rattle.dbtg_run.specs.Views.{lone}
 use Rattle.dbtg_run.specs.Kept.{IsReal, Sat, area_count}
@@ -72,7 +71,7 @@ module _ (about : About) (old new : Hands) (s : ShowsTheSame old new) where
   pub real_same : (unit : Unit) (journal : List Entry) → IsReal about unit journal old → IsReal about unit journal new
   real_same unit journal r = record {
     db = r.db;
-    agrees = agrees_also about.schema.value about.capacity r.db old new unit s r.agrees;
+    agrees = agrees_same about.schema.value about.capacity r.db unit old new s r.agrees;
     alone = r.alone;
     once = once_named new.cells ∙ (ap (pairwise (λ (c d : CellName). not (name_eq c d))) names_same ∙ (sym (once_named old.cells) ∙ r.once));
     versions = versions_same new.cells old.cells s.cells r.versions;
@@ -83,4 +82,4 @@ module _ (about : About) (old new : Hands) (s : ShowsTheSame old new) where
       need_bared about.schema.value about.capacity db unit x new
       ∙ ((λ i. need about.schema.value about.capacity db unit (record { areas = s.areas i; cells = bared_same new.cells old.cells s.cells i; guesses = s.guesses i }) x)
       ∙ (sym (need_bared about.schema.value about.capacity db unit x old)
-      ∙ ready db (agrees_also about.schema.value about.capacity db new old unit (record { areas = sym s.areas; cells = sym s.cells; guesses = sym s.guesses }) agrees)))
+      ∙ ready db (agrees_same about.schema.value about.capacity db unit new old (record { areas = sym s.areas; cells = sym s.cells; guesses = sym s.guesses }) agrees)))

@@ -1,8 +1,6 @@
--- What the machine needs of a schema, and of the statements on its database. A sound schema has both.
-use Rattle.std.proofs.Common.{ℕ, ◌≡◌, ◌<◌, true, false, List, Option, length}
-use Rattle.std.specs.Prelude.{is_some}
+-- What the machine needs of the statements on its database. Those of a sound schema have it.
+use Rattle.std.proofs.Common.{ℕ, ◌≡◌, List, Option}
 use Rattle.dbtg_schema.specs.Lists.{Lists}
-use Rattle.dbtg_schema.specs.Structure.{area_of, member_clause, owns}
 use Rattle.dbtg_cells.specs.declared.key.Owner.{Owner}
 use Rattle.dbtg_cells.specs.declared.name.CellName.{CellName}
 use Rattle.dbtg_cells.specs.Shown.{CellValue}
@@ -11,11 +9,6 @@ use Rattle.dbtg_unit.specs.declared.unit.Unit.{Unit}
 use Rattle.dbtg_unit.specs.Database.State.Base.{Database}
 use Rattle.dbtg_step.specs.Machine.SequentialDatabase.{HeldCell, NeedsNothing, Agrees, IsLocal, MayMake}
 use Rattle.dbtg_step.specs.Machine.Network.{network}
-
--- each record type lies in one of its areas, and no record type is owner and member of one set
-pub record SuitsMachine (schema : Lists) : Type 0 where
-  pub areas : (t : ℕ) → area_of schema t < length schema.areas
-  pub owner_is_no_member : (s t : ℕ) → owns schema s t ≡ true → is_some (member_clause schema s t) ≡ false
 
 -- a statement that needs nothing more leaves a database with all its units legal, and changes no cell but those that it holds
 abbrev pub StatementsAreLocal : Lists → ℕ → Type 0

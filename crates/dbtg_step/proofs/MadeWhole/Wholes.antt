@@ -38,13 +38,13 @@ use Rattle.dbtg_unit.specs.Database.State.Image.{image_of}
 use Rattle.dbtg_unit.specs.Database.State.Legal.{pairwise}
 use Rattle.dbtg_unit.specs.Database.State.LegalWith.{IsUnitIn, LegalWith}
 use Rattle.dbtg_unit.specs.Hands.Local.{Agrees, AllAgree, names_of}
+use Rattle.dbtg_unit.specs.Hands.Locality.{IsMadeOn, seen}
 use Rattle.dbtg_unit.specs.Hands.Making.{HaveNextVersions, ShowsTheSame}
 use Rattle.dbtg_unit.specs.Hands.Needs.{areas_in_order, cells_of, guessed_sets, is_stale, is_wrong_guess, need, need_of_cells, next_of, stale_owners}
 use Rattle.dbtg_unit.specs.Hands.Prepared.{values_of}
 use Rattle.dbtg_unit.specs.Database.Laws.Replay.{State, AnswersHold, IsHistoryOf, after, after_outcome, opening_state, outcome_of, replay}
-use Rattle.dbtg_unit.proofs.Public.{In, all_at, any_in, any_mapped, find_element, of_filter, opening_is_legal, replay_keeps_legal, replays_one_more}
+use Rattle.dbtg_unit.proofs.Public.{In, all_agree_same, all_at, any_in, any_mapped, find_element, of_filter, opening_is_legal, replay_keeps_legal, replays_one_more}
 use Rattle.dbtg_unit.proofs.Public.{versions_are_bounded}
-use Rattle.dbtg_step.specs.Core.Leaves.{IsMadeOn}
 use Rattle.dbtg_step.specs.Core.Imaging.{image_from}
 use Rattle.dbtg_step.specs.Core.Whole.{HasMade, HoldsAll, IsEffect, IsGuessed, IsWhole, Making, goes_by_guesses}
 use Rattle.dbtg_step.proofs.MadeWhole.Audits.{fits_more}
@@ -52,7 +52,6 @@ use Rattle.dbtg_step.proofs.Network.CellsExist.{cells_exist, has_ring}
 use Rattle.dbtg_step.proofs.TheCore.DrawnShown.{versions_next}
 use Rattle.dbtg_step.proofs.Network.NeededCells.{not_beyond}
 use Rattle.dbtg_step.proofs.TheCore.ImagesRead.{ShowsCell, read_is_image}
-use Rattle.dbtg_step.proofs.TheCore.Makings.{agree_shown}
 use Rattle.dbtg_step.proofs.Network.NeededCellsExist.{none_guessed, stale_have_rings}
 use Rattle.dbtg_step.proofs.TheCore.NeedsShown.{need_owners_fit}
 use Rattle.dbtg_step.proofs.TheCore.RangePushes.{range_pushed_behind}
@@ -272,13 +271,13 @@ module _ (schema : Lists) (capacity : ℕ) where
     pub also_guessed : (db : Database) → Agrees schema capacity db old unit → Agrees schema capacity db mid unit
     also_guessed db a = record { legal = a.legal; cells = subst (AllAgree schema capacity db) (sym (ap (λ (h : Hands). h.cells) guessed.rest)) a.cells; usage = a.usage }
 
-    pub made_all : HoldsAll schema capacity old → (db : Database) → IsMadeOn schema capacity db x unit mid unit' new answer → HoldsAll schema capacity new
+    pub made_all : HoldsAll schema capacity old → (db : Database) → IsMadeOn schema capacity db unit mid x (seen answer unit' new) → HoldsAll schema capacity new
     made_all all db m = record {
       areas = m.areas_are ∙ ap (λ (h : Hands). h.areas) guessed.rest ∙ all.areas;
       names = names_shown new.cells ∙ ap (map (λ (w : CellName × CellValue). w.0)) m.cells_are ∙ named_again _ mid.cells ∙ ap (λ (h : Hands). names_of h.cells) guessed.rest ∙ all.names;
     }
 
-    pub made_effect : (db : Database) → IsMadeOn schema capacity db x unit mid unit' new answer → IsEffect schema capacity db x unit unit' new answer
+    pub made_effect : (db : Database) → IsMadeOn schema capacity db unit mid x (seen answer unit' new) → IsEffect schema capacity db x unit unit' new answer
     made_effect db m = record { answer_is = m.answer_is; unit_is = m.unit_is; cells = agree_made (effect schema capacity db unit x).database new.cells mid.cells m.cells_are }
 
   -- whether it is made or not, all areas and cells are in hand
@@ -286,7 +285,7 @@ module _ (schema : Lists) (capacity : ℕ) where
     mid_all : HoldsAll schema capacity mid
     mid_all = record { areas = ap (λ (h : Hands). h.areas) guessed.rest ∙ all.areas; names = ap (λ (h : Hands). names_of h.cells) guessed.rest ∙ all.names }
 
-    pub still_all : {E : Type 0} (r : Result Answer E) → IfOk r (λ answer. (d : Database) → Agrees schema capacity d mid unit → IsMadeOn schema capacity d x unit mid unit' new answer) → OnErr r (ShowsTheSame mid new) → HoldsAll schema capacity new
+    pub still_all : {E : Type 0} (r : Result Answer E) → IfOk r (λ answer. (d : Database) → Agrees schema capacity d mid unit → IsMadeOn schema capacity d unit mid x (seen answer unit' new)) → OnErr r (ShowsTheSame mid new) → HoldsAll schema capacity new
     still_all (Ok answer) h g = made_all unit unit' x old mid new answer guessed all db (h db (also_guessed unit unit' x old mid new answer guessed db agrees))
     still_all (Err e) h g = same_names mid new g.cells g.areas mid_all
 
@@ -411,7 +410,7 @@ module _ (schema : Lists) (capacity : ℕ) (hands : Hands) (units : List Unit) (
   may_go_on few = versions_next schema capacity now.database (length history) (versions_are_bounded schema capacity (length units) history) hands.cells w.cells few
 
   pub unmade : (new : Hands) → HoldsAll schema capacity new → values_of new.cells ≡ values_of hands.cells → IsWhole schema capacity new units history
-  unmade new all shows = record { sound = w.sound; history_of = w.history_of; units_are = w.units_are; all = all; cells = agree_shown schema capacity now.database hands.cells new.cells shows w.cells }
+  unmade new all shows = record { sound = w.sound; history_of = w.history_of; units_are = w.units_are; all = all; cells = all_agree_same schema capacity now.database hands.cells new.cells shows w.cells }
 
   -- with a unit that is as it was
   pub unmade_at : (u : ℕ) (r r' : Unit) (new : Hands) → slice_get units (u - 1) ≡ Some r → r' ≡ r → HoldsAll schema capacity new → values_of new.cells ≡ values_of hands.cells → IsWhole schema capacity new (slice_set units (u - 1) r') history

@@ -4,7 +4,6 @@ use Rattle.std.specs.List.{find}
 use Rattle.std.proofs.lemmas.Bool.{and_parts, false≢true, not-false}
 use Rattle.dbtg_unit.specs.Database.State.Legal.{pairwise}
 use Rattle.dbtg_unit.proofs.Public.{In, all_at, find_element}
-pub use Rattle.dbtg_unit.proofs.Public.{ascending_join, ascending_range}
 
 not_both : (b : Bool) → b ≡ true → not b ≡ true → ⊥
 not_both true h g = false≢true g

@@ -41,11 +41,8 @@ use Rattle.dbtg_unit.specs.Database.State.Legal.{Legal}
 use Rattle.dbtg_unit.specs.Hands.Needs.{cells_of, current_owner, find_cells, ring_names, slot_names, store_cells, store_rings}
 use Rattle.dbtg_unit.specs.Database.State.Units.{key_of_owner, key_of_place, place_in}
 use Rattle.dbtg_unit.proofs.Public.{In, IsGoodPlace, all_at, all_in, any_element, find_element, in_member, list_owner_is_good, live_key_is_good}
+use Rattle.dbtg_unit.proofs.Public.{all_flat, all_join, brought_all, chosen_by_key_in, chosen_in, current_is, first_in, first_is_in, first_of_filter, found_is, found_passes, once_all, owner_is_type}
 use Rattle.dbtg_unit.proofs.Public.{member_has_list, member_of_owner, of_filter, of_flat_map, of_live_keys, of_map, of_range, some_and_value}
-use Rattle.dbtg_step.proofs.Network.AreasOfCells.{all_flat, all_join, found_passes}
-use Rattle.dbtg_step.proofs.Network.AreasOfDelete.{brought_all, once_all}
-use Rattle.dbtg_step.proofs.Network.FoundKeys.{chosen_in, chosen_by_key_in, current_is, first_in, first_is_in, first_of_filter, found_is}
-use Rattle.dbtg_step.proofs.Network.SoundSchemas.{owner_is_type}
 
 module _ (schema : Lists) (capacity : ℕ) where
   -- all these cells are cells of the schema
@@ -282,7 +279,7 @@ module _ (schema : Lists) (capacity : ℕ) (sound : IsSound schema) (db : Databa
       own_exist : (s : ℕ) → all_exist schema capacity (own s) ≡ true
       own_exist s = cond_both (owns schema s k.rtype) _ _ (λ cs. all_exist schema capacity cs ≡ true) (λ e. and_from _ _ (and_from _ _ e number) refl) (λ e. refl)
 
-  store_cells_exist : (t : ℕ) → is_type schema t ≡ true → (o : Option ℕ) → ((n : ℕ) → o ≡ Some n → is_number capacity n ≡ true) → (taken : Bool) → all_exist schema capacity (store_cells schema unit capacity db t o taken) ≡ true
+  store_cells_exist : (t : ℕ) → is_type schema t ≡ true → (o : Option ℕ) → ((n : ℕ) → o ≡ Some n → is_number capacity n ≡ true) → (taken : Bool) → all_exist schema capacity (store_cells schema unit (option_map (new_key db t) o) taken) ≡ true
   store_cells_exist t h None g taken = refl
   store_cells_exist t h (Some n) g true = refl
   store_cells_exist t h (Some n) g false =

@@ -7,22 +7,16 @@ use Rattle.dbtg_step.specs.Machine.SequentialDatabase.{IsSequentialDatabase}
 use Rattle.dbtg_step.specs.Laws.{NeedsAreInOrder}
 use Rattle.dbtg_step.specs.Machine.NeverStuck.{NeedsInOrder}
 use Rattle.dbtg_step.specs.Machine.Network.{network}
-use Rattle.dbtg_step.proofs.EachEvent.Premises.{StatementsAreLocal, SuitsMachine}
 use Rattle.dbtg_step.proofs.Network.NeededCells.{needed_in_area}
 use Rattle.dbtg_step.proofs.Network.NetworkNeeds.{network_names_cells}
-use Rattle.dbtg_step.proofs.Network.SoundSchemas.{suits_machine}
 use Rattle.dbtg_step.proofs.Network.StatementsLocal.{statements_are_local}
 use Rattle.dbtg_step.proofs.Network.TakingOrder.{network_needs_in_order}
 
--- as far as its statements are local
-sequential_where_local : (schema : Lists) (capacity : ℕ) → SuitsMachine schema → StatementsAreLocal schema capacity → IsSequentialDatabase (network schema capacity)
-sequential_where_local schema capacity suits local = record { names = network_names_cells schema capacity; in_area = needed_in_area schema capacity suits; local = local }
-
 pub network_is_sequential : (schema : Lists) (capacity : ℕ) → IsSound schema → IsSequentialDatabase (network schema capacity)
-network_is_sequential schema capacity sound = sequential_where_local schema capacity (suits_machine schema sound) (statements_are_local schema capacity sound)
+network_is_sequential schema capacity sound = record { names = network_names_cells schema capacity; in_area = needed_in_area schema capacity sound; local = statements_are_local schema capacity sound }
 
 pub needs_in_order : (schema : Lists) (capacity : ℕ) → IsSound schema → NeedsInOrder (network schema capacity) name_lt
-needs_in_order schema capacity sound = network_needs_in_order schema capacity (suits_machine schema sound)
+needs_in_order schema capacity sound = network_needs_in_order schema capacity sound
 
 pub needs_are_in_order : (schema : Lists) (capacity : ℕ) → IsSound schema → NeedsAreInOrder schema capacity
-needs_are_in_order schema capacity sound = record { names = network_names_cells schema capacity; in_area = needed_in_area schema capacity (suits_machine schema sound); in_order = needs_in_order schema capacity sound }
+needs_are_in_order schema capacity sound = record { names = network_names_cells schema capacity; in_area = needed_in_area schema capacity sound; in_order = needs_in_order schema capacity sound }

@@ -12,12 +12,13 @@ use Rattle.dbtg_cells.specs.Shown.{CellValue}
 use Rattle.dbtg_cells.proofs.Public.{name_eq_refl, same_name}
 use Rattle.dbtg_unit.specs.declared.statement.Statement.{Statement}
 use Rattle.dbtg_unit.specs.declared.unit.Unit.{Unit}
-use Rattle.dbtg_unit.specs.declared.held.Need.TheVariants.{Ready, Take}
+use Rattle.dbtg_unit.specs.declared.held.Need.{Need}
+use Rattle.dbtg_unit.specs.declared.held.Need.TheVariants.{Area, Take, Stale, Ready}
 use Rattle.dbtg_unit.specs.Database.State.Base.{Database}
 use Rattle.dbtg_unit.specs.Database.Statements.Checks.{refused_at_once}
 use Rattle.dbtg_unit.specs.Hands.Hands.{Hands}
 use Rattle.dbtg_unit.specs.Hands.Needs.{need, next_of, areas_in_order, cells_of, is_stale, stale_owners}
-use Rattle.dbtg_unit.proofs.Public.{In as InKeys, find_element}
+use Rattle.dbtg_unit.proofs.Public.{In as InKeys, chose_take, find_element}
 use Rattle.dbtg_step.specs.Machine.SequentialDatabase.{HeldCell, NeedsArea, NeedsCell, In, NotAmong, NamesCells}
 use Rattle.dbtg_step.specs.Machine.Network.{network, holding, next_need_of}
 
@@ -28,14 +29,17 @@ is_not_held cells c = not (list_any (λ (e : CellName × Cell). name_eq c e.0) (
 abbrev pub is_area_left : List ℕ → ℕ → Bool
 is_area_left areas a = not (list_any (λ b. eqb b a) areas)
 
+-- a need of a cell is one as the machine has it
+pub takes_cell : (g : List (Option Owner)) (n : Need) (c : CellName) → next_need_of g n ≡ NeedsCell c → n ≡ Take c
+takes_cell g (Area a) c e = absurd (cc (e))
+takes_cell g (Take d) c e = let q : d ≡ c = cc in ap Take q
+takes_cell g (Stale owners) c e = absurd (cc (e))
+takes_cell g Ready c e = absurd (cc (e))
+
 -- of a choice that was made, what decided it
 pub chose_cell : (g : List (Option Owner)) (r : Bool) (oa : Option ℕ) (oc : Option CellName) (stale : Bool) (owners : List (Option Owner)) (c : CellName) →
     next_need_of g (if r then Ready else next_of oa oc stale owners) ≡ NeedsCell c → (r ≡ false) × (oa ≡ None) × (oc ≡ Some c)
-chose_cell g true oa oc stale owners c e = absurd (cc (e))
-chose_cell g false (Some a) oc stale owners c e = absurd (cc (e))
-chose_cell g false None (Some d) stale owners c e = (refl, refl, (let q : d ≡ c = cc in ap Some q))
-chose_cell g false None None true owners c e = absurd (cc (e))
-chose_cell g false None None false owners c e = absurd (cc (e))
+chose_cell g r oa oc stale owners c e = chose_take r oa oc stale owners c (takes_cell g (if r then Ready else next_of oa oc stale owners) c e)
 
 pub chose_area : (g : List (Option Owner)) (r : Bool) (oa : Option ℕ) (oc : Option CellName) (stale : Bool) (owners : List (Option Owner)) (a : ℕ) →
     next_need_of g (if r then Ready else next_of oa oc stale owners) ≡ NeedsArea a → (r ≡ false) × (oa ≡ Some a)

@@ -33,8 +33,8 @@ use Rattle.dbtg_unit.specs.Database.State.Legal.{Legal}
 use Rattle.dbtg_unit.specs.Hands.Needs.{cells_of, find_cells, found_slot, store_cells, store_rings}
 use Rattle.dbtg_unit.specs.Database.State.Units.{place_in}
 use Rattle.dbtg_unit.proofs.Public.{In, in_map}
+use Rattle.dbtg_unit.proofs.Public.{find_none_of}
 use Rattle.dbtg_step.specs.Machine.Network.{is_delete}
-use Rattle.dbtg_step.proofs.Network.NeededCells.{find_none_of}
 use Rattle.dbtg_step.proofs.Network.SameCells.{area_keys_same, free_same, items_same, keyed_same, lists_same, live_same, new_same, taken_same, with_calc_same, with_key}
 
 -- where none of the first list passes, what is found behind it counts
@@ -121,17 +121,13 @@ module _ (schema : Lists) (capacity : ℕ) (db eb : Database) (ldb : Legal schem
   find_stable (NextDuplicate r) = next_duplicate r _ refl
   find_stable (Sorted v s) = sorted v s _ refl
 
-  store_stable : (t : ℕ) (items : List Value) → find p (Extent t ∷ store_cells schema unit capacity db t (free_number capacity db t) (calc_taken schema (whole schema capacity db) t items None)) ≡ find p (Extent t ∷ store_cells schema unit capacity eb t (free_number capacity eb t) (calc_taken schema (whole schema capacity eb) t items None))
+  store_stable : (t : ℕ) (items : List Value) → find p (Extent t ∷ store_cells schema unit (option_map (new_key db t) (free_number capacity db t)) (calc_taken schema (whole schema capacity db) t items None))
+      ≡ find p (Extent t ∷ store_cells schema unit (option_map (new_key eb t) (free_number capacity eb t)) (calc_taken schema (whole schema capacity eb) t items None))
   store_stable t items = find_join p (Extent t ∷ []) _ _ (λ n.
       let c = alike_one (Extent t) n in
       let free = free_same schema capacity db eb ldb leb t c in
       let taken = taken_same schema capacity db eb ldb leb t c items None in
-      ap (find p) (stored c (free_number capacity db t) (calc_taken schema (whole schema capacity db) t items None) ∙ λ i. store_cells schema unit capacity eb t (free i) (taken i)))
-    where
-      stored : (c : cell schema capacity db (Extent t) ≡ cell schema capacity eb (Extent t)) (n : Option ℕ) (b : Bool) → store_cells schema unit capacity db t n b ≡ store_cells schema unit capacity eb t n b
-      stored c None b = refl
-      stored c (Some n) true = refl
-      stored c (Some n) false = ap (λ k. store_rings schema unit k ++ slot_name k ∷ []) (new_same schema capacity db eb ldb leb t c n)
+      λ i. find p (store_cells schema unit (option_map (λ m. new_same schema capacity db eb ldb leb t c m i) (free i)) (taken i)))
 
   pub cells_stable : (g : List (Option Owner)) (x : Statement) → is_delete x ≡ false → find p (cells_of schema capacity db unit g x) ≡ find p (cells_of schema capacity eb unit g x)
   cells_stable g (OpenArea a mode) d = refl

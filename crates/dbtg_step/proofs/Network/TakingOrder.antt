@@ -4,6 +4,7 @@ use Rattle.std.specs.Prelude.{is_some, nat_lt, ◌==◌, if◌then◌else◌}
 use Rattle.std.specs.List.{list_any, range_with_len, find}
 use Rattle.std.proofs.lemmas.Bool.{or_cases, or_left, or_right, false≢true, eqb-true, eq-eqb, ltb-true, not-false}
 use Rattle.dbtg_schema.specs.Lists.{Lists}
+use Rattle.dbtg_schema.specs.Sound.{IsSound}
 use Rattle.dbtg_cells.specs.declared.key.Owner.{Owner}
 use Rattle.dbtg_cells.specs.declared.name.CellName.{CellName}
 use Rattle.dbtg_cells.specs.Names.{name_eq, name_lt}
@@ -18,17 +19,15 @@ use Rattle.dbtg_unit.specs.Hands.Needs.{need, next_of, areas_in_order, cells_of,
 use Rattle.dbtg_step.specs.Machine.SequentialDatabase.{HeldCell, NeedsArea, NeedsCell, In, Agrees}
 use Rattle.dbtg_step.specs.Machine.NeverStuck.{MayGoOn, NeedsInOrder, TakenInTurn, NoneYet, AreaNext, CellNext}
 use Rattle.dbtg_step.specs.Machine.Network.{network, holding, is_delete, next_need_of}
-use Rattle.dbtg_step.proofs.EachEvent.Premises.{SuitsMachine}
-use Rattle.dbtg_step.proofs.Network.Ascending.{IsClosed, above_held, ascending_range, closed_on}
+use Rattle.dbtg_step.proofs.Network.Ascending.{IsClosed, above_held, closed_on}
 use Rattle.dbtg_step.proofs.Network.NameOrder.{name_chain, name_never, name_total, number_chain, number_never, number_total}
 use Rattle.dbtg_step.proofs.Network.NetworkNeeds.{held_name, is_area_left, is_not_held, reads_area, reads_cell}
 use Rattle.dbtg_step.proofs.Network.NeededCells.{unit_of_schema}
 use Rattle.dbtg_step.proofs.Network.StableCells.{cells_stable}
-use Rattle.dbtg_step.proofs.Network.CellsAscend.{cells_ascend}
 use Rattle.dbtg_unit.specs.Database.State.Cells.{cell}
 use Rattle.dbtg_cells.specs.declared.cell.Cell.{Cell}
 use Rattle.dbtg_cells.proofs.Public.{name_eq_refl, same_name}
-use Rattle.dbtg_unit.proofs.Public.{pairwise_filter}
+use Rattle.dbtg_unit.proofs.Public.{areas_ascend, cells_ascend}
 
 -- area b is held
 abbrev has_area : List ℕ → ℕ → Bool
@@ -40,13 +39,10 @@ in_held b (a ∷ areas) (inl e) = or_left _ _ (eq-eqb a b (sym e))
 in_held b (a ∷ areas) (inr i) = or_right _ _ (in_held b areas i)
 
 module _ (schema : Lists) (capacity : ℕ) (unit : Unit) (x : Statement) where
-  areas_ascend : pairwise nat_lt (areas_in_order schema unit x) ≡ true
-  areas_ascend = pairwise_filter nat_lt (λ a. list_any (λ b. b == a) (areas_of schema unit x)) (range_with_len 0 (length schema.areas)) (ascending_range 0 (length schema.areas))
-
   areas_closed : (g : List (Option Owner)) (areas : List ℕ) (cells : List (HeldCell CellName CellValue)) → TakenInTurn (network schema capacity) name_lt unit x g areas cells → IsClosed nat_lt (has_area areas) (areas_in_order schema unit x)
   areas_closed g _ _ NoneYet = λ h d k i b. absurd (false≢true k)
   areas_closed g _ _ (AreaNext {areas} {a} db taken e) =
-      closed_on nat_lt number_never number_chain (has_area areas) (has_area (a ∷ areas)) (areas_in_order schema unit x) a areas_ascend (reads_area schema capacity db unit x g areas [] a e).1
+      closed_on nat_lt number_never number_chain (has_area areas) (has_area (a ∷ areas)) (areas_in_order schema unit x) a (areas_ascend schema capacity db unit (holding g areas []) x) (reads_area schema capacity db unit x g areas [] a e).1
       (λ d h. elim (or_cases _ _ h) [ inl q ↦ inr (sym (eqb-true a d q)) | inr q ↦ inl q ])
       (λ d h. or_right _ _ h)
       (areas_closed g areas [] taken)
@@ -97,7 +93,7 @@ held_alike schema capacity db eb (k ∷ ks) a b c h = elim (or_cases _ _ h) [
   | inr q ↦ held_alike schema capacity db eb ks (λ h i. a h (inr i)) (λ h i. b h (inr i)) c q
 ]
 
-module _ (schema : Lists) (suits : SuitsMachine schema) (capacity : ℕ) (unit : Unit) (x : Statement) (shared : is_delete x ≡ false) where
+module _ (schema : Lists) (sound : IsSound schema) (capacity : ℕ) (unit : Unit) (x : Statement) (shared : is_delete x ≡ false) where
   cells_closed : (g : List (Option Owner)) (areas : List ℕ) (cells : List (HeldCell CellName CellValue)) → TakenInTurn (network schema capacity) name_lt unit x g areas cells → (db : Database) → MayGoOn (network schema capacity) name_lt db unit x cells → IsClosed name_lt (has_cell cells) (cells_of schema capacity db unit g x)
   cells_closed g _ _ NoneYet db may = λ h d k i b. absurd (false≢true k)
   cells_closed g _ _ (AreaNext other taken e) db may = λ h d k i b. absurd (false≢true k)
@@ -108,7 +104,7 @@ module _ (schema : Lists) (suits : SuitsMachine schema) (capacity : ℕ) (unit :
       let of = unit_of_schema schema capacity db may.units may.u unit may.may.legal may.may.found in
       let stable = cells_stable schema capacity db other may.may.legal.legal then_.may.legal.legal unit of (is_not_held cells)
       (λ c n. held_alike schema capacity db other cells agrees agreed c (not-false (has_cell cells c) n)) g x shared in
-      closed_on name_lt name_never name_chain (has_cell cells) (has_cell (h ∷ cells)) (cells_of schema capacity db unit g x) h.name (cells_ascend schema suits capacity db unit g x shared)
+      closed_on name_lt name_never name_chain (has_cell cells) (has_cell (h ∷ cells)) (cells_of schema capacity db unit g x) h.name (cells_ascend schema sound capacity db unit g x shared)
       (stable ∙ (reads_cell schema capacity other unit x g areas cells h.name e).2)
       (λ d k. elim (or_cases _ _ k) [ inl q ↦ inr (same_name d h.name q) | inr q ↦ inl q ])
       (λ d k. or_right _ _ k)
@@ -121,9 +117,9 @@ module _ (schema : Lists) (suits : SuitsMachine schema) (capacity : ℕ) (unit :
       (cells_closed g areas cells taken db may) h.name (held_name cells h h.name i (name_eq_refl h.name))
 
 -- what a statement needs is in order
-pub network_needs_in_order : (schema : Lists) (capacity : ℕ) → SuitsMachine schema → NeedsInOrder (network schema capacity) name_lt
-network_needs_in_order schema capacity suits = record {
+pub network_needs_in_order : (schema : Lists) (capacity : ℕ) → IsSound schema → NeedsInOrder (network schema capacity) name_lt
+network_needs_in_order schema capacity sound = record {
   area_above = λ db unit x g areas cells a. area_is_above schema capacity unit x db g areas cells a;
-  cell_above = λ db unit x g areas cells c shared. cell_is_above schema suits capacity unit x shared db g areas cells c;
+  cell_above = λ db unit x g areas cells c shared. cell_is_above schema sound capacity unit x shared db g areas cells c;
   areas_stay = λ unit x g g' areas cells. areas_the_same schema capacity unit x g g' areas cells;
 }

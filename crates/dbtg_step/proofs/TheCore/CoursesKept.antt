@@ -7,13 +7,13 @@ use Rattle.dbtg_unit.specs.declared.unit.Unit.{Unit}
 use Rattle.dbtg_unit.specs.Hands.Hands.{Hands}
 use Rattle.dbtg_erase.specs.declared.course.Course.{Course}
 use Rattle.dbtg_erase.specs.Course.{HasAllOf}
-use Rattle.dbtg_erase.proofs.Public.{kept_stays}
+use Rattle.dbtg_erase.proofs.Public.{kept_stays, nothing_kept}
 use Rattle.dbtg_step.specs.Core.Courses.{IsCourseKept}
 
 module _ (schema : Lists) (capacity : ℕ) (hands : Hands) (unit : Unit) where
   -- nothing is kept
   pub no_course : (x : Statement) → IsCourseKept schema capacity hands unit x None
-  no_course (Delete option) = λ k e. tt
+  no_course (Delete option) = nothing_kept schema capacity hands unit option
   no_course _ = tt
 
   -- more is in hand

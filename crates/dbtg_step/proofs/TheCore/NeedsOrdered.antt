@@ -23,7 +23,6 @@ use Rattle.dbtg_step.proofs.Network.NeededCells.{needed_in_area, unit_is_in}
 use Rattle.dbtg_step.proofs.TheCore.NeedsShown.{agree_each, in_mapped, in_reverse, need_of_holding, ok_also}
 use Rattle.dbtg_step.proofs.Network.NetworkFacts.{needs_in_order}
 use Rattle.dbtg_step.proofs.Network.NetworkNeeds.{needed_is_fresh}
-use Rattle.dbtg_step.proofs.Network.SoundSchemas.{suits_machine}
 
 in_held : (cells : List (CellName × Cell)) (e : CellName × Cell) → In e cells → In (held_of e) (held_cells_of cells)
 in_held cells e i = in_reverse (held_of e) (map held_of cells) (in_mapped held_of e cells i)
@@ -58,7 +57,7 @@ module _ (schema : Lists) (capacity : ℕ) (unit : Unit) (x : Statement) (hands 
   lies_in_area (Area a) e = tt
   lies_in_area (Take c) e = (
     (λ f i. needed_is_fresh schema capacity db unit x hands.guesses (reverse hands.areas) (held_cells_of hands.cells) c (needed (Take c) e) (held_of f) (in_held hands.cells f i)),
-    in_turned (area_of_cell schema c) hands.areas (needed_in_area schema capacity (suits_machine schema sound) db m.units m.u unit x hands.guesses (reverse hands.areas) (held_cells_of hands.cells) c m.may (needed (Take c) e)),
+    in_turned (area_of_cell schema c) hands.areas (needed_in_area schema capacity sound db m.units m.u unit x hands.guesses (reverse hands.areas) (held_cells_of hands.cells) c m.may (needed (Take c) e)),
   )
   lies_in_area (Stale owners) e = tt
   lies_in_area Ready e = tt

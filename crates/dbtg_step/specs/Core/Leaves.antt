@@ -1,21 +1,18 @@
 -- What an event leaves: a cell given, a cell taken or not, and a statement with its ticket or without.
 -- table and after are the table before and after it, old and new what the unit is or holds; u is the number of the unit, w its stage,
 -- n the number of a cell, c its name, x a statement.
-use Rattle.std.specs.Prelude.{ℕ, ◌≡◌, ◌+◌, false, List, [], ◌∷◌, ◌++◌, Some, None, length, map, slice_get, slice_set}
+use Rattle.std.specs.Prelude.{ℕ, ◌≡◌, ◌+◌, false, List, [], ◌∷◌, ◌++◌, Some, None, length, slice_get, slice_set}
 use Rattle.dbtg_schema.specs.Lists.{Lists}
 use Rattle.dbtg_cells.specs.declared.cell.Cell.{Cell}
 use Rattle.dbtg_cells.specs.declared.name.CellName.{CellName}
 use Rattle.dbtg_unit.specs.declared.statement.Statement.{Statement}
-use Rattle.dbtg_unit.specs.declared.unit.Answer.{Answer}
 use Rattle.dbtg_unit.specs.declared.unit.Entry.{Entry}
 use Rattle.dbtg_unit.specs.declared.unit.Unit.{Unit}
 use Rattle.dbtg_unit.specs.Database.State.Base.{Database}
-use Rattle.dbtg_unit.specs.Database.State.Cells.{cell}
 use Rattle.dbtg_unit.specs.Database.Statements.Effect.{effect}
-use Rattle.dbtg_unit.specs.Hands.Guesses.{guesses_after}
 use Rattle.dbtg_unit.specs.Hands.Hands.{Hands}
+use Rattle.dbtg_unit.specs.Hands.Locality.{IsMadeOn, seen}
 use Rattle.dbtg_unit.specs.Hands.Making.{ShowsTheSame}
-use Rattle.dbtg_unit.specs.Hands.Prepared.{values_of}
 use Rattle.dbtg_step.specs.declared.parts.Place.{Place}
 use Rattle.dbtg_step.specs.declared.parts.Place.TheVariants.{Home as AtHome, HeldBy as WithUnit}
 use Rattle.dbtg_step.specs.declared.parts.Runner.{Runner}
@@ -50,18 +47,10 @@ IsTaken u n c table after old new Blocked = IsLeftAlone table after old new × (
 IsTaken u n c table after old new NoMemory = IsLeftAlone table after old new × ((x : Cell) × (slice_get table n ≡ Some (AtHome x)))
 IsTaken u n c table after old new Idle = ⊥
 
--- what a statement makes on a database of the unit, of what it holds, and its answer
-pub record IsMadeOn (schema : Lists) (capacity : ℕ) (db : Database) (x : Statement) (unit : Unit) (old : Hands) (unit' : Unit) (new : Hands) (answer : Answer) : Type 0 where
-  pub answer_is : answer ≡ (effect schema capacity db unit x).answer
-  pub unit_is : unit' ≡ (effect schema capacity db unit x).unit
-  pub guesses_are : new.guesses ≡ guesses_after schema capacity x old.guesses (effect schema capacity db unit x)
-  pub areas_are : new.areas ≡ old.areas
-  pub cells_are : values_of new.cells ≡ map (λ e. (e.0, cell schema capacity (effect schema capacity db unit x).database e.0)) old.cells
-
 -- the statement x drew the next ticket
 pub record IsDrawn (schema : Lists) (capacity : ℕ) (db : Database) (x : Statement) (u : ℕ) (w : Stage) (history after : List Entry) (old new : Runner) : Type 0 where
   pub history_is : after ≡ history ++ record { ticket = length history; unit = u; statement = x; answer = (effect schema capacity db old.unit x).answer } ∷ []
-  pub made : IsMadeOn schema capacity db x old.unit old.held new.unit new.held (effect schema capacity db old.unit x).answer
+  pub made : IsMadeOn schema capacity db old.unit old.held x (seen (effect schema capacity db old.unit x).answer new.unit new.held)
   pub rest : new ≡ record { unit = new.unit; held = new.held; script = old.script; next = old.next + 1; stage = stage_while_held new.held.areas new.held.cells (Some (record { exclusive = w.exclusive; turning_back = false; ticket = Some (length history); linked = 0 })); course = None }
 
 -- room alone may differ, and nothing is kept of how far the statement had come

@@ -1,11 +1,11 @@
 -- What holds of every state that is reached, and what a state shows of each cell.
 use Rattle.std.specs.Prelude.{◌⊎◌, ℕ, suc, ◌≡◌, ◌≢◌, ◌<◌, false, List, [], ◌∷◌, ◌++◌, length, take, map, Option, Some, None, slice_get}
-use Rattle.dbtg_step.specs.Machine.SequentialDatabase.{HeldCell, SequentialDatabase, In, Agrees, NotAmong, unit_at}
+use Rattle.dbtg_step.specs.Machine.SequentialDatabase.{HeldCells, HeldCell, SequentialDatabase, In, Agrees, NotAmong, unit_at}
 use Rattle.dbtg_step.specs.Machine.Machine.{Location, Home, HeldBy, Progress, UnitState, HistoryEntry, State, SequentialState, replay, AnswersHold, statements_of, held_cells, held_areas, holds_exclusively, ticket_of}
 
 module _ (D : SequentialDatabase) where
   -- no cell is held twice
-  unfoldable pub AreDistinct : List (HeldCell D.Cell D.Value) → Type 0
+  unfoldable pub AreDistinct : HeldCells D → Type 0
   AreDistinct [] = Unit {0}
   AreDistinct (h ∷ hs) = NotAmong D h.name hs × AreDistinct hs
 

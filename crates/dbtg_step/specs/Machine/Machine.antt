@@ -1,6 +1,6 @@
 -- The states of the machine of events, and the replay of a history on the sequential database.
 use Rattle.std.specs.Prelude.{ℕ, ◌≡◌, Bool, false, cond, eqb, List, [], ◌∷◌, Option, Some, None}
-use Rattle.dbtg_step.specs.Machine.SequentialDatabase.{HeldCell, SequentialDatabase, unit_at, with_unit_at}
+use Rattle.dbtg_step.specs.Machine.SequentialDatabase.{HeldCells, SequentialDatabase, unit_at, with_unit_at}
 
 -- where a cell is: at home with its value, or with the unit that holds it
 pub data Location (V : Type 0) : Type 0 where
@@ -13,7 +13,7 @@ module _ (D : SequentialDatabase) where
   pub record Progress : Type 0 where
     pub exclusive : Bool
     pub areas : List ℕ
-    pub cells : List (HeldCell D.Cell D.Value)
+    pub cells : HeldCells D
     pub turning_back : Bool
     pub ticket : Option ℕ
     pub linked : ℕ
@@ -75,7 +75,7 @@ module _ (D : SequentialDatabase) where
   relocated location c p d = cond (D.same_name d c) p (location d)
 
   -- all held cells are put back
-  unfoldable pub all_home : (D.Cell → Location D.Value) → List (HeldCell D.Cell D.Value) → D.Cell → Location D.Value
+  unfoldable pub all_home : (D.Cell → Location D.Value) → HeldCells D → D.Cell → Location D.Value
   all_home location [] = location
   all_home location (h ∷ hs) = all_home (relocated location h.name (Home h.value)) hs
 
@@ -84,12 +84,12 @@ module _ (D : SequentialDatabase) where
   begun x = record { exclusive = D.is_exclusive x; areas = []; cells = []; turning_back = false; ticket = None; linked = 0 }
 
   -- a statement that has its ticket is over when nothing is held any more
-  unfoldable pub unless_over : Progress → List ℕ → List (HeldCell D.Cell D.Value) → Option Progress
+  unfoldable pub unless_over : Progress → List ℕ → HeldCells D → Option Progress
   unless_over w [] [] = None
   unless_over w areas cells = Some w
 
   -- what a unit holds
-  unfoldable pub held_cells : Option Progress → List (HeldCell D.Cell D.Value)
+  unfoldable pub held_cells : Option Progress → HeldCells D
   held_cells None = []
   held_cells (Some w) = w.cells
 

@@ -1,6 +1,6 @@
 -- What keeps units from waiting for one another for ever: areas are taken in ascending order, then cells in theirs.
 use Rattle.std.specs.Prelude.{ℕ, ◌≡◌, ◌<◌, Bool, true, false, ltb, List, [], ◌∷◌, ◌⊎◌, Option, Some, None}
-use Rattle.dbtg_step.specs.Machine.SequentialDatabase.{HeldCell, NextNeed, NeedsArea, NeedsCell, StaleGuesses, NeedsNothing, SequentialDatabase, In, NotAmong, Agrees, MayMake, unit_at}
+use Rattle.dbtg_step.specs.Machine.SequentialDatabase.{HeldCells, HeldCell, NextNeed, NeedsArea, NeedsCell, StaleGuesses, NeedsNothing, SequentialDatabase, In, NotAmong, Agrees, MayMake, unit_at}
 use Rattle.dbtg_step.specs.Machine.Machine.{Progress, UnitState, State, SequentialState}
 use Rattle.dbtg_step.specs.Machine.Step.{next_need, step, MovedTo}
 
@@ -36,7 +36,7 @@ module _ (D : SequentialDatabase) (below : D.Cell → D.Cell → Bool) where
   wanted_by_need NeedsNothing = None
 
   -- what the statement needs next, but nothing while the unit turns back with cells in hand
-  unfoldable pub wanted_unless_turning : SequentialState D → State D → UnitState D → Progress D → D.Statement → Bool → List (HeldCell D.Cell D.Value) → Option (Wanted D.Cell)
+  unfoldable pub wanted_unless_turning : SequentialState D → State D → UnitState D → Progress D → D.Statement → Bool → HeldCells D → Option (Wanted D.Cell)
   wanted_unless_turning opening s state w x true (h ∷ hs) = None
   wanted_unless_turning opening s state w x turning_back cells = wanted_by_need (next_need D opening s state w x)
 
@@ -75,7 +75,7 @@ module _ (D : SequentialDatabase) (below : D.Cell → D.Cell → Bool) where
     pub chain : (c d e : D.Cell) → below c d ≡ true → below d e ≡ true → below c e ≡ true
 
   -- unit u of a legal database, in which the held cells have their values, may make the statement
-  pub record MayGoOn (db : D.Db) (unit : D.Unit) (x : D.Statement) (cells : List (HeldCell D.Cell D.Value)) : Type 0 where
+  pub record MayGoOn (db : D.Db) (unit : D.Unit) (x : D.Statement) (cells : HeldCells D) : Type 0 where
     pub units : List D.Unit
     pub u : ℕ
     pub may : MayMake D db units u unit x
@@ -83,21 +83,25 @@ module _ (D : SequentialDatabase) (below : D.Cell → D.Cell → Bool) where
 
   -- the areas and cells that are held were taken one after another, each where it was needed next. The database may have
   -- changed between, but not in the cells that are held
-  pub data TakenInTurn (unit : D.Unit) (x : D.Statement) (g : D.Guesses) : List ℕ → List (HeldCell D.Cell D.Value) → Type 0 where
+  pub data TakenInTurn (unit : D.Unit) (x : D.Statement) (g : D.Guesses) : List ℕ → HeldCells D → Type 0 where
     NoneYet : TakenInTurn unit x g [] []
-    AreaNext : {areas : List ℕ} {a : ℕ} (db : D.Db) → TakenInTurn unit x g areas [] → D.need db unit x g areas [] ≡ NeedsArea a → TakenInTurn unit x g (a ∷ areas) []
-    CellNext : {areas : List ℕ} {cells : List (HeldCell D.Cell D.Value)} {h : HeldCell D.Cell D.Value} (db : D.Db) → TakenInTurn unit x g areas cells → MayGoOn db unit x (h ∷ cells) → D.need db unit x g areas cells ≡ NeedsCell h.name → TakenInTurn unit x g areas (h ∷ cells)
+    AreaNext : {areas : List ℕ} {a : ℕ} (db : D.Db) → TakenInTurn unit x g areas [] →
+        D.need db unit x g areas [] ≡ NeedsArea a → TakenInTurn unit x g (a ∷ areas) []
+    CellNext : {areas : List ℕ} {cells : HeldCells D} {h : HeldCell D.Cell D.Value} (db : D.Db) → TakenInTurn unit x g areas cells →
+        MayGoOn db unit x (h ∷ cells) → D.need db unit x g areas cells ≡ NeedsCell h.name → TakenInTurn unit x g areas (h ∷ cells)
 
   -- what `need` has to promise
   pub record NeedsInOrder : Type 0 where
     -- where all was taken in turn, an area that is needed is above all that are held, and no cell is held
-    pub area_above : (db : D.Db) (unit : D.Unit) (x : D.Statement) (g : D.Guesses) (areas : List ℕ) (cells : List (HeldCell D.Cell D.Value)) (a : ℕ) →
+    pub area_above : (db : D.Db) (unit : D.Unit) (x : D.Statement) (g : D.Guesses) (areas : List ℕ) (cells : HeldCells D) (a : ℕ) →
         TakenInTurn unit x g areas cells → D.need db unit x g areas cells ≡ NeedsArea a → ((b : ℕ) → In b areas → b < a) × (cells ≡ [])
     -- and a cell that is needed is above all that are held, unless the areas are held exclusively
-    pub cell_above : (db : D.Db) (unit : D.Unit) (x : D.Statement) (g : D.Guesses) (areas : List ℕ) (cells : List (HeldCell D.Cell D.Value)) (c : D.Cell) →
-        D.is_exclusive x ≡ false → TakenInTurn unit x g areas cells → MayGoOn db unit x cells → D.need db unit x g areas cells ≡ NeedsCell c → (h : HeldCell D.Cell D.Value) → In h cells → below h.name c ≡ true
+    pub cell_above : (db : D.Db) (unit : D.Unit) (x : D.Statement) (g : D.Guesses) (areas : List ℕ) (cells : HeldCells D) (c : D.Cell) →
+        D.is_exclusive x ≡ false → TakenInTurn unit x g areas cells → MayGoOn db unit x cells → D.need db unit x g areas cells ≡ NeedsCell c →
+        (h : HeldCell D.Cell D.Value) → In h cells → below h.name c ≡ true
     -- the areas don't depend on the guesses
-    pub areas_stay : (unit : D.Unit) (x : D.Statement) (g g' : D.Guesses) (areas : List ℕ) (cells : List (HeldCell D.Cell D.Value)) → TakenInTurn unit x g areas cells → TakenInTurn unit x g' areas []
+    pub areas_stay : (unit : D.Unit) (x : D.Statement) (g g' : D.Guesses) (areas : List ℕ) (cells : HeldCells D) →
+        TakenInTurn unit x g areas cells → TakenInTurn unit x g' areas []
 
   -- a unit in mid-statement without a ticket: what it holds was taken in turn
   pub record InTurn (state : UnitState D) (w : Progress D) : Type 0 where

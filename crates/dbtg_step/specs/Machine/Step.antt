@@ -5,7 +5,7 @@ use Rattle.dbtg_unit.specs.declared.moves.Move.{Move}
 use Rattle.dbtg_unit.specs.declared.moves.Move.TheVariants.{Step, Quit}
 use Rattle.dbtg_unit.specs.declared.moves.Stepped.{Stepped}
 use Rattle.dbtg_unit.specs.declared.moves.Stepped.TheVariants.{Moved, Blocked, Idle}
-use Rattle.dbtg_step.specs.Machine.SequentialDatabase.{HeldCell, NextNeed, NeedsArea, NeedsCell, StaleGuesses, NeedsNothing, SequentialDatabase, unit_at, with_unit_at}
+use Rattle.dbtg_step.specs.Machine.SequentialDatabase.{HeldCells, NextNeed, NeedsArea, NeedsCell, StaleGuesses, NeedsNothing, SequentialDatabase, unit_at, with_unit_at}
 use Rattle.dbtg_step.specs.Machine.Machine.{Location, Home, HeldBy, Progress, UnitState, State, SequentialState, replay, relocated, all_home, begun, unless_over, held_areas, holds_exclusively}
 
 -- some element passes, beside the one at index i
@@ -49,7 +49,7 @@ module _ (D : SequentialDatabase) where
   }
 
   -- the held cells with the values that they have in db
-  unfoldable pub due_cells : D.Db → List (HeldCell D.Cell D.Value) → List (HeldCell D.Cell D.Value)
+  unfoldable pub due_cells : D.Db → HeldCells D → HeldCells D
   due_cells db [] = []
   due_cells db (h ∷ hs) = record { name = h.name; value = D.cell db h.name } ∷ due_cells db hs
 
@@ -72,7 +72,7 @@ module _ (D : SequentialDatabase) where
       }
 
   -- with a ticket: a link while one is left, then each cell goes back, then each area is left
-  unfoldable pub after_ticket : State D → ℕ → UnitState D → Progress D → Bool → List (HeldCell D.Cell D.Value) → List ℕ → State D
+  unfoldable pub after_ticket : State D → ℕ → UnitState D → Progress D → Bool → HeldCells D → List ℕ → State D
   after_ticket s u state w true cells areas = updated s u state s.location state.guesses (Some (record w { linked = suc w.linked }))
   after_ticket s u state w false (h ∷ hs) areas = updated s u state (relocated D s.location h.name (Home h.value)) state.guesses (unless_over D (record w { cells = hs }) areas hs)
   after_ticket s u state w false [] (a ∷ areas) = updated s u state s.location state.guesses (unless_over D (record w { areas = areas }) areas [])
@@ -100,7 +100,7 @@ module _ (D : SequentialDatabase) where
   next_need opening s state w x = D.need (replay D opening s.history).database state.unit x state.guesses w.areas w.cells
 
   -- a unit that turns back puts its cells back, the newest first, and keeps its areas
-  unfoldable pub before_ticket : SequentialState D → State D → ℕ → UnitState D → Progress D → D.Statement → List D.Statement → Bool → List (HeldCell D.Cell D.Value) → Transition
+  unfoldable pub before_ticket : SequentialState D → State D → ℕ → UnitState D → Progress D → D.Statement → List D.Statement → Bool → HeldCells D → Transition
   before_ticket opening s u state w x xs true (h ∷ hs) = MovedTo (updated s u state (relocated D s.location h.name (Home h.value)) state.guesses (Some (record w { cells = hs; turning_back = is_nonempty hs })))
   before_ticket opening s u state w x xs turning_back cells = follows_need opening s u state w x xs (next_need opening s state w x)
 

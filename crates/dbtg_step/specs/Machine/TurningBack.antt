@@ -20,33 +20,45 @@ abbrev pub count : {X : Type 0} → (X → Bool) → List X → ℕ
 count p [] = 0
 count p (x ∷ xs) = cond (p x) 1 0 + count p xs
 
+-- cells that a unit holds, the newest first
+abbrev pub Held : Type 0
+Held = List (HeldCell CellName CellValue)
+
 -- the area is held
 abbrev pub holds_area : List ℕ → ℕ → Bool
 holds_area areas a = list_any (λ b. eqb b a) areas
 
 -- the cell is held
-abbrev pub holds_cell : List (HeldCell CellName CellValue) → CellName → Bool
+abbrev pub holds_cell : Held → CellName → Bool
 holds_cell cells c = list_any (λ (h : HeldCell CellName CellValue). name_eq c h.name) cells
+
+-- the owners that a turn back notes
+abbrev pub noted_owners : Lists → ℕ → Database → Unit → Statement → List (Option Owner) → List (Option Owner)
+noted_owners schema capacity db unit statement guesses = with_owners guesses (stale_owners schema capacity db unit guesses statement)
 
 -- the areas and cells of the statement that aren't held, and, where a guess is stale, all cells that it has with the true
 -- owners, and the turn back
-abbrev pub needs_left : Lists → ℕ → Database → Unit → Statement → List (Option Owner) → List ℕ → List (HeldCell CellName CellValue) → ℕ
+abbrev pub needs_left : Lists → ℕ → Database → Unit → Statement → List (Option Owner) → List ℕ → Held → ℕ
 needs_left schema capacity db unit statement guesses areas cells =
     count (λ a. not (holds_area areas a)) (areas_in_order schema unit statement)
     + count (λ c. not (holds_cell cells c)) (cells_of schema capacity db unit guesses statement)
-    + cond (is_stale schema capacity db unit guesses statement) (suc (length (cells_of schema capacity db unit (with_owners guesses (stale_owners schema capacity db unit guesses statement)) statement))) 0
+    + cond (is_stale schema capacity db unit guesses statement)
+        (suc (length (cells_of schema capacity db unit (noted_owners schema capacity db unit statement guesses) statement)))
+        0
 
 -- on one database: with the true owners noted no guess is stale; and what is left falls with each need that is met, an area
 -- or cell that is taken, or a turn back, after which no cell is held
 pub record NeedsComeToAnEnd (schema : Lists) (capacity : ℕ) : Type 0 where
-  pub not_stale_again : (db : Database) (unit : Unit) (statement : Statement) (guesses : List (Option Owner)) → fits schema statement ≡ true →
-      is_stale schema capacity db unit (with_owners guesses (stale_owners schema capacity db unit guesses statement)) statement ≡ false
-  pub area_taken : (db : Database) (unit : Unit) (statement : Statement) (guesses : List (Option Owner)) (areas : List ℕ) (cells : List (HeldCell CellName CellValue)) (a : ℕ) →
+  pub not_stale_again : (db : Database) (unit : Unit) (statement : Statement) (guesses : List (Option Owner)) →
+      fits schema statement ≡ true →
+      is_stale schema capacity db unit (noted_owners schema capacity db unit statement guesses) statement ≡ false
+  pub area_taken : (db : Database) (unit : Unit) (statement : Statement) (guesses : List (Option Owner)) (areas : List ℕ) (cells : Held) (a : ℕ) →
       (network schema capacity).need db unit statement guesses areas cells ≡ NeedsArea a →
       needs_left schema capacity db unit statement guesses (a ∷ areas) cells < needs_left schema capacity db unit statement guesses areas cells
-  pub cell_taken : (db : Database) (unit : Unit) (statement : Statement) (guesses : List (Option Owner)) (areas : List ℕ) (cells : List (HeldCell CellName CellValue)) (h : HeldCell CellName CellValue) →
+  pub cell_taken : (db : Database) (unit : Unit) (statement : Statement) (guesses : List (Option Owner)) (areas : List ℕ) (cells : Held) (h : HeldCell CellName CellValue) →
       (network schema capacity).need db unit statement guesses areas cells ≡ NeedsCell h.name →
       needs_left schema capacity db unit statement guesses areas (h ∷ cells) < needs_left schema capacity db unit statement guesses areas cells
-  pub turned_back : (db : Database) (unit : Unit) (statement : Statement) (guesses others : List (Option Owner)) (areas : List ℕ) (cells : List (HeldCell CellName CellValue)) → fits schema statement ≡ true →
+  pub turned_back : (db : Database) (unit : Unit) (statement : Statement) (guesses others : List (Option Owner)) (areas : List ℕ) (cells : Held) →
+      fits schema statement ≡ true →
       (network schema capacity).need db unit statement guesses areas cells ≡ StaleGuesses others →
       needs_left schema capacity db unit statement others areas [] < needs_left schema capacity db unit statement guesses areas cells

@@ -1,6 +1,7 @@
 -- A statement changes no cell but those that it needs: statement by statement, then where it is ready (`LocalReady`).
 -- May use: `Records` and `Reading`.
--- Promises: the law that a statement which is ready changes no cell but those that it holds.
+-- Promises: the law that a statement which is ready changes no cell but those that it holds, and that a plan which can be finished
+-- makes it on every database of which they are (`MadeOnEach`).
 pub mod InTurn
 pub mod LocalCells
 pub mod LocalDelete
@@ -10,3 +11,4 @@ pub mod LocalReady
 pub mod LocalRemove
 pub mod LocalStatements
 pub mod LocalStore
+pub mod MadeOnEach

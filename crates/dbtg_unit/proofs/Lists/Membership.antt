@@ -107,3 +107,14 @@ find_only p (y ∷ xs) x i h only =
 pub find_none : {X : Type 0} (p : X → Bool) (xs : List X) → ((x : X) → p x ≡ true → ⊥) → find p xs ≡ None
 find_none p [] h = refl
 find_none p (x ∷ xs) h = ap (λ b. cond b (Some x) (find p xs)) (false_from_ne_true _ (h x)) ∙ find_none p xs h
+
+-- what is not found is not at the head
+find_skips : {X : Type 0} (p : X → Bool) (y : X) (ys : List X) (b : Bool) → p y ≡ b → find p (y ∷ ys) ≡ None → (p y ≡ false) × (find p ys ≡ None)
+find_skips p y ys true h e = absurd (cc (e, h))
+find_skips p y ys false h e = (h, (let k : find p ys ≡ None = cc (e, h) in k))
+
+-- where none is found, no element passes
+pub find_none_of : {X : Type 0} (p : X → Bool) (xs : List X) → find p xs ≡ None → (x : X) → In x xs → p x ≡ false
+find_none_of p [] e x i = absurd i
+find_none_of {X} p (y ∷ ys) e x (inl q) = subst (λ (z : X). p z ≡ false) q (find_skips p y ys (p y) refl e).0
+find_none_of p (y ∷ ys) e x (inr j) = find_none_of p ys (find_skips p y ys (p y) refl e).1 x j

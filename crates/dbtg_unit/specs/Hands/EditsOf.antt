@@ -1,54 +1,29 @@
--- The edits by which a statement changes the cells, where nothing refuses it: STORE and DELETE, each with its parts before it; then `edits_of`, a line for each statement, and that its edits are its effect.
--- k is a key, m a new member, d a record that goes, x a member that stays, o an owner, s a set, t a record type.
-use Rattle.std.specs.Prelude.{◌≡◌, ℕ, Bool, true, false, not, ◌==◌, List, [], ◌∷◌, ◌++◌, Option, Some, None, map, filter, option_map, unwrap_or, if◌then◌else◌}
-use Rattle.std.specs.List.{list_any, flat_map}
+-- The edits by which a statement changes the cells, where nothing refuses it: those of DELETE, by who goes; those of the others are their plans' (`PlanOf`); and that its edits are its effect.
+-- k is a key, d a record that goes, x a member that stays, o an owner, s a set.
+use Rattle.std.specs.Prelude.{◌≡◌, ℕ, Bool, true, false, not, List, [], ◌∷◌, ◌++◌, Option, Some, None, map, filter, if◌then◌else◌}
+use Rattle.std.specs.List.{flat_map}
 use Rattle.dbtg_schema.specs.Lists.{Lists}
 use Rattle.dbtg_schema.specs.Lookups.{some_and}
-use Rattle.dbtg_schema.specs.Structure.{automatic_sets, order_of, owns, set_numbers}
+use Rattle.dbtg_schema.specs.Structure.{owns, set_numbers}
 use Rattle.dbtg_cells.specs.declared.key.DbKey.{DbKey}
 use Rattle.dbtg_cells.specs.declared.key.Owner.{Owner}
-use Rattle.dbtg_cells.specs.declared.key.Owner.TheVariants.{Rec}
-use Rattle.dbtg_cells.specs.declared.key.Value.{Value}
 use Rattle.dbtg_cells.specs.declared.name.CellName.{CellName}
 use Rattle.dbtg_cells.specs.declared.name.CellName.TheVariants.{Extent, Ring}
-use Rattle.dbtg_unit.specs.declared.edit.Edit.{Edit}
-use Rattle.dbtg_unit.specs.declared.edit.Edit.TheVariants.{EnterNumber, LeaveNumber, OpenRing, CloseRing, TakeOut, Fill, Vacate, ChangeOwner, RaiseVersion}
+use Rattle.dbtg_unit.specs.declared.edit.Edit.TheVariants.{LeaveNumber, CloseRing, TakeOut, Vacate, ChangeOwner, RaiseVersion}
 use Rattle.dbtg_unit.specs.declared.edit.CellEdit.{CellEdit}
 use Rattle.dbtg_unit.specs.declared.statement.Erase.{Erase}
-use Rattle.dbtg_unit.specs.declared.unit.Place.{Place}
 use Rattle.dbtg_unit.specs.declared.unit.Unit.{Unit}
-use Rattle.dbtg_unit.specs.Database.State.Base.{Database, calc_items, is_member, key_item, owner_of}
-use Rattle.dbtg_unit.specs.Database.State.CellNames.{slot_name, place_of}
-use Rattle.dbtg_unit.specs.Database.State.Units.{place_in}
+use Rattle.dbtg_unit.specs.Database.State.Base.{Database, is_member, owner_of}
 use Rattle.dbtg_unit.specs.declared.statement.Statement.{Statement}
-use Rattle.dbtg_unit.specs.declared.statement.Statement.TheVariants.{Store, Delete}
+use Rattle.dbtg_unit.specs.declared.statement.Statement.TheVariants.{Delete}
 use Rattle.dbtg_unit.specs.declared.unit.Status.TheVariants.{Done}
 use Rattle.dbtg_unit.specs.Database.State.Cells.{cell}
 use Rattle.dbtg_unit.specs.Hands.Edits.{edited_at}
-use Rattle.dbtg_unit.specs.Database.Statements.Effect.{effect, free_number, is_gone, new_key}
+use Rattle.dbtg_unit.specs.Database.Statements.Effect.{effect, is_gone}
 use Rattle.dbtg_unit.specs.Database.Statements.View.{whole}
-pub use Rattle.dbtg_unit.specs.Hands.PlanOf.{done_plan_of, modify_edits, placed_at, replacing_edits, ring_edits, slot_edit}
+pub use Rattle.dbtg_unit.specs.Hands.PlanOf.{done_plan_of, first_owners, joining_edits, modify_edits, placed_at, replacing_edits, ring_edits, slot_edit, store_edits}
 use Rattle.dbtg_unit.specs.Hands.Erasing.{doomed_in_turn, members_of_all, with_those}
 use Rattle.dbtg_unit.specs.Database.State.Legal.{Legal}
-
--- the edits by which m joins the current occurrence of a set
-abbrev pub joining_edits : Lists → Unit → ℕ → DbKey → Option Value → List CellEdit
-joining_edits schema unit s m key =
-    ring_edits s (option_map (λ place. place.owner) (place_in schema unit s))
-    (unwrap_or (option_map (λ place. placed_at schema s m key place ∷ []) (place_in schema unit s)) [])
-
--- the owners of a record as STORE connects it
-abbrev pub first_owners : Lists → Unit → ℕ → List (Option Owner)
-first_owners schema unit t =
-    map (λ s. if list_any (λ s'. s' == s) (automatic_sets schema t) then option_map (λ place. place.owner) (place_in schema unit s) else None) (set_numbers schema)
-
--- STORE of k: its number, its places in the automatic sets, the occurrences that it owns, its slot
-abbrev pub store_edits : Lists → Unit → DbKey → List Value → List CellEdit
-store_edits schema unit k items =
-    record { name = Extent k.rtype; edit = EnterNumber k.number (calc_items schema k.rtype items) }
-    ∷ (flat_map (λ s. joining_edits schema unit s k (key_item schema s k.rtype items)) (automatic_sets schema k.rtype)
-    ++ (flat_map (λ s. record { name = Ring s (Some (k.rtype, k.number)); edit = OpenRing (Rec k) } ∷ []) (filter (λ s. owns schema s k.rtype) (set_numbers schema))
-    ++ slot_edit k (Fill k.generation items (first_owners schema unit k.rtype)) ∷ []))
 
 -- DELETE: d's number is left
 abbrev pub leave_number : DbKey → CellEdit
@@ -99,7 +74,6 @@ edits_of_current (Some k) edits = edits k
 
 -- the edits of a statement
 abbrev pub edits_of : Lists → ℕ → Database → Unit → Statement → List CellEdit
-edits_of schema capacity db unit (Store t items suppress) = store_edits schema unit (new_key db t (unwrap_or (free_number capacity db t) 0)) items
 edits_of schema capacity db unit (Delete option) = edits_of_current unit.currency.run_unit (delete_edits schema capacity db option)
 edits_of schema capacity db unit statement = (done_plan_of schema (whole schema capacity db) unit statement).cells
 

@@ -116,6 +116,7 @@ in_hand hands =
       members = λ s o. keys_in (occurrence_in hands s o);
       has_sort_key = λ s o left v. list_any (has_sort_key left v) (members_in (occurrence_in hands s o));
       is_full = λ t. is_none (first (numbers_where is_free (numbers_in hands t)));
+      fresh = λ t. next_key_of (numbers_in hands t) t (unwrap_or (first (numbers_where is_free (numbers_in hands t))) 0);
       has_calc = λ t values left.
           list_any (λ n. not (is_number_left_out (option_map (λ k. k.number) left) n)) (numbers_where (has_values values) (numbers_in hands t));
       users = users_in hands;

@@ -48,38 +48,49 @@ ring_names s (Some o) = Ring s (place_of o) ∷ []
 abbrev pub current_owner : Lists → Unit → ℕ → Option Owner
 current_owner schema unit s = option_map (λ place. place.owner) (place_in schema unit s)
 
+-- the cells by which a FIND finds: a slot, a ring, or extents
+abbrev pub cells_to_find : Lists → Unit → Form → List CellName
+cells_to_find schema unit (Key k) = slot_name k ∷ []
+cells_to_find schema unit CurrentOfUnit = slot_names unit.currency.run_unit
+cells_to_find schema unit (CurrentOfType r) = slot_names (at unit.currency.types r)
+cells_to_find schema unit (CurrentOfSet s) = slot_names (option_and_then key_of_place (place_in schema unit s))
+cells_to_find schema unit (CurrentOfArea a) = slot_names (at unit.currency.areas a)
+cells_to_find schema unit (InSet which r s) = ring_names s (current_owner schema unit s)
+cells_to_find schema unit (InArea which r a) = map Extent (unwrap_or (option_map (λ t. t ∷ []) r) (types_in schema a))
+cells_to_find schema unit (OwnerOf s) = slot_names (option_and_then (λ place. key_of_place (record place { at = None })) (place_in schema unit s))
+cells_to_find schema unit (Calc r values) = Extent r ∷ []
+cells_to_find schema unit (NextDuplicate r) = Extent r ∷ []
+cells_to_find schema unit (Sorted v s) = ring_names s (current_owner schema unit s)
+
 -- the slot of what is found
 abbrev pub found_slot : Result DbKey Cause → List CellName
 found_slot (Ok k) = slot_name k ∷ []
 found_slot (Err cause) = []
 
--- the cells of a FIND, where the last is the slot of what it finds
+-- the cells of a FIND; behind a ring and extents comes the slot of what it finds
 abbrev pub find_cells : Lists → ℕ → Database → Unit → Form → List CellName
-find_cells schema capacity db unit (Key k) = slot_name k ∷ []
-find_cells schema capacity db unit CurrentOfUnit = slot_names unit.currency.run_unit
-find_cells schema capacity db unit (CurrentOfType r) = slot_names (at unit.currency.types r)
-find_cells schema capacity db unit (CurrentOfSet s) = slot_names (option_and_then key_of_place (place_in schema unit s))
-find_cells schema capacity db unit (CurrentOfArea a) = slot_names (at unit.currency.areas a)
-find_cells schema capacity db unit (InSet which r s) = ring_names s (current_owner schema unit s) ++ found_slot (found schema capacity db unit (InSet which r s))
-find_cells schema capacity db unit (InArea which r a) =
-    map Extent (unwrap_or (option_map (λ t. t ∷ []) r) (types_in schema a)) ++ found_slot (found schema capacity db unit (InArea which r a))
-find_cells schema capacity db unit (OwnerOf s) = slot_names (option_and_then (λ place. key_of_place (record place { at = None })) (place_in schema unit s))
-find_cells schema capacity db unit (Calc r values) = Extent r ∷ found_slot (found schema capacity db unit (Calc r values))
-find_cells schema capacity db unit (NextDuplicate r) = Extent r ∷ found_slot (found schema capacity db unit (NextDuplicate r))
-find_cells schema capacity db unit (Sorted v s) = ring_names s (current_owner schema unit s) ++ found_slot (found schema capacity db unit (Sorted v s))
+find_cells schema capacity db unit (InSet which r s) = cells_to_find schema unit (InSet which r s) ++ found_slot (found schema capacity db unit (InSet which r s))
+find_cells schema capacity db unit (InArea which r a) = cells_to_find schema unit (InArea which r a) ++ found_slot (found schema capacity db unit (InArea which r a))
+find_cells schema capacity db unit (Calc r values) = cells_to_find schema unit (Calc r values) ++ found_slot (found schema capacity db unit (Calc r values))
+find_cells schema capacity db unit (NextDuplicate r) = cells_to_find schema unit (NextDuplicate r) ++ found_slot (found schema capacity db unit (NextDuplicate r))
+find_cells schema capacity db unit (Sorted v s) = cells_to_find schema unit (Sorted v s) ++ found_slot (found schema capacity db unit (Sorted v s))
+find_cells schema capacity db unit form = cells_to_find schema unit form
 
--- the rings of a STORE of k, by set: the current owner's in its automatic sets, its own in those that it owns
-abbrev pub store_rings : Lists → Unit → DbKey → List CellName
-store_rings schema unit k =
-    flat_map (λ s.
+-- the rings of a STORE of k in set s: the current owner's where it is connected, its own where it is the owner
+abbrev pub store_rings_of : Lists → Unit → DbKey → ℕ → List CellName
+store_rings_of schema unit k s =
     (if list_any (λ s'. s' == s) (automatic_sets schema k.rtype) then ring_names s (current_owner schema unit s) else [])
-    ++ (if owns schema s k.rtype then Ring s (Some (k.rtype, k.number)) ∷ [] else [])) (set_numbers schema)
+    ++ (if owns schema s k.rtype then Ring s (Some (k.rtype, k.number)) ∷ [] else [])
 
--- a STORE that its extent refuses takes no more
-abbrev pub store_cells : Lists → Unit → ℕ → Database → ℕ → Option ℕ → Bool → List CellName
-store_cells schema unit capacity db t None taken = []
-store_cells schema unit capacity db t (Some n) true = []
-store_cells schema unit capacity db t (Some n) false = store_rings schema unit (new_key db t n) ++ slot_name (new_key db t n) ∷ []
+-- its rings, by set
+abbrev pub store_rings : Lists → Unit → DbKey → List CellName
+store_rings schema unit k = flat_map (store_rings_of schema unit k) (set_numbers schema)
+
+-- the cells of a STORE beside its extent; none where there is no key, or its CALC items are taken
+abbrev pub store_cells : Lists → Unit → Option DbKey → Bool → List CellName
+store_cells schema unit None taken = []
+store_cells schema unit (Some k) true = []
+store_cells schema unit (Some k) false = store_rings schema unit k ++ slot_name k ∷ []
 
 -- the cells of a statement on a database, in the order of taking
 abbrev pub cells_of : Lists → ℕ → Database → Unit → List (Option Owner) → Statement → List CellName
@@ -88,7 +99,7 @@ cells_of schema capacity db unit guesses (CloseArea a) = Usage a ∷ []
 cells_of schema capacity db unit guesses (Find form suppress) = find_cells schema capacity db unit form
 cells_of schema capacity db unit guesses (Get r) = slot_names unit.currency.run_unit
 cells_of schema capacity db unit guesses (Store t items suppress) =
-    Extent t ∷ store_cells schema unit capacity db t (free_number capacity db t) (calc_taken schema (whole schema capacity db) t items None)
+    Extent t ∷ store_cells schema unit (option_map (new_key db t) (free_number capacity db t)) (calc_taken schema (whole schema capacity db) t items None)
 cells_of schema capacity db unit guesses (Insert s) = ring_names s (current_owner schema unit s) ++ slot_names unit.currency.run_unit
 cells_of schema capacity db unit guesses (Remove s) = ring_names s (at guesses s) ++ slot_names unit.currency.run_unit
 cells_of schema capacity db unit guesses (Modify t changes) =
@@ -125,6 +136,14 @@ abbrev pub stale_owners : Lists → ℕ → Database → Unit → List (Option O
 stale_owners schema capacity db unit guesses statement =
     unwrap_or (option_map (λ k. map (wrong_owner schema capacity db guesses (guessed_sets schema unit statement) k) (set_numbers schema)) unit.currency.run_unit) []
 
+-- the cell of this name is not in hand
+abbrev pub is_missing : Hands → CellName → Bool
+is_missing hands c = not (list_any (λ e. name_eq c e.0) hands.cells)
+
+-- the first of some cells that is not in hand
+abbrev pub first_missing : Hands → List CellName → Option CellName
+first_missing hands = find (is_missing hands)
+
 -- the first area, and then the first cell, that is not in hand; then a wrong guess
 abbrev pub next_of : Option ℕ → Option CellName → Bool → List (Option Owner) → Need
 next_of (Some a) c stale owners = Area a
@@ -137,7 +156,7 @@ abbrev pub need_of_cells : Lists → ℕ → Database → Unit → Hands → Sta
 need_of_cells schema capacity db unit hands statement =
     next_of
     (find (λ a. not (list_any (λ b. b == a) hands.areas)) (areas_in_order schema unit statement))
-    (find (λ c. not (list_any (λ e. name_eq c e.0) hands.cells)) (cells_of schema capacity db unit hands.guesses statement))
+    (first_missing hands (cells_of schema capacity db unit hands.guesses statement))
     (is_stale schema capacity db unit hands.guesses statement)
     (stale_owners schema capacity db unit hands.guesses statement)
 

@@ -1,25 +1,27 @@
 -- What each statement plans, a line for each, over a view: so a plan stands once, for a whole database and for the cells in hand.
--- First edits of rings and slots and plans that change no cell; then INSERT, REMOVE and MODIFY; at the end `done_plan_of`, a line for each
+-- First edits of rings and slots and plans that change no cell; then STORE, INSERT, REMOVE and MODIFY; at the end `done_plan_of`, a line for each
 -- statement, and `plan_of`, which puts the checks before it.
 -- k is a key, m a new member, o an owner, s a set, a an area.
-use Rattle.std.specs.Prelude.{ℕ, ◌+◌, true, false, List, [], ◌∷◌, ◌++◌, Option, Some, None, map, option_and_then, if◌then◌else◌}
-use Rattle.std.specs.List.{flat_map}
+use Rattle.std.specs.Prelude.{ℕ, ◌+◌, ◌==◌, true, false, List, [], ◌∷◌, ◌++◌, Option, Some, None, filter, map, option_and_then, option_map, unwrap_or, if◌then◌else◌}
+use Rattle.std.specs.List.{flat_map, list_any}
 use Rattle.dbtg_schema.specs.Lists.{Lists}
 use Rattle.dbtg_schema.specs.Lookups.{first_cause}
-use Rattle.dbtg_schema.specs.Structure.{order_of, rekeyed_sets}
+use Rattle.dbtg_schema.specs.Structure.{automatic_sets, order_of, owns, rekeyed_sets, set_numbers}
 use Rattle.dbtg_cells.specs.declared.key.DbKey.{DbKey}
 use Rattle.dbtg_cells.specs.declared.key.Owner.{Owner}
+use Rattle.dbtg_cells.specs.declared.key.Owner.TheVariants.{Rec}
 use Rattle.dbtg_cells.specs.declared.key.Value.{Value}
 use Rattle.dbtg_cells.specs.declared.name.CellName.TheVariants.{Usage, Extent, Ring}
 use Rattle.dbtg_cells.specs.declared.usage.Mode.{Mode}
 use Rattle.dbtg_unit.specs.declared.edit.CellEdit.{CellEdit}
 use Rattle.dbtg_unit.specs.declared.edit.Edit.{Edit}
-use Rattle.dbtg_unit.specs.declared.edit.Edit.TheVariants.{EnterUser, LeaveUser, ChangeNumber, PlaceMember, ReplaceMember, TakeOut, ChangeItems, ChangeOwner, RaiseVersion}
+use Rattle.dbtg_unit.specs.declared.edit.Edit.TheVariants.{EnterUser, LeaveUser, EnterNumber, ChangeNumber, OpenRing, PlaceMember, ReplaceMember, TakeOut, Fill, ChangeItems, ChangeOwner, RaiseVersion}
 use Rattle.dbtg_unit.specs.declared.edit.UnitEdit.{UnitEdit}
-use Rattle.dbtg_unit.specs.declared.edit.UnitEdit.TheVariants.{Same, Move, Leave, SetMode, Keep as KeepEdit, Forget, ForgetAll}
+use Rattle.dbtg_unit.specs.declared.edit.UnitEdit.TheVariants.{Same, See, Move, Leave, SetMode, Keep as KeepEdit, Forget, ForgetAll}
 use Rattle.dbtg_unit.specs.declared.statement.Change.{Change}
 use Rattle.dbtg_unit.specs.declared.statement.Statement.{Statement}
-use Rattle.dbtg_unit.specs.declared.statement.Statement.TheVariants.{OpenArea, CloseArea, Get, Insert, Remove, Modify, Keep, Free}
+use Rattle.dbtg_unit.specs.declared.statement.Statement.TheVariants.{OpenArea, CloseArea, Get, Store, Insert, Remove, Modify, Keep, Free}
+use Rattle.dbtg_unit.specs.declared.statement.Suppress.{Suppress}
 use Rattle.dbtg_unit.specs.declared.unit.Answer.{Answer}
 use Rattle.dbtg_unit.specs.declared.unit.Cause.TheVariants.{NoCurrentOfRunUnit}
 use Rattle.dbtg_unit.specs.declared.unit.Place.{Place}
@@ -62,6 +64,34 @@ done_plan change key items = record { answer = record { status = Done; key = key
 -- area a is open for the unit in a mode, or no more: an edit of its usage cell, and the unit's mode
 abbrev pub mode_plan : ℕ → Edit → Option Mode → Plan
 mode_plan a edit mode = record { answer = done_answer; cells = record { name = Usage a; edit = edit } ∷ []; versions = []; unit = SetMode a mode }
+
+-- the edits by which m joins the current occurrence of a set
+abbrev pub joining_edits : Lists → Unit → ℕ → DbKey → Option Value → List CellEdit
+joining_edits schema unit s m key =
+    ring_edits s (option_map (λ place. place.owner) (place_in schema unit s))
+    (unwrap_or (option_map (λ place. placed_at schema s m key place ∷ []) (place_in schema unit s)) [])
+
+-- the owners of a record as STORE connects it
+abbrev pub first_owners : Lists → Unit → ℕ → List (Option Owner)
+first_owners schema unit t =
+    map (λ s. if list_any (λ s'. s' == s) (automatic_sets schema t) then option_map (λ place. place.owner) (place_in schema unit s) else None) (set_numbers schema)
+
+-- STORE of k: its number, its places in the automatic sets, the occurrences that it owns, its slot
+abbrev pub store_edits : Lists → Unit → DbKey → List Value → List CellEdit
+store_edits schema unit k items =
+    record { name = Extent k.rtype; edit = EnterNumber k.number (calc_items schema k.rtype items) }
+    ∷ (flat_map (λ s. joining_edits schema unit s k (key_item schema s k.rtype items)) (automatic_sets schema k.rtype)
+    ++ (flat_map (λ s. record { name = Ring s (Some (k.rtype, k.number)); edit = OpenRing (Rec k) } ∷ []) (filter (λ s. owns schema s k.rtype) (set_numbers schema))
+    ++ slot_edit k (Fill k.generation items (first_owners schema unit k.rtype)) ∷ []))
+
+-- STORE of k: it is stored, and seen
+abbrev pub storing : Lists → Unit → List Value → Suppress → DbKey → Plan
+storing schema unit items suppress k = record {
+  answer = record { status = Done; key = Some k; items = None };
+  cells = store_edits schema unit k items;
+  versions = [];
+  unit = See k (first_owners schema unit k.rtype) suppress;
+}
 
 -- INSERT of k: its place in the current occurrence, its owner, its version; it is current of the set
 abbrev pub inserting : Lists → View → Unit → ℕ → DbKey → Plan
@@ -112,11 +142,12 @@ abbrev pub planned_on_current : Option DbKey → (DbKey → Plan) → Plan
 planned_on_current None plan = refusal NoCurrentOfRunUnit
 planned_on_current (Some k) plan = plan k
 
--- what a statement plans that no check refuses
+-- what a statement plans that no check refuses; a FIND and a DELETE plan by what they look for, not by a view
 abbrev pub done_plan_of : Lists → View → Unit → Statement → Plan
 done_plan_of schema view unit (OpenArea a mode) = mode_plan a (EnterUser unit.number mode) (Some mode)
 done_plan_of schema view unit (CloseArea a) = mode_plan a (LeaveUser unit.number) None
 done_plan_of schema view unit (Get r) = planned_on_current unit.currency.run_unit (λ k. done_plan Same (Some k) (Some (view.items k)))
+done_plan_of schema view unit (Store t items suppress) = storing schema unit items suppress (view.fresh t)
 done_plan_of schema view unit (Insert s) = planned_on_current unit.currency.run_unit (inserting schema view unit s)
 done_plan_of schema view unit (Remove s) = planned_on_current unit.currency.run_unit (removing view s)
 done_plan_of schema view unit (Modify t changes) = planned_on_current unit.currency.run_unit (modifying schema view unit changes)

@@ -87,8 +87,7 @@ abbrev pub edited_values : List CellEdit → List (CellName × CellValue) → Li
 edited_values [] values = values
 edited_values (e ∷ es) values = edited_values es (value_edited e values)
 
--- on this database the plan is the statement's effect: answer, unit, guesses and each cell. That the effect is legal is a
--- law of the database, `EffectKeepsLegal`
+-- on this database the plan is the statement's effect: answer, unit, guesses and each cell
 pub record IsEffect (schema : Lists) (capacity : ℕ) (db : Database) (unit : Unit) (guesses : List (Option Owner)) (statement : Statement) (plan : Plan) : Type 0 where
   pub answer : plan.answer ≡ (effect schema capacity db unit statement).answer
   pub unit_is : unit_after schema plan unit ≡ (effect schema capacity db unit statement).unit

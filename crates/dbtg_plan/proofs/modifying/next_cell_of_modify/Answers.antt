@@ -5,8 +5,7 @@ use Rattle.dbtg_schema.specs.Structure.{rekeyed_sets}
 use Rattle.dbtg_cells.specs.declared.name.CellName.{CellName}
 use Rattle.dbtg_cells.specs.declared.name.CellName.TheVariants.{Extent}
 use Rattle.dbtg_unit.specs.Database.Statements.Effect.{names_calc}
-use Rattle.dbtg_unit.specs.Hands.Needs.{ring_names, slot_names}
-use Rattle.dbtg_plan.specs.Missing.{is_missing}
+use Rattle.dbtg_unit.specs.Hands.Needs.{is_missing, ring_names, slot_names}
 use Rattle.dbtg_plan.proofs.Store.SetSteps.{found_second, found_third}
 use Rattle.dbtg_plan.proofs.modifying.next_cell_of_modify.Goals as goal
 

@@ -1,8 +1,7 @@
 use Rattle.std.proofs.Common.{sym, ◌∙◌, ap}
 use Rattle.dbtg_unit.specs.declared.statement.Statement.{Statement}
 use Rattle.dbtg_unit.specs.declared.statement.Statement.TheVariants.{Modify}
-use Rattle.dbtg_unit.specs.Hands.Needs.{cells_of}
-use Rattle.dbtg_plan.specs.Missing.{first_missing}
+use Rattle.dbtg_unit.specs.Hands.Needs.{cells_of, first_missing}
 use Rattle.dbtg_plan.proofs.need.next_cell.Goals as goal
 
 pub returns-in-Insert : goal.returns-in-Insert

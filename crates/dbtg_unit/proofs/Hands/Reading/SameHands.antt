@@ -132,14 +132,13 @@ module _ (schema : Lists) (capacity : ℕ) (db : Database) where
   cells_agree [] h = tt
   cells_agree (e ∷ es) h = (h.0, cells_agree es h.1)
 
+  pub all_agree_same : (old new : Held) → values_of new ≡ values_of old → AllAgree schema capacity db old → AllAgree schema capacity db new
+  all_agree_same old new same h = cells_agree new (subst (EachAgrees schema capacity db) (sym same) (values_agree old h))
+
 -- they agree with the same databases
 pub agrees_same : (schema : Lists) (capacity : ℕ) (db : Database) (unit : Unit) (old new : Hands) → ShowsTheSame old new → Agrees schema capacity db old unit → Agrees schema capacity db new unit
 agrees_same schema capacity db unit old new same agrees =
-    record {
-      legal = agrees.legal;
-      cells = cells_agree schema capacity db new.cells (subst (EachAgrees schema capacity db) (sym same.cells) (values_agree schema capacity db old.cells agrees.cells));
-      usage = agrees.usage;
-    }
+    record { legal = agrees.legal; cells = all_agree_same schema capacity db old.cells new.cells same.cells agrees.cells; usage = agrees.usage }
 
 pub ready_same : (schema : Lists) (capacity : ℕ) (unit : Unit) (old new : Hands) (statement : Statement) → ShowsTheSame old new → IsReady schema capacity unit old statement → IsReady schema capacity unit new statement
 ready_same schema capacity unit old new statement same ready =

@@ -230,7 +230,7 @@ module _ (schema : Lists) (capacity : ℕ) (db : Database) (unit : Unit) (guesse
       let free : free_number capacity db t ≡ Some n = there (free_number capacity db t) first.0 in
       let names : List CellName = Extent t ∷ (store_rings schema unit k ++ slot_name k ∷ []) in
       let others : list_any (name_eq c) names ≡ false
-      = sym (λ i. list_any (name_eq c) (Extent t ∷ store_cells schema unit capacity db t (free i) (second.0 i))) ∙ h in
+      = sym (λ i. list_any (name_eq c) (Extent t ∷ store_cells schema unit (option_map (new_key db t) (free i)) (second.0 i))) ∙ h in
       stored_local schema capacity db unit t n items legal legal' c
       (λ is. not_it c (Extent t) names others (inl refl) is)
       (λ is. not_it c (Slot t n) names others (inr (in_right _ (store_rings schema unit k) (slot_name k ∷ []) (inl refl))) is)

@@ -1,6 +1,6 @@
 -- The database.
 -- k is a key, s a set, t a record type, n a number, o an owner, db a database.
-use Rattle.std.specs.Prelude.{ℕ, Bool, not, ◌&&◌, nat_lt, List, [], ◌∷◌, Option, Some, None, is_some, unwrap_or, option_map, option_and_then, map, filter, slice_index_or, if◌then◌else◌}
+use Rattle.std.specs.Prelude.{ℕ, ◌+◌, Bool, not, ◌&&◌, nat_lt, List, [], ◌∷◌, Option, Some, None, is_some, unwrap_or, option_map, option_and_then, map, filter, slice_index_or, if◌then◌else◌}
 use Rattle.std.specs.List.{find, range_with_len}
 use Rattle.dbtg_schema.specs.Lists.{Lists}
 use Rattle.dbtg_cells.specs.declared.key.DbKey.{DbKey}
@@ -52,6 +52,10 @@ is_unspent db t n = nat_lt (db.last t n) 255
 -- the least number of type t that no live record has and that is not spent
 abbrev pub free_number : ℕ → Database → ℕ → Option ℕ
 free_number capacity db t = first (filter (λ n. not (is_live db (key_at db t n)) && is_unspent db t n) (range_with_len 1 capacity))
+
+-- the key of a new record: the next generation of number n
+abbrev pub new_key : Database → ℕ → ℕ → DbKey
+new_key db t n = record { rtype = t; number = n; generation = db.last t n + 1 }
 
 -- the live keys of type t, in key order
 abbrev pub live_keys : ℕ → Database → ℕ → List DbKey

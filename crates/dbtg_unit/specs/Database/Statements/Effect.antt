@@ -28,7 +28,7 @@ use Rattle.dbtg_unit.specs.declared.unit.Status.TheVariants.{Done, Refused}
 use Rattle.dbtg_unit.specs.declared.unit.Cause.{Cause}
 use Rattle.dbtg_unit.specs.declared.unit.Cause.TheVariants.{NoCurrentOfRunUnit}
 use Rattle.dbtg_schema.specs.Lookups.{some_and, first_cause}
-pub use Rattle.dbtg_unit.specs.Database.State.Base.{free_number, version_of}
+pub use Rattle.dbtg_unit.specs.Database.State.Base.{free_number, new_key, version_of}
 use Rattle.dbtg_unit.specs.Database.State.Base.{Database, Record, items_of, members_of, is_member, owner_of, sort_key}
 pub use Rattle.dbtg_unit.specs.Database.Statements.View.{whole}
 pub use Rattle.dbtg_unit.specs.Database.Statements.Conditions.{calc_taken, changed_items, has_members, is_plain, names_calc, refuses_equal, uses_position}
@@ -92,10 +92,6 @@ abbrev pub is_current_owner : Lists → Unit → ℕ → Owner → Bool
 is_current_owner schema unit s o = some_and (λ place. owner_eq place.owner o) (place_in schema unit s)
 
 -- STORE
-
--- the key of a new record: the next generation of number n
-abbrev pub new_key : Database → ℕ → ℕ → DbKey
-new_key db t n = record { rtype = t; number = n; generation = db.last t n + 1 }
 
 -- the database with the new record k, an empty list in each set that it owns
 abbrev pub with_new : Lists → Database → DbKey → List Value → Database

@@ -1,6 +1,6 @@
 -- What the checks of a statement ask of what is stored. A whole database answers, and so do the cells in hand (`InHand`).
 -- k and x are keys, s a set, o an owner, v a sort key, t a record type, a an area, db a database.
-use Rattle.std.specs.Prelude.{ℕ, Bool, not, ◌&&◌, List, Option, is_none}
+use Rattle.std.specs.Prelude.{ℕ, Bool, not, ◌&&◌, List, Option, is_none, unwrap_or}
 use Rattle.std.specs.List.{list_any}
 use Rattle.dbtg_schema.specs.Lists.{Lists}
 use Rattle.dbtg_cells.specs.declared.key.DbKey.{DbKey}
@@ -9,12 +9,12 @@ use Rattle.dbtg_cells.specs.declared.key.Value.{Value}
 use Rattle.dbtg_cells.specs.declared.usage.Mode.{Mode}
 use Rattle.dbtg_cells.specs.Keys.{option_value_eq}
 use Rattle.dbtg_cells.specs.Members.{is_left_out}
-use Rattle.dbtg_unit.specs.Database.State.Base.{Database, free_number, is_live, items_of, members_of, owner_of, sort_key, version_of}
+use Rattle.dbtg_unit.specs.Database.State.Base.{Database, free_number, new_key, is_live, items_of, members_of, owner_of, sort_key, version_of}
 use Rattle.dbtg_unit.specs.Database.Statements.Found.{with_calc}
 
 -- of a record: is it live, its items, its version, its owner in a set; of an occurrence: is there none, its members, has one of
--- them this sort key, beside the one that is left out; of a record type: has it no free number, has a live record of it these CALC
--- items, beside the one that is left out; of an area: who has it open, and how
+-- them this sort key, beside the one that is left out; of a record type: has it no free number, the key of a new record where it has
+-- one, has a live record of it these CALC items, beside the one that is left out; of an area: who has it open, and how
 pub record View : Type 0 where
   pub is_live : DbKey → Bool
   pub items : DbKey → List Value
@@ -24,6 +24,7 @@ pub record View : Type 0 where
   pub members : ℕ → Owner → List DbKey
   pub has_sort_key : ℕ → Owner → Option DbKey → Option Value → Bool
   pub is_full : ℕ → Bool
+  pub fresh : ℕ → DbKey
   pub has_calc : ℕ → List Value → Option DbKey → Bool
   pub users : ℕ → List (ℕ × Mode)
 
@@ -39,6 +40,7 @@ whole schema capacity db =
       members = members_of db;
       has_sort_key = λ s o left v. list_any (λ x. not (is_left_out left x) && option_value_eq (sort_key schema db s x) v) (members_of db s o);
       is_full = λ t. is_none (free_number capacity db t);
+      fresh = λ t. new_key db t (unwrap_or (free_number capacity db t) 0);
       has_calc = λ t values left. list_any (λ x. not (is_left_out left x)) (with_calc schema capacity db t values);
       users = db.usage;
     }

@@ -24,7 +24,7 @@ use Rattle.dbtg_unit.specs.declared.unit.Place.{Place}
 use Rattle.dbtg_unit.specs.declared.unit.Unit.{Unit}
 use Rattle.dbtg_unit.specs.declared.unit.Cause.{Cause}
 use Rattle.dbtg_unit.specs.declared.unit.Cause.TheVariants.{End, NoneSatisfies}
-use Rattle.dbtg_unit.specs.Database.State.Base.{Database, live_keys, members_of, sort_key}
+use Rattle.dbtg_unit.specs.Database.State.Base.{Database, free_number, live_keys, members_of, sort_key}
 use Rattle.dbtg_unit.specs.Database.State.Belongs.{IsUnitOf, is_owner_in, is_place_in}
 use Rattle.dbtg_unit.specs.Database.State.CellNames.{area_of_cell, slot_name}
 use Rattle.dbtg_unit.specs.Database.Statements.Checks.{area_of_current, areas_of, find_areas}
@@ -34,10 +34,11 @@ use Rattle.dbtg_unit.specs.Database.Statements.Found.{found, has_type, keys_in_a
 use Rattle.dbtg_unit.specs.Database.State.Legal.{Legal}
 use Rattle.dbtg_unit.specs.Hands.Needs.{cells_of, current_owner, find_cells, found_slot, ring_names, slot_names, store_cells, store_rings}
 use Rattle.dbtg_unit.specs.Database.State.Units.{key_of_owner, key_of_place, place_in}
-use Rattle.dbtg_unit.proofs.Public.{In, all_in, any_element, any_in, find_element, in_filter, in_map, in_member, in_range, of_filter, of_flat_map}
-use Rattle.dbtg_unit.proofs.Public.{of_live_keys, of_map}
-use Rattle.dbtg_step.specs.Machine.Network.{is_delete}
-use Rattle.dbtg_step.proofs.Network.FoundKeys.{chosen_in, chosen_by_key_in, current_is, first_is_in, first_of_filter, found_is}
+use Rattle.dbtg_unit.proofs.Database.Records.LiveKeys.{in_member, of_live_keys}
+use Rattle.dbtg_unit.proofs.Hands.Taking.FoundKeys.{chosen_by_key_in, chosen_in, current_is, first_is_in, first_of_filter, found_is}
+use Rattle.dbtg_unit.proofs.Lists.Agreeing.{all_in}
+use Rattle.dbtg_unit.proofs.Lists.Membership.{In, any_element, any_in, find_element, in_filter, in_map, in_range, of_filter, of_flat_map, of_map}
+use Rattle.dbtg_unit.specs.Hands.EditsOf.{is_delete}
 
 -- LISTS OF WHICH ALL PASS
 
@@ -212,7 +213,7 @@ module _ (schema : Lists) (capacity : ℕ) (db : Database) (legal : Legal schema
       own_lie : (s : ℕ) → list_all (lies_in schema areas) (own s) ≡ true
       own_lie s = cond_both (owns schema s k.rtype) _ _ (λ cs. list_all (lies_in schema areas) cs ≡ true) (λ e. and_from _ _ (or_left _ _ (eq-eqb _ _ (sym (home_owned schema s k.rtype e)))) refl) (λ e. refl)
 
-  store_cells_lie : (unit : Unit) (t : ℕ) (n : Option ℕ) (taken : Bool) → list_all (lies_in schema (area_of schema t ∷ map (home schema) (automatic_sets schema t))) (store_cells schema unit capacity db t n taken) ≡ true
+  store_cells_lie : (unit : Unit) (t : ℕ) (n : Option ℕ) (taken : Bool) → list_all (lies_in schema (area_of schema t ∷ map (home schema) (automatic_sets schema t))) (store_cells schema unit (option_map (new_key db t) n) taken) ≡ true
   store_cells_lie unit t None taken = refl
   store_cells_lie unit t (Some n) true = refl
   store_cells_lie unit t (Some n) false = all_join _ (store_rings schema unit (new_key db t n)) _ (store_rings_lie unit (new_key db t n)) (and_from _ _ (lies_first schema (slot_name (new_key db t n)) _) refl)
@@ -241,7 +242,7 @@ module _ (schema : Lists) (capacity : ℕ) (db : Database) (legal : Legal schema
   cells_lie unit of g (CloseArea a) f d m = and_from _ _ (lies_first schema (Usage a) []) refl
   cells_lie unit of g (Find form suppress) f d m = find_cells_lie unit of form (and_parts _ _ f).0
   cells_lie unit of g (Get r) f d m = current_lies schema unit.currency.run_unit
-  cells_lie unit of g (Store t items suppress) f d m = and_from _ _ (lies_first schema (Extent t) _) (store_cells_lie unit t _ _)
+  cells_lie unit of g (Store t items suppress) f d m = and_from _ _ (lies_first schema (Extent t) _) (store_cells_lie unit t (free_number capacity db t) _)
   cells_lie unit of g (Insert s) f d m = insert_cells_lie s _ unit.currency.run_unit
   cells_lie unit of g (Remove s) f d m = insert_cells_lie s _ unit.currency.run_unit
   cells_lie unit of g (Modify t changes) f d m = modify_cells_lie unit g t _ _ (m t changes refl)

@@ -1,5 +1,5 @@
 -- STORE, read off the cells in hand, is STORE on each database that agrees with them.
-use Rattle.std.proofs.Common.{◌≡◌, refl, sym, ◌∙◌, ap, subst, ℕ, Bool, true, false, cond, not, List, [], ◌∷◌, ◌++◌, Option, Some, None, eqb, inl, inr}
+use Rattle.std.proofs.Common.{◌≡◌, refl, sym, ◌∙◌, ap, subst, ℕ, true, false, cond, not, List, [], ◌∷◌, ◌++◌, Option, Some, None, eqb, inl, inr}
 use Rattle.std.specs.Prelude.{is_none, if◌then◌else◌, option_map, unwrap_or}
 use Rattle.std.specs.List.{list_any}
 use Rattle.std.proofs.lemmas.Bool.{cases_Bool, eq-eqb}
@@ -17,31 +17,24 @@ use Rattle.dbtg_cells.specs.Numbers.{is_free, numbers_where}
 use Rattle.dbtg_unit.specs.Database.Statements.View.{whole}
 use Rattle.dbtg_unit.specs.declared.statement.Statement.TheVariants.{Store}
 use Rattle.dbtg_unit.specs.declared.statement.Suppress.{Suppress}
-use Rattle.dbtg_unit.specs.declared.unit.Cause.{Cause}
 use Rattle.dbtg_unit.specs.declared.unit.Cause.TheVariants.{DuplicatesNotAllowed, NoRoom}
 use Rattle.dbtg_unit.specs.declared.unit.Place.{Place}
 use Rattle.dbtg_unit.specs.declared.unit.Unit.{Unit}
 use Rattle.dbtg_unit.specs.Database.State.Base.{Database}
 use Rattle.dbtg_unit.specs.Database.State.CellNames.{place_of, slot_name}
 use Rattle.dbtg_unit.specs.Database.Statements.Checks.{refused_at_once}
-use Rattle.dbtg_unit.specs.Hands.EditsOf.{first_owners}
-use Rattle.dbtg_unit.specs.Database.Statements.Effect.{Outcome, calc_taken, connected_in, effect, free_number, new_key, store_checks, stored, unless_refused, with_new}
-use Rattle.dbtg_unit.specs.Hands.Guesses.{guesses_after}
+use Rattle.dbtg_unit.specs.Database.Statements.Effect.{calc_taken, free_number, new_key, store_checks}
 use Rattle.dbtg_unit.specs.Hands.Hands.{Hands}
 use Rattle.dbtg_unit.specs.Hands.InHand.{in_hand, numbers_in}
-use Rattle.dbtg_unit.specs.Database.State.Legal.{Legal}
 use Rattle.dbtg_unit.specs.Hands.Local.{Agrees, holds}
-use Rattle.dbtg_unit.specs.Hands.Needs.{cells_of, current_owner, ring_names, store_cells, store_rings}
-use Rattle.dbtg_unit.specs.Hands.Prepared.{IsEffect, unless_refusal}
-use Rattle.dbtg_unit.specs.Database.State.Units.{owners_of, place_in, seen_with}
-use Rattle.dbtg_unit.proofs.Public.{In, MayPlan, any_in, calc_taken_agrees, free_in_hand, holds_any, in_flat_map, in_left, legal_after, new_key_in_hand}
-use Rattle.dbtg_unit.proofs.Public.{no_number_passes, numbers_in_hand, of_filter, owners_first, passes_check, passes_without_cells, prepared_has_all}
-use Rattle.dbtg_unit.proofs.Public.{same_numbers, same_occurrence, some_from_not_none, store_checks_agree, store_found}
+use Rattle.dbtg_unit.specs.Hands.Needs.{cells_of, current_owner, first_missing, ring_names, store_cells, store_rings}
+use Rattle.dbtg_unit.specs.Database.State.Units.{place_in}
+use Rattle.dbtg_unit.proofs.Public.{In, MayPlan, any_in, calc_taken_agrees, free_in_hand, holds_any, in_flat_map, in_left, new_key_in_hand}
+use Rattle.dbtg_unit.proofs.Public.{no_number_passes, numbers_in_hand, of_filter, passes_check, passes_without_cells, prepared_has_all}
+use Rattle.dbtg_unit.proofs.Public.{same_numbers, same_occurrence, some_from_not_none, store_checks_agree}
 use Rattle.dbtg_plan.specs.Calc.{fresh_key}
 use Rattle.dbtg_unit.specs.Database.Statements.Conditions.{joined_place}
-use Rattle.dbtg_plan.specs.Missing.{first_missing}
-use Rattle.dbtg_plan.specs.Store.{cells_of_key, missing_of_store, store_cells_in, store_plan, stored_key, stored_plan}
-use Rattle.dbtg_plan.proofs.Plans.IsEffect.{done_is_effect, effect_is_on_cells, refusal_is_effect}
+use Rattle.dbtg_plan.specs.Store.{missing_of_store, store_cells_in}
 
 -- CELLS
 
@@ -50,13 +43,6 @@ missing_first : (hands : Hands) (c : CellName) (xs ys : List CellName) → holds
 missing_first hands c xs ys free =
     let h : list_any (λ e. name_eq c e.0) hands.cells ≡ false = holds_any hands.cells c ∙ free in
     ap (λ b. cond (not b) (Some c) (first_missing hands xs)) h ∙ sym (ap (λ b. cond (not b) (Some c) (first_missing hands ys)) h)
-
--- the key of a new record decides the cells
-cells_by_key : (schema : Lists) (unit : Unit) (capacity : ℕ) (db : Database) (t : ℕ) (o : Option ℕ) (taken : Bool)
-    → store_cells schema unit capacity db t o taken ≡ cells_of_key schema unit (option_map (new_key db t) o) taken
-cells_by_key schema unit capacity db t None taken = refl
-cells_by_key schema unit capacity db t (Some n) true = refl
-cells_by_key schema unit capacity db t (Some n) false = refl
 
 module _ (schema : Lists) (capacity : ℕ) (unit : Unit) (hands : Hands) (t : ℕ) (items : List Value) where
   module _ (db : Database) (agrees : Agrees schema capacity db hands unit) (extent : holds hands.cells (Extent t) ≡ true) where
@@ -67,9 +53,7 @@ module _ (schema : Lists) (capacity : ℕ) (unit : Unit) (hands : Hands) (t : �
 
     cells_in_hand : (guesses : List (Option Owner)) (suppress : Suppress) → cells_of schema capacity db unit guesses (Store t items suppress) ≡ store_cells_in schema unit hands t items
     cells_in_hand guesses suppress =
-        ap (λ cs. Extent t ∷ cs)
-        (cells_by_key schema unit capacity db t (free_number capacity db t) (calc_taken schema (whole schema capacity db) t items None)
-        ∙ (λ i. cells_of_key schema unit (fresh_in_hand i) (sym (calc_taken_agrees (in_hand hands) (whole schema capacity db) unit schema t items None (same_numbers schema capacity db hands unit agrees t extent).has_calc) i)))
+        λ i. Extent t ∷ store_cells schema unit (fresh_in_hand i) (sym (calc_taken_agrees (in_hand hands) (whole schema capacity db) unit schema t items None (same_numbers schema capacity db hands unit agrees t extent).has_calc) i)
 
   -- what is missing is the first cell of the statement that is not in hand
   pub missing_in_hand : (db : Database) → Agrees schema capacity db hands unit → (guesses : List (Option Owner)) (suppress : Suppress)
@@ -85,7 +69,7 @@ module _ (schema : Lists) (capacity : ℕ) (unit : Unit) (hands : Hands) (t : �
     held : (c : CellName) → In c (cells_of schema capacity db unit hands.guesses (Store t items suppress)) → holds hands.cells c ≡ true
     held = (prepared_has_all schema capacity unit hands (Store t items suppress) passes may.ready db agrees).cells
 
-    extent : holds hands.cells (Extent t) ≡ true
+    pub extent : holds hands.cells (Extent t) ≡ true
     extent = held (Extent t) (inl refl)
 
     pub has_places : list_any (λ s. is_none (place_in schema unit s)) (automatic_sets schema t) ≡ false
@@ -97,7 +81,7 @@ module _ (schema : Lists) (capacity : ℕ) (unit : Unit) (hands : Hands) (t : �
     abbrev k : DbKey
     k = new_key db t number
 
-    pub key_in_hand : stored_key hands t ≡ k
+    pub key_in_hand : (in_hand hands).fresh t ≡ k
     key_in_hand =
         let are = numbers_in_hand schema capacity db hands unit agrees t extent in
         sym (new_key_in_hand schema capacity db agrees.legal t (numbers_in hands t) are (unwrap_or (first (numbers_where is_free (numbers_in hands t))) 0))
@@ -108,9 +92,9 @@ module _ (schema : Lists) (capacity : ℕ) (unit : Unit) (hands : Hands) (t : �
     all_held room untaken c i =
         let n = some_from_not_none (free_number capacity db t) room in
         let is : n.0 ≡ number = ap (λ (o : Option ℕ). unwrap_or o 0) (sym n.1) in
-        held c (subst (λ (cs : List CellName). In c (Extent t ∷ cs)) (λ j. store_cells schema unit capacity db t (sym n.1 j) (sym untaken j)) (subst (λ m. In c (Extent t ∷ (store_rings schema unit (new_key db t m) ++ slot_name (new_key db t m) ∷ []))) (sym is) i))
+        held c (subst (λ (cs : List CellName). In c (Extent t ∷ cs)) (λ j. store_cells schema unit (option_map (new_key db t) (sym n.1 j)) (sym untaken j)) (subst (λ m. In c (Extent t ∷ (store_rings schema unit (new_key db t m) ++ slot_name (new_key db t m) ∷ []))) (sym is) i))
 
-    joined_held : is_none (free_number capacity db t) ≡ false → calc_taken schema (whole schema capacity db) t items None ≡ false → (s : ℕ) → In s (automatic_sets schema t)
+    pub joined_held : is_none (free_number capacity db t) ≡ false → calc_taken schema (whole schema capacity db) t items None ≡ false → (s : ℕ) → In s (automatic_sets schema t)
         → holds hands.cells (Ring s (place_of (joined_place schema unit s).owner)) ≡ true
     joined_held room untaken s i =
         let kept = of_filter (λ s. some_and (λ m. is_automatic m.class) (member_clause schema s t)) s (set_numbers schema) i in
@@ -137,31 +121,3 @@ module _ (schema : Lists) (capacity : ℕ) (unit : Unit) (hands : Hands) (t : �
         let room = passes_check (is_none (free_number capacity db t)) NoRoom _ (sym checks_in_hand ∙ e) in
         let untaken = passes_check (calc_taken schema (whole schema capacity db) t items None) DuplicatesNotAllowed _ room.1 in
         (room.0, all_held room.0 untaken.0)
-
-    effect_is : effect schema capacity db unit (Store t items suppress) ≡ unless_refused db unit (first_cause (store_checks schema (in_hand hands) unit t items)) (stored schema capacity db unit k items suppress)
-    effect_is = effect_is_on_cells schema capacity db unit (Store t items suppress) passes ∙ ap (λ (o : Option Cause). unless_refused db unit o (stored schema capacity db unit k items suppress)) (sym checks_in_hand)
-
-    stored_is_effect : first_cause (store_checks schema (in_hand hands) unit t items) ≡ None → IsEffect schema capacity db unit hands.guesses (Store t items suppress) (stored_plan schema unit items suppress k)
-    stored_is_effect e =
-        let statement = Store t items suppress in
-        let is : effect schema capacity db unit statement ≡ stored schema capacity db unit k items suppress = effect_is ∙ ap (λ (o : Option Cause). unless_refused db unit o (stored schema capacity db unit k items suppress)) e in
-        let found = store_found schema capacity db unit agrees.legal t items has_places (sym checks_in_hand ∙ e) in
-        let new = connected_in schema (with_new schema db k items) unit (automatic_sets schema t) k in
-        let legal_new : Legal schema capacity new = subst (λ (o : Outcome). Legal schema capacity o.database) is (legal_after schema capacity db unit hands may.sound may.of_schema may.within statement may.fits agrees) in
-        let owners : owners_of schema capacity new k ≡ first_owners schema unit t = owners_first schema capacity db unit k items agrees.legal found.counted refl found.unused found.stands legal_new in
-        done_is_effect schema capacity db unit hands statement (stored_plan schema unit items suppress k) refl may agrees refl
-        (sym (ap (λ (o : Outcome). o.answer) is)) refl
-        (ap (λ (os : List (Option Owner)). seen_with schema unit k os suppress) (sym owners) ∙ sym (ap (λ (o : Outcome). o.unit) is))
-        (sym owners ∙ sym (ap (guesses_after schema capacity statement hands.guesses) is))
-
-    by_cause : (o : Option Cause) → first_cause (store_checks schema (in_hand hands) unit t items) ≡ o → IsEffect schema capacity db unit hands.guesses (Store t items suppress) (unless_refusal o (stored_plan schema unit items suppress k))
-    by_cause (Some cause) e =
-        refusal_is_effect schema capacity db unit hands.guesses (Store t items suppress) cause
-        (effect_is ∙ ap (λ (o : Option Cause). unless_refused db unit o (stored schema capacity db unit k items suppress)) e)
-    by_cause None e = stored_is_effect e
-
-    -- the plan is the effect
-    pub plan_is_effect : IsEffect schema capacity db unit hands.guesses (Store t items suppress) (store_plan schema unit hands t items suppress)
-    plan_is_effect =
-        subst (λ (key : DbKey). IsEffect schema capacity db unit hands.guesses (Store t items suppress) (unless_refusal (first_cause (store_checks schema (in_hand hands) unit t items)) (stored_plan schema unit items suppress key)))
-        (sym key_in_hand) (by_cause (first_cause (store_checks schema (in_hand hands) unit t items)) refl)

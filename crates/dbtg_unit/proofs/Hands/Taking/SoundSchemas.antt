@@ -1,4 +1,4 @@
--- What the machine needs of a schema holds of each sound one.
+-- The areas and the owners of a sound schema.
 use Rattle.std.proofs.Common.{◌≡◌, refl, sym, ◌∙◌, subst, ℕ, ◌<◌, true, false, List, length, Option, Some, None, eqb}
 use Rattle.std.specs.Prelude.{is_some, option_map, option_and_then, slice_get, unwrap_or, IfSome}
 use Rattle.std.specs.List.{list_any, find}
@@ -6,14 +6,14 @@ use Rattle.std.proofs.lemmas.Bool.{false≢true, false_from_ne_true, eqb-true}
 use Rattle.dbtg_schema.specs.Lists.{Lists}
 use Rattle.dbtg_schema.specs.Lookups.{some_and}
 use Rattle.dbtg_schema.specs.Sound.{IsSound, IsSoundSet}
-use Rattle.dbtg_schema.specs.Structure.{owns}
+use Rattle.dbtg_schema.specs.Structure.{area_of, member_clause, owns}
 use Rattle.dbtg_schema.specs.WellFormed.{IsRecordType, IsSetType}
 use Rattle.dbtg_schema.specs.declared.shape.Member.{Member}
 use Rattle.dbtg_schema.specs.declared.shape.RecordType.{RecordType}
 use Rattle.dbtg_schema.specs.declared.shape.SetType.{SetType}
 use Rattle.dbtg_schema.proofs.Public.{some_is}
-use Rattle.dbtg_unit.proofs.Public.{all_at_entry, any_in, find_element}
-use Rattle.dbtg_step.proofs.EachEvent.Premises.{SuitsMachine}
+use Rattle.dbtg_unit.proofs.Database.Records.SortKeysCompare.{all_at_entry}
+use Rattle.dbtg_unit.proofs.Lists.Membership.{any_in, find_element}
 
 -- where no member is of type t, no clause is found for t
 no_clause : (members : List Member) (t : ℕ) → list_any (λ m. eqb m.rtype t) members ≡ false → is_some (find (λ m. eqb m.rtype t) members) ≡ false
@@ -50,6 +50,10 @@ module _ (schema : Lists) (sound : IsSound schema) where
   pub owner_is_type : (s t : ℕ) → owns schema s t ≡ true → t < length schema.types
   owner_is_type s t h = type_of_set s t (slice_get schema.sets s) refl h
 
-  -- each record type lies in an area, and no record type is owner and member of one set
-  pub suits_machine : SuitsMachine schema
-  suits_machine = record { areas = λ t. area_within t (slice_get schema.types t) refl; owner_is_no_member = λ s t h. of_set s t (slice_get schema.sets s) refl h }
+  -- each record type lies in an area
+  pub area_is_known : (t : ℕ) → area_of schema t < length schema.areas
+  area_is_known t = area_within t (slice_get schema.types t) refl
+
+  -- no record type is owner and member of one set
+  pub owner_is_no_member : (s t : ℕ) → owns schema s t ≡ true → is_some (member_clause schema s t) ≡ false
+  owner_is_no_member s t h = of_set s t (slice_get schema.sets s) refl h

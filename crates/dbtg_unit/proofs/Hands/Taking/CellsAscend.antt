@@ -6,6 +6,7 @@ use Rattle.std.proofs.lemmas.Bool.{and_parts, and_from, or_left, cases_Bool, con
 use Rattle.dbtg_schema.specs.Lists.{Lists}
 use Rattle.dbtg_schema.specs.Lookups.{at, some_and}
 use Rattle.dbtg_schema.specs.Structure.{area_of, automatic_sets, is_automatic, member_clause, owns, rekeyed_sets, set_numbers, types_in}
+use Rattle.dbtg_schema.specs.Sound.{IsSound}
 use Rattle.dbtg_schema.specs.declared.shape.Member.{Member}
 use Rattle.dbtg_cells.specs.declared.key.DbKey.{DbKey}
 use Rattle.dbtg_cells.specs.declared.key.Owner.{Owner}
@@ -25,11 +26,13 @@ use Rattle.dbtg_unit.specs.Database.Statements.Found.{found}
 use Rattle.dbtg_unit.specs.Database.State.Legal.{pairwise}
 use Rattle.dbtg_unit.specs.Hands.Needs.{cells_of, current_owner, find_cells, found_slot, ring_names, slot_names, store_cells, store_rings}
 use Rattle.dbtg_unit.specs.Database.State.Units.{key_of_place, place_in}
-use Rattle.dbtg_unit.proofs.Public.{In, all_at, all_in, any_element, of_filter, pairwise_filter}
-use Rattle.dbtg_step.specs.Machine.Network.{is_delete}
-use Rattle.dbtg_step.proofs.EachEvent.Premises.{SuitsMachine}
-use Rattle.dbtg_step.proofs.Network.AreasOfCells.{all_flat, all_join}
-use Rattle.dbtg_step.proofs.Network.Ascending.{ascending_join, ascending_range}
+use Rattle.dbtg_unit.proofs.Hands.Taking.AreasOfCells.{all_flat, all_join}
+use Rattle.dbtg_unit.proofs.Lists.Agreeing.{all_in}
+use Rattle.dbtg_unit.proofs.Hands.Taking.SoundSchemas.{owner_is_no_member}
+use Rattle.dbtg_unit.proofs.Lists.Ascending.{ascending_join, ascending_range}
+use Rattle.dbtg_unit.proofs.Lists.Membership.{In, all_at, any_element, of_filter}
+use Rattle.dbtg_unit.proofs.Lists.WithANewMember.{pairwise_filter}
+use Rattle.dbtg_unit.specs.Hands.EditsOf.{is_delete}
 
 abbrev is_slot : CellName → Bool
 is_slot (Slot t n) = true
@@ -159,7 +162,7 @@ types_ascend : (schema : Lists) (a : ℕ) (r : Option ℕ) → pairwise nat_lt (
 types_ascend schema a None = pairwise_filter nat_lt (λ t. area_of schema t == a) (range_with_len 0 (length schema.types)) (ascending_range 0 (length schema.types))
 types_ascend schema a (Some t) = refl
 
-module _ (schema : Lists) (suits : SuitsMachine schema) (capacity : ℕ) (db : Database) (unit : Unit) where
+module _ (schema : Lists) (sound : IsSound schema) (capacity : ℕ) (db : Database) (unit : Unit) where
   sets_ascend : pairwise nat_lt (set_numbers schema) ≡ true
   sets_ascend = ascending_range 0 (length schema.sets)
 
@@ -202,7 +205,7 @@ module _ (schema : Lists) (suits : SuitsMachine schema) (capacity : ℕ) (db : D
     unfolding current own
     store_one s = elim (cases_Bool (owns schema s k.rtype)) [
       | inl e ↦ elim (cases_Bool (list_any (λ s'. s' == s) (automatic_sets schema k.rtype))) [
-        | inl a ↦ absurd (false≢true (sym (suits.owner_is_no_member s k.rtype e) ∙ is_member_of s a))
+        | inl a ↦ absurd (false≢true (sym (owner_is_no_member schema sound s k.rtype e) ∙ is_member_of s a))
         | inr a ↦ rw (a, e) refl
       ]
       | inr e ↦ rw e (cond_both (list_any (λ s'. s' == s) (automatic_sets schema k.rtype)) (ring_names s (current_owner schema unit s)) [] (λ cs. pairwise name_lt (cs ++ []) ≡ true) (λ a. alone (current_owner schema unit s)) (λ a. refl))
@@ -239,10 +242,10 @@ module _ (schema : Lists) (suits : SuitsMachine schema) (capacity : ℕ) (db : D
   one_extent t c (inl e) = (t, sym e)
   one_extent t c (inr i) = absurd i
 
-  store_ascends : (t : ℕ) (n : Option ℕ) (b : Bool) → pairwise name_lt (Extent t ∷ store_cells schema unit capacity db t n b) ≡ true
+  store_ascends : (t : ℕ) (key : Option DbKey) (b : Bool) → pairwise name_lt (Extent t ∷ store_cells schema unit key b) ≡ true
   store_ascends t None b = refl
-  store_ascends t (Some n) true = refl
-  store_ascends t (Some n) false = in_kinds (Extent t ∷ []) (store_rings schema unit (new_key db t n)) (slot_name (new_key db t n) ∷ []) refl (one_extent t) (store_rings_ascend (new_key db t n)) (store_rings_are (new_key db t n)) refl refl
+  store_ascends t (Some k) true = refl
+  store_ascends t (Some k) false = in_kinds (Extent t ∷ []) (store_rings schema unit k) (slot_name k ∷ []) refl (one_extent t) (store_rings_ascend k) (store_rings_are k) refl refl
 
   modify_ascends : (g : List (Option Owner)) (t : ℕ) (named : List ℕ) (calc : Bool) → pairwise name_lt ((if calc then Extent t ∷ [] else []) ++ flat_map (λ s. ring_names s (at g s)) (rekeyed_sets schema t named) ++ slot_names unit.currency.run_unit) ≡ true
   modify_ascends g t named calc =

@@ -20,9 +20,12 @@ use Rattle.dbtg_unit.specs.Database.Statements.Doomed.{all_keys, takes}
 use Rattle.dbtg_unit.specs.Database.Statements.Effect.{own_checks, is_plain, has_members}
 use Rattle.dbtg_unit.specs.Hands.Erasing.{brought, brought_from, cells_of_doomed, delete_cells, doomed_in_turn, names_once, outer_cells, own_rings, rings_to_member, taken_with}
 use Rattle.dbtg_unit.specs.Database.State.Legal.{Legal}
-use Rattle.dbtg_unit.proofs.Public.{In, all_at, all_in, any_element, any_in, element_at, in_filter, in_flattened, in_map, in_member, in_range}
-use Rattle.dbtg_unit.proofs.Public.{listed_has_occurrence, of_filter, of_flat_map, of_map, reachable_is_least, set_of_member, with_those_pass}
-use Rattle.dbtg_step.proofs.Network.AreasOfCells.{all_flat, all_join, home_owned, is_among, lies_in}
+use Rattle.dbtg_unit.proofs.Database.Laws.LeastSets.{in_flattened, reachable_is_least, set_of_member}
+use Rattle.dbtg_unit.proofs.Database.Records.LiveKeys.{in_member, listed_has_occurrence}
+use Rattle.dbtg_unit.proofs.Hands.Taking.AreasOfCells.{all_flat, all_join, home_owned, is_among, lies_in}
+use Rattle.dbtg_unit.proofs.Hands.Untouched.InTurn.{element_at, with_those_pass}
+use Rattle.dbtg_unit.proofs.Lists.Agreeing.{all_in}
+use Rattle.dbtg_unit.proofs.Lists.Membership.{In, all_at, any_element, any_in, in_filter, in_map, in_range, of_filter, of_flat_map, of_map}
 
 pub brought_all : (p : DbKey → Bool) (taken : DbKey → List DbKey) → ((d : DbKey) → p d ≡ true → list_all p (taken d) ≡ true) → (n i : ℕ) (order : List DbKey) → list_all p order ≡ true → list_all p (brought taken n i order) ≡ true
 brought_all p taken t zero i order h = h

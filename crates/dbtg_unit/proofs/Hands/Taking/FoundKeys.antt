@@ -10,7 +10,8 @@ use Rattle.dbtg_unit.specs.declared.statement.Which.{Which}
 use Rattle.dbtg_unit.specs.declared.statement.Which.TheVariants.{First, Last, Next, Prior, Nth}
 use Rattle.dbtg_unit.specs.declared.unit.Cause.{Cause}
 use Rattle.dbtg_unit.specs.Database.Statements.Found.{chosen, chosen_by_key, earlier, found_unless, later, with_current}
-use Rattle.dbtg_unit.proofs.Public.{In, element_at, of_append, of_filter}
+use Rattle.dbtg_unit.proofs.Hands.Untouched.InTurn.{element_at}
+use Rattle.dbtg_unit.proofs.Lists.Membership.{In, of_append, of_filter}
 
 pub first_in : {X : Type 0} (xs : List X) (x : X) → first xs ≡ Some x → In x xs
 first_in [] x e = absurd (cc (e))

@@ -1,4 +1,4 @@
--- What a statement makes of the cells in hand is its effect on every database that agrees with them.
+-- What a plan makes of the cells in hand is what the statement makes on every database that agrees with them.
 use Rattle.std.proofs.Common.{ℕ, ◌≡◌, Bool, true, false, cond, not, ◌&&◌, List, [], ◌∷◌, map, refl, sym, ap, ◌∙◌, subst}
 use Rattle.std.specs.List.{list_all}
 use Rattle.std.proofs.lemmas.Bool.{and_parts, not-true}
@@ -11,7 +11,6 @@ use Rattle.dbtg_cells.specs.Shown.{CellValue}
 use Rattle.dbtg_cells.proofs.Public.{name_eq_refl, same_name}
 use Rattle.dbtg_unit.specs.declared.edit.CellEdit.{CellEdit}
 use Rattle.dbtg_unit.specs.declared.statement.Statement.{Statement}
-use Rattle.dbtg_unit.specs.declared.unit.Answer.{Answer}
 use Rattle.dbtg_unit.specs.declared.unit.Unit.{Unit}
 use Rattle.dbtg_unit.specs.Database.State.Base.{Database}
 use Rattle.dbtg_unit.specs.Database.State.Cells.{cell}
@@ -20,10 +19,12 @@ use Rattle.dbtg_unit.specs.Database.Statements.Effect.{effect}
 use Rattle.dbtg_unit.specs.Hands.Guesses.{guesses_after}
 use Rattle.dbtg_unit.specs.Hands.Hands.{Hands}
 use Rattle.dbtg_unit.specs.Hands.Local.{Agrees, AllAgree}
-use Rattle.dbtg_unit.specs.Hands.Making.{CanFinish, ShowsTheSame}
-use Rattle.dbtg_unit.specs.Hands.Prepared.{Plan, edited_values, guesses_edited, unit_after, value_edited, values_of}
+use Rattle.dbtg_unit.specs.Hands.Locality.{IsMadeOnEach, made_by}
+use Rattle.dbtg_unit.specs.Hands.Making.{CanFinish, MayPrepare, ShowsTheSame}
+use Rattle.dbtg_unit.specs.Hands.Prepared.{IsEffect, Plan, edited_values, value_edited, values_of}
 use Rattle.dbtg_unit.specs.Database.State.Legal.{pairwise}
-use Rattle.dbtg_step.specs.Core.Leaves.{IsMadeOn}
+use Rattle.dbtg_unit.proofs.Hands.Reading.SameHands.{agrees_same}
+use Rattle.dbtg_unit.proofs.Hands.Untouched.LocalReady.{changes_only_its_cells, legal_after}
 
 -- EDITS OF CELLS OF WHICH NONE IS HELD TWICE
 
@@ -98,34 +99,30 @@ once_shown (c ∷ cs) = λ i. others cs i && once_shown cs i
 
 -- WHAT IS MADE
 
-module _ (schema : Lists) (capacity : ℕ) where
-  pub agree_shown : (db : Database) (cs ms : List (CellName × Cell)) → values_of ms ≡ values_of cs → AllAgree schema capacity db cs → AllAgree schema capacity db ms
-  agree_shown db [] [] e a = tt
-  agree_shown db [] (m ∷ ms) e a = absurd (cc (e))
-  agree_shown db (c ∷ cs) [] e a = absurd (cc (e))
-  agree_shown db (c ∷ cs) (m ∷ ms) e a =
-      let first : (m.0, shown m.1) ≡ (c.0, shown c.1) = cc (e) in
-      let rest : values_of ms ≡ values_of cs = cc (e) in
-      (ap (λ (v : CellName × CellValue). v.1) first ∙ a.0 ∙ ap (λ (v : CellName × CellValue). cell schema capacity db v.0) (sym first), agree_shown db cs ms rest a.1)
-
-  -- what shows the same agrees with the same databases
-  pub agrees_also : (db : Database) (old new : Hands) (unit : Unit) → ShowsTheSame old new → Agrees schema capacity db old unit → Agrees schema capacity db new unit
-  agrees_also db old new unit s a = record { legal = a.legal; cells = agree_shown db old.cells new.cells s.cells a.cells; usage = a.usage }
-
+module _ (schema : Lists) (capacity : ℕ) (unit : Unit) (x : Statement) (plan : Plan) where
   due_values : (db db' : Database) (edits : List CellEdit) → ((c : CellName) → cell schema capacity db' c ≡ edited_at c edits (cell schema capacity db c)) → (cs : List (CellName × Cell)) → AllAgree schema capacity db cs →
       map (all_of edits) (values_of cs) ≡ map (λ (e : CellName × Cell). (e.0, cell schema capacity db' e.0)) cs
   due_values db db' edits h [] a = refl
   due_values db db' edits h (c ∷ cs) a = λ i. (c.0, (ap (edited_at c.0 edits) a.0 ∙ sym (h c.0)) i) ∷ due_values db db' edits h cs a.1 i
 
-  module _ (unit : Unit) (old mid : Hands) (x : Statement) (plan : Plan) (can : CanFinish schema capacity unit mid x plan) (shows : ShowsTheSame old mid) (each_once : pairwise (λ (e f : CellName × Cell). not (name_eq e.0 f.0)) old.cells ≡ true) where
-    pub made_on : (unit' : Unit) (new : Hands) (answer : Answer) → answer ≡ plan.answer → new.areas ≡ mid.areas → values_of new.cells ≡ edited_values plan.cells (values_of mid.cells) → new.guesses ≡ guesses_edited plan.unit mid.guesses → unit' ≡ unit_after schema plan unit →
-        (db : Database) → Agrees schema capacity db old unit → IsMadeOn schema capacity db x unit old unit' new answer
-    made_on unit' new answer a areas cells guesses u db agrees =
-        let e = can.prepared.effects db (agrees_also db old mid unit shows agrees) in
-        record {
-          answer_is = a ∙ e.answer;
-          unit_is = u ∙ e.unit_is;
-          guesses_are = guesses ∙ e.guesses_are ∙ ap (λ g. guesses_after schema capacity x g (effect schema capacity db unit x)) shows.guesses;
-          areas_are = areas ∙ shows.areas;
-          cells_are = cells ∙ ap (edited_values plan.cells) shows.cells ∙ all_edited plan.cells (values_of old.cells) (once_shown old.cells ∙ each_once) ∙ due_values db (effect schema capacity db unit x).database plan.cells e.cells old.cells agrees.cells;
-        }
+  -- the cells in hand after a plan that is the effect show what the database has after it
+  pub cells_made : (db : Database) (hands : Hands) → pairwise (λ (e f : CellName × Cell). not (name_eq e.0 f.0)) hands.cells ≡ true → Agrees schema capacity db hands unit → IsEffect schema capacity db unit hands.guesses x plan
+      → edited_values plan.cells (values_of hands.cells) ≡ map (λ (e : CellName × Cell). (e.0, cell schema capacity (effect schema capacity db unit x).database e.0)) hands.cells
+  cells_made db hands once agrees e =
+      all_edited plan.cells (values_of hands.cells) (once_shown hands.cells ∙ once) ∙ due_values db (effect schema capacity db unit x).database plan.cells e.cells hands.cells agrees.cells
+
+  -- a plan that can be finished makes the statement; room that was made before shows nowhere
+  pub plan_makes : (old new : Hands) → MayPrepare schema capacity unit old x → ShowsTheSame old new → CanFinish schema capacity unit new x plan → IsMadeOnEach schema capacity unit old x (made_by schema unit new plan)
+  plan_makes old new may shows can once db agrees =
+      let e = can.prepared.effects db (agrees_same schema capacity db unit old new shows agrees) in
+      let e' = subst (λ g. IsEffect schema capacity db unit g x plan) shows.guesses e in
+      let legal = legal_after schema capacity db unit old may.sound may.of_schema may.within x may.fits agrees in
+      record {
+        answer_is = e.answer;
+        unit_is = e.unit_is;
+        guesses_are = e.guesses_are ∙ ap (λ g. guesses_after schema capacity x g (effect schema capacity db unit x)) shows.guesses;
+        legal = legal;
+        areas_are = shows.areas;
+        cells_are = ap (edited_values plan.cells) shows.cells ∙ cells_made db old once agrees e';
+        others = changes_only_its_cells schema capacity db unit old x agrees (may.ready db agrees) legal;
+      }
