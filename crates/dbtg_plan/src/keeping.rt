@@ -52,15 +52,21 @@ pub(crate) fn keep(
     }
 }
 
-/// FREE of all kept records, or of the current of run-unit.
-pub(crate) fn free(alloc: Global, schema: &Schema, unit: &Unit, all: bool, held: &Held) -> Prepared
-    ensures { result ≡ plan_of schema.now (in_hand held.now) unit.now (Statement.Free all) }
+/// FREE of all kept records, or of the current of run-unit. It takes no memory; it answers as the others do.
+pub(crate) fn free(
+    alloc: Global,
+    schema: &Schema,
+    unit: &Unit,
+    all: bool,
+    held: &Held,
+) -> Result<Prepared, AllocError>
+    ensures { IfOk result (λ plan. plan ≡ plan_of schema.now (in_hand held.now) unit.now (Statement.Free all)) }
 {
     if all {
-        return done(alloc, UnitEdit::ForgetAll, None, None);
+        return Ok(done(alloc, UnitEdit::ForgetAll, None, None));
     }
     match unit.currency.run_unit {
-        Some(key) => done(alloc, UnitEdit::Forget { key }, None, None),
-        None => refused(alloc, Cause::NoCurrentOfRunUnit),
+        Some(key) => Ok(done(alloc, UnitEdit::Forget { key }, None, None)),
+        None => Ok(refused(alloc, Cause::NoCurrentOfRunUnit)),
     }
 }

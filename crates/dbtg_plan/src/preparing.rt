@@ -15,9 +15,10 @@ use dbtg_schema::Schema;
 use dbtg_unit::{Held, Prepared, Statement, Unit, refused, refused_at_once};
 use std::alloc::{AllocError, Global};
 
-// The plan of each statement, and room for it.
-#[tactic(auto, using(crate::proofs::Plans::OpenClose::close_can_finish, crate::proofs::Plans::GetKeepFree::get_finishes, crate::proofs::Plans::GetKeepFree::keep_finishes, crate::proofs::Plans::GetKeepFree::free_finishes, crate::proofs::Connect::RemoveIsEffect::remove_finishes, crate::proofs::Modify::ModifyReady::modify_finishes))]
-fn planned(
+/// Prepares a statement other than DELETE that needs nothing more: makes room for what it adds to the cells in hand, which show
+/// what they did, and fixes its answer and its changes. Where no memory is found, only room was made.
+#[tactic(auto, using(crate::proofs::Plans::OpenClose::close_can_finish, crate::proofs::Plans::GetKeepFree::get_finishes, crate::proofs::Plans::GetKeepFree::keep_finishes, crate::proofs::Plans::GetKeepFree::free_finishes, crate::proofs::Connect::RemoveIsEffect::remove_finishes, crate::proofs::Modify::ModifyReady::modify_finishes, crate::proofs::Plans::PartByPart::makes_if_ok, dbtg_unit::proofs::Public::plan_makes))]
+pub fn prepare(
     alloc: Global,
     schema: &Schema,
     capacity: u16,
@@ -29,6 +30,7 @@ fn planned(
     requires other { is_delete statement.now ≡ false }
     ensures shows { ShowsTheSame held.old held.new }
     ensures prepared { IfOk result (λ plan. CanFinish schema.now capacity unit.now held.new statement.now plan) }
+    ensures made { IfOk result (λ plan. IsMadeOnEach schema.now capacity unit.now held.old statement.now (made_by schema.now unit.now held.new plan)) }
 {
     if let Some(cause) = refused_at_once(schema, capacity, unit, statement) {
         return Ok(refused(alloc, cause));
@@ -45,7 +47,7 @@ fn planned(
             modify(alloc, schema, unit, *rtype, changes.as_slice(), held)
         }
         Statement::Keep => keep(alloc, schema, unit, held),
-        Statement::Free { all } => Ok(free(alloc, schema, unit, *all, held)),
+        Statement::Free { all } => free(alloc, schema, unit, *all, held),
         Statement::Find(form, suppress) => {
             Ok(prepare_find(alloc, schema, capacity, unit, form, suppress, held))
         }
@@ -59,23 +61,4 @@ fn planned(
         // The contract: a DELETE is another crate's.
         Statement::Delete(_) => unreachable!(),
     }
-}
-
-/// Prepares a statement other than DELETE that needs nothing more: makes room for what it adds to the cells in hand, which show
-/// what they did, and fixes its answer and its changes. Where no memory is found, only room was made.
-pub fn prepare(
-    alloc: Global,
-    schema: &Schema,
-    capacity: u16,
-    unit: &Unit,
-    statement: &Statement,
-    held: &mut Held,
-) -> Result<Prepared, AllocError>
-    requires may { MayPrepare schema.now capacity unit.now held.old statement.now }
-    requires other { is_delete statement.now ≡ false }
-    ensures shows { ShowsTheSame held.old held.new }
-    ensures prepared { IfOk result (λ plan. CanFinish schema.now capacity unit.now held.new statement.now plan) }
-    ensures made { IfOk result (λ plan. IsMadeOnEach schema.now capacity unit.now held.old statement.now (made_by schema.now unit.now held.new plan)) }
-{
-    planned(alloc, schema, capacity, unit, statement, held)
 }

@@ -1,6 +1,22 @@
-use Rattle.dbtg_plan.proofs.Plans.PartByPart.{makes_if_ok}
+use Rattle.std.proofs.Common.{sym, ◌∙◌, subst}
+use Rattle.dbtg_unit.specs.declared.statement.Statement.{Statement}
+use Rattle.dbtg_unit.specs.Hands.Making.{CanFinish}
+use Rattle.dbtg_unit.specs.Hands.Prepared.{Plan}
+use Rattle.std.proofs.Common.{refl}
+use Rattle.dbtg_unit.proofs.Public.{plan_makes}
+use Rattle.dbtg_plan.proofs.Plans.PartByPart.{refused_finishes}
 use Rattle.dbtg_plan.proofs.preparing.prepare.Goals as goal
 
-pub returns-clause-made : goal.returns-clause-made
-returns-clause-made c =
-    makes_if_ok c.args.schema.now c.args.capacity c.args.unit.now c.args.held.now c.planned.new.held c.args.statement.now c.requires.may c.planned.ensures.shows c.planned.result c.planned.ensures.prepared
+pub returns-in-Some-clause-prepared : goal.returns-in-Some-clause-prepared
+returns-in-Some-clause-prepared c =
+    subst (λ (plan : Plan). CanFinish c.args.schema.now c.args.capacity c.args.unit.now c.args.held.now c.args.statement.now plan) (sym c.refused.ensures)
+    (refused_finishes c.args.schema.now c.args.capacity c.args.unit.now c.args.held.now c.args.statement.now c.in-Some.cause (sym c.refused_at_once.ensures ∙ c.in-Some.is))
+
+pub returns-in-Some-clause-made : goal.returns-in-Some-clause-made
+returns-in-Some-clause-made c =
+    plan_makes c.args.schema.now c.args.capacity c.args.unit.now c.args.statement.now c.refused.result c.args.held.now c.args.held.now c.requires.may (record { areas = refl; cells = refl; guesses = refl }) (returns-in-Some-clause-prepared c)
+
+pub returns-in-Find-clause-made : goal.returns-in-Find-clause-made
+returns-in-Find-clause-made c =
+    plan_makes c.args.schema.now c.args.capacity c.args.unit.now c.args.statement.now c.prepare_find.result c.args.held.now c.args.held.now c.requires.may (record { areas = refl; cells = refl; guesses = refl })
+    (subst (λ (s : Statement). CanFinish c.args.schema.now c.args.capacity c.args.unit.now c.args.held.now s c.prepare_find.result) (sym c.in-Find.is) c.prepare_find.ensures)

@@ -20,7 +20,7 @@ returns-in-Some-clause-refused c =
     err_also c.next_need.result _ _ (λ e. subst (HasItsAreas c.args.schema.now c.args.unit.now c.args.held.now) (sym c.in-Some.ensures) (record { deletes = refl; areas = e })) c.next_need.ensures.refused
 
 pub returns-in-None-clause-above : goal.returns-in-None-clause-above
-returns-in-None-clause-above c = above_of c.args.schema.now c.args.capacity c.args.unit.now c.args.statement.now c.args.held.now c.next_need-in-None.result c.next_need-in-None.ensures
+returns-in-None-clause-above c = above_of c.args.schema.now c.args.capacity c.args.unit.now c.args.statement.now c.args.held.now c.next_need-in-None.result c.next_need-in-None.ensures.need
 
 pub returns-in-None-clause-in_area : goal.returns-in-None-clause-in_area
-returns-in-None-clause-in_area c = in_area_of c.args.schema.now c.args.capacity c.args.unit.now c.args.statement.now c.args.held.now c.next_need-in-None.result c.next_need-in-None.ensures
+returns-in-None-clause-in_area c = in_area_of c.args.schema.now c.args.capacity c.args.unit.now c.args.statement.now c.args.held.now c.next_need-in-None.result c.next_need-in-None.ensures.need
