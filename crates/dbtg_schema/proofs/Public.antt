@@ -2,6 +2,32 @@
 
 -- GRAMMARS
 
+-- an element of a list
+pub use Rattle.dbtg_schema.proofs.Forms.Derived.{Among}
+-- what is in two lists joined is in one of them
+pub use Rattle.dbtg_schema.proofs.Forms.Derived.{among_append}
+-- what is in a list of images is the image of an element
+pub use Rattle.dbtg_schema.proofs.Forms.Derived.{among_map}
+-- what is in a list that may be left out: the list is there, and has it
+pub use Rattle.dbtg_schema.proofs.Forms.Chosen.{from_cond}
+-- the words of labelled words
+pub use Rattle.dbtg_schema.proofs.Forms.OneWay.{words_of}
+-- a test passes any two kinds of words between which the form has to choose
+pub use Rattle.dbtg_schema.proofs.Forms.OneWay.{is_told}
+-- so each of these words comes before the other
+pub use Rattle.dbtg_schema.proofs.Forms.Chosen.{Ranked, ranked}
+-- that is so behind each start, too
+pub use Rattle.dbtg_schema.proofs.Forms.Chosen.{ranked_rest}
+-- the starts are then in order
+pub use Rattle.dbtg_schema.proofs.Forms.Chosen.{InOrder, in_order}
+-- a start that a word fits is the one that is found for it, or comes behind it
+pub use Rattle.dbtg_schema.proofs.Forms.Chosen.{chosen}
+-- a form that derives the empty list of words may end
+pub use Rattle.dbtg_schema.proofs.Forms.Wanted.{ended as may_stop}
+-- what is derived begins with a start of the form
+pub use Rattle.dbtg_schema.proofs.Forms.Wanted.{starts_all}
+-- where no start fits a word, nothing derived begins with it
+pub use Rattle.dbtg_schema.proofs.Forms.Wanted.{no_way_on}
 -- a form that may end derives the empty list of words
 pub use Rattle.dbtg_schema.proofs.Forms.Derived.{derives_nothing}
 -- a start that is found for a word is among the starts, and the word fits it

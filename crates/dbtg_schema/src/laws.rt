@@ -3,7 +3,7 @@
 ghost use Rattle.std.specs.Prelude.{◌≡◌, ◌∷◌, List, None};
 ghost use Rattle.dbtg_schema.specs.Texts.Forms.{starts, start_with, Derives};
 ghost use Rattle.dbtg_schema.specs.Texts.SchemaGrammar.{Form, Labelled, fits};
-ghost use Rattle.dbtg_schema.specs.Laws.{AcceptedIsDerivedOnce};
+ghost use Rattle.dbtg_schema.specs.Laws.{AcceptedIsDerivedOnce, DerivedHasNoFaultOfGrammar};
 
 /// Where no start of a form fits a word, nothing that the form derives begins with that word: what a reader refuses
 /// there, it refuses because the grammar has nothing.
@@ -15,4 +15,10 @@ pub fn an_unwanted_word_begins_nothing()
 /// with these roles no other way. So what a schema says is what any derivation of its text says.
 pub fn an_accepted_text_is_derived_once()
     ensures { AcceptedIsDerivedOnce }
+{}
+
+/// A text that the grammar derives has no fault of the grammar: no byte that is not allowed, no word that is not wanted,
+/// none that is no name or no picture. It can only be refused for what its words say, or how many they are.
+pub fn a_derived_text_has_no_fault_of_the_grammar()
+    ensures { DerivedHasNoFaultOfGrammar }
 {}

@@ -11,7 +11,9 @@ ghost use Rattle.dbtg_schema.specs.Texts.Views.{views};
 ghost use Rattle.dbtg_schema.specs.Texts.SchemaLists.{schema_of};
 ghost use Rattle.dbtg_schema.specs.WellFormed.{IsSchema};
 ghost use Rattle.dbtg_schema.specs.Sound.{IsSound};
-ghost use Rattle.dbtg_schema.specs.Texts.Reading.{verdict, Refuses, WithinLimits};
+ghost use Rattle.dbtg_schema.specs.Texts.Reading.{faults_at, verdict, RefusedAtOnce, Refuses, WithinLimits};
+ghost use Rattle.dbtg_schema.specs.Lookups.{first};
+ghost use Rattle.dbtg_schema.specs.declared.fault.Fault.{Fault as SeenFault};
 
 use crate::automaton::{State, follow};
 use crate::checks::{at_end, at_other, at_word};
@@ -47,6 +49,7 @@ fn take<'a>(
     ensures reached { (end : ℕ) (left : List SeenWord) → MatchResult result
         (λ next. verdict end (views words.old.items) (rest_of state) (view word.entry ∷ left) ≡ verdict end (views words.new.items) (rest_of next) left)
         (λ e. Refuses e (verdict end (views words.old.items) (rest_of state) (view word.entry ∷ left))) }
+    ensures faulty { (fault : SeenFault) → first (faults_at (views words.old.items) (rest_of state) (view word.entry)) ≡ Some fault → MatchResult result (λ _. ⊥) (λ e. e ≡ SchemaFault.Refused fault.line fault.cause) }
     ensures labels { IfOk result (λ next. (left : List SeenWord) → views words.old.items ++ labels fits (rest_of state) (view word.entry ∷ left) ≡ views words.new.items ++ labels fits (rest_of next) left) }
 {
     match follow(state, word) {
@@ -75,6 +78,7 @@ pub fn read(alloc: Global, text: &[u8]) -> Result<Vec<Labelled<'_>>, SchemaFault
     ensures fitting { IfOk result (λ v. IsSound (schema_of (views v.items))) }
     ensures limits { IfOk result (λ v. WithinLimits (views v.items)) }
     ensures too_long { 65536 < length text.now → MatchResult result (λ _. ⊥) (λ e. e ≡ SchemaFault.Refused 1 Cause.TextTooLong) }
+    ensures at_once { RefusedAtOnce text.now (MatchResult result (λ _. ⊥) (λ e. e ≡ SchemaFault.Memory → ⊥)) }
 {
     if text.len() > 65536 {
         return Err(SchemaFault::of(Fault {

@@ -2,7 +2,7 @@
 
 ghost use Rattle.std.specs.Prelude.{◌≡◌, ◌==◌, ◌<◌, ◌≤◌, length, All, None, [], IfNone, IfOk, IfSome, MatchResult, filter, map, IfErr, OnOk, option_map, slice_get};
 ghost use Rattle.dbtg_schema.specs.declared.fault.Cause.TheVariants.{TextTooLong};
-ghost use Rattle.dbtg_schema.specs.declared.fault.SchemaFault.TheVariants.{Refused};
+ghost use Rattle.dbtg_schema.specs.declared.fault.SchemaFault.TheVariants.{Memory, Refused};
 ghost use Rattle.dbtg_schema.specs.Connecting.{AreConnecting};
 ghost use Rattle.dbtg_schema.specs.Erasing.{AreErased};
 ghost use Rattle.dbtg_schema.specs.Lookups.{some_and};
@@ -13,7 +13,7 @@ ghost use Rattle.dbtg_schema.specs.Texts.Forms.{labels, Derives};
 ghost use Rattle.dbtg_schema.specs.Texts.SchemaGrammar.{fits, schema};
 ghost use Rattle.dbtg_schema.specs.Texts.SchemaFaults.{refusal};
 ghost use Rattle.dbtg_schema.specs.Texts.SchemaLists.{schema_of};
-ghost use Rattle.dbtg_schema.specs.Texts.Reading.{Refuses, WithinLimits};
+ghost use Rattle.dbtg_schema.specs.Texts.Reading.{RefusedAtOnce, Refuses, WithinLimits};
 ghost use Rattle.dbtg_schema.specs.Texts.Views.{views};
 ghost use Rattle.dbtg_schema.specs.WellFormed.{IsSchema};
 ghost use Rattle.dbtg_schema.specs.Sound.{IsSound};
@@ -204,7 +204,7 @@ pub fn clause_for(members: &[Member], rtype: RecordNo) -> Option<Member>
 impl Schema {
     /// Reads the text of a schema, from left to right. The text may hold any bytes. What is refused is refused for
     /// its first fault; `Memory` is the answer where a growth was refused before a fault was met, so never for a text
-    /// that is too long.
+    /// that is too long, or whose first word is at fault.
     pub fn read(alloc: Global, text: &[u8]) -> Result<Schema, SchemaFault>
         ensures accepted { OnOk result (refusal text.now ≡ None) }
         ensures lists { IfOk result (λ s. s ≡ schema_of (labels fits schema (text_words text.now))) }
@@ -213,6 +213,7 @@ impl Schema {
         ensures sound { IfOk result (λ s. IsSound s) }
         ensures named { IfOk result (λ s. IsNamed s) }
         ensures too_long { 65536 < length text.now → MatchResult result (λ _. ⊥) (λ e. e ≡ Refused 1 TextTooLong) }
+        ensures at_once { RefusedAtOnce text.now (MatchResult result (λ _. ⊥) (λ e. e ≡ Memory → ⊥)) }
     {
         let words = read_words(alloc, text)?;
         Ok(from_words(alloc, &words)?)

@@ -7,12 +7,12 @@ abbrev pub Among : {S : Type 0} → S → List S → Type 0
 Among s [] = ⊥
 Among s (x ∷ xs) = (s ≡ x) ⊎ Among s xs
 
-among_append : {S : Type 0} (s : S) (xs ys : List S) → Among s (xs ++ ys) → Among s xs ⊎ Among s ys
+pub among_append : {S : Type 0} (s : S) (xs ys : List S) → Among s (xs ++ ys) → Among s xs ⊎ Among s ys
 among_append s [] ys h = inr h
 among_append s (x ∷ xs) ys (inl e) = inl (inl e)
 among_append s (x ∷ xs) ys (inr h) = elim (among_append s xs ys h) [ inl a ↦ inl (inr a) | inr b ↦ inr b ]
 
-among_map : {S : Type 0} (f : S → S) (s : S) (xs : List S) → Among s (map f xs) → (x : S) × (s ≡ f x) × Among x xs
+pub among_map : {S : Type 0} (f : S → S) (s : S) (xs : List S) → Among s (map f xs) → (x : S) × (s ≡ f x) × Among x xs
 among_map f s [] h = absurd h
 among_map f s (x ∷ xs) (inl e) = (x, e, inl refl)
 among_map f s (x ∷ xs) (inr h) = let r = among_map f s xs h in (r.0, r.1, inr r.2)

@@ -22,7 +22,7 @@ use Rattle.dbtg_schema.proofs.Forms.OneWay.{is_told, words_of}
 use Rattle.dbtg_schema.proofs.Forms.OneDerivation.{labelled_once}
 
 -- no word is of both kinds: two keys that differ, a key that is no name, a key that is no picture
-abbrev apart : Kind → Kind → Bool
+abbrev pub apart : Kind → Kind → Bool
 apart (key a) (key b) = not (bytes_eq a b)
 apart (key a) name = not (is_name a)
 apart (key a) picture = not (is_picture a)
@@ -42,7 +42,7 @@ not_true false h t = absurd cc
 spelled : (a : List ℕ) (w : Word) → fits (key a) w ≡ true → w.text ≡ a
 spelled a w t = (bytes_eq-Decides w.text a).0 t
 
-told_apart : (j k : Kind) (w : Word) → apart j k ≡ true → fits j w ≡ true → fits k w ≡ true → ⊥
+pub told_apart : (j k : Kind) (w : Word) → apart j k ≡ true → fits j w ≡ true → fits k w ≡ true → ⊥
 told_apart (key a) (key b) w h t s = not_true (bytes_eq a b) h (subst (λ (z : List ℕ). bytes_eq z b ≡ true) (spelled a w t) s)
 told_apart (key a) name w h t s = not_true (is_name a) h (subst (λ (z : List ℕ). is_name z ≡ true) (spelled a w t) s)
 told_apart (key a) picture w h t s = not_true (is_picture a) h (subst (λ (z : List ℕ). is_picture z ≡ true) (spelled a w t) s)
@@ -53,7 +53,7 @@ told_apart picture (key b) w h t s = not_true (is_picture b) h (subst (λ (z : L
 told_apart picture name w h t s = absurd cc
 told_apart picture picture w h t s = absurd cc
 
-schema_is_told : is_told apart schema ≡ true
+pub schema_is_told : is_told apart schema ≡ true
 schema_is_told = refl
 
 role_set : IsSet Role

@@ -5,12 +5,12 @@ use Rattle.std.proofs.lemmas.Bool.{or_left, or_right, and_from}
 use Rattle.dbtg_schema.specs.Texts.Forms.{Form, nothing, one, both, either, many, Start, starts, may_end, followed_by, Labelled, labelled, start_with, Derives}
 use Rattle.dbtg_schema.proofs.Forms.Derived.{Among}
 
-among_left : {S : Type 0} (s : S) (xs ys : List S) → Among s xs → Among s (xs ++ ys)
+pub among_left : {S : Type 0} (s : S) (xs ys : List S) → Among s xs → Among s (xs ++ ys)
 among_left s [] ys h = absurd h
 among_left s (x ∷ xs) ys (inl e) = inl e
 among_left s (x ∷ xs) ys (inr h) = inr (among_left s xs ys h)
 
-among_right : {S : Type 0} (s : S) (xs ys : List S) → Among s ys → Among s (xs ++ ys)
+pub among_right : {S : Type 0} (s : S) (xs ys : List S) → Among s ys → Among s (xs ++ ys)
 among_right s [] ys h = h
 among_right s (x ∷ xs) ys h = inr (among_right s xs ys h)
 

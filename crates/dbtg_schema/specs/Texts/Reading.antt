@@ -1,15 +1,16 @@
 -- The refusal, as it is reached from left to right.
-use Rattle.std.specs.Prelude.{◌≡◌, ℕ, ◌≤◌, List, Option, Some}
+use Rattle.std.specs.Prelude.{◌≡◌, ℕ, ◌≤◌, List, [], ◌∷◌, Option, Some}
 use Rattle.std.specs.List.{flat_map, AllByRecursion}
 use Rattle.dbtg_schema.specs.declared.fault.Fault.{Fault}
 use Rattle.dbtg_schema.specs.declared.fault.SchemaFault.{SchemaFault}
 use Rattle.dbtg_schema.specs.declared.fault.SchemaFault.TheVariants.{Refused, Memory}
 use Rattle.dbtg_schema.specs.declared.role.Role.TheVariants as role
 use Rattle.dbtg_schema.specs.Lookups.{first}
-use Rattle.dbtg_schema.specs.Texts.Words.{Word}
-use Rattle.dbtg_schema.specs.Texts.SchemaGrammar.{Form, Labelled}
+use Rattle.dbtg_schema.specs.Texts.Words.{Word, text_words}
+use Rattle.dbtg_schema.specs.Texts.Forms.{by_start, labelled, start_with, starts}
+use Rattle.dbtg_schema.specs.Texts.SchemaGrammar.{Form, Labelled, fits, schema}
 use Rattle.dbtg_schema.specs.Texts.Labels.{count_of, until, entries}
-use Rattle.dbtg_schema.specs.Texts.SchemaFaults.{places}
+use Rattle.dbtg_schema.specs.Texts.SchemaFaults.{at_other, at_word, places}
 
 -- the first fault from here on
 unfoldable pub verdict : ℕ → List Labelled → Form → List Word → Option Fault
@@ -19,6 +20,14 @@ verdict end ws wanted left = first (flat_map (λ here. here) (places end ws want
 abbrev pub Refuses : SchemaFault → Option Fault → Type 0
 Refuses Memory v = Unit {0}
 Refuses (Refused line cause) v = v ≡ Some (record { line = line; cause = cause })
+
+-- the faults at the next word
+abbrev pub faults_at : List Labelled → Form → Word → List Fault
+faults_at ws wanted w = by_start (start_with fits w (starts wanted)) (λ s. at_word ws (labelled s.role w)) (at_other ws (starts wanted) w)
+
+-- this is told of a text whose first word is at fault
+abbrev pub RefusedAtOnce : List ℕ → Type 0 → Type 0
+RefusedAtOnce text Told = (w : Word) (ws : List Word) (fault : Fault) → text_words text ≡ w ∷ ws → first (faults_at [] schema w) ≡ Some fault → Told
 
 -- there are no more entries in these words than numbers for them
 pub record WithinLimits (ws : List Labelled) : Type 0 where

@@ -1,4 +1,4 @@
-use Rattle.std.proofs.Common.{◌≡◌, List, [], ◌++◌, sym, ap, subst, ◌∙◌, arith}
+use Rattle.std.proofs.Common.{rules, ◌≡◌, List, [], ◌++◌, sym, ap, subst, ◌∙◌, arith}
 use Rattle.std.proofs.lemmas.Result.{err_from_is_err_and}
 use Rattle.std.specs.Prelude.{None}
 use Rattle.dbtg_schema.specs.Texts.Words.{last_line, text_words}
@@ -19,7 +19,7 @@ use Rattle.dbtg_schema.specs.Texts.Reading.{verdict, WithinLimits}
 use Rattle.dbtg_schema.proofs.Forms.Walks.{clean}
 use Rattle.dbtg_schema.proofs.Sound.Limits.{within_limits}
 use Rattle.dbtg_schema.proofs.Forms.Accepted.{derived}
-use Rattle.dbtg_schema.proofs.Forms.Seen.{seen, seen_word, seen_end, short_text, at_the_end}
+use Rattle.dbtg_schema.proofs.Forms.Seen.{first_word, not_at_end, seen, seen_noise, seen_word, seen_end, short_text, at_the_end}
 use Rattle.dbtg_schema.proofs.reader.read.Goals as goal
 
 pub returns-in_err-state-clause-refused : goal.returns-in_err-state-clause-refused
@@ -68,3 +68,34 @@ returns-clause-sound c = subst (λ (ws : List Labelled). IsSchema (schema_of ws)
 
 pub returns-clause-fitting : goal.returns-clause-fitting
 returns-clause-fitting c = subst (λ (ws : List Labelled). IsSound (schema_of ws)) (sym (all_words c)) (accepted_is_sound (text_words c.args.text.now) (last_line c.args.text.now) (no_fault c))
+
+pub returns-in_err-state-clause-at_once : goal.returns-in_err-state-clause-at_once
+returns-in_err-state-clause-at_once c = λ w ws fault is wrong.
+    let p = err_from_is_err_and c.from_residual.result c.from_residual.ensures.1 in
+    let e = seen_word c.loop-word.scanner.line c.scan.new.self.line c.loop-word.scanner.rest.now c.scan.new.self.rest.now (view c.in-Some.word) c.in-Some.ensures.found (sym c.is_noise.ensures ∙ c.if-not-is_noise.true) in
+    let told = c.in_err-state.ensures.faulty fault (first_word (views c.loop-word.words.items) (rest_of c.loop-word.state) w (view c.in-Some.word) ws (text_words c.args.text.now) (seen c.loop-word.scanner.line c.loop-word.scanner.rest.now) fault is wrong (c.loop-word.invariant.first w ws fault is wrong) (seen c.scan.new.self.line c.scan.new.self.rest.now) e) in
+    rw (p.1, p.2) (λ m. let no = sym told ∙ m in cc)
+
+pub returns-clause-at_once : goal.returns-clause-at_once
+returns-clause-at_once c = λ w ws fault is wrong.
+    not_at_end w ws (text_words c.args.text.now) (seen c.loop-word.scanner.line c.loop-word.scanner.rest.now) is (c.loop-word.invariant.first w ws fault is wrong).2
+    (seen_end c.loop-word.scanner.line c.loop-word.scanner.rest.now c.in_default.ensures.found)
+
+pub loop-word-preserved-then-not-is_noise : goal.loop-word-preserved-then-not-is_noise
+loop-word-preserved-then-not-is_noise c = record {
+  reached = search rules;
+  labelled = search rules;
+  first = λ w ws fault is wrong.
+      let e = seen_word c.loop-word.scanner.line c.scan.new.self.line c.loop-word.scanner.rest.now c.scan.new.self.rest.now (view c.in-Some.word) c.in-Some.ensures.found (sym c.is_noise.ensures ∙ c.if-not-is_noise.true) in
+      absurd (c.in_ok-state.ensures.faulty fault (first_word (views c.loop-word.words.items) (rest_of c.loop-word.state) w (view c.in-Some.word) ws (text_words c.args.text.now) (seen c.loop-word.scanner.line c.loop-word.scanner.rest.now) fault is wrong (c.loop-word.invariant.first w ws fault is wrong) (seen c.scan.new.self.line c.scan.new.self.rest.now) e));
+}
+
+pub loop-word-preserved : goal.loop-word-preserved
+loop-word-preserved c = record {
+  reached = search rules;
+  labelled = search rules;
+  first = λ w ws fault is wrong.
+      let at = c.loop-word.invariant.first w ws fault is wrong in
+      let e = seen_noise c.loop-word.scanner.line c.scan.new.self.line c.loop-word.scanner.rest.now c.scan.new.self.rest.now (view c.in-Some.word) c.in-Some.ensures.found (sym c.is_noise.ensures ∙ c.if-not-is_noise.false) in
+      (at.0, at.1, sym e ∙ at.2);
+}

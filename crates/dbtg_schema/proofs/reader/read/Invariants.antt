@@ -4,7 +4,7 @@ use Rattle.dbtg_schema.specs.Texts.Forms.{labels}
 use Rattle.dbtg_schema.specs.Texts.SchemaGrammar.{fits, schema}
 use Rattle.dbtg_schema.specs.Texts.Automaton.{rest_of}
 use Rattle.dbtg_schema.specs.Texts.Views.{views}
-use Rattle.dbtg_schema.specs.Texts.Reading.{verdict}
+use Rattle.dbtg_schema.specs.Texts.Reading.{verdict, RefusedAtOnce}
 use Rattle.dbtg_schema.proofs.Forms.Seen.{seen}
 use Rattle.dbtg_schema.proofs.reader.read.Given as goal
 
@@ -12,6 +12,7 @@ abbrev pub invariant-loop-word : goal.invariant-loop-word
 invariant-loop-word l = record {
   reached : verdict (last_line l.fn.text) (views l.words.items) (rest_of l.state) (seen l.scanner.line l.scanner.rest.now) ≡ verdict (last_line l.fn.text) [] schema (text_words l.fn.text);
   labelled : views l.words.items ++ labels fits (rest_of l.state) (seen l.scanner.line l.scanner.rest.now) ≡ labels fits schema (text_words l.fn.text);
+  first : RefusedAtOnce l.fn.text ((views l.words.items ≡ []) × (rest_of l.state ≡ schema) × (seen l.scanner.line l.scanner.rest.now ≡ text_words l.fn.text));
 }
 
 abbrev pub decreases-loop-word : goal.decreases-loop-word

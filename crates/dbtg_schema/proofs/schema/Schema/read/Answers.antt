@@ -15,3 +15,6 @@ pub returns-clause-named : goal.returns-clause-named
 returns-clause-named c =
     let same = c.in_ok-from_words.ensures ∙ ap (λ (ws : List code.Labelled). schema_of (views ws)) c.deref.ensures.value in
     subst IsNamed (sym same) (has_names (views c.in_ok-words.words.items) c.in_ok-words.ensures.derived)
+
+pub returns-clause-at_once : goal.returns-clause-at_once
+returns-clause-at_once c = λ w ws fault is wrong. c.in_ok-words.ensures.at_once w ws fault is wrong
