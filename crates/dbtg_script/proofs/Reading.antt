@@ -1,12 +1,15 @@
 -- The reader's steps, and that lines which were read before are read again.
 -- May use: the lemmas on grammars of dbtg_schema.
--- Promises: `Accepted`: a line without faults is derived; `KnownLines`: a line that is found is read as before.
+-- Promises: `Accepted`, `NoFault`: a line without faults is derived, and one that is derived has no fault of the grammar; `KnownLines`: a line that is found is read as before.
 pub mod Accepted
+pub mod Derived
 pub mod Firsts
+pub mod Kinds
 pub mod KnownLines
 pub mod LineBehind
 pub mod LineSteps
 pub mod MoveSteps
+pub mod NoFault
 pub mod Numbers
 pub mod Roles
 pub mod ScriptSteps

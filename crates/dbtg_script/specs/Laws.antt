@@ -1,7 +1,7 @@
 -- Laws of scripts and printed texts.
 use Rattle.std.specs.Prelude.{◌≡◌, ℕ, ◌+◌, ◌≤◌, ◌<◌, ◌^◌, Bool, true, false, ◌&&◌, nat_le, nat_lt, List, [], ◌∷◌, ◌++◌, length, map, slice_get, Some, None}
-use Rattle.std.specs.List.{list_all}
-use Rattle.dbtg_schema.specs.Texts.Forms.{labels, Derives}
+use Rattle.std.specs.List.{list_all, list_any, AllByRecursion}
+use Rattle.dbtg_schema.specs.Texts.Forms.{labels}
 use Rattle.dbtg_schema.specs.Lists.{Lists}
 use Rattle.dbtg_schema.specs.Lookups.{first}
 use Rattle.dbtg_schema.specs.Sound.{IsSound}
@@ -18,16 +18,19 @@ use Rattle.dbtg_unit.specs.declared.statement.Statement.{Statement}
 use Rattle.dbtg_unit.specs.declared.unit.Entry.{Entry}
 use Rattle.dbtg_unit.specs.declared.moves.Move.TheVariants.{Step, Quit}
 use Rattle.dbtg_script.specs.Printing.Echo.{lines_beside}
-use Rattle.dbtg_script.specs.Lines.{closes, statement_lines, trimmed}
+use Rattle.dbtg_script.specs.declared.fault.Cause.{Cause}
+use Rattle.dbtg_script.specs.declared.fault.Cause.TheVariants.{NoStatementWord, UnexpectedWord}
+use Rattle.dbtg_script.specs.Derivations.{Derivation}
+use Rattle.dbtg_script.specs.Lines.{closes, is_statement, lines, statement_lines, trimmed}
 use Rattle.dbtg_script.specs.Moves.{moves_of, refusal, words}
 use Rattle.dbtg_script.specs.Turns.{turns_of, turns_refusal}
 use Rattle.dbtg_script.specs.Printing.WordTexts.{moves_words_text, turns_text}
 use Rattle.dbtg_script.specs.Printing.Spelling.{has_byte}
 use Rattle.dbtg_script.specs.Lookups.{type_named}
-use Rattle.dbtg_script.specs.Statements.{key_of, line_statement, prepend, script}
+use Rattle.dbtg_script.specs.Statements.{key_of, line_statement, prepend, script, statement_of}
 use Rattle.dbtg_script.specs.Tokens.{tokens}
 use Rattle.dbtg_script.specs.StatementGrammar.{fits, statement}
-use Rattle.dbtg_script.specs.StatementFaults.{line_faults, statement_faults}
+use Rattle.dbtg_script.specs.StatementFaults.{faults, line_faults, statement_faults}
 use Rattle.dbtg_script.specs.StatementFaults as script_text
 use Rattle.dbtg_script.specs.Printing.Texts.{key_text, type_name, unit_text}
 
@@ -44,9 +47,28 @@ pub record IsKeyOf (schema : Lists) (k : DbKey) : Type 0 where
 abbrev pub PrintedKeyIsReadBack : Type 0
 PrintedKeyIsReadBack = (schema : Lists) (k : DbKey) → IsKeyOf schema k → key_of schema (key_text schema k) ≡ k
 
--- the words of a line without faults are derived by the grammar, with the roles that they are read with
+-- a line without faults has a derivation, with the roles that its words are read with
 abbrev pub LineWithoutFaultsIsDerived : Type 0
-LineWithoutFaultsIsDerived = (schema : Lists) (line : List ℕ) → first (statement_faults schema line) ≡ None → Derives fits statement (labels fits statement (tokens false line))
+LineWithoutFaultsIsDerived = (schema : Lists) (line : List ℕ) → first (statement_faults schema line) ≡ None → (d : Derivation line) × (d.words ≡ labels fits statement (tokens false line))
+
+-- the causes of faults at a word, or an end, that the grammar does not want
+abbrev pub is_of_grammar : Cause → Bool
+is_of_grammar NoStatementWord = true
+is_of_grammar UnexpectedWord = true
+is_of_grammar _ = false
+
+-- a line that has a derivation has no such fault, and is read as the statement that the words of this derivation say; there is no other
+abbrev pub DerivedLineIsRead : Type 0
+DerivedLineIsRead =
+    (schema : Lists) (line : List ℕ) (d : Derivation line)
+    → (list_any is_of_grammar (statement_faults schema line) ≡ false) × (is_statement line ≡ true → line_statement schema line ≡ Some (statement_of schema d.words))
+    × ((e : Derivation line) → e.words ≡ d.words)
+
+-- a script, of which each line that holds a statement has a derivation, has no such fault
+abbrev pub DerivedScriptHasNoFaultOfGrammar : Type 0
+DerivedScriptHasNoFaultOfGrammar =
+    (schema : Lists) (text : List ℕ) → AllByRecursion (λ l. is_statement (trimmed l) ≡ true → Derivation (trimmed l)) (lines text)
+    → list_any (λ f. is_of_grammar f.cause) (faults schema text) ≡ false
 
 -- the numbers of a key are within their types
 abbrev pub key_in_range : DbKey → Bool

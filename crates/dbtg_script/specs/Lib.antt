@@ -13,5 +13,6 @@ pub mod Statements
 pub mod Known
 pub mod Moves
 pub mod Turns
+pub mod Derivations
 pub mod Laws
 pub mod Printing

@@ -1,20 +1,42 @@
 -- The refusal, as it is reached from left to right.
-use Rattle.std.specs.Prelude.{◌≡◌, ℕ, List, Option, Some}
+use Rattle.std.specs.Prelude.{◌≡◌, ℕ, not, ◌&&◌, nat_le, false, List, [], ◌∷◌, ◌++◌, Option, Some, Result, MatchResult, if◌then◌else◌}
 use Rattle.dbtg_schema.specs.Lists.{Lists}
 use Rattle.dbtg_schema.specs.Lookups.{first}
+use Rattle.dbtg_schema.specs.Texts.Forms.{by_start, start_with, starts}
 use Rattle.dbtg_script.specs.declared.fault.Cause.{Cause}
+use Rattle.dbtg_script.specs.declared.fault.Cause.TheVariants as cause
 use Rattle.dbtg_script.specs.declared.fault.Fault.{Fault}
 use Rattle.dbtg_script.specs.declared.fault.LineFault.{LineFault}
 use Rattle.dbtg_script.specs.declared.fault.LineFault.TheVariants as line
 use Rattle.dbtg_script.specs.declared.fault.ScriptFault.{ScriptFault}
 use Rattle.dbtg_script.specs.declared.fault.ScriptFault.TheVariants as script
-use Rattle.dbtg_script.specs.Tokens.{Token}
-use Rattle.dbtg_script.specs.StatementGrammar.{Form, Labelled}
-use Rattle.dbtg_script.specs.StatementFaults.{faults_from, lines_faults}
+use Rattle.dbtg_script.specs.Lines.{ends_in_text, is_allowed, is_statement}
+use Rattle.dbtg_script.specs.Tokens.{Token, tokens}
+use Rattle.dbtg_script.specs.StatementGrammar.{Form, Labelled, fits, statement}
+use Rattle.dbtg_script.specs.StatementFaults.{at_other, faults_from, lines_faults, said, when}
 
 -- the first fault of a line from here on
 unfoldable pub verdict : Lists → List Labelled → Form → List Token → Option Cause
 verdict schema ws wanted left = first (faults_from schema ws wanted left)
+
+-- the faults at the next word
+abbrev pub faults_at : Lists → List Labelled → Form → Token → List Cause
+faults_at schema ws wanted t = by_start (start_with fits t (starts wanted)) (λ s. said schema ws t s.role) (at_other ws ∷ [])
+
+-- the faults at the first word of a line
+abbrev pub first_word_faults : Lists → List Token → List Cause
+first_word_faults schema [] = []
+first_word_faults schema (t ∷ ts) = faults_at schema [] statement t
+
+-- the faults of a line that are found before a word of it is kept
+abbrev pub faults_at_once : Lists → ℕ → List ℕ → List Cause
+faults_at_once schema count line =
+    when (is_statement line && nat_le 65535 count) cause.TooMuch ++ when (not (is_allowed line)) cause.LineNotAllowed
+    ++ (if is_statement line then when (ends_in_text false line) cause.UnexpectedWord ++ first_word_faults schema (tokens false line) else [])
+
+-- the first of these faults is told, and not want of memory
+abbrev pub IsToldAtOnce : {A : Type 0} → List Cause → Result A LineFault → Type 0
+IsToldAtOnce causes result = (c : Cause) → first causes ≡ Some c → MatchResult result (λ _. ⊥) (λ e. e ≡ line.Refused c)
 
 -- the line is refused with this fault, unless memory ran out
 abbrev pub Refuses : LineFault → Option Cause → Type 0

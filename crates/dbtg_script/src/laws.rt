@@ -1,15 +1,27 @@
 //! Laws of scripts and printed texts, as contracts of functions that do nothing.
 
-ghost use Rattle.dbtg_script.specs.Laws.{EchoedLinesSayTheirStatements, LineBehindScriptIsRead, LineWithoutFaultsIsDerived, PrintedKeyIsReadBack, PrintedMovesAreReadBack, PrintedTurnsAreReadBack, UnitsPrintDifferently};
+ghost use Rattle.dbtg_script.specs.Laws.{DerivedLineIsRead, DerivedScriptHasNoFaultOfGrammar, EchoedLinesSayTheirStatements, LineBehindScriptIsRead, LineWithoutFaultsIsDerived, PrintedKeyIsReadBack, PrintedMovesAreReadBack, PrintedTurnsAreReadBack, UnitsPrintDifferently};
 
 /// What is read from a printed key is that key.
 pub fn a_printed_key_is_read_back()
     ensures { PrintedKeyIsReadBack }
 {}
 
-/// The words of a line without faults are derived by the grammar, with the roles that they are read with.
+/// The words of a line without faults are derived by the grammar, with the roles that they are read with: as a name only
+/// where no keyword can stand.
 pub fn a_line_without_faults_is_derived()
     ensures { LineWithoutFaultsIsDerived }
+{}
+
+/// A line that the grammar derives so has no fault of the grammar, and is read as the statement that these words say.
+/// There is one such derivation alone.
+pub fn a_derived_line_is_read()
+    ensures { DerivedLineIsRead }
+{}
+
+/// A script, each statement of which the grammar derives so, has no fault of the grammar.
+pub fn a_derived_script_has_no_fault_of_the_grammar()
+    ensures { DerivedScriptHasNoFaultOfGrammar }
 {}
 
 /// Two units of a schema with different numbers, currencies or kept lists print differently; their modes are not printed.

@@ -30,6 +30,7 @@ pub use echo::statement_lines;
 pub use fault::{Cause, LineFault, ScriptFault};
 pub use image::{image_text, moves_text};
 pub use laws::{
+    a_derived_line_is_read, a_derived_script_has_no_fault_of_the_grammar,
     a_line_behind_a_script_is_read, a_line_without_faults_is_derived, a_printed_key_is_read_back,
     a_printed_moves_text_is_read_back, a_printed_turns_text_is_read_back,
     different_units_print_differently, echoed_lines_say_their_statements,

@@ -5,9 +5,9 @@ ghost use Rattle.dbtg_script.specs.Automaton.{rest_of};
 ghost use Rattle.dbtg_schema.specs.Lookups.{first};
 ghost use Rattle.dbtg_schema.specs.Lists.{Lists};
 ghost use Rattle.dbtg_script.specs.Known.{IsKnown, Says};
-ghost use Rattle.dbtg_script.specs.Lines.{trimmed};
-ghost use Rattle.dbtg_script.specs.Reading.{Refuses, RefusesScript, at_line, verdict};
-ghost use Rattle.dbtg_script.specs.StatementFaults.{line_faults, refusal, statement_faults};
+ghost use Rattle.dbtg_script.specs.Lines.{ends_in_text, trimmed};
+ghost use Rattle.dbtg_script.specs.Reading.{IsToldAtOnce, Refuses, RefusesScript, at_line, faults_at, faults_at_once, first_word_faults, verdict};
+ghost use Rattle.dbtg_script.specs.StatementFaults.{line_faults, refusal, statement_faults, when};
 ghost use Rattle.dbtg_script.specs.Statements.{line_statement, prepend, script, statement_of};
 ghost use Rattle.dbtg_script.specs.StatementGrammar.{fits, statement};
 ghost use Rattle.dbtg_script.specs.Tokens.{Token as SeenToken, tokens, view};
@@ -35,6 +35,7 @@ fn take<'a>(words: &mut Words<'a>, state: State, token: Token<'a>) -> Result<Sta
     ensures reached { (left : List SeenToken) → MatchResult result
         (λ next. verdict words.old.schema words.old.words (rest_of state) (view token.entry ∷ left) ≡ verdict words.old.schema words.new.words (rest_of next) left)
         (λ e. Refuses e (verdict words.old.schema words.old.words (rest_of state) (view token.entry ∷ left))) }
+    ensures faulty { IsToldAtOnce (faults_at words.old.schema words.old.words (rest_of state) (view token.entry)) result }
     ensures labels { IfOk result (λ next. (left : List SeenToken) → words.old.words ++ labels fits (rest_of state) (view token.entry ∷ left) ≡ words.new.words ++ labels fits (rest_of next) left) }
 {
     match follow(state, token) {
@@ -71,6 +72,7 @@ fn read_words<'a>(words: &mut Words<'a>, line: &'a [u8]) -> Result<(), LineFault
     ensures accepted { OnOk result (verdict words.old.schema [] statement (tokens false line.now) ≡ None) }
     ensures words { OnOk result (words.new.words ≡ labels fits statement (tokens false line.now)) }
     ensures refused { IfErr result (λ e. Refuses e (verdict words.old.schema [] statement (tokens false line.now))) }
+    ensures at_once { IsToldAtOnce (first_word_faults words.old.schema (tokens false line.now)) result }
 {
     words.clear();
     let mut state = State::Opening;
@@ -94,6 +96,7 @@ fn read_statement<'a>(
     ensures accepted { OnOk result (first (statement_faults words.old.schema line.now) ≡ None) }
     ensures statement { IfOk result (λ s. s ≡ statement_of words.old.schema (labels fits statement (tokens false line.now))) }
     ensures refused { IfErr result (λ e. Refuses e (first (statement_faults words.old.schema line.now))) }
+    ensures at_once { IsToldAtOnce (when (ends_in_text false line.now) Cause.UnexpectedWord ++ first_word_faults words.old.schema (tokens false line.now)) result }
 {
     if ends_in_text(line) {
         return Err(LineFault::Refused(Cause::UnexpectedWord));
@@ -115,6 +118,7 @@ fn read_line<'a>(
     ensures accepted { OnOk result (first (line_faults words.old.schema count line.now) ≡ None) }
     ensures statement { IfOk result (λ s. s ≡ line_statement words.old.schema line.now) }
     ensures refused { IfErr result (λ e. Refuses e (first (line_faults words.old.schema count line.now))) }
+    ensures at_once { IsToldAtOnce (faults_at_once words.old.schema count line.now) result }
 {
     let holds_one = is_statement(line);
     if holds_one && 65535 <= count {
@@ -129,7 +133,8 @@ fn read_line<'a>(
     Ok(Some(read_statement(alloc, words, line)?))
 }
 
-/// The statement of one more line of a script that has so many statements; none where the line is a note or blank.
+/// The statement of one more line of a script that has so many statements; none where the line is a note or blank. A fault of the
+/// line as a whole, or of its first word, is never told as want of memory.
 pub fn read_script_line(
     alloc: Global,
     schema: &Schema,
@@ -140,6 +145,7 @@ pub fn read_script_line(
     ensures statement { IfOk result (λ s. s ≡ line_statement schema.now (trimmed line.now)) }
     ensures fitting { IsSound schema.now → IfOk result (λ s. IfSome s (λ x. statement_fits schema.now x ≡ true)) }
     ensures refused { IfErr result (λ e. Refuses e (first (line_faults schema.now count (trimmed line.now)))) }
+    ensures at_once { IsToldAtOnce (faults_at_once schema.now count (trimmed line.now)) result }
 {
     let mut words = Words::new(alloc, schema);
     read_line(alloc, &mut words, count, trimmed(line))

@@ -1,5 +1,5 @@
 -- A line that is read to its end with no fault is derived by the grammar.
-use Rattle.std.proofs.Common.{◌≡◌, Bool, true, false, cond, List, [], ◌∷◌, ◌++◌, Option, Some, None, refl}
+use Rattle.std.proofs.Common.{◌≡◌, ℕ, Bool, true, false, cond, List, [], ◌∷◌, ◌++◌, Option, Some, None, refl}
 use Rattle.dbtg_schema.specs.Lists.{Lists}
 use Rattle.dbtg_schema.specs.Lookups.{first}
 use Rattle.dbtg_schema.specs.Texts.Forms.{starts, may_end, labelled, start_with, by_start, labels, Derives}
@@ -9,8 +9,7 @@ use Rattle.dbtg_script.specs.declared.fault.Cause.TheVariants.{UnexpectedWord}
 use Rattle.dbtg_script.specs.Lines.{ends_in_text}
 use Rattle.dbtg_script.specs.Tokens.{Token, tokens}
 use Rattle.dbtg_script.specs.StatementGrammar.{Form, Start, Labelled, fits, statement}
-use Rattle.dbtg_script.specs.StatementFaults.{at_other, end_faults, faults_from, said, when}
-use Rattle.dbtg_script.specs.Laws.{LineWithoutFaultsIsDerived}
+use Rattle.dbtg_script.specs.StatementFaults.{at_other, end_faults, faults_from, said, statement_faults, when}
 
 pub none_rest : (xs ys : List Cause) → first (xs ++ ys) ≡ None → first ys ≡ None
 none_rest [] ys h = h
@@ -34,5 +33,5 @@ derived : (left : List Token) (schema : Lists) (ws : List Labelled) (f : Form) �
 derived [] schema ws f h = derives_nothing fits f (may_stop (may_end f) (end_faults schema ws) h)
 derived (t ∷ left) schema ws f h = by_case schema t left ws f (start_with fits t (starts f)) refl (λ s. derived left schema (ws ++ labelled s.role t ∷ []) s.rest) h
 
-pub derived_line : LineWithoutFaultsIsDerived
+pub derived_line : (schema : Lists) (line : List ℕ) → first (statement_faults schema line) ≡ None → Derives fits statement (labels fits statement (tokens false line))
 derived_line schema line h = derived (tokens false line) schema [] statement (none_rest (when (ends_in_text false line) UnexpectedWord) (faults_from schema [] statement (tokens false line)) h)
