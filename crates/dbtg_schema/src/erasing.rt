@@ -218,6 +218,14 @@ pub fn areas_of_each(alloc: Global, schema: &Schema) -> Result<Row<AreaSet>, All
     Ok(each)
 }
 
+/// The same as `areas_reached`, without the ways. It stands apart, since its tables take room that is cleared at each call.
+#[inline(never)]
+fn areas_reached_now(schema: &Schema, rtype: RecordNo) -> AreaSet
+    ensures { AreErased schema.now rtype result }
+{
+    areas_reached(schema, &ways_of(schema), rtype)
+}
+
 impl Schema {
     /// The areas that a DELETE of a record of this type may reach: over the types that can be reached from it by
     /// going from owner type to member type, the type's area and the homes of the sets in which it is a member.
@@ -228,7 +236,7 @@ impl Schema {
         self.is_well_formed();
         match self.areas_known(rtype) {
             Some(areas) => areas,
-            None => areas_reached(self, &ways_of(self), rtype),
+            None => areas_reached_now(self, rtype),
         }
     }
 }
