@@ -259,6 +259,11 @@ fn usual_store(
     let Some(rtype) = schema.rtype(name) else {
         return Ok(None);
     };
+    // Without items the line is likely to come again, and is worth keeping.
+    let mut ahead = *left;
+    if ends(&mut ahead) {
+        return Ok(None);
+    }
     match usual_values(alloc, schema, rtype, left)? {
         None => Ok(None),
         Some(values) => Ok(Some(Statement::Store {
