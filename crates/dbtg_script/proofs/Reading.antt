@@ -16,4 +16,6 @@ pub mod ScriptSteps
 pub mod Steps
 pub mod Suppressed
 pub mod TokenSteps
+pub mod UsualLines
+pub mod UsualStores
 pub mod WordSteps

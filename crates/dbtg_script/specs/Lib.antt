@@ -11,6 +11,7 @@ pub mod Words
 pub mod Reading
 pub mod Statements
 pub mod Known
+pub mod Usual
 pub mod Moves
 pub mod Turns
 pub mod Derivations

@@ -247,7 +247,7 @@ impl State {
 }
 
 impl Kind {
-    fn fits(self, token: Token) -> bool
+    pub fn fits(self, token: Token) -> bool
         ensures { result ≡ fits (view_kind self) (view token.entry) }
     {
         match token {

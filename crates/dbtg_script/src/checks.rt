@@ -60,7 +60,8 @@ fn item_fault(words: &Words, item: Option<ItemNo>, name: &[u8]) -> Option<Cause>
     }
 }
 
-fn key_fault(schema: &Schema, text: &[u8]) -> Option<Cause>
+/// The first fault of a key.
+pub fn key_fault(schema: &Schema, text: &[u8]) -> Option<Cause>
     ensures { result ≡ first (key_faults schema.now text.now) }
 {
     if schema.rtype(key_name(text)).is_none() {
@@ -190,7 +191,7 @@ fn is_misused(words: &Words) -> bool
     has_other_calc(words) || unsorted || unowned
 }
 
-fn is_sorted(order: Order) -> bool
+pub fn is_sorted(order: Order) -> bool
     ensures { result ≡ is_sorted order }
 {
     matches!(order, Order::Sorted { .. })

@@ -22,6 +22,7 @@ mod statement;
 mod texts;
 mod token;
 mod turns;
+mod usual;
 mod values;
 mod word_texts;
 mod words;

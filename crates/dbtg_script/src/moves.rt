@@ -2,7 +2,7 @@
 
 ghost use Rattle.dbtg_script.specs.Moves.{RefusedAtOnce, Refuses, begins_with, cause_number, counted, is_gap, moves_of, plain_number, quit_of, refusal, refused_word, repeated, spelled_move, spelled_turn, steps_of, times, words};
 ghost use Rattle.dbtg_script.specs.declared.moves.MovesFault.TheVariants.{Memory};
-ghost use Rattle.std.specs.Prelude.{◌≡◌, ◌+◌, ◌++◌, ◌<◌, ◌≤◌, ◌∷◌, ℕ, List, [], IfErr, IfOk, IfSome, MatchOption, MatchResult, None, OnOk, OnSome, Option, false, length, replicate, slice_index, true};
+ghost use Rattle.std.specs.Prelude.{◌≡◌, ◌+◌, ◌-◌, ◌++◌, ◌<◌, ◌≤◌, ◌∷◌, ℕ, List, [], IfErr, IfOk, IfSome, MatchOption, MatchResult, None, OnOk, OnSome, Option, Some, false, length, replicate, slice_index, true};
 
 use crate::spelling::{behind, has_byte, in_front, is_number, number};
 use dbtg_unit::Move;
@@ -180,11 +180,42 @@ fn steps_of(text: &[u8]) -> Option<(Move, u64)>
     }
 }
 
+/// One of the digits 1 to 9, as a number.
+fn digit(b: u8) -> Option<u8>
+    ensures from { IfSome result (λ d. 49 ≤ b) }
+    ensures to { IfSome result (λ d. b ≤ 57) }
+    ensures value { IfSome result (λ d. d ≡ b - 48) }
+{
+    if matches!(b, b'1'..=b'9') {
+        Some(b - b'0')
+    } else {
+        None
+    }
+}
+
+/// What a short word says, `u` or `u*k` of one digit each, which most words of moves are; none of all other words.
+fn short_steps(text: &[u8]) -> Option<(Move, u64)>
+    ensures value { IfSome result (λ m. spelled_move text.now ≡ Some m) }
+    ensures bound { IfSome result (λ m. m.1 ≤ 1000000) }
+{
+    match text {
+        [unit] => Some((Move::Step(digit(*unit)?), 1)),
+        [unit, b'*', count] => {
+            let unit = digit(*unit)?;
+            Some((Move::Step(unit), digit(*count)? as u64))
+        }
+        _ => None,
+    }
+}
+
 /// The move that a word says, and how often it is made.
 fn spelled_move(text: &[u8]) -> Option<(Move, u64)>
     ensures value { result ≡ spelled_move text.now }
     ensures bound { IfSome result (λ m. m.1 ≤ 1000000) }
 {
+    if let Some(steps) = short_steps(text) {
+        return Some(steps);
+    }
     if begins_with(text, b'Q') {
         quit_of(behind(text, b'Q'))
     } else {

@@ -24,6 +24,7 @@ use crate::line::{Lines, ends_in_text, is_allowed, is_statement, trimmed};
 use crate::queries::Labelled;
 use crate::statement::statement_of;
 use crate::token::{Token, Tokens};
+use crate::usual::usual_statement;
 use crate::words::Words;
 use dbtg_schema::Schema;
 use dbtg_unit::Statement;
@@ -174,6 +175,26 @@ fn said_again(
     }
 }
 
+/// The statement of a line that was read before or is of a usual form, if there is room for one more; of some such lines none.
+fn said_at_once(
+    alloc: Global,
+    schema: &Schema,
+    known: &Known,
+    statements: &[Statement],
+    line: &[u8],
+) -> Result<Option<Statement>, AllocError>
+    requires { IsKnown schema.now statements.now known.now.places }
+    ensures { IfOk result (λ found. IfSome found (λ s. Says schema.now (length statements.now) line.now s)) }
+{
+    if 65535 <= statements.len() {
+        return Ok(None);
+    }
+    match said_again(alloc, known, statements, line)? {
+        Some(again) => Ok(Some(again)),
+        None => usual_statement(alloc, schema, line),
+    }
+}
+
 /// Takes a line that is read anew: its statement goes behind those before it, and the line is kept.
 fn take_new_line<'a>(
     alloc: Global,
@@ -215,10 +236,10 @@ fn take_line<'a>(
     ensures taken { OnOk result (statements.new.items ≡ statements.old.items ++ prepend (line_statement words.old.schema line.now) []) }
     ensures refused { IfErr result (λ e. Refuses e (first (line_faults words.old.schema (length statements.old.items) line.now))) }
 {
-    match said_again(alloc, known, statements, line)? {
+    match said_at_once(alloc, words.schema(), known, statements, line)? {
         None => take_new_line(alloc, words, known, statements, line),
-        Some(again) => {
-            statements.push(again)?;
+        Some(said) => {
+            statements.push(said)?;
             Ok(())
         }
     }

@@ -116,7 +116,8 @@ fn is_negative(text: &[u8]) -> bool
     }
 }
 
-fn signed(text: &[u8]) -> i32
+/// The number that digits spell, or a minus and digits; 0 where it is above 999,999.
+pub fn signed(text: &[u8]) -> i32
     ensures { result ≡ signed text.now }
 {
     let n = up_to(999_999, number(without_minus(text))) as i32;
@@ -139,7 +140,8 @@ fn which_of(words: &Words) -> Which
     }
 }
 
-fn key_of(schema: &Schema, text: &[u8]) -> DbKey
+/// The key that a word spells.
+pub fn key_of(schema: &Schema, text: &[u8]) -> DbKey
     ensures { result ≡ key_of schema.now text.now }
 {
     DbKey {

@@ -1,6 +1,6 @@
 //! Values, as words spell them for a picture.
 
-ghost use Rattle.dbtg_script.specs.Tokens.{view};
+ghost use Rattle.dbtg_script.specs.Tokens.{plain, view};
 ghost use Rattle.dbtg_script.specs.Values.{blank, filled, is_of_kind, spelled, up_to, value_for};
 ghost use Rattle.std.specs.Prelude.{◌≡◌, ◌^◌, ◌≤◌, ◌++◌, ◌-◌, IfOk, OnOk, is_some, length, nat_lt, option_map, replicate, take};
 
@@ -65,7 +65,8 @@ fn filled(alloc: Global, size: u8, text: &[u8]) -> Result<Value, AllocError>
     Ok(Value::Text(Row::of(bytes)))
 }
 
-fn blank(alloc: Global, picture: Picture) -> Result<Value, AllocError>
+/// The value of an item that no word names.
+pub fn blank(alloc: Global, picture: Picture) -> Result<Value, AllocError>
     ensures { IfOk result (λ v. v ≡ blank picture) }
 {
     match picture {
@@ -87,22 +88,37 @@ pub fn value_for(alloc: Global, picture: Picture, token: Option<Token>) -> Resul
 fn value_of(alloc: Global, picture: Picture, token: Token) -> Result<Value, AllocError>
     ensures { IfOk result (λ v. v ≡ value_for picture (Some (view token.entry))) }
 {
-    if !is_spelled(picture, token) {
-        return blank(alloc, picture);
+    match spelled(alloc, picture, token)? {
+        Some(value) => Ok(value),
+        None => blank(alloc, picture),
     }
-    match picture {
-        Picture::Number(_) => {
-            match token {
-                Token::Plain(text) => Ok(Value::Num(number(text))),
-                _ => blank(alloc, picture),
+}
+
+/// The value of a picture that a word spells, if it does.
+pub fn spelled(alloc: Global, picture: Picture, token: Token) -> Result<Option<Value>, AllocError>
+    ensures { IfOk result (λ v. v ≡ spelled picture (view token.entry)) }
+{
+    match (picture, token) {
+        (Picture::Number(digits), Token::Plain(text)) => Ok(spelled_number(digits, text)),
+        (Picture::Text(size), Token::Literal(text)) => {
+            if text.len() <= size as usize {
+                Ok(Some(filled(alloc, size, text)?))
+            } else {
+                Ok(None)
             }
         }
-        Picture::Text(size) => {
-            match token {
-                Token::Literal(text) => filled(alloc, size, text),
-                _ => blank(alloc, picture),
-            }
-        }
+        _ => Ok(None),
+    }
+}
+
+fn spelled_number(digits: u8, text: &[u8]) -> Option<Value>
+    ensures { result ≡ spelled (Picture.Number digits) (plain text.now) }
+{
+    let value = number(text);
+    if value < 1_000_000_000_000_000_000 && has_digits(value, digits) {
+        Some(Value::Num(value))
+    } else {
+        None
     }
 }
 

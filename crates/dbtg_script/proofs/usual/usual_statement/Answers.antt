@@ -1,0 +1,12 @@
+use Rattle.std.proofs.Common.{rules, ◌≡◌, true, false}
+use Rattle.dbtg_script.specs.Lines.{ends_in_text, is_allowed, is_statement}
+use Rattle.dbtg_script.proofs.Reading.UsualLines.{what_is_said_is_so}
+use Rattle.dbtg_script.proofs.usual.usual_statement.Goals as goal
+
+pub returns : goal.returns
+returns c =
+    let line = c.args.line.now in
+    let one : is_statement line ≡ true = search rules in
+    let allowed : is_allowed line ≡ true = search rules in
+    let closed : ends_in_text false line ≡ false = search rules in
+    what_is_said_is_so c.args.schema.now line c.by_words.result one allowed closed c.by_words.ensures

@@ -1,0 +1,318 @@
+//! Lines of usual forms, read straight into their statements, without a list of their words. Any other line, and any line with a
+//! fault, is left to the reader of all lines.
+
+ghost use Rattle.dbtg_schema.specs.Structure.{item_list};
+ghost use Rattle.dbtg_script.specs.Known.{Says};
+ghost use Rattle.dbtg_script.specs.Lookups.{item_named};
+ghost use Rattle.dbtg_script.specs.StatementGrammar.{fits, value};
+ghost use Rattle.dbtg_script.specs.Tokens.{equals, plain, tokens, view};
+ghost use Rattle.dbtg_script.specs.Usual.{AreAssigned, AreSaid, IsAssigned, IsGiven, IsOfSet, nothing};
+ghost use Rattle.std.specs.Prelude.{◌≡◌, ◌<◌, ◌∷◌, ℕ, [], IfOk, IfSome, Some, codes, false, true};
+
+use crate::automaton::Kind;
+use crate::checks::{is_sorted, key_fault, without_minus};
+use crate::line::{ends_in_text, is_allowed, is_statement};
+use crate::lookups::sort_picture;
+use crate::spelling::{is_key, is_signed, number};
+use crate::statement::{key_of, signed};
+use crate::token::{Token, Tokens};
+use crate::values::{blank, spelled, up_to};
+use dbtg_cells::Value;
+use dbtg_schema::{Item, ItemNo, RecordNo, Row, Schema, SetNo};
+use dbtg_unit::{Form, Statement, Suppress, Which};
+use std::alloc::{AllocError, Global};
+
+/// The next word, where it is a plain one.
+fn plain_word<'a>(left: &mut Tokens<'a>) -> Option<&'a [u8]>
+    ensures { IfSome result (λ t. tokens false left.old.rest.now ≡ plain t.now ∷ tokens false left.new.rest.now) }
+{
+    match left.next() {
+        Some(Token::Plain(text)) => Some(text),
+        _ => None,
+    }
+}
+
+/// Is the next word this one?
+fn takes(left: &mut Tokens, word: &[u8]) -> bool
+    ensures { result ≡ true → tokens false left.old.rest.now ≡ plain word.now ∷ tokens false left.new.rest.now }
+{
+    match plain_word(left) {
+        Some(text) => text == word,
+        None => false,
+    }
+}
+
+/// Is no word left?
+fn ends(left: &mut Tokens) -> bool
+    ensures { result ≡ true → tokens false left.old.rest.now ≡ [] }
+{
+    left.next().is_none()
+}
+
+fn find(form: Form) -> Statement
+    ensures { result ≡ Statement.Find form nothing }
+{
+    Statement::Find(
+        form,
+        Suppress {
+            types: false,
+            areas: false,
+            sets: 0,
+        },
+    )
+}
+
+/// The set of `OF s SET`, where these are the last words.
+fn of_set(schema: &Schema, left: &mut Tokens) -> Option<SetNo>
+    ensures { IfSome result (λ s. IsOfSet schema.now (tokens false left.old.rest.now) s) }
+{
+    if !takes(left, b"OF") {
+        return None;
+    }
+    let name = plain_word(left)?;
+    if !takes(left, b"SET") {
+        return None;
+    }
+    if !ends(left) {
+        return None;
+    }
+    schema.set(name)
+}
+
+/// FIND KEY k
+fn by_key(schema: &Schema, left: &mut Tokens) -> Option<Statement>
+    ensures { IfSome result (λ s. AreSaid schema.now (plain (codes "FIND") ∷ plain (codes "KEY") ∷ tokens false left.old.rest.now) s) }
+{
+    let text = plain_word(left)?;
+    if !ends(left) {
+        return None;
+    }
+    if !is_key(text) {
+        return None;
+    }
+    match key_fault(schema, text) {
+        Some(_) => None,
+        None => Some(find(Form::Key(key_of(schema, text)))),
+    }
+}
+
+/// FIND n OF s SET
+fn nth(schema: &Schema, word: &[u8], left: &mut Tokens) -> Option<Statement>
+    ensures { IfSome result (λ s. AreSaid schema.now (plain (codes "FIND") ∷ plain word.now ∷ tokens false left.old.rest.now) s) }
+{
+    if !is_signed(word) {
+        return None;
+    }
+    if up_to(999_999, number(without_minus(word))) == 0 {
+        return None;
+    }
+    let set = of_set(schema, left)?;
+    Some(find(Form::InSet {
+        which: Which::Nth(signed(word)),
+        rtype: None,
+        set,
+    }))
+}
+
+/// FIND SORTED v OF s SET
+fn by_sort_key(
+    alloc: Global,
+    schema: &Schema,
+    left: &mut Tokens,
+) -> Result<Option<Statement>, AllocError>
+    ensures { IfOk result (λ found. IfSome found (λ s. AreSaid schema.now (plain (codes "FIND") ∷ plain (codes "SORTED") ∷ tokens false left.old.rest.now) s)) }
+{
+    let Some(token) = left.next() else {
+        return Ok(None);
+    };
+    if !Kind::Value.fits(token) {
+        return Ok(None);
+    }
+    let Some(set) = of_set(schema, left) else {
+        return Ok(None);
+    };
+    if !is_sorted(schema.order_of(set)) {
+        return Ok(None);
+    }
+    let Some(picture) = sort_picture(schema, set) else {
+        return Ok(None);
+    };
+    match spelled(alloc, picture, token)? {
+        None => Ok(None),
+        Some(value) => Ok(Some(find(Form::Sorted { value, set }))),
+    }
+}
+
+/// FIND by a key, by a sort key or by a number in a set
+fn usual_find(
+    alloc: Global,
+    schema: &Schema,
+    left: &mut Tokens,
+) -> Result<Option<Statement>, AllocError>
+    ensures { IfOk result (λ found. IfSome found (λ s. AreSaid schema.now (plain (codes "FIND") ∷ tokens false left.old.rest.now) s)) }
+{
+    let Some(word) = plain_word(left) else {
+        return Ok(None);
+    };
+    if word == b"KEY".as_slice() {
+        Ok(by_key(schema, left))
+    } else if word == b"SORTED".as_slice() {
+        by_sort_key(alloc, schema, left)
+    } else {
+        Ok(nth(schema, word, left))
+    }
+}
+
+/// The word behind `=`, where it can be a value.
+fn value_word<'a>(left: &mut Tokens<'a>) -> Option<Token<'a>>
+    ensures words { IfSome result (λ t. tokens false left.old.rest.now ≡ equals ∷ view t ∷ tokens false left.new.rest.now) }
+    ensures fitting { IfSome result (λ t. fits value (view t) ≡ true) }
+{
+    match left.next() {
+        Some(Token::Equals) => {}
+        _ => return None,
+    }
+    let token = left.next()?;
+    if Kind::Value.fits(token) {
+        Some(token)
+    } else {
+        None
+    }
+}
+
+/// The value of an item that was named last, by `= v`; none where this is no value of it.
+fn value_behind(alloc: Global, left: &mut Tokens, item: &Item) -> Result<Option<Value>, AllocError>
+    ensures { IfOk result (λ found. IfSome found (λ v. IsGiven item.now (plain item.now.name ∷ tokens false left.old.rest.now) (tokens false left.new.rest.now) v)) }
+{
+    if item.name.as_slice() == b"SUPPRESS".as_slice() {
+        return Ok(None);
+    }
+    match value_word(left) {
+        None => Ok(None),
+        Some(token) => spelled(alloc, item.picture, token),
+    }
+}
+
+/// The value of an item, its blank where it is not named next; none where it is, and its value is wrong.
+fn next_value(alloc: Global, left: &mut Tokens, item: &Item) -> Result<Option<Value>, AllocError>
+    ensures { IfOk result (λ found. IfSome found (λ v. IsAssigned item.now (tokens false left.old.rest.now) (tokens false left.new.rest.now) v)) }
+{
+    let mut ahead = *left;
+    if !takes(&mut ahead, item.name.as_slice()) {
+        return Ok(Some(blank(alloc, item.picture)?));
+    }
+    *left = ahead;
+    value_behind(alloc, left, item)
+}
+
+/// The number of an item of this name, if it is the one that is expected: of equal names the first counts.
+fn item_at(schema: &Schema, rtype: RecordNo, name: &[u8], expected: usize) -> Option<ItemNo>
+    ensures number { IfSome result (λ n. n ≡ expected) }
+    ensures named { IfSome result (λ n. item_named schema.now rtype name.now ≡ Some expected) }
+{
+    let item = schema.item(rtype, name)?;
+    if item.index() as usize == expected {
+        Some(item)
+    } else {
+        None
+    }
+}
+
+/// The values of a record of this type, where the words that are left name its items in their order.
+fn usual_values(
+    alloc: Global,
+    schema: &Schema,
+    rtype: RecordNo,
+    left: &mut Tokens,
+) -> Result<Option<Vec<Value>>, AllocError>
+    ensures { IfOk result (λ found. IfSome found (λ vs. AreAssigned schema.now rtype 0 (item_list schema.now rtype) (tokens false left.old.rest.now) vs.items)) }
+{
+    let items = schema.items(rtype);
+    let mut values = Vec::with_capacity(alloc, items.len())?;
+    for (i, item) in items.iter().enumerate() {
+        let Some(_) = item_at(schema, rtype, item.name.as_slice(), i) else {
+            return Ok(None);
+        };
+        match next_value(alloc, left, item)? {
+            None => return Ok(None),
+            Some(value) => values.push(value)?,
+        }
+    }
+    if ends(left) {
+        Ok(Some(values))
+    } else {
+        Ok(None)
+    }
+}
+
+/// STORE r i = v ..
+fn usual_store(
+    alloc: Global,
+    schema: &Schema,
+    left: &mut Tokens,
+) -> Result<Option<Statement>, AllocError>
+    ensures { IfOk result (λ found. IfSome found (λ s. AreSaid schema.now (plain (codes "STORE") ∷ tokens false left.old.rest.now) s)) }
+{
+    let Some(name) = plain_word(left) else {
+        return Ok(None);
+    };
+    let Some(rtype) = schema.rtype(name) else {
+        return Ok(None);
+    };
+    // Without items the line is likely to come again, and is worth keeping.
+    let mut ahead = *left;
+    if ends(&mut ahead) {
+        return Ok(None);
+    }
+    match usual_values(alloc, schema, rtype, left)? {
+        None => Ok(None),
+        Some(values) => Ok(Some(Statement::Store {
+            rtype,
+            items: Row::of(values),
+            suppress: Suppress {
+                types: false,
+                areas: false,
+                sets: 0,
+            },
+        })),
+    }
+}
+
+fn by_words(
+    alloc: Global,
+    schema: &Schema,
+    left: &mut Tokens,
+) -> Result<Option<Statement>, AllocError>
+    ensures { IfOk result (λ found. IfSome found (λ s. AreSaid schema.now (tokens false left.old.rest.now) s)) }
+{
+    let Some(word) = plain_word(left) else {
+        return Ok(None);
+    };
+    if word == b"STORE".as_slice() {
+        usual_store(alloc, schema, left)
+    } else if word == b"FIND".as_slice() {
+        usual_find(alloc, schema, left)
+    } else {
+        Ok(None)
+    }
+}
+
+/// The statement of a line of a usual form without a fault; of some such lines none.
+pub fn usual_statement(
+    alloc: Global,
+    schema: &Schema,
+    line: &[u8],
+) -> Result<Option<Statement>, AllocError>
+    ensures { IfOk result (λ found. IfSome found (λ s. (count : ℕ) → count < 65535 → Says schema.now count line.now s)) }
+{
+    if !is_statement(line) {
+        return Ok(None);
+    }
+    if !is_allowed(line) {
+        return Ok(None);
+    }
+    if ends_in_text(line) {
+        return Ok(None);
+    }
+    by_words(alloc, schema, &mut Tokens { rest: line })
+}
