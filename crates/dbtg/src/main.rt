@@ -17,7 +17,7 @@ mod writing;
 
 use clap::error::ErrorKind;
 use dbtg_command::check::check;
-use dbtg_command::draw::{Form, draw};
+use dbtg_command::draw::draw;
 use dbtg_command::explain::{Topic, explained};
 use dbtg_command::reason::reason;
 use dbtg_command::{Call, Fault, Files, Named, Order, Paths, call_of, read_schema, status_of};
@@ -94,7 +94,7 @@ fn told_of(rt: &HostRuntime, fault: &Fault, paths: &Paths, explains: bool) -> Ex
 fn printed(rt: &HostRuntime, files: &Files<HostRuntime>, call: &Call) -> Result<Vec<u8>, Fault> {
     let alloc = rt.alloc();
     match call.named {
-        Named::Draw => draw(alloc, files, if call.svg { Form::Svg } else { Form::Dot }),
+        Named::Draw => draw(alloc, files),
         Named::Replay => replay(alloc, files, call.capacity, call.echo),
         Named::Timeline => timeline(alloc, files, call.capacity, call.svg),
         _ => check(alloc, files),

@@ -1,25 +1,16 @@
 -- What `draw` prints.
 use Rattle.std.specs.Prelude.{ℕ, ◌≡◌, List, None}
-use Rattle.dbtg_schema.specs.Lists.{Lists}
 use Rattle.dbtg_schema.specs.Texts.SchemaFaults.{refusal as schema_refusal}
 use Rattle.dbtg_draw.specs.Dot.{dot_text}
-use Rattle.dbtg_draw.specs.Svg.{svg_text}
-use Rattle.dbtg_command.specs.declared.draw.Form.{Form}
-use Rattle.dbtg_command.specs.declared.draw.Form.TheVariants.{Dot, Svg}
 use Rattle.dbtg_command.specs.declared.place.Place.{Place}
 use Rattle.dbtg_command.specs.declared.place.Place.TheVariants.{Schema}
 use Rattle.dbtg_command.specs.Refusals.{schema_in}
 
--- the diagram of a schema in each form
-abbrev pub drawing : Form → Lists → List ℕ
-drawing Dot schema = dot_text schema
-drawing Svg schema = svg_text schema
-
 -- the text of a schema is not refused, and this is the diagram of the schema
-pub record IsDrawing (form : Form) (text : List ℕ) (out : List ℕ) : Type 0 where
+pub record IsDrawing (text : List ℕ) (out : List ℕ) : Type 0 where
   pub accepted : schema_refusal text ≡ None
-  pub is_text : out ≡ drawing form (schema_in text)
+  pub is_text : out ≡ dot_text (schema_in text)
 
 -- what `draw` prints of a text that is held
-abbrev pub DrawsHeld : (Place → List ℕ → Type 0) → Form → List ℕ → Type 0
-DrawsHeld holds form out = (text : List ℕ) × holds Schema text × IsDrawing form text out
+abbrev pub DrawsHeld : (Place → List ℕ → Type 0) → List ℕ → Type 0
+DrawsHeld holds out = (text : List ℕ) × holds Schema text × IsDrawing text out

@@ -51,13 +51,12 @@ fn check_command<'a>(alloc: Global, name: &'a str) -> Result<Command<'a>, AllocE
 
 // The command `draw`, by the name that its usage shows.
 fn draw_command<'a>(alloc: Global, name: &'a str) -> Result<Command<'a>, AllocError> {
-    let svg = "Draws as SVG, with a layout of its own [default: the language of Graphviz]";
     described(
         alloc,
         name,
-        "Prints the diagram of a schema: record types, and the sets from owner to member",
-        "Examples: dbtg draw --svg shop.schema, dbtg draw shop.schema | dot -Tpng",
-        &[Word::Svg(svg), Word::Explain, Word::Schema(SCHEMA)],
+        "Prints the diagram of a schema, as Graphviz reads it: record types, and the sets from owner to member",
+        "Example: dbtg draw shop.schema | dot -Tsvg > shop.svg",
+        &[Word::Explain, Word::Schema(SCHEMA)],
     )
 }
 

@@ -1,2 +1,1 @@
-pub mod FewBlocks
-pub mod LaidOut
+mod TwoParts

@@ -1,6 +1,2 @@
 pub mod Lines
 pub mod Dot
-pub mod Columns
-pub mod Layout
-pub mod Svg
-pub mod Laws

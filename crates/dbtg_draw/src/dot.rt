@@ -1,15 +1,15 @@
 //! The diagram of a schema in the language of Graphviz. A name that is read in a schema has capital letters, digits and hyphens
-//! alone, and pictures have parentheses beside digits, so that no byte within quotation marks is one to be escaped. Areas, record
-//! types and sets have names of their own, and none is SYSTEM, which is a reserved word: so each box is called by its name.
+//! alone, and pictures have parentheses beside digits, so that no byte within quotation marks is one to be escaped. Record types have
+//! names that differ, and no name has a space, so that each box is called by its name, and each SYSTEM by its set.
 
-ghost use Rattle.dbtg_draw.specs.Dot.{area_node, area_nodes, boxes_text, colour_number, colour_text, dot_text, end_text, front_text, has_system, left_line, legend_text, letters_text, member_edge, member_label, quoted, record_label, record_node, set_edges, system_node, title_text, titled};
-ghost use Rattle.dbtg_draw.specs.Lines.{detail_lines};
+ghost use Rattle.dbtg_draw.specs.Dot.{area_cell, area_cells, cell_text, colour_number, colour_text, dot_text, fill_text, front_text, graph_text, heading_text, item_line, left_line, legend_text, location_text, member_edge, member_label, owner_name, quoted, record_label, record_node, row_text, set_text, style_text, system_name, system_node, table_text, title_text, words_end, words_text};
+ghost use Rattle.dbtg_draw.specs.Lines.{area_name};
 ghost use Rattle.std.specs.List.{flat_map};
-ghost use Rattle.std.specs.Prelude.{◌≡◌, ◌++◌, ◌≤◌, IfOk, OnOk, length};
+ghost use Rattle.std.specs.Prelude.{◌≡◌, ◌++◌, ◌≤◌, IfOk, OnOk, length, option_map};
 
-use crate::lines::{owner_name, push_detail_lines, push_member_line, push_order_line, type_name};
+use crate::lines::{area_name, push_calc, push_item, push_member, push_order, type_name};
 use crate::print::push_number;
-use dbtg_schema::{Area, Member, RecordType, Row, Schema, SetType};
+use dbtg_schema::{Area, AreaNo, Calc, Item, Member, RecordNo, RecordType, Schema, SetType};
 use std::alloc::{AllocError, Global};
 
 #[tactic(auto, unfolding(crate::specs::Dot::quoted))]
@@ -31,39 +31,21 @@ fn push_front(out: &mut Vec<u8>, name: &[u8]) -> Result<(), AllocError>
     out.extend_from_slice(b" {\n")
 }
 
-#[tactic(auto, unfolding(crate::specs::Dot::titled, crate::specs::Dot::quoted))]
-fn push_name_of_schema(out: &mut Vec<u8>, name: &[u8]) -> Result<(), AllocError>
-    ensures { OnOk result (out.new.items ≡ out.old.items ++ titled name.now) }
-{
-    out.extend_from_slice(b"\"SCHEMA ")?;
-    out.extend_from_slice(name)?;
-    out.push(b'"')?;
-    Ok(())
-}
-
-#[tactic(auto, unfolding(crate::specs::Dot::title_text))]
-fn push_title(out: &mut Vec<u8>, name: &[u8]) -> Result<(), AllocError>
-    ensures { OnOk result (out.new.items ≡ out.old.items ++ title_text name.now) }
-{
-    out.extend_from_slice(b"label=")?;
-    push_name_of_schema(out, name)?;
-    out.extend_from_slice(b"\n")?;
-    Ok(())
-}
-
-#[tactic(auto, unfolding(crate::specs::Dot::letters_text))]
-fn push_letters(out: &mut Vec<u8>) -> Result<(), AllocError>
-    ensures { OnOk result (out.new.items ≡ out.old.items ++ letters_text) }
-{
-    out.extend_from_slice(b"graph [labelloc=t fontname=monospace]\nedge [fontname=monospace]\n")
-}
-
-#[tactic(auto, unfolding(crate::specs::Dot::boxes_text))]
-fn push_boxes(out: &mut Vec<u8>) -> Result<(), AllocError>
-    ensures { OnOk result (out.new.items ≡ out.old.items ++ boxes_text) }
+#[tactic(auto, unfolding(crate::specs::Dot::graph_text))]
+fn push_graph(out: &mut Vec<u8>) -> Result<(), AllocError>
+    ensures { OnOk result (out.new.items ≡ out.old.items ++ graph_text) }
 {
     out.extend_from_slice(
-        b"node [shape=record style=filled colorscheme=pastel28 fillcolor=white fontname=monospace]\n",
+        b"graph [rankdir=TB labelloc=t bgcolor=white nodesep=0.2 ranksep=0.35 splines=polyline fontname=monospace fontsize=10]\n",
+    )
+}
+
+#[tactic(auto, unfolding(crate::specs::Dot::style_text))]
+fn push_style(out: &mut Vec<u8>) -> Result<(), AllocError>
+    ensures { OnOk result (out.new.items ≡ out.old.items ++ style_text) }
+{
+    out.extend_from_slice(
+        b"node [shape=record style=filled colorscheme=pastel28 height=0 margin=\"0.06,0.03\" fontname=monospace fontsize=10]\nedge [arrowsize=0.7 fontname=monospace fontsize=10]\n",
     )
 }
 
@@ -78,38 +60,121 @@ fn colour_number(area: u8) -> u64
 fn push_colour(out: &mut Vec<u8>, area: u8) -> Result<(), AllocError>
     ensures { OnOk result (out.new.items ≡ out.old.items ++ colour_text area) }
 {
-    out.extend_from_slice(b" [fillcolor=")?;
-    push_number(out, colour_number(area))?;
-    Ok(())
+    push_number(out, colour_number(area))
 }
 
-#[tactic(auto, unfolding(crate::specs::Dot::left_line))]
-fn push_left_lines(out: &mut Vec<u8>, lines: &[Row<u8>]) -> Result<(), AllocError>
-    ensures { OnOk result (out.new.items ≡ out.old.items ++ flat_map left_line lines.now) }
+#[tactic(auto, unfolding(crate::specs::Dot::cell_text))]
+fn push_cell(out: &mut Vec<u8>) -> Result<(), AllocError>
+    ensures { OnOk result (out.new.items ≡ out.old.items ++ cell_text) }
 {
-    for line in lines {
-        out.extend_from_slice(line.as_slice())?;
-        out.extend_from_slice(b"\\l")?;
+    out.extend_from_slice(b"<td bgcolor=\"/pastel28/")
+}
+
+#[tactic(auto, unfolding(crate::specs::Dot::area_cell))]
+fn push_area(out: &mut Vec<u8>, name: &[u8], area: u8) -> Result<(), AllocError>
+    ensures { OnOk result (out.new.items ≡ out.old.items ++ area_cell name.now area) }
+{
+    push_cell(out)?;
+    push_colour(out, area)?;
+    out.extend_from_slice(b"\">")?;
+    out.extend_from_slice(name)?;
+    out.extend_from_slice(b"</td>\n")
+}
+
+fn push_areas(out: &mut Vec<u8>, areas: &[Area]) -> Result<(), AllocError>
+    requires { length areas.now ≤ 8 }
+    ensures { OnOk result (out.new.items ≡ out.old.items ++ area_cells 0 areas.now) }
+{
+    for (i, area) in areas.iter().enumerate() {
+        push_area(out, area.name.as_slice(), i as u8)?;
     }
     Ok(())
 }
 
-fn push_details(
-    alloc: Global,
-    out: &mut Vec<u8>,
-    schema: &Schema,
-    record: &RecordType,
-) -> Result<(), AllocError>
-    ensures { OnOk result (out.new.items ≡ out.old.items ++ flat_map left_line (detail_lines schema.now record.now)) }
+#[tactic(auto, unfolding(crate::specs::Dot::table_text))]
+fn push_table(out: &mut Vec<u8>) -> Result<(), AllocError>
+    ensures { OnOk result (out.new.items ≡ out.old.items ++ table_text) }
 {
-    let mut lines = Vec::new(alloc);
-    push_detail_lines(alloc, &mut lines, schema, record)?;
-    push_left_lines(out, lines.as_slice())
+    out.extend_from_slice(
+        b"label=<<table border=\"0\" cellborder=\"1\" cellspacing=\"4\">\n<tr><td border=\"0\" colspan=\"",
+    )
+}
+
+#[tactic(auto, unfolding(crate::specs::Dot::row_text))]
+fn push_row(out: &mut Vec<u8>) -> Result<(), AllocError>
+    ensures { OnOk result (out.new.items ≡ out.old.items ++ row_text) }
+{
+    out.extend_from_slice(b"</b></td></tr>\n<tr>\n")
+}
+
+#[tactic(auto, unfolding(crate::specs::Dot::heading_text))]
+fn push_heading(out: &mut Vec<u8>, name: &[u8]) -> Result<(), AllocError>
+    ensures { OnOk result (out.new.items ≡ out.old.items ++ heading_text name.now) }
+{
+    out.extend_from_slice(b"\"><b>SCHEMA ")?;
+    out.extend_from_slice(name)?;
+    Ok(())
+}
+
+#[tactic(auto, unfolding(crate::specs::Dot::title_text))]
+fn push_title(out: &mut Vec<u8>, name: &[u8], areas: usize) -> Result<(), AllocError>
+    ensures { OnOk result (out.new.items ≡ out.old.items ++ title_text name.now areas) }
+{
+    push_table(out)?;
+    push_number(out, areas as u64)?;
+    push_heading(out, name)?;
+    push_row(out)
+}
+
+#[tactic(auto, unfolding(crate::specs::Dot::legend_text))]
+fn push_legend(out: &mut Vec<u8>, schema: &Schema) -> Result<(), AllocError>
+    ensures { OnOk result (out.new.items ≡ out.old.items ++ legend_text schema.now) }
+{
+    push_title(out, schema.name(), schema.areas().len())?;
+    push_areas(out, schema.areas())?;
+    out.extend_from_slice(b"</tr>\n</table>>\n")
+}
+
+#[tactic(auto, unfolding(crate::specs::Dot::left_line))]
+fn push_location(out: &mut Vec<u8>, items: &[Item], calc: Option<&Calc>) -> Result<(), AllocError>
+    ensures { OnOk result (out.new.items ≡ out.old.items ++ location_text items.now (option_map (λ c. c.now) calc.entry)) }
+{
+    match calc {
+        None => Ok(()),
+        Some(calc) => {
+            push_calc(out, items, calc)?;
+            out.extend_from_slice(b"\\l")
+        }
+    }
+}
+
+#[tactic(auto, unfolding(crate::specs::Dot::left_line))]
+fn push_area_line(out: &mut Vec<u8>, schema: &Schema, area: AreaNo) -> Result<(), AllocError>
+    ensures { OnOk result (out.new.items ≡ out.old.items ++ left_line (area_name schema.now area)) }
+{
+    out.extend_from_slice(area_name(schema, area))?;
+    out.extend_from_slice(b"\\l")
+}
+
+#[tactic(auto, unfolding(crate::specs::Dot::item_line, crate::specs::Dot::left_line))]
+fn push_item_line(out: &mut Vec<u8>, item: &Item) -> Result<(), AllocError>
+    ensures { OnOk result (out.new.items ≡ out.old.items ++ item_line item.now) }
+{
+    push_item(out, item)?;
+    out.extend_from_slice(b"\\l")
+}
+
+fn push_items(out: &mut Vec<u8>, items: &[Item]) -> Result<(), AllocError>
+    ensures { OnOk result (out.new.items ≡ out.old.items ++ flat_map item_line items.now) }
+{
+    for item in items {
+        push_item_line(out, item)?;
+    }
+    Ok(())
 }
 
 #[tactic(auto, unfolding(crate::specs::Dot::record_label, crate::specs::Dot::quoted))]
 fn push_record_label(
-    alloc: Global,
     out: &mut Vec<u8>,
     schema: &Schema,
     record: &RecordType,
@@ -119,29 +184,33 @@ fn push_record_label(
     out.extend_from_slice(b"\"{")?;
     out.extend_from_slice(record.name.as_slice())?;
     out.push(b'|')?;
-    push_details(alloc, out, schema, record)?;
+    push_location(out, record.items.as_slice(), record.calc.as_ref())?;
+    push_area_line(out, schema, record.area)?;
+    out.push(b'|')?;
+    push_items(out, record.items.as_slice())?;
     out.extend_from_slice(b"}\"")
 }
 
+#[tactic(auto, unfolding(crate::specs::Dot::fill_text))]
+fn push_fill(out: &mut Vec<u8>, area: u8) -> Result<(), AllocError>
+    ensures { OnOk result (out.new.items ≡ out.old.items ++ fill_text area) }
+{
+    out.extend_from_slice(b" [fillcolor=")?;
+    push_colour(out, area)
+}
+
 #[tactic(auto, unfolding(crate::specs::Dot::record_node))]
-fn push_record(
-    alloc: Global,
-    out: &mut Vec<u8>,
-    schema: &Schema,
-    record: &RecordType,
-) -> Result<(), AllocError>
+fn push_record(out: &mut Vec<u8>, schema: &Schema, record: &RecordType) -> Result<(), AllocError>
     ensures { OnOk result (out.new.items ≡ out.old.items ++ record_node schema.now record.now) }
 {
     push_quoted(out, record.name.as_slice())?;
-    push_colour(out, record.area.index())?;
+    push_fill(out, record.area.index())?;
     out.extend_from_slice(b" label=")?;
-    push_record_label(alloc, out, schema, record)?;
-    out.extend_from_slice(b"]\n")?;
-    Ok(())
+    push_record_label(out, schema, record)?;
+    out.extend_from_slice(b"]\n")
 }
 
 fn push_records(
-    alloc: Global,
     out: &mut Vec<u8>,
     schema: &Schema,
     records: &[RecordType],
@@ -149,29 +218,62 @@ fn push_records(
     ensures { OnOk result (out.new.items ≡ out.old.items ++ flat_map (record_node schema.now) records.now) }
 {
     for record in records {
-        push_record(alloc, out, schema, record)?;
+        push_record(out, schema, record)?;
     }
     Ok(())
 }
 
-/// Does some set have SYSTEM as its owner?
-pub fn has_system(sets: &[SetType]) -> bool
-    ensures { result ≡ has_system sets.now }
+#[tactic(auto, unfolding(crate::specs::Dot::quoted, crate::specs::Dot::system_name))]
+fn push_quoted_system(out: &mut Vec<u8>, set: &SetType) -> Result<(), AllocError>
+    ensures { OnOk result (out.new.items ≡ out.old.items ++ quoted (system_name set.now)) }
 {
-    sets.iter().any(|set| set.owner.is_none())
-}
-
-#[tactic(auto, unfolding(crate::specs::Dot::system_node, crate::specs::Dot::quoted))]
-fn push_system(out: &mut Vec<u8>, schema: &Schema) -> Result<(), AllocError>
-    ensures { OnOk result (out.new.items ≡ out.old.items ++ system_node schema.now) }
-{
-    if has_system(schema.sets()) {
-        out.extend_from_slice(b"\"SYSTEM\"\n")?;
-    }
+    out.extend_from_slice(b"\"SYSTEM ")?;
+    out.extend_from_slice(set.name.as_slice())?;
+    out.push(b'"')?;
     Ok(())
 }
 
-#[tactic(auto, unfolding(crate::specs::Dot::member_label, crate::specs::Dot::quoted))]
+fn push_system(out: &mut Vec<u8>, set: &SetType, owner: Option<RecordNo>) -> Result<(), AllocError>
+    ensures { OnOk result (out.new.items ≡ out.old.items ++ system_node set.now owner) }
+{
+    match owner {
+        None => {
+            push_quoted_system(out, set)?;
+            out.extend_from_slice(b" [shape=plaintext style=\"\" width=0 label=SYSTEM]\n")
+        }
+        Some(_) => Ok(()),
+    }
+}
+
+fn push_owner(
+    out: &mut Vec<u8>,
+    schema: &Schema,
+    set: &SetType,
+    owner: Option<RecordNo>,
+) -> Result<(), AllocError>
+    ensures { OnOk result (out.new.items ≡ out.old.items ++ quoted (owner_name schema.now set.now owner)) }
+{
+    match owner {
+        None => push_quoted_system(out, set),
+        Some(rtype) => push_quoted(out, type_name(schema, rtype)),
+    }
+}
+
+#[tactic(auto, unfolding(crate::specs::Dot::words_text))]
+fn push_words(out: &mut Vec<u8>) -> Result<(), AllocError>
+    ensures { OnOk result (out.new.items ≡ out.old.items ++ words_text) }
+{
+    out.extend_from_slice(b"<<table border=\"0\"><tr><td balign=\"left\">")
+}
+
+#[tactic(auto, unfolding(crate::specs::Dot::words_end))]
+fn push_words_end(out: &mut Vec<u8>) -> Result<(), AllocError>
+    ensures { OnOk result (out.new.items ≡ out.old.items ++ words_end) }
+{
+    out.extend_from_slice(b"<br/></td></tr></table>>")
+}
+
+#[tactic(auto, unfolding(crate::specs::Dot::member_label))]
 fn push_label(
     out: &mut Vec<u8>,
     schema: &Schema,
@@ -180,12 +282,11 @@ fn push_label(
 ) -> Result<(), AllocError>
     ensures { OnOk result (out.new.items ≡ out.old.items ++ member_label schema.now set.now member.now) }
 {
-    out.push(b'"')?;
-    push_member_line(out, set, member)?;
-    out.extend_from_slice(b"\\n")?;
-    push_order_line(out, schema, set.order, member)?;
-    out.push(b'"')?;
-    Ok(())
+    push_words(out)?;
+    push_member(out, set, member)?;
+    out.extend_from_slice(b"<br/>")?;
+    push_order(out, schema, set.order, member)?;
+    push_words_end(out)
 }
 
 #[tactic(auto, unfolding(crate::specs::Dot::member_edge))]
@@ -197,7 +298,7 @@ fn push_arrow(
 ) -> Result<(), AllocError>
     ensures { OnOk result (out.new.items ≡ out.old.items ++ member_edge schema.now set.now member.now) }
 {
-    push_quoted(out, owner_name(schema, set.owner))?;
+    push_owner(out, schema, set, set.owner)?;
     out.extend_from_slice(b" -> ")?;
     push_quoted(out, type_name(schema, member.rtype))?;
     out.extend_from_slice(b" [label=")?;
@@ -205,74 +306,50 @@ fn push_arrow(
     out.extend_from_slice(b"]\n")
 }
 
-#[tactic(auto, unfolding(crate::specs::Dot::set_edges))]
-fn push_arrows(out: &mut Vec<u8>, schema: &Schema, set: &SetType) -> Result<(), AllocError>
-    ensures { OnOk result (out.new.items ≡ out.old.items ++ set_edges schema.now set.now) }
+fn push_arrows(
+    out: &mut Vec<u8>,
+    schema: &Schema,
+    set: &SetType,
+    members: &[Member],
+) -> Result<(), AllocError>
+    ensures { OnOk result (out.new.items ≡ out.old.items ++ flat_map (member_edge schema.now set.now) members.now) }
 {
-    for member in set.members.as_slice() {
+    for member in members {
         push_arrow(out, schema, set, member)?;
     }
     Ok(())
 }
 
+#[tactic(auto, unfolding(crate::specs::Dot::set_text))]
+fn push_set(out: &mut Vec<u8>, schema: &Schema, set: &SetType) -> Result<(), AllocError>
+    ensures { OnOk result (out.new.items ≡ out.old.items ++ set_text schema.now set.now) }
+{
+    push_system(out, set, set.owner)?;
+    push_arrows(out, schema, set, set.members.as_slice())
+}
+
 fn push_sets(out: &mut Vec<u8>, schema: &Schema, sets: &[SetType]) -> Result<(), AllocError>
-    ensures { OnOk result (out.new.items ≡ out.old.items ++ flat_map (set_edges schema.now) sets.now) }
+    ensures { OnOk result (out.new.items ≡ out.old.items ++ flat_map (set_text schema.now) sets.now) }
 {
     for set in sets {
-        push_arrows(out, schema, set)?;
+        push_set(out, schema, set)?;
     }
     Ok(())
-}
-
-#[tactic(auto, unfolding(crate::specs::Dot::area_node))]
-fn push_area(out: &mut Vec<u8>, name: &[u8], area: u8) -> Result<(), AllocError>
-    ensures { OnOk result (out.new.items ≡ out.old.items ++ area_node name.now area) }
-{
-    push_quoted(out, name)?;
-    push_colour(out, area)?;
-    out.extend_from_slice(b"]\n")
-}
-
-fn push_areas(out: &mut Vec<u8>, areas: &[Area]) -> Result<(), AllocError>
-    requires { length areas.now ≤ 8 }
-    ensures { OnOk result (out.new.items ≡ out.old.items ++ area_nodes 0 areas.now) }
-{
-    for (i, area) in areas.iter().enumerate() {
-        push_area(out, area.name.as_slice(), i as u8)?;
-    }
-    Ok(())
-}
-
-#[tactic(auto, unfolding(crate::specs::Dot::legend_text))]
-fn push_legend(out: &mut Vec<u8>) -> Result<(), AllocError>
-    ensures { OnOk result (out.new.items ≡ out.old.items ++ legend_text) }
-{
-    out.extend_from_slice(b"subgraph cluster_areas {\nlabel=AREAS\n")
-}
-
-#[tactic(auto, unfolding(crate::specs::Dot::end_text))]
-fn push_end(out: &mut Vec<u8>) -> Result<(), AllocError>
-    ensures { OnOk result (out.new.items ≡ out.old.items ++ end_text) }
-{
-    out.extend_from_slice(b"}\n}\n")
 }
 
 #[tactic(auto, unfolding(crate::specs::Dot::dot_text))]
-/// The diagram of a schema: a box for each record type, coloured by its area, one for SYSTEM where it owns a set, an arrow for each
-/// member of each set, and the colours of the areas.
+/// The diagram of a schema: the title over the areas with their colours, a box for each record type, and for each set an arrow from
+/// the owner, or from SYSTEM, to each member.
 pub fn dot_text(alloc: Global, schema: &Schema) -> Result<Vec<u8>, AllocError>
     ensures { IfOk result (λ text. text.items ≡ dot_text schema.now) }
 {
     let mut out = Vec::new(alloc);
     push_front(&mut out, schema.name())?;
-    push_title(&mut out, schema.name())?;
-    push_letters(&mut out)?;
-    push_boxes(&mut out)?;
-    push_system(&mut out, schema)?;
-    push_records(alloc, &mut out, schema, schema.types())?;
+    push_graph(&mut out)?;
+    push_style(&mut out)?;
+    push_legend(&mut out, schema)?;
+    push_records(&mut out, schema, schema.types())?;
     push_sets(&mut out, schema, schema.sets())?;
-    push_legend(&mut out)?;
-    push_areas(&mut out, schema.areas())?;
-    push_end(&mut out)?;
+    out.extend_from_slice(b"}\n")?;
     Ok(out)
 }

@@ -1,5 +1,6 @@
 pub mod Marks
 pub mod Lines
+pub mod Strips
 pub mod Columns
 pub mod Text
 pub mod Svg

@@ -1,5 +1,5 @@
--- The lines of a picture: a line has events of one unit in one statement that come one directly behind another.
-use Rattle.std.specs.Prelude.{ℕ, zero, suc, ◌+◌, ◌-◌, ◌==◌, Bool, ◌&&◌, ◌||◌, nat_lt, List, [], ◌∷◌, ◌++◌, Option, Some, None, length, map, if◌then◌else◌, slice_get, slice_set, unwrap_or}
+-- The lines of a picture: a line has events of one unit in one statement that come one directly behind another, however many.
+use Rattle.std.specs.Prelude.{ℕ, zero, suc, ◌+◌, ◌-◌, ◌==◌, Bool, ◌&&◌, ◌||◌, List, [], ◌∷◌, ◌++◌, Option, Some, None, length, map, if◌then◌else◌, slice_get, unwrap_or}
 use Rattle.dbtg_timeline.specs.declared.event.Event.{Event}
 use Rattle.dbtg_timeline.specs.declared.event.Mark.TheVariants.{Ticket}
 use Rattle.dbtg_timeline.specs.declared.lines.Drawn.{Drawn}
@@ -15,9 +15,9 @@ joins last e = last.unit == e.unit && (last.midway || is_idle last.mark && is_id
 abbrev pub last_of : Line → Event
 last_of l = unwrap_or (slice_get l.more (length l.more - 1)) l.head
 
--- a line has no more than 32 events
+-- the event goes on with the line
 abbrev pub goes_on : Line → Event → Bool
-goes_on l e = nat_lt (length l.more) 31 && joins (last_of l) e
+goes_on l e = joins (last_of l) e
 
 -- a line of one event, with the number of its move
 abbrev pub begun : ℕ → Event → Line
@@ -59,15 +59,6 @@ drawn_in (e ∷ es) = or_later (drawn_by e.mark) (drawn_in es)
 -- what a line draws
 abbrev pub drawn : Line → Option Drawn
 drawn l = drawn_in (l.head ∷ l.more)
-
--- the units in mid-statement, by their numbers from 1, where this one is or is not
-abbrev pub with_lane : List Bool → ℕ → Bool → List Bool
-with_lane lanes zero midway = lanes
-with_lane lanes (suc i) midway = slice_set lanes i midway
-
--- which units are in mid-statement after a line
-abbrev pub after_line : List Bool → Line → List Bool
-after_line lanes l = with_lane lanes l.head.unit (last_of l).midway
 
 -- the text of the statement at a place of a script, a dash where there is none
 abbrev pub label_in : List (List ℕ) → ℕ → List ℕ

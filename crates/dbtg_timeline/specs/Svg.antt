@@ -1,12 +1,14 @@
--- The picture as SVG, of the same lines: moves, lanes, letters, ticket and status, and the text of the statement, in pixels.
-use Rattle.std.specs.Prelude.{ℕ, ◌+◌, ◌*◌, ◌==◌, Bool, true, false, List, [], ◌∷◌, ◌++◌, Option, Some, None, codes, decimal, if◌then◌else◌, length, replicate, take}
+-- The picture as SVG, of the same strips: moves, lanes, letters, ticket and status, and the text of the statement, in pixels.
+use Rattle.std.specs.Prelude.{ℕ, ◌+◌, ◌*◌, ◌==◌, Bool, true, false, List, [], ◌∷◌, ◌++◌, Option, Some, None, codes, decimal, if◌then◌else◌, length, replicate}
 use Rattle.std.specs.List.{flat_map}
 use Rattle.dbtg_timeline.specs.declared.event.Event.{Event}
 use Rattle.dbtg_timeline.specs.declared.lines.Drawn.{Drawn}
-use Rattle.dbtg_timeline.specs.declared.lines.Line.{Line}
-use Rattle.dbtg_timeline.specs.Marks.{is_begin}
+use Rattle.dbtg_timeline.specs.declared.strips.Front.{Front}
+use Rattle.dbtg_timeline.specs.declared.strips.Strip.{Strip}
+use Rattle.dbtg_timeline.specs.Marks.{ticket_letter}
 use Rattle.dbtg_timeline.specs.Columns.{right}
-use Rattle.dbtg_timeline.specs.Lines.{after_line, drawn, label, letters, lines}
+use Rattle.dbtg_timeline.specs.Lines.{lines}
+use Rattle.dbtg_timeline.specs.Strips.{after_strip, strips}
 use Rattle.dbtg_timeline.specs.Text.{legend, second_legend}
 
 -- ---- the parts of an element
@@ -23,7 +25,7 @@ escaped b = if b == 38 then codes "&amp;" else (if b == 60 then codes "&lt;" els
 unfoldable pub words_text : List ℕ → ℕ → ℕ → List ℕ → List ℕ
 words_text kind x y words = codes "<text class='" ++ kind ++ codes "'" ++ place_text x y ++ codes ">" ++ flat_map escaped words ++ codes "</text>\n"
 
--- ---- where things stand: a lane is 16 pixels wide, a letter 9, a line 18 high
+-- ---- where things stand: a lane is 16 pixels wide, a letter 9, a strip 18 high
 
 -- the left edge of the letters, behind the lanes
 abbrev pub letters_left : ℕ → ℕ
@@ -35,29 +37,33 @@ picture_width units = letters_left units + 776
 
 -- the height of the picture
 abbrev pub picture_height : ℕ → ℕ
-picture_height lines = 18 * lines + 84
+picture_height strips = 18 * strips + 84
 
 -- ---- the head
 
--- the opening tag up to the width
+-- the opening tag up to the size
 unfoldable pub open_text : List ℕ
-open_text = codes "<svg xmlns='http://www.w3.org/2000/svg' width='"
+open_text = codes "<svg xmlns='http://www.w3.org/2000/svg' viewBox='0 0 "
 
--- the end of the opening tag, and the title
+-- the end of the opening tag, the title, and the ground, as large as the picture
 unfoldable pub title_text : List ℕ
-title_text = codes "'><title>TIMELINE</title>\n"
+title_text = codes "'><title>TIMELINE</title>\n<rect class='ground' width='100%' height='100%'/>\n"
+
+-- width and height between these texts
+unfoldable pub measures : ℕ → ℕ → List ℕ → List ℕ
+measures width height between = decimal width ++ between ++ decimal height
 
 -- the opening tag with the size, and the title
 unfoldable pub size_text : ℕ → ℕ → List ℕ
-size_text width height = open_text ++ decimal width ++ codes "' height='" ++ decimal height ++ title_text
+size_text width height = open_text ++ measures width height (codes " ") ++ codes "' width='" ++ measures width height (codes "' height='") ++ title_text
 
--- letters, lanes and the kinds of marks, on white
+-- letters, lanes and the kinds of letters, on a light ground
 unfoldable pub style_text : List ℕ
-style_text = codes "<style>svg{background:#fff}text{font:13px monospace}.head,.T{font-weight:bold}.number{text-anchor:end}.own{fill:#4a7ebb}.open{fill:#b8cce4}"
+style_text = codes "<style>text{font:13px monospace;fill:#222}.ground{fill:#fff}.head,.T,.X,.B,.Q{font-weight:bold}.number{text-anchor:end}.own{fill:#2f65a7}.open{fill:#7f9cc0}.T{fill:#067a06}.X{fill:#c00;text-decoration:underline}.B{fill:#a85400}.R,.r{fill:#7a4b9a}.Q{fill:#a0a}.I{fill:#666}\n"
 
--- the colours of the letters
-unfoldable pub colours_text : List ℕ
-colours_text = codes ".T{fill:#080}.B{fill:#c00;font-weight:bold}.R,.r{fill:#c60}.Q{fill:#a0a;font-weight:bold}.I{fill:#999}</style>\n"
+-- the same on a dark ground, where dark is asked for
+unfoldable pub dark_text : List ℕ
+dark_text = codes "@media(prefers-color-scheme:dark){text{fill:#ddd}.ground{fill:#161b22}.own{fill:#6ea8ff}.open{fill:#4f78b0}.T{fill:#5fd35f}.X{fill:#ff7b72}.B{fill:#f0a050}.R,.r{fill:#c9a0f0}.Q{fill:#f080f0}.I{fill:#999}}</style>\n"
 
 -- the numbers of the lanes, from n on
 abbrev pub lane_heads : ℕ → List (List (List ℕ)) → List ℕ
@@ -90,46 +96,48 @@ abbrev pub line_lane : Bool → ℕ → ℕ → List ℕ
 line_lane true x y = begun_lane x y
 line_lane false x y = own_lane x y
 
--- another unit in mid-statement
+-- another unit in mid-statement: thin, in the middle of the lane
 unfoldable pub open_lane : ℕ → ℕ → List ℕ
-open_lane x y = codes "<rect class='open'" ++ place_text x y ++ codes " width='8' height='18'/>\n"
+open_lane x y = codes "<rect class='open'" ++ place_text (x + 3) y ++ codes " width='2' height='18'/>\n"
 
 -- a lane: of the unit of the line, of another in mid-statement, or of one between statements
-abbrev pub lane_text : Event → Bool → Bool → ℕ → ℕ → List ℕ
-lane_text head true midway x y = line_lane (is_begin head.mark) x y
-lane_text head false true x y = open_lane x y
-lane_text head false false x y = []
+abbrev pub lane_text : Bool → Bool → Bool → ℕ → ℕ → List ℕ
+lane_text begins true midway x y = line_lane begins x y
+lane_text begins false true x y = open_lane x y
+lane_text begins false false x y = []
 
 -- from lane n on
-abbrev pub lanes_text : Event → ℕ → ℕ → List Bool → List ℕ
-lanes_text head top n [] = []
-lanes_text head top n (midway ∷ lanes) = lane_text head (n == head.unit) midway (104 + 16 * n) top ++ lanes_text head top (n + 1) lanes
+abbrev pub lanes_text : Strip → ℕ → ℕ → List Bool → List ℕ
+lanes_text s top n [] = []
+lanes_text s top n (midway ∷ lanes) = lane_text s.begins (n == s.unit) midway (104 + 16 * n) top ++ lanes_text s top (n + 1) lanes
 
 -- a letter a text, of the kind that the letter says
 abbrev pub letters_text : ℕ → ℕ → List ℕ → List ℕ
 letters_text x y [] = []
 letters_text x y (c ∷ cs) = words_text (c ∷ []) x y (c ∷ []) ++ letters_text (x + 9) y cs
 
--- ticket and status, where one is drawn
+-- ticket and status, where one is drawn; the status is of the kind of the ticket's letter
 unfoldable pub drawn_text : ℕ → ℕ → Option Drawn → List ℕ
 drawn_text left y None = []
-drawn_text left y (Some d) = words_text (codes "number") (left + 344) y (decimal d.ticket) ++ words_text (codes "T") (left + 360) y (right 48 4 (decimal d.status))
+drawn_text left y (Some d) =
+    words_text (codes "number") (left + 344) y (decimal d.ticket) ++ words_text (ticket_letter d.status ∷ []) (left + 360) y (right 48 4 (decimal d.status))
 
--- the number of the first move, and the unit
-unfoldable pub front_text : ℕ → Line → List ℕ
-front_text y l = words_text (codes "number") 64 y (decimal l.first) ++ words_text (codes "number") 104 y (decimal l.head.unit)
+-- the number of the first move, the unit, and what the line draws
+unfoldable pub front_text : ℕ → ℕ → ℕ → Option Front → List ℕ
+front_text left y unit None = []
+front_text left y unit (Some f) =
+    words_text (codes "number") 64 y (decimal f.first) ++ words_text (codes "number") 104 y (decimal unit) ++ drawn_text left y f.drawn
 
--- a line: lanes, move and unit, letters, ticket and status, and the beginning of the text of the statement
-unfoldable pub line_text : List (List (List ℕ)) → List Bool → ℕ → Line → List ℕ
-line_text scripts lanes top l =
-    lanes_text l.head top 1 lanes ++ front_text (top + 13) l ++ letters_text (letters_left (length scripts)) (top + 13) (letters l)
-    ++ drawn_text (letters_left (length scripts)) (top + 13) (drawn l)
-    ++ words_text (codes "statement") (letters_left (length scripts) + 424) (top + 13) (take 42 (label scripts l.head.unit l.head.place))
+-- a strip: lanes, move and unit, ticket and status, letters, and words of the statement
+unfoldable pub strip_text : ℕ → List Bool → ℕ → Strip → List ℕ
+strip_text left lanes top s =
+    lanes_text s top 1 lanes ++ front_text left (top + 13) s.unit s.front ++ letters_text left (top + 13) s.letters
+    ++ words_text (codes "statement") (left + 424) (top + 13) s.words
 
 -- one below another
-abbrev pub lines_text : List (List (List ℕ)) → List Bool → ℕ → List Line → List ℕ
-lines_text scripts lanes top [] = []
-lines_text scripts lanes top (l ∷ ls) = line_text scripts lanes top l ++ lines_text scripts (after_line lanes l) (top + 18) ls
+abbrev pub strips_text : ℕ → List Bool → ℕ → List Strip → List ℕ
+strips_text left lanes top [] = []
+strips_text left lanes top (s ∷ ss) = strip_text left lanes top s ++ strips_text left (after_strip lanes s) (top + 18) ss
 
 -- ---- the whole
 
@@ -137,12 +145,16 @@ lines_text scripts lanes top (l ∷ ls) = line_text scripts lanes top l ++ lines
 unfoldable pub end_text : ℕ → List ℕ
 end_text top = words_text (codes "legend") 16 (top + 22) legend ++ words_text (codes "legend") 16 (top + 40) second_legend ++ codes "</svg>\n"
 
--- the picture of these lines
-unfoldable pub drawn_lines : List (List (List ℕ)) → List Line → List ℕ
-drawn_lines scripts lines =
-    size_text (picture_width (length scripts)) (picture_height (length lines)) ++ style_text ++ colours_text ++ front_heads (letters_left (length scripts)) ++ back_heads (letters_left (length scripts)) ++ lane_heads 1 scripts
-    ++ lines_text scripts (replicate (length scripts) false) 32 lines ++ end_text (32 + 18 * length lines)
+-- everything above the strips
+unfoldable pub top_text : List (List (List ℕ)) → ℕ → List ℕ
+top_text scripts count =
+    size_text (picture_width (length scripts)) (picture_height count) ++ style_text ++ dark_text ++ front_heads (letters_left (length scripts)) ++ back_heads (letters_left (length scripts)) ++ lane_heads 1 scripts
+
+-- the picture of these strips
+unfoldable pub drawn_strips : List (List (List ℕ)) → List Strip → List ℕ
+drawn_strips scripts strips =
+    top_text scripts (length strips) ++ strips_text (letters_left (length scripts)) (replicate (length scripts) false) 32 strips ++ end_text (32 + 18 * length strips)
 
 -- the whole picture of these events, with a lane for each script
 unfoldable pub timeline_svg : List (List (List ℕ)) → List Event → List ℕ
-timeline_svg scripts events = drawn_lines scripts (lines events)
+timeline_svg scripts events = drawn_strips scripts (strips scripts (lines events))

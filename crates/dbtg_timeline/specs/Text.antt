@@ -1,10 +1,12 @@
--- The picture as plain text: a line of column heads, the lines of the events, and what the letters mean.
-use Rattle.std.specs.Prelude.{ℕ, ◌+◌, ◌==◌, Bool, true, false, List, [], ◌∷◌, ◌++◌, Option, Some, None, codes, decimal, length, replicate, take}
+-- The picture as plain text: a line of column heads, the strips of the lines, and what the letters mean.
+use Rattle.std.specs.Prelude.{ℕ, ◌+◌, ◌==◌, Bool, true, false, List, [], ◌∷◌, ◌++◌, Option, Some, None, codes, decimal, length, option_and_then, replicate, if◌then◌else◌}
 use Rattle.dbtg_timeline.specs.declared.event.Event.{Event}
 use Rattle.dbtg_timeline.specs.declared.lines.Drawn.{Drawn}
-use Rattle.dbtg_timeline.specs.declared.lines.Line.{Line}
+use Rattle.dbtg_timeline.specs.declared.strips.Front.{Front}
+use Rattle.dbtg_timeline.specs.declared.strips.Strip.{Strip}
 use Rattle.dbtg_timeline.specs.Columns.{left, right}
-use Rattle.dbtg_timeline.specs.Lines.{after_line, drawn, label, letters, lines}
+use Rattle.dbtg_timeline.specs.Lines.{lines}
+use Rattle.dbtg_timeline.specs.Strips.{after_strip, strips}
 
 -- the numbers of the lanes, from n on
 abbrev pub lane_heads : ℕ → List (List (List ℕ)) → List ℕ
@@ -40,29 +42,35 @@ drawn_text None = codes "                "
 drawn_text (Some d) = right 32 7 (decimal d.ticket) ++ codes "   " ++ right 48 4 (decimal d.status) ++ codes "  "
 
 -- the number of the first move, and the unit
-unfoldable pub front_text : Line → List ℕ
-front_text l = right 32 8 (decimal l.first) ++ right 32 5 (decimal l.head.unit)
+unfoldable pub front_text : ℕ → Option Front → List ℕ
+front_text unit None = codes "             "
+front_text unit (Some f) = right 32 8 (decimal f.first) ++ right 32 5 (decimal unit)
 
--- the letters, on 32 columns
-unfoldable pub letters_text : Line → List ℕ
-letters_text l = 32 ∷ left 32 (letters l)
+-- what the line draws stands in its first strip
+abbrev pub drawn_of : Option Front → Option Drawn
+drawn_of front = option_and_then (λ (f : Front). f.drawn) front
 
--- the beginning of the text of the statement
-unfoldable pub label_text : List (List (List ℕ)) → Line → List ℕ
-label_text scripts l = take 42 (label scripts l.head.unit l.head.place) ++ codes "\n"
+-- the letters on 32 columns, ticket and status, and words of the statement
+unfoldable pub columns_text : List ℕ → Option Front → List ℕ → List ℕ
+columns_text letters front words = left 32 letters ++ drawn_text (drawn_of front) ++ words
 
--- a line of events
-unfoldable pub line_text : List (List (List ℕ)) → List Bool → Line → List ℕ
-line_text scripts lanes l = front_text l ++ lanes_text l.head.unit 1 lanes ++ letters_text l ++ drawn_text (drawn l) ++ label_text scripts l
+-- behind the first strip, letters without words stand alone
+abbrev pub rest_text : List ℕ → Option Front → List ℕ → List ℕ
+rest_text letters (Some f) words = columns_text letters (Some f) words
+rest_text letters None words = if length words == 0 then letters else columns_text letters None words
 
--- the lines, each with the lanes that the one before leaves
-abbrev pub lines_text : List (List (List ℕ)) → List Bool → List Line → List ℕ
-lines_text scripts lanes [] = []
-lines_text scripts lanes (l ∷ ls) = line_text scripts lanes l ++ lines_text scripts (after_line lanes l) ls
+-- a strip
+unfoldable pub strip_text : List Bool → Strip → List ℕ
+strip_text lanes s = front_text s.unit s.front ++ lanes_text s.unit 1 lanes ++ codes " " ++ rest_text s.letters s.front s.words ++ codes "\n"
+
+-- the strips, each with the lanes that the one before leaves
+abbrev pub strips_text : List Bool → List Strip → List ℕ
+strips_text lanes [] = []
+strips_text lanes (s ∷ ss) = strip_text lanes s ++ strips_text (after_strip lanes s) ss
 
 -- what the letters mean
 unfoldable pub legend : List ℕ
-legend = codes "b begin, a take area, c take cell, T ticket, l link, p put back, v leave area"
+legend = codes "b begin, a take area, c take cell, T ticket, X ticket of a refusal, l link, p put back, v leave area"
 
 -- what the other letters mean
 unfoldable pub second_legend : List ℕ
@@ -71,4 +79,4 @@ second_legend = codes "R turn back, r put back in turning back, Q quit, B blocke
 -- the whole text of these events, with a lane for each script
 unfoldable pub timeline_text : List (List (List ℕ)) → List Event → List ℕ
 timeline_text scripts events =
-    head_text scripts ++ lines_text scripts (replicate (length scripts) false) (lines events) ++ legend ++ codes "\n" ++ second_legend ++ codes "\n"
+    head_text scripts ++ strips_text (replicate (length scripts) false) (strips scripts (lines events)) ++ legend ++ codes "\n" ++ second_legend ++ codes "\n"

@@ -1,6 +1,6 @@
 //! What a move of a run came to, as the picture shows it.
 ghost use Rattle.std.specs.Prelude.{◌≡◌};
-ghost use Rattle.dbtg_timeline.specs.Marks.{is_begin, is_idle, letter};
+ghost use Rattle.dbtg_timeline.specs.Marks.{is_begin, is_idle, letter, ticket_letter};
 
 /// The event that a move made, or why it made none. A ticket is shown with its number and the statement's status.
 #[derive(Clone, Copy, Debug, PartialEq, Eq)]
@@ -31,6 +31,13 @@ pub struct Event {
     pub midway: bool,
 }
 
+/// The letter of a ticket: refused statements have another.
+pub fn ticket_letter(status: u16) -> u8
+    ensures { result ≡ ticket_letter status }
+{
+    if status == 0 { b'T' } else { b'X' }
+}
+
 /// The letter that stands for a mark.
 pub fn letter(mark: Mark) -> u8
     ensures { result ≡ letter mark }
@@ -41,7 +48,7 @@ pub fn letter(mark: Mark) -> u8
         Mark::TakeCell => b'c',
         Mark::TurnBack => b'R',
         Mark::Return => b'r',
-        Mark::Ticket { .. } => b'T',
+        Mark::Ticket { status, .. } => ticket_letter(status),
         Mark::Link => b'l',
         Mark::PutBack => b'p',
         Mark::LeaveArea => b'v',

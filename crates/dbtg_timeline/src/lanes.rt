@@ -1,8 +1,8 @@
 //! Which units are in mid-statement.
 ghost use Rattle.std.specs.Prelude.{◌≡◌, false, length, replicate, IfOk};
-ghost use Rattle.dbtg_timeline.specs.Lines.{after_line};
+ghost use Rattle.dbtg_timeline.specs.Strips.{after_strip};
 
-use crate::lines::Line;
+use crate::strips::Strip;
 use std::alloc::{AllocError, Global};
 
 /// Before the first move none is.
@@ -16,12 +16,12 @@ pub fn opening_lanes(alloc: Global, units: usize) -> Result<Vec<bool>, AllocErro
     Ok(lanes)
 }
 
-/// A line was drawn: marks whether its last event left the unit in mid-statement.
-pub fn pass(lanes: &mut Vec<bool>, line: &Line)
-    ensures { lanes.new.items ≡ after_line lanes.old.items line.now }
+/// A strip was drawn: marks whether its line left the unit in mid-statement.
+pub fn pass(lanes: &mut Vec<bool>, strip: &Strip)
+    ensures { lanes.new.items ≡ after_strip lanes.old.items strip.now }
 {
-    let unit = line.head.unit as usize;
+    let unit = strip.unit as usize;
     if 0 < unit && unit <= lanes.len() {
-        lanes[unit - 1] = line.last().midway;
+        lanes[unit - 1] = strip.midway;
     }
 }

@@ -5,6 +5,7 @@ mod columns;
 mod event;
 mod lanes;
 mod lines;
+mod strips;
 mod svg;
 mod text;
 mod watching;

@@ -52,7 +52,7 @@ impl Line {
     fn goes_on(&self, event: &Event) -> bool
         ensures { result ≡ goes_on self.now event.now }
     {
-        self.more.len() < 31 && joins(self.last(), event)
+        joins(self.last(), event)
     }
 
     /// The letters of its marks.

@@ -1,14 +1,14 @@
-//! The picture as SVG, of the same lines as the plain text.
+//! The picture as SVG, of the same strips as the plain text.
 ghost use Rattle.std.specs.Prelude.{◌≡◌, ◌++◌, ◌+◌, ◌*◌, ◌^◌, ◌<◌, IfOk, OnOk, decimal, length};
 ghost use Rattle.std.specs.List.{flat_map};
-ghost use Rattle.dbtg_timeline.specs.Lines.{drawn, letters};
-ghost use Rattle.dbtg_timeline.specs.Svg.{back_heads, begun_lane, colours_text, drawn_lines, drawn_text, end_text, escaped, front_heads, front_text, lane_heads, lane_text, lanes_text, letters_left, letters_text, line_text, lines_text, open_lane, open_text, own_lane, place_text, size_text, style_text, timeline_svg, title_text, words_text};
+ghost use Rattle.dbtg_timeline.specs.Svg.{back_heads, begun_lane, dark_text, drawn_strips, drawn_text, end_text, escaped, front_heads, front_text, lane_heads, lane_text, lanes_text, letters_left, letters_text, measures, open_lane, open_text, own_lane, place_text, size_text, strip_text, strips_text, style_text, timeline_svg, title_text, top_text, words_text};
 
 use crate::columns::{push_number, push_right_number};
-use crate::event::{Event, is_begin};
+use crate::event::{Event, ticket_letter};
 use crate::lanes::{opening_lanes, pass};
-use crate::lines::{Drawn, Line, label, lines_of};
-use crate::text::{beginning, push_legend, push_second_legend};
+use crate::lines::{Drawn, lines_of};
+use crate::strips::{Strip, strips_of};
+use crate::text::{push_legend, push_second_legend};
 use dbtg_schema::Row;
 use itoa::Buffer;
 use std::alloc::{AllocError, Global};
@@ -85,14 +85,30 @@ fn push_words_of_number(
 fn push_open(out: &mut Vec<u8>) -> Result<(), AllocError>
     ensures { OnOk result (out.new.items ≡ out.old.items ++ open_text) }
 {
-    out.extend_from_slice(b"<svg xmlns='http://www.w3.org/2000/svg' width='")
+    out.extend_from_slice(b"<svg xmlns='http://www.w3.org/2000/svg' viewBox='0 0 ")
 }
 
 #[tactic(auto, unfolding(crate::specs::Svg::title_text))]
 fn push_title(out: &mut Vec<u8>) -> Result<(), AllocError>
     ensures { OnOk result (out.new.items ≡ out.old.items ++ title_text) }
 {
-    out.extend_from_slice(b"'><title>TIMELINE</title>\n")
+    out.extend_from_slice(
+        b"'><title>TIMELINE</title>\n<rect class='ground' width='100%' height='100%'/>\n",
+    )
+}
+
+#[tactic(auto, unfolding(crate::specs::Svg::measures))]
+fn push_measures(
+    out: &mut Vec<u8>,
+    width: u128,
+    height: u128,
+    between: &[u8],
+) -> Result<(), AllocError>
+    ensures { OnOk result (out.new.items ≡ out.old.items ++ measures width height between.now) }
+{
+    push_number(out, width)?;
+    out.extend_from_slice(between)?;
+    push_number(out, height)
 }
 
 #[tactic(auto, unfolding(crate::specs::Svg::size_text))]
@@ -100,9 +116,9 @@ fn push_size(out: &mut Vec<u8>, width: u128, height: u128) -> Result<(), AllocEr
     ensures { OnOk result (out.new.items ≡ out.old.items ++ size_text width height) }
 {
     push_open(out)?;
-    push_number(out, width)?;
-    out.extend_from_slice(b"' height='")?;
-    push_number(out, height)?;
+    push_measures(out, width, height, b" ")?;
+    out.extend_from_slice(b"' width='")?;
+    push_measures(out, width, height, b"' height='")?;
     push_title(out)
 }
 
@@ -111,16 +127,16 @@ fn push_style(out: &mut Vec<u8>) -> Result<(), AllocError>
     ensures { OnOk result (out.new.items ≡ out.old.items ++ style_text) }
 {
     out.extend_from_slice(
-        b"<style>svg{background:#fff}text{font:13px monospace}.head,.T{font-weight:bold}.number{text-anchor:end}.own{fill:#4a7ebb}.open{fill:#b8cce4}",
+        b"<style>text{font:13px monospace;fill:#222}.ground{fill:#fff}.head,.T,.X,.B,.Q{font-weight:bold}.number{text-anchor:end}.own{fill:#2f65a7}.open{fill:#7f9cc0}.T{fill:#067a06}.X{fill:#c00;text-decoration:underline}.B{fill:#a85400}.R,.r{fill:#7a4b9a}.Q{fill:#a0a}.I{fill:#666}\n",
     )
 }
 
-#[tactic(auto, unfolding(crate::specs::Svg::colours_text))]
-fn push_colours(out: &mut Vec<u8>) -> Result<(), AllocError>
-    ensures { OnOk result (out.new.items ≡ out.old.items ++ colours_text) }
+#[tactic(auto, unfolding(crate::specs::Svg::dark_text))]
+fn push_dark(out: &mut Vec<u8>) -> Result<(), AllocError>
+    ensures { OnOk result (out.new.items ≡ out.old.items ++ dark_text) }
 {
     out.extend_from_slice(
-        b".T{fill:#080}.B{fill:#c00;font-weight:bold}.R,.r{fill:#c60}.Q{fill:#a0a;font-weight:bold}.I{fill:#999}</style>\n",
+        b"@media(prefers-color-scheme:dark){text{fill:#ddd}.ground{fill:#161b22}.own{fill:#6ea8ff}.open{fill:#4f78b0}.T{fill:#5fd35f}.X{fill:#ff7b72}.B{fill:#f0a050}.R,.r{fill:#c9a0f0}.Q{fill:#f080f0}.I{fill:#999}}</style>\n",
     )
 }
 
@@ -177,26 +193,28 @@ fn push_begun_lane(out: &mut Vec<u8>, x: u128, y: u128) -> Result<(), AllocError
 
 #[tactic(auto, unfolding(crate::specs::Svg::open_lane))]
 fn push_open_lane(out: &mut Vec<u8>, x: u128, y: u128) -> Result<(), AllocError>
+    requires { x < 2 ^ 90 }
     ensures { OnOk result (out.new.items ≡ out.old.items ++ open_lane x y) }
 {
     out.extend_from_slice(b"<rect class='open'")?;
-    push_place(out, x, y)?;
-    out.extend_from_slice(b" width='8' height='18'/>\n")
+    push_place(out, x + 3, y)?;
+    out.extend_from_slice(b" width='2' height='18'/>\n")
 }
 
 fn push_lane(
     out: &mut Vec<u8>,
-    head: &Event,
+    begins: bool,
     is_own: bool,
     midway: bool,
     x: u128,
     y: u128,
 ) -> Result<(), AllocError>
-    requires { y < 2 ^ 90 }
-    ensures { OnOk result (out.new.items ≡ out.old.items ++ lane_text head.now is_own midway x y) }
+    requires left { x < 2 ^ 90 }
+    requires top { y < 2 ^ 90 }
+    ensures { OnOk result (out.new.items ≡ out.old.items ++ lane_text begins is_own midway x y) }
 {
     if is_own {
-        if is_begin(head.mark) {
+        if begins {
             push_begun_lane(out, x, y)
         } else {
             push_own_lane(out, x, y)
@@ -208,14 +226,14 @@ fn push_lane(
     }
 }
 
-fn push_lanes(out: &mut Vec<u8>, head: &Event, top: u128, lanes: &[bool]) -> Result<(), AllocError>
+fn push_lanes(out: &mut Vec<u8>, strip: &Strip, top: u128, lanes: &[bool]) -> Result<(), AllocError>
     requires { top < 2 ^ 90 }
-    ensures { OnOk result (out.new.items ≡ out.old.items ++ lanes_text head.now top 1 lanes.now) }
+    ensures { OnOk result (out.new.items ≡ out.old.items ++ lanes_text strip.now top 1 lanes.now) }
 {
     let mut n: u128 = 1;
     for midway in lanes {
-        let is_own = n == head.unit as u128;
-        push_lane(out, head, is_own, *midway, 104 + 16 * n, top)?;
+        let is_own = n == strip.unit as u128;
+        push_lane(out, strip.begins, is_own, *midway, 104 + 16 * n, top)?;
         n += 1;
     }
     Ok(())
@@ -251,17 +269,31 @@ fn push_drawn(
             push_words_of_number(out, b"number", left + 344, y, drawn.ticket as u128)?;
             let mut status = Vec::new(alloc);
             push_right_number(&mut status, b'0', 4, drawn.status as u64)?;
-            push_words(out, b"T", left + 360, y, status.as_slice())
+            let kind = [ticket_letter(drawn.status)];
+            push_words(out, &kind, left + 360, y, status.as_slice())
         }
     }
 }
 
 #[tactic(auto, unfolding(crate::specs::Svg::front_text))]
-fn push_front(out: &mut Vec<u8>, y: u128, line: &Line) -> Result<(), AllocError>
-    ensures { OnOk result (out.new.items ≡ out.old.items ++ front_text y line.now) }
+fn push_front(
+    alloc: Global,
+    out: &mut Vec<u8>,
+    left: u128,
+    y: u128,
+    strip: &Strip,
+) -> Result<(), AllocError>
+    requires { left < 2 ^ 90 }
+    ensures { OnOk result (out.new.items ≡ out.old.items ++ front_text left y strip.now.unit strip.now.front) }
 {
-    push_words_of_number(out, b"number", 64, y, line.first as u128)?;
-    push_words_of_number(out, b"number", 104, y, line.head.unit as u128)
+    match strip.front {
+        None => Ok(()),
+        Some(front) => {
+            push_words_of_number(out, b"number", 64, y, front.first as u128)?;
+            push_words_of_number(out, b"number", 104, y, strip.unit as u128)?;
+            push_drawn(alloc, out, left, y, front.drawn)
+        }
+    }
 }
 
 fn letters_left(units: usize) -> u128
@@ -271,48 +303,46 @@ fn letters_left(units: usize) -> u128
     120 + 16 * units as u128
 }
 
-#[tactic(auto, unfolding(crate::specs::Svg::line_text))]
-fn push_line(
+#[tactic(auto, unfolding(crate::specs::Svg::strip_text))]
+fn push_strip(
     alloc: Global,
     out: &mut Vec<u8>,
-    scripts: &[Row<Row<u8>>],
+    left: u128,
     lanes: &[bool],
     top: u128,
-    line: &Line,
+    strip: &Strip,
 ) -> Result<(), AllocError>
-    requires { top < 2 ^ 90 }
-    ensures { OnOk result (out.new.items ≡ out.old.items ++ line_text scripts.now lanes.now top line.now) }
+    requires left { left < 2 ^ 90 }
+    requires top { top < 2 ^ 90 }
+    ensures { OnOk result (out.new.items ≡ out.old.items ++ strip_text left lanes.now top strip.now) }
 {
-    let left = letters_left(scripts.len());
-    let letters = line.letters(alloc)?;
-    let label = label(scripts, line.head.unit, line.head.place);
-    push_lanes(out, &line.head, top, lanes)?;
-    push_front(out, top + 13, line)?;
-    push_letters(out, left, top + 13, letters.as_slice())?;
-    push_drawn(alloc, out, left, top + 13, line.drawn())?;
+    push_lanes(out, strip, top, lanes)?;
+    push_front(alloc, out, left, top + 13, strip)?;
+    push_letters(out, left, top + 13, strip.letters.as_slice())?;
     push_words(
         out,
         b"statement",
         left + 424,
         top + 13,
-        beginning(label, 42),
+        strip.words.as_slice(),
     )
 }
 
-fn push_lines(
+fn push_strips(
     alloc: Global,
     out: &mut Vec<u8>,
-    scripts: &[Row<Row<u8>>],
+    left: u128,
     opening: Vec<bool>,
-    lines: &[Line],
+    strips: &[Strip],
 ) -> Result<(), AllocError>
-    ensures { OnOk result (out.new.items ≡ out.old.items ++ lines_text scripts.now opening.items 32 lines.now) }
+    requires { left < 2 ^ 90 }
+    ensures { OnOk result (out.new.items ≡ out.old.items ++ strips_text left opening.items 32 strips.now) }
 {
     let mut lanes = opening;
     let mut top = 32;
-    for line in lines {
-        push_line(alloc, out, scripts, lanes.as_slice(), top, line)?;
-        pass(&mut lanes, line);
+    for strip in strips {
+        push_strip(alloc, out, left, lanes.as_slice(), top, strip)?;
+        pass(&mut lanes, strip);
         top += 18;
     }
     Ok(())
@@ -332,25 +362,32 @@ fn push_end(alloc: Global, out: &mut Vec<u8>, top: u128) -> Result<(), AllocErro
     out.extend_from_slice(b"</svg>\n")
 }
 
-#[tactic(auto, unfolding(crate::specs::Svg::drawn_lines))]
-fn push_drawn_lines(
+#[tactic(auto, unfolding(crate::specs::Svg::top_text))]
+fn push_top(out: &mut Vec<u8>, scripts: &[Row<Row<u8>>], count: usize) -> Result<(), AllocError>
+    ensures { OnOk result (out.new.items ≡ out.old.items ++ top_text scripts.now count) }
+{
+    let left = letters_left(scripts.len());
+    push_size(out, left + 776, 18 * count as u128 + 84)?;
+    push_style(out)?;
+    push_dark(out)?;
+    push_front_heads(out, left)?;
+    push_back_heads(out, left)?;
+    push_lane_heads(out, scripts)
+}
+
+#[tactic(auto, unfolding(crate::specs::Svg::drawn_strips))]
+fn push_drawn_strips(
     alloc: Global,
     out: &mut Vec<u8>,
     scripts: &[Row<Row<u8>>],
-    lines: &[Line],
+    strips: &[Strip],
 ) -> Result<(), AllocError>
-    ensures { OnOk result (out.new.items ≡ out.old.items ++ drawn_lines scripts.now lines.now) }
+    ensures { OnOk result (out.new.items ≡ out.old.items ++ drawn_strips scripts.now strips.now) }
 {
-    let left = letters_left(scripts.len());
     let lanes = opening_lanes(alloc, scripts.len())?;
-    push_size(out, left + 776, 18 * lines.len() as u128 + 84)?;
-    push_style(out)?;
-    push_colours(out)?;
-    push_front_heads(out, left)?;
-    push_back_heads(out, left)?;
-    push_lane_heads(out, scripts)?;
-    push_lines(alloc, out, scripts, lanes, lines)?;
-    push_end(alloc, out, 32 + 18 * lines.len() as u128)
+    push_top(out, scripts, strips.len())?;
+    push_strips(alloc, out, letters_left(scripts.len()), lanes, strips)?;
+    push_end(alloc, out, 32 + 18 * strips.len() as u128)
 }
 
 #[tactic(auto, unfolding(crate::specs::Svg::timeline_svg))]
@@ -364,6 +401,7 @@ pub fn timeline_svg(
 {
     let mut out = Vec::new(alloc);
     let lines = lines_of(alloc, events)?;
-    push_drawn_lines(alloc, &mut out, scripts, lines.as_slice())?;
+    let strips = strips_of(alloc, scripts, lines.as_slice())?;
+    push_drawn_strips(alloc, &mut out, scripts, strips.as_slice())?;
     Ok(out)
 }

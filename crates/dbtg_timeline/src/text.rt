@@ -1,12 +1,12 @@
 //! The picture as plain text. Its lines have at most 120 columns while moves have no more than 8 digits.
-ghost use Rattle.std.specs.Prelude.{◌≡◌, ◌++◌, ◌+◌, ◌<◌, IfOk, OnOk, length, take};
-ghost use Rattle.dbtg_timeline.specs.Lines.{drawn};
-ghost use Rattle.dbtg_timeline.specs.Text.{drawn_text, events_head, front_head, front_text, head_text, label_text, lane_heads, lane_mark, lanes_text, legend, letters_text, line_text, lines_text, second_legend, timeline_text};
+ghost use Rattle.std.specs.Prelude.{◌≡◌, ◌++◌, ◌+◌, ◌<◌, IfOk, OnOk, length};
+ghost use Rattle.dbtg_timeline.specs.Text.{columns_text, drawn_of, drawn_text, events_head, front_head, front_text, head_text, lane_heads, lane_mark, lanes_text, legend, rest_text, second_legend, strip_text, strips_text, timeline_text};
 
 use crate::columns::{push_left, push_number, push_right_number};
 use crate::event::Event;
 use crate::lanes::{opening_lanes, pass};
-use crate::lines::{Drawn, Line, label, lines_of};
+use crate::lines::{Drawn, lines_of};
+use crate::strips::{Front, Strip, strips_of};
 use dbtg_schema::Row;
 use std::alloc::{AllocError, Global};
 
@@ -87,73 +87,82 @@ fn push_drawn(out: &mut Vec<u8>, drawn: Option<Drawn>) -> Result<(), AllocError>
 }
 
 #[tactic(auto, unfolding(crate::specs::Text::front_text))]
-fn push_front(out: &mut Vec<u8>, line: &Line) -> Result<(), AllocError>
-    ensures { OnOk result (out.new.items ≡ out.old.items ++ front_text line.now) }
+fn push_front(out: &mut Vec<u8>, unit: u8, front: Option<Front>) -> Result<(), AllocError>
+    ensures { OnOk result (out.new.items ≡ out.old.items ++ front_text unit front) }
 {
-    push_right_number(out, b' ', 8, line.first as u64)?;
-    push_right_number(out, b' ', 5, line.head.unit as u64)
-}
-
-/// The first bytes of a text, at most this many.
-pub fn beginning(text: &[u8], most: usize) -> &[u8]
-    ensures { result.now ≡ take most text.now }
-{
-    if text.len() <= most {
-        text
-    } else {
-        &text[..most]
+    match front {
+        None => out.extend_from_slice(b"             "),
+        Some(front) => {
+            push_right_number(out, b' ', 8, front.first as u64)?;
+            push_right_number(out, b' ', 5, unit as u64)
+        }
     }
 }
 
-#[tactic(auto, unfolding(crate::specs::Text::letters_text))]
-fn push_letters(alloc: Global, out: &mut Vec<u8>, line: &Line) -> Result<(), AllocError>
-    ensures { OnOk result (out.new.items ≡ out.old.items ++ letters_text line.now) }
+fn drawn_of(front: Option<Front>) -> Option<Drawn>
+    ensures { result ≡ drawn_of front }
 {
-    let letters = line.letters(alloc)?;
-    out.push(b' ')?;
-    push_left(out, 32, letters.as_slice())
+    front?.drawn
 }
 
-#[tactic(auto, unfolding(crate::specs::Text::label_text))]
-fn push_label(out: &mut Vec<u8>, scripts: &[Row<Row<u8>>], line: &Line) -> Result<(), AllocError>
-    ensures { OnOk result (out.new.items ≡ out.old.items ++ label_text scripts.now line.now) }
+#[tactic(auto, unfolding(crate::specs::Text::columns_text))]
+fn push_columns(
+    out: &mut Vec<u8>,
+    letters: &[u8],
+    front: Option<Front>,
+    words: &[u8],
+) -> Result<(), AllocError>
+    ensures { OnOk result (out.new.items ≡ out.old.items ++ columns_text letters.now front words.now) }
 {
-    let text = label(scripts, line.head.unit, line.head.place);
-    out.extend_from_slice(beginning(text, 42))?;
+    push_left(out, 32, letters)?;
+    push_drawn(out, drawn_of(front))?;
+    out.extend_from_slice(words)
+}
+
+fn push_rest(
+    out: &mut Vec<u8>,
+    letters: &[u8],
+    front: Option<Front>,
+    words: &[u8],
+) -> Result<(), AllocError>
+    ensures { OnOk result (out.new.items ≡ out.old.items ++ rest_text letters.now front words.now) }
+{
+    match front {
+        Some(_) => push_columns(out, letters, front, words),
+        None => {
+            if words.is_empty() {
+                out.extend_from_slice(letters)
+            } else {
+                push_columns(out, letters, front, words)
+            }
+        }
+    }
+}
+
+#[tactic(auto, unfolding(crate::specs::Text::strip_text))]
+fn push_strip(out: &mut Vec<u8>, lanes: &[bool], strip: &Strip) -> Result<(), AllocError>
+    ensures { OnOk result (out.new.items ≡ out.old.items ++ strip_text lanes.now strip.now) }
+{
+    push_front(out, strip.unit, strip.front)?;
+    push_lanes(out, strip.unit, lanes)?;
+    out.push(b' ')?;
+    push_rest(
+        out,
+        strip.letters.as_slice(),
+        strip.front,
+        strip.words.as_slice(),
+    )?;
     out.push(b'\n')?;
     Ok(())
 }
 
-#[tactic(auto, unfolding(crate::specs::Text::line_text))]
-fn push_line(
-    alloc: Global,
-    out: &mut Vec<u8>,
-    scripts: &[Row<Row<u8>>],
-    lanes: &[bool],
-    line: &Line,
-) -> Result<(), AllocError>
-    ensures { OnOk result (out.new.items ≡ out.old.items ++ line_text scripts.now lanes.now line.now) }
-{
-    push_front(out, line)?;
-    push_lanes(out, line.head.unit, lanes)?;
-    push_letters(alloc, out, line)?;
-    push_drawn(out, line.drawn())?;
-    push_label(out, scripts, line)
-}
-
-fn push_lines(
-    alloc: Global,
-    out: &mut Vec<u8>,
-    scripts: &[Row<Row<u8>>],
-    opening: Vec<bool>,
-    lines: &[Line],
-) -> Result<(), AllocError>
-    ensures { OnOk result (out.new.items ≡ out.old.items ++ lines_text scripts.now opening.items lines.now) }
+fn push_strips(out: &mut Vec<u8>, opening: Vec<bool>, strips: &[Strip]) -> Result<(), AllocError>
+    ensures { OnOk result (out.new.items ≡ out.old.items ++ strips_text opening.items strips.now) }
 {
     let mut lanes = opening;
-    for line in lines {
-        push_line(alloc, out, scripts, lanes.as_slice(), line)?;
-        pass(&mut lanes, line);
+    for strip in strips {
+        push_strip(out, lanes.as_slice(), strip)?;
+        pass(&mut lanes, strip);
     }
     Ok(())
 }
@@ -163,7 +172,7 @@ pub fn push_legend(out: &mut Vec<u8>) -> Result<(), AllocError>
     ensures { OnOk result (out.new.items ≡ out.old.items ++ legend) }
 {
     out.extend_from_slice(
-        b"b begin, a take area, c take cell, T ticket, l link, p put back, v leave area",
+        b"b begin, a take area, c take cell, T ticket, X ticket of a refusal, l link, p put back, v leave area",
     )
 }
 
@@ -185,9 +194,10 @@ pub fn timeline_text(
 {
     let mut out = Vec::new(alloc);
     let lines = lines_of(alloc, events)?;
+    let strips = strips_of(alloc, scripts, lines.as_slice())?;
     let lanes = opening_lanes(alloc, scripts.len())?;
     push_head(&mut out, scripts)?;
-    push_lines(alloc, &mut out, scripts, lanes, lines.as_slice())?;
+    push_strips(&mut out, lanes, strips.as_slice())?;
     push_legend(&mut out)?;
     out.push(b'\n')?;
     push_second_legend(&mut out)?;

@@ -1,19 +1,12 @@
-//! Both texts of a schema with one record type, worked out by hand from docs/profile/diagrams.md.
+//! The text of a schema with each kind of line, worked out by hand from docs/profile/diagrams.md.
 
-use dbtg_draw::{dot_text, svg_text};
+use dbtg_draw::dot_text;
 use dbtg_schema::Schema;
 use std::test::*;
 
-const SCHEMA: &[u8] =
-    b"SCHEMA NAME IS A.\nAREA NAME IS M.\nRECORD NAME IS R; WITHIN M.\n  02 I PICTURE IS 9(1).\n";
+const SCHEMA: &[u8] = b"SCHEMA NAME IS A.\nAREA NAME IS M.\nAREA NAME IS N.\nRECORD NAME IS R; LOCATION MODE IS CALC USING I J DUPLICATES ARE NOT ALLOWED; WITHIN M.\n  02 I PICTURE IS 9(1).\n  02 J PICTURE IS X(2).\nRECORD NAME IS Q; WITHIN N.\n  02 K PICTURE IS 9(3).\nSET NAME IS S; ORDER IS SORTED DESCENDING DUPLICATES ARE FIRST; OWNER IS R.\n  MEMBER IS Q OPTIONAL MANUAL; KEY IS K.\nSET NAME IS W; ORDER IS PRIOR; OWNER IS SYSTEM.\n  MEMBER IS R MANDATORY AUTOMATIC.\n";
 
-const DOT: &[u8] = b"digraph \"A\" {\nlabel=\"SCHEMA A\"\ngraph [labelloc=t fontname=monospace]\nedge [fontname=monospace]\nnode [shape=record style=filled colorscheme=pastel28 fillcolor=white fontname=monospace]\n\"R\" [fillcolor=1 label=\"{R|WITHIN M\\lI 9(1)\\l}\"]\nsubgraph cluster_areas {\nlabel=AREAS\n\"M\" [fillcolor=1]\n}\n}\n";
-
-/// What stands behind the styles, which do not depend on the schema.
-const SVG_BOXES: &[u8] = b"<rect class='plain' x='16' y='16' width='80' height='24'/>\n<text x='24' y='32'>SCHEMA A</text>\n<rect class='area0' x='16' y='56' width='80' height='56'/>\n<text x='24' y='72'>R</text>\n<text x='24' y='88'>WITHIN M</text>\n<text x='24' y='104'>I 9(1)</text>\n<rect class='area0' x='16' y='128' width='80' height='24'/>\n<text x='24' y='144'>AREA M</text>\n</svg>\n";
-
-const SVG_HEAD: &[u8] =
-    b"<svg xmlns='http://www.w3.org/2000/svg' width='112' height='168'>\n<title>A</title>\n";
+const DOT: &[u8] = b"digraph \"A\" {\ngraph [rankdir=TB labelloc=t bgcolor=white nodesep=0.2 ranksep=0.35 splines=polyline fontname=monospace fontsize=10]\nnode [shape=record style=filled colorscheme=pastel28 height=0 margin=\"0.06,0.03\" fontname=monospace fontsize=10]\nedge [arrowsize=0.7 fontname=monospace fontsize=10]\nlabel=<<table border=\"0\" cellborder=\"1\" cellspacing=\"4\">\n<tr><td border=\"0\" colspan=\"2\"><b>SCHEMA A</b></td></tr>\n<tr>\n<td bgcolor=\"/pastel28/1\">M</td>\n<td bgcolor=\"/pastel28/2\">N</td>\n</tr>\n</table>>\n\"R\" [fillcolor=1 label=\"{R|CALC (I, J) DN\\lM\\l|I 9(1)\\lJ X(2)\\l}\"]\n\"Q\" [fillcolor=2 label=\"{Q|N\\l|K 9(3)\\l}\"]\n\"R\" -> \"Q\" [label=<<table border=\"0\"><tr><td balign=\"left\">S OM<br/>SORTED DES (K) DF<br/></td></tr></table>>]\n\"SYSTEM W\" [shape=plaintext style=\"\" width=0 label=SYSTEM]\n\"SYSTEM W\" -> \"R\" [label=<<table border=\"0\"><tr><td balign=\"left\">W MA<br/>PRIOR<br/></td></tr></table>>]\n}\n";
 
 fn is_dot(rt: &HostRuntime) -> bool {
     match Schema::read(rt.alloc(), SCHEMA) {
@@ -25,24 +18,7 @@ fn is_dot(rt: &HostRuntime) -> bool {
     }
 }
 
-fn is_svg(rt: &HostRuntime) -> bool {
-    match Schema::read(rt.alloc(), SCHEMA) {
-        Ok(schema) => match svg_text(rt.alloc(), &schema) {
-            Ok(text) => {
-                text.as_slice().starts_with(SVG_HEAD) && text.as_slice().ends_with(SVG_BOXES)
-            }
-            Err(_) => false,
-        },
-        Err(_) => false,
-    }
-}
-
 #[test]
 fn a_schema_is_drawn_for_graphviz(rt: HostRuntime) {
     assert!(rt; is_dot(&rt));
-}
-
-#[test]
-fn a_schema_is_drawn_as_svg(rt: HostRuntime) {
-    assert!(rt; is_svg(&rt));
 }

@@ -11,8 +11,8 @@ use Rattle.dbtg_command.proofs.draw.draw_bytes.Goals as goal
 pub returns-clause-done : goal.returns-clause-done
 returns-clause-done c =
     let schema = c.args.schema.now in
-    IfOk-weaker c.draw.result (λ out. DrawsHeld (StandsIn schema [] Serial) c.args.form out.items) (λ out. IsDrawing c.args.form schema out.items)
-    (λ out held. subst (λ (text : List ℕ). IsDrawing c.args.form text out.items) held.1 held.2) c.draw.ensures.done
+    IfOk-weaker c.draw.result (λ out. DrawsHeld (StandsIn schema [] Serial) out.items) (λ out. IsDrawing schema out.items)
+    (λ out held. subst (λ (text : List ℕ). IsDrawing text out.items) held.1 held.2) c.draw.ensures.done
 
 pub returns-clause-refused : goal.returns-clause-refused
 returns-clause-refused c =

@@ -1,0 +1,145 @@
+//! A line is printed in strips, one below another: the letters are folded, and so is the text of the statement.
+ghost use Rattle.std.specs.Prelude.{◌≡◌, ◌++◌, IfOk, OnOk};
+ghost use Rattle.dbtg_timeline.specs.Strips.{ends, folded, front_of, larger, part_at, strip_at, strips, strips_by, strips_of};
+
+use crate::event::is_begin;
+use crate::lines::{Drawn, Line, label};
+use dbtg_schema::Row;
+use std::alloc::{AllocError, Global};
+
+/// What stands in the first strip of a line alone: the number of its first move, and what it draws.
+#[derive(Clone, Copy, Debug, PartialEq, Eq)]
+pub struct Front {
+    pub first: usize,
+    pub drawn: Option<Drawn>,
+}
+
+/// A strip: its unit, whether the statement begins in it, whether the unit is in mid-statement after the line, a part of the letters
+/// and a part of the statement's text.
+#[derive(Drop)]
+pub struct Strip {
+    pub front: Option<Front>,
+    pub unit: u8,
+    pub begins: bool,
+    pub midway: bool,
+    pub letters: Row<u8>,
+    pub words: Row<u8>,
+}
+
+// Does a part of so many bytes end in front of the next, where so many are left?
+fn ends(width: usize, count: usize, next: u8, left: usize) -> bool
+    ensures { result ≡ ends width count next left }
+{
+    let is_over = width.saturating_sub(count) < left;
+    count == width || (is_over && (next == b' ' && width.saturating_sub(10) < count))
+}
+
+// The parts of a text, none of more bytes than this.
+fn folded(alloc: Global, width: usize, text: &[u8]) -> Result<Row<Row<u8>>, AllocError>
+    ensures { IfOk result (λ parts. parts ≡ folded width text.now) }
+{
+    let mut parts = Vec::new(alloc);
+    let mut part = Vec::new(alloc);
+    for (i, byte) in text.iter().enumerate() {
+        if ends(width, part.len(), *byte, text.len() - i) {
+            parts.push(Row::of(part))?;
+            part = Vec::new(alloc);
+        }
+        part.push(*byte)?;
+    }
+    if !part.is_empty() {
+        parts.push(Row::of(part))?;
+    }
+    Ok(Row::of(parts))
+}
+
+fn part_at(alloc: Global, parts: &[Row<u8>], index: usize) -> Result<Row<u8>, AllocError>
+    ensures { IfOk result (λ part. part ≡ part_at parts.now index) }
+{
+    match parts.get(index) {
+        Some(part) => part.copy(alloc),
+        None => Ok(Row::of(Vec::new(alloc))),
+    }
+}
+
+fn front_of(line: &Line, index: usize) -> Option<Front>
+    ensures { result ≡ front_of line.now index }
+{
+    if index == 0 {
+        Some(Front {
+            first: line.first,
+            drawn: line.drawn(),
+        })
+    } else {
+        None
+    }
+}
+
+fn strip_at(
+    alloc: Global,
+    line: &Line,
+    letters: &[Row<u8>],
+    words: &[Row<u8>],
+    index: usize,
+) -> Result<Strip, AllocError>
+    ensures { IfOk result (λ strip. strip ≡ strip_at line.now letters.now words.now index) }
+{
+    Ok(Strip {
+        front: front_of(line, index),
+        unit: line.head.unit,
+        begins: index == 0 && is_begin(line.head.mark),
+        midway: line.last().midway,
+        letters: part_at(alloc, letters, index)?,
+        words: part_at(alloc, words, index)?,
+    })
+}
+
+fn larger(m: usize, n: usize) -> usize
+    ensures { result ≡ larger m n }
+{
+    if m < n { n } else { m }
+}
+
+fn push_strips_by(
+    alloc: Global,
+    strips: &mut Vec<Strip>,
+    line: &Line,
+    letters: &[Row<u8>],
+    words: &[Row<u8>],
+) -> Result<(), AllocError>
+    ensures { OnOk result (strips.new.items ≡ strips.old.items ++ strips_by line.now letters.now words.now) }
+{
+    for index in 0..larger(letters.len(), words.len()) {
+        strips.push(strip_at(alloc, line, letters, words, index)?)?;
+    }
+    Ok(())
+}
+
+fn push_strips_of(
+    alloc: Global,
+    strips: &mut Vec<Strip>,
+    scripts: &[Row<Row<u8>>],
+    line: &Line,
+) -> Result<(), AllocError>
+    ensures { OnOk result (strips.new.items ≡ strips.old.items ++ strips_of scripts.now line.now) }
+{
+    let all = line.letters(alloc)?;
+    let letters = folded(alloc, 32, all.as_slice())?;
+    let words = folded(alloc, 42, label(scripts, line.head.unit, line.head.place))?;
+    push_strips_by(alloc, strips, line, letters.as_slice(), words.as_slice())
+}
+
+/// The strips of these lines.
+pub fn strips_of(
+    alloc: Global,
+    scripts: &[Row<Row<u8>>],
+    lines: &[Line],
+) -> Result<Vec<Strip>, AllocError>
+    ensures { IfOk result (λ all. all.items ≡ strips scripts.now lines.now) }
+{
+    let mut all = Vec::new(alloc);
+    for line in lines {
+        push_strips_of(alloc, &mut all, scripts, line)?;
+    }
+    Ok(all)
+}
