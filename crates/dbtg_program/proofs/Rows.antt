@@ -7,3 +7,5 @@ pub mod Retry
 pub mod Ends
 pub mod FieldsSaid
 pub mod FaultsFound
+pub mod Entries
+pub mod Bytes
