@@ -16,6 +16,7 @@ mod print;
 mod queries;
 mod reader;
 mod role;
+mod said_words;
 mod sizes;
 mod spelling;
 mod statement;
@@ -39,8 +40,10 @@ pub use laws::{
 pub use moves::{MovesCause, MovesFault, read_moves};
 pub use print::{push_number, push_status};
 pub use reader::{read_script, read_script_line};
+pub use said_words::read_statement_words;
 pub use sizes::{push_echoed_run, push_run, push_schema_line, push_script_line};
 pub use spelling::{behind, in_front, is_number, number};
 pub use texts::{answers_text, push_answer, push_named_answer, push_unit, units_text};
+pub use token::Token;
 pub use turns::{TurnsFault, read_turns};
 pub use word_texts::{moves_words_text, turns_text};

@@ -31,7 +31,7 @@ use dbtg_unit::Statement;
 use std::alloc::{AllocError, Global};
 
 /// Takes the next word: the state behind it, or the fault that the word is.
-fn take<'a>(words: &mut Words<'a>, state: State, token: Token<'a>) -> Result<State, LineFault>
+pub fn take<'a>(words: &mut Words<'a>, state: State, token: Token<'a>) -> Result<State, LineFault>
     ensures schema { OnOk result (words.new.schema ≡ words.old.schema) }
     ensures reached { (left : List SeenToken) → MatchResult result
         (λ next. verdict words.old.schema words.old.words (rest_of state) (view token.entry ∷ left) ≡ verdict words.old.schema words.new.words (rest_of next) left)
@@ -57,7 +57,7 @@ fn take<'a>(words: &mut Words<'a>, state: State, token: Token<'a>) -> Result<Sta
 }
 
 #[tactic(auto, unfolding(crate::specs::Reading::verdict))]
-fn end_of(words: &Words, state: State) -> Option<Cause>
+pub fn end_of(words: &Words, state: State) -> Option<Cause>
     ensures { result ≡ verdict words.now.schema words.now.words (rest_of state) [] }
 {
     if state.may_end() {

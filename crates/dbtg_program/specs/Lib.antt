@@ -1,0 +1,9 @@
+pub mod Values
+pub mod States
+pub mod Conditions
+pub mod Going
+pub mod Views
+pub mod Sentences
+pub mod Grammar
+pub mod Faults
+pub mod Reading

@@ -1,0 +1,15 @@
+-- The state of a program.
+use Rattle.std.specs.Prelude.{ℕ, List, map}
+use Rattle.dbtg_cells.specs.declared.key.Value.{Value}
+use Rattle.dbtg_program.specs.declared.program.Program.{Program}
+use Rattle.dbtg_program.specs.Values.{empty_value}
+
+-- the sentence at which the program stands, from 0; the value of each field; the status of its last statement, 0 before the first
+pub record ProgramState : Type 0 where
+  pub at : ℕ
+  pub values : List Value
+  pub status : ℕ
+
+-- before any sentence
+abbrev pub beginning : Program → ProgramState
+beginning program = record { at = 0; values = map (λ f. empty_value f.picture) program.fields; status = 0 }

@@ -1,0 +1,66 @@
+-- Values as a program has them, and its fields.
+use Rattle.std.specs.Prelude.{ℕ, ◌+◌, ◌-◌, ◌^◌, Bool, false, ◌&&◌, ◌==◌, nat_le, nat_lt, List, [], ◌∷◌, ◌++◌, length, map, take, Option, Some, None, if◌then◌else◌}
+use Rattle.std.specs.List.{range_with_len}
+use Rattle.dbtg_schema.specs.Lists.{Lists}
+use Rattle.dbtg_schema.specs.Lookups.{flatten}
+use Rattle.dbtg_schema.specs.declared.shape.Item.{Item}
+use Rattle.dbtg_schema.specs.declared.shape.RecordType.{RecordType}
+use Rattle.dbtg_schema.specs.declared.shape.Picture.{Picture}
+use Rattle.dbtg_schema.specs.declared.shape.Picture.TheVariants.{Number, Text as TextPicture}
+use Rattle.dbtg_cells.specs.declared.key.Value.{Value}
+use Rattle.dbtg_cells.specs.declared.key.Value.TheVariants.{Num, Text}
+
+-- a byte in front of a text without spaces at its end
+abbrev pub in_front_of : ℕ → List ℕ → List ℕ
+in_front_of b [] = if b == 32 then [] else b ∷ []
+in_front_of b (c ∷ cs) = b ∷ c ∷ cs
+
+-- a text without the spaces at its end
+abbrev pub stripped : List ℕ → List ℕ
+stripped [] = []
+stripped (b ∷ bs) = in_front_of b (stripped bs)
+
+-- a value of the database, as a field has it
+abbrev pub as_field : Value → Value
+as_field (Num n) = Num n
+as_field (Text t) = Text (stripped t)
+
+-- the value of a field before any sentence: 0, or the empty text
+abbrev pub empty_value : Picture → Value
+empty_value (Number n) = Num 0
+empty_value (TextPicture n) = Text []
+
+-- the picture holds the value: no number above its greatest or of more than 18 digits, no longer text
+abbrev pub can_hold : Picture → Value → Bool
+can_hold (Number n) (Num k) = nat_lt k (10 ^ 18) && nat_lt k (10 ^ n)
+can_hold (TextPicture n) (Text t) = nat_le (length t) n
+can_hold (Number n) (Text t) = false
+can_hold (TextPicture n) (Num k) = false
+
+-- what a field has after ADD x, and none of more than 18 digits
+abbrev pub added : Value → Value → Option Value
+added (Num x) (Num f) = if nat_lt (f + x) (10 ^ 18) then Some (Num (f + x)) else None
+added (Num x) (Text f) = None
+added (Text x) f = None
+
+-- what a field has after SUBTRACT x, and none below 0
+abbrev pub subtracted : Value → Value → Option Value
+subtracted (Num x) (Num f) = if nat_le x f then Some (Num (f - x)) else None
+subtracted (Num x) (Text f) = None
+subtracted (Text x) f = None
+
+-- the items of these record types, type behind type
+abbrev pub items_of : List RecordType → List Item
+items_of types = flatten (map (λ t. t.items) types)
+
+-- the number of the first item of record type r, among all items
+abbrev pub first_item : Lists → ℕ → ℕ
+first_item schema r = length (items_of (take r schema.types))
+
+-- the fields of a program that has these counters
+abbrev pub fields_with : Lists → List Item → List Item
+fields_with schema counters = items_of schema.types ++ counters
+
+-- for each record type, the number of its first item
+abbrev pub records_of : Lists → List ℕ
+records_of schema = map (first_item schema) (range_with_len 0 (length schema.types))

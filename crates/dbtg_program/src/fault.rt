@@ -1,0 +1,52 @@
+//! Why a program is refused.
+
+ghost use Rattle.dbtg_program.specs.Faults.{cause_number};
+ghost use Rattle.std.specs.Prelude.{◌≡◌};
+
+use dbtg_script::Cause;
+
+/// What is wrong with a program. Each cause has a number by which it is printed.
+#[derive(Clone, Copy, Debug, PartialEq, Eq)]
+pub enum ProgramCause {
+    /// 1 to 14: as in a script
+    AsInScript(Cause),
+    /// 21: a paragraph that does not stand in the text
+    UnknownParagraph,
+    /// 22: a paragraph that stands there before
+    ParagraphTwice,
+    /// 23: no item and no counter
+    UnknownField,
+    /// 24: a counter that is there before, has the name of a record type, or has no name
+    CounterName,
+    /// 25: a number and a text together, or a text that is added or subtracted
+    TwoKinds,
+    /// 26: a counter behind another sentence
+    CounterBehind,
+    /// 27: counter 65
+    TooManyCounters,
+}
+
+/// A fault of a program: what is wrong, and on which line, from 1.
+#[derive(Clone, Copy, Debug, PartialEq, Eq)]
+pub struct ProgramFault {
+    pub line: u64,
+    pub cause: ProgramCause,
+}
+
+impl ProgramCause {
+    /// The number by which this cause is printed.
+    pub fn number(self) -> u8
+        ensures { result ≡ cause_number self }
+    {
+        match self {
+            ProgramCause::AsInScript(cause) => cause.number(),
+            ProgramCause::UnknownParagraph => 21,
+            ProgramCause::ParagraphTwice => 22,
+            ProgramCause::UnknownField => 23,
+            ProgramCause::CounterName => 24,
+            ProgramCause::TwoKinds => 25,
+            ProgramCause::CounterBehind => 26,
+            ProgramCause::TooManyCounters => 27,
+        }
+    }
+}

@@ -1,0 +1,92 @@
+//! What a program is, as it was read.
+//!
+//! Its fields are numbered from 0: the items of the record types, type behind type as the schema has them, and its counters behind
+//! them. A text in a program is without the spaces at its end.
+
+use dbtg_cells::Value;
+use dbtg_schema::{Item, Row};
+use dbtg_unit::Statement;
+
+/// A value, or the field that has it.
+#[derive(Drop)]
+pub enum Operand {
+    Literal(Value),
+    Field(usize),
+}
+
+/// How two values stand to each other.
+#[derive(Clone, Copy, Debug, PartialEq, Eq)]
+pub enum Relation {
+    Less,
+    Equal,
+    Greater,
+}
+
+/// What IF and ASSERT ask.
+#[derive(Drop)]
+pub enum Condition {
+    Compare {
+        left: Operand,
+        negated: bool,
+        relation: Relation,
+        right: Operand,
+    },
+    Status {
+        negated: bool,
+        code: u16,
+    },
+}
+
+/// A word of a statement. Where a field stands, the literal of its value is meant.
+#[derive(Drop)]
+pub enum Word {
+    Plain(Row<u8>),
+    Equals,
+    Literal(Row<u8>),
+    Field(usize),
+}
+
+/// How a program ends, and in which line.
+#[derive(Clone, Copy, Debug, PartialEq, Eq)]
+pub enum End {
+    /// by STOP, or at the end of its text
+    Stop,
+    /// by an ASSERT that does not hold
+    Assert(u64),
+    /// a value does not fit
+    Size(u64),
+    /// too many sentences one after another were no statement
+    Astray(u64),
+}
+
+/// What a line says that is no note. A jump names the sentence to which it goes.
+#[derive(Drop)]
+pub enum Sentence {
+    /// a paragraph begins, or a counter is named: nothing is done
+    Heading,
+    Statement(Statement),
+    /// a statement with fields
+    Filled(Row<Word>),
+    Move(Operand, usize),
+    Add(Operand, usize),
+    Subtract(Operand, usize),
+    GoTo(usize),
+    If(Condition, usize),
+    Assert(Condition),
+    Stop,
+}
+
+/// A sentence, and the line that it stands in, from 1.
+#[derive(Drop)]
+pub struct Line {
+    pub number: u64,
+    pub sentence: Sentence,
+}
+
+/// A program: its sentences, its fields by their numbers, and the number of the first item of each record type among them.
+#[derive(Drop)]
+pub struct Program {
+    pub lines: Row<Line>,
+    pub fields: Row<Item>,
+    pub records: Row<usize>,
+}

@@ -1,0 +1,88 @@
+//! The statement that words with fields say in a state.
+
+ghost use Rattle.dbtg_program.specs.Going.{read_words, said_word};
+ghost use Rattle.dbtg_program.specs.Views.{digits_of};
+ghost use Rattle.dbtg_script.specs.Tokens.{view};
+ghost use Rattle.std.specs.Prelude.{◌≡◌, IfOk, map};
+
+use crate::borrowed::Borrowed;
+use crate::program::Word;
+use crate::state::State;
+use dbtg_schema::{Row, Schema};
+use dbtg_script::{LineFault, Token, push_number, read_statement_words};
+use dbtg_unit::Statement;
+use std::alloc::{AllocError, Global};
+
+/// The digits of the number that a word stands for, none where it isn't a field that has one.
+fn digits_of(alloc: Global, state: &State, word: &Word) -> Result<Row<u8>, AllocError>
+    ensures { IfOk result (λ digits. digits ≡ digits_of state.now word.now) }
+{
+    let mut digits = Vec::new(alloc);
+    if let Word::Field(field) = word {
+        if let Borrowed::Number(n) = state.field_value(*field) {
+            push_number(&mut digits, n)?;
+        }
+    }
+    Ok(Row::of(digits))
+}
+
+fn digits_of_each(alloc: Global, state: &State, words: &[Word]) -> Result<Vec<Row<u8>>, AllocError>
+    ensures { IfOk result (λ each. each.items ≡ map (digits_of state.now) words.now) }
+{
+    let mut each = Vec::new(alloc);
+    for word in words {
+        each.push(digits_of(alloc, state, word)?)?;
+    }
+    Ok(each)
+}
+
+fn token_of<'a>(state: &'a State, word: &'a Word, digits: &'a [u8]) -> Token<'a>
+    requires { digits.now ≡ digits_of state.now word.now }
+    ensures { view result ≡ said_word state.now word.now }
+{
+    match word {
+        Word::Plain(text) => Token::Plain(text.as_slice()),
+        Word::Equals => Token::Equals,
+        Word::Literal(text) => Token::Literal(text.as_slice()),
+        Word::Field(field) => {
+            match state.field_value(*field) {
+                Borrowed::Number(_) => Token::Plain(digits),
+                Borrowed::Text(text) => Token::Literal(text),
+            }
+        }
+    }
+}
+
+fn tokens_of<'a>(
+    alloc: Global,
+    state: &'a State,
+    words: &'a [Word],
+    digits: &'a [Row<u8>],
+) -> Result<Vec<Token<'a>>, AllocError>
+    requires { digits.now ≡ map (digits_of state.now) words.now }
+    ensures { IfOk result (λ tokens. map view tokens.items ≡ map (said_word state.now) words.now) }
+{
+    let mut tokens = Vec::new(alloc);
+    for (i, word) in words.iter().enumerate() {
+        tokens.push(token_of(state, word, digits[i].as_slice()))?;
+    }
+    Ok(tokens)
+}
+
+/// The statement that a script's reader says these words are in this state; none where a value does not fit.
+pub fn read_filled(
+    alloc: Global,
+    schema: &Schema,
+    state: &State,
+    words: &[Word],
+) -> Result<Option<Statement>, AllocError>
+    ensures { IfOk result (λ s. s ≡ read_words schema.now (map (said_word state.now) words.now)) }
+{
+    let digits = digits_of_each(alloc, state, words)?;
+    let tokens = tokens_of(alloc, state, words, digits.as_slice())?;
+    match read_statement_words(alloc, schema, tokens.as_slice()) {
+        Ok(statement) => Ok(Some(statement)),
+        Err(LineFault::Refused(_)) => Ok(None),
+        Err(LineFault::Memory) => Err(AllocError),
+    }
+}

@@ -1,0 +1,249 @@
+//! The state of a program.
+
+ghost use Rattle.dbtg_program.specs.Conditions.{asked, field_value, holds, is_relation, value_of};
+ghost use Rattle.dbtg_program.specs.Going.{filled, placed, told, with_record};
+ghost use Rattle.dbtg_program.specs.States.{beginning};
+ghost use Rattle.dbtg_program.specs.Values.{as_field, empty_value, stripped};
+ghost use Rattle.dbtg_program.specs.Views.{view};
+ghost use Rattle.std.specs.Prelude.{◌≡◌, ◌+◌, ◌<◌, ◌≤◌, IfOk, OnErr, OnOk, length, map, slice_set, take};
+
+use crate::borrowed::{Borrowed, lent, order};
+use crate::program::{Condition, Operand, Program, Relation};
+use dbtg_cells::{DbKey, Value};
+use dbtg_schema::{Picture, Row};
+use dbtg_unit::{Answer, Statement, Status};
+use std::alloc::{AllocError, Global};
+use std::marker::Model;
+
+/// Where a program is: the sentence at which it stands, the value of each field, the status of its last statement.
+#[derive(Drop)]
+pub struct State {
+    at: usize,
+    values: Vec<Value>,
+    status: u16,
+}
+
+impl Model for State {
+    ghost use Rattle.dbtg_program.specs.States.{ProgramState};
+
+    ghost Value = { ProgramState };
+
+    ghost view = { λ s. record { at = s.at; values = s.values.items; status = s.status } };
+}
+
+fn empty_value(alloc: Global, picture: Picture) -> Value
+    ensures { result ≡ empty_value picture }
+{
+    match picture {
+        Picture::Number(_) => Value::Num(0),
+        Picture::Text(_) => Value::Text(Row::of(Vec::new(alloc))),
+    }
+}
+
+/// How many bytes a text has without the spaces at its end.
+fn stripped_len(text: &[u8]) -> usize
+    ensures within { result ≤ length text.now }
+    ensures stripped { take result text.now ≡ stripped text.now }
+{
+    match text.split_first() {
+        None => 0,
+        Some((b, rest)) => {
+            let len = stripped_len(rest);
+            if len > 0 || *b != b' ' { len + 1 } else { 0 }
+        }
+    }
+}
+
+/// A value of the database, as a field has it.
+fn as_field(alloc: Global, value: &Value) -> Result<Value, AllocError>
+    ensures { IfOk result (λ v. v ≡ as_field value.now) }
+{
+    match value {
+        Value::Num(n) => Ok(Value::Num(*n)),
+        Value::Text(text) => {
+            let bytes = text.as_slice();
+            let len = stripped_len(bytes);
+            Ok(Value::Text(Row::of(Vec::from_slice(alloc, &bytes[..len])?)))
+        }
+    }
+}
+
+fn as_fields(alloc: Global, items: &[Value]) -> Result<Vec<Value>, AllocError>
+    ensures { IfOk result (λ v. v.items ≡ map as_field items.now) }
+{
+    let mut values = Vec::new(alloc);
+    for item in items {
+        values.push(as_field(alloc, item)?)?;
+    }
+    Ok(values)
+}
+
+/// The field gets a value, if there is such a field.
+fn put(fields: &mut [Value], field: usize, value: Value)
+    ensures { fields.new ≡ slice_set fields.old field value }
+{
+    if field < fields.len() {
+        fields[field] = value;
+    }
+}
+
+/// How many values there are.
+fn count(values: &Vec<Value>) -> usize
+    ensures { result ≡ length values.now.items }
+{
+    values.len()
+}
+
+/// The number behind that of one of so many sentences.
+fn behind(at: usize, len: usize) -> usize
+    requires { at < len }
+    ensures { result ≡ at + 1 }
+{
+    at + 1
+}
+
+/// The same of the field that is so many behind the first.
+fn put_behind(fields: &mut [Value], first: usize, behind: usize, value: Value)
+    ensures { fields.new ≡ slice_set fields.old (first + behind) value }
+{
+    if first < fields.len() && behind < fields.len() {
+        put(fields, first + behind, value);
+    }
+}
+
+/// These values in the fields from number `first` on; the last of them is the first to be taken out.
+fn place(fields: &mut [Value], first: usize, mut values: Vec<Value>)
+    ensures { fields.new ≡ placed fields.old first values.items }
+{
+    while let Some(value) = values.pop() {
+        put_behind(fields, first, count(&values), value);
+    }
+}
+
+impl State {
+    /// Before any sentence.
+    pub fn beginning(alloc: Global, program: &Program) -> Result<Self, AllocError>
+        ensures { IfOk result (λ state. state ≡ beginning program.now) }
+    {
+        let mut values = Vec::new(alloc);
+        for field in program.fields.as_slice() {
+            values.push(empty_value(alloc, field.picture))?;
+        }
+        Ok(Self {
+            at: 0,
+            values,
+            status: 0,
+        })
+    }
+
+    /// The number of the sentence at which the program stands, from 0.
+    pub fn at(&self) -> usize
+        ensures { result ≡ self.now.at }
+    {
+        self.at
+    }
+
+    /// The values of all fields.
+    pub fn values(&self) -> &[Value]
+        ensures { result.now ≡ self.now.values }
+    {
+        self.values.as_slice()
+    }
+
+    pub(crate) fn field_value(&self, field: usize) -> Borrowed<'_>
+        ensures { view result ≡ field_value self.now field }
+    {
+        match self.values.get(field) {
+            None => Borrowed::Number(0),
+            Some(value) => lent(value),
+        }
+    }
+
+    pub(crate) fn value_of<'a>(&'a self, operand: &'a Operand) -> Borrowed<'a>
+        ensures { view result ≡ value_of self.now operand.now }
+    {
+        match operand {
+            Operand::Literal(value) => lent(value),
+            Operand::Field(field) => self.field_value(*field),
+        }
+    }
+
+    pub(crate) fn holds(&self, condition: &Condition) -> bool
+        ensures { result ≡ holds self.now condition.now }
+    {
+        match condition {
+            Condition::Compare {
+                left,
+                negated,
+                relation,
+                right,
+            } => {
+                let found = order(self.value_of(left), self.value_of(right));
+                asked(*negated, is_relation(*relation, found))
+            }
+            Condition::Status { negated, code } => asked(*negated, self.status == *code),
+        }
+    }
+
+    /// Goes to a sentence.
+    pub(crate) fn go_to(&mut self, at: usize)
+        ensures { self.new ≡ record self.old { at = at } }
+    {
+        self.at = at;
+    }
+
+    /// The field gets a value.
+    pub(crate) fn put(&mut self, field: usize, value: Value)
+        ensures { self.new ≡ record self.old { values = slice_set self.old.values field value } }
+    {
+        put(self.values.as_mut_slice(), field, value);
+    }
+
+    /// After this answer to the statement that was due. Want of memory leaves the state as it was.
+    pub fn told(
+        &mut self,
+        alloc: Global,
+        program: &Program,
+        statement: &Statement,
+        answer: &Answer,
+    ) -> Result<(), AllocError>
+        requires { self.old.at < length program.now.lines }
+        ensures told { OnOk result (self.new ≡ told program.now self.old statement.now answer.now) }
+        ensures kept { OnErr result (self.new ≡ self.old) }
+    {
+        if let Status::Done = answer.status {
+            self.fill(alloc, program, answer)?;
+        }
+        self.status = answer.status.code(statement);
+        self.at = behind(self.at, program.lines.len());
+        Ok(())
+    }
+
+    /// The fields with the items that the answer has.
+    fn fill(&mut self, alloc: Global, program: &Program, answer: &Answer) -> Result<(), AllocError>
+        ensures filled { OnOk result (self.new ≡ record self.old { values = filled program.now self.old.values answer.now.items answer.now.key }) }
+        ensures kept { OnErr result (self.new ≡ self.old) }
+    {
+        if let Some(items) = &answer.items {
+            if let Some(key) = answer.key {
+                if let Some(first) = program.records.get(key.rtype.index() as usize) {
+                    let values = as_fields(alloc, items.as_slice())?;
+                    place(self.values.as_mut_slice(), *first, values);
+                }
+            }
+        }
+        Ok(())
+    }
+}
+
+fn is_relation(asked: Relation, found: Relation) -> bool
+    ensures { result ≡ is_relation asked found }
+{
+    asked == found
+}
+
+fn asked(negated: bool, test: bool) -> bool
+    ensures { result ≡ asked negated test }
+{
+    test != negated
+}
