@@ -101,8 +101,12 @@ whole table = inl refl
 abbrev left : Image
 left =
     record {
-      records = (customer_key 1, Num 7 ∷ text "ADA     " ∷ []) ∷ []; versions = (customer_key 1, 1) ∷ []; lists = [];
-      next = 2 ∷ []; last = (1 ∷ 0 ∷ []) ∷ []; usage = ((1, Update) ∷ (2, Update) ∷ []) ∷ [];
+      records = (customer_key 1, Num 7 ∷ text "ADA     " ∷ []) ∷ [];
+      versions = (customer_key 1, 1) ∷ [];
+      lists = [];
+      next = 2 ∷ [];
+      last = (1 ∷ 0 ∷ []) ∷ [];
+      usage = ((1, Update) ∷ (2, Update) ∷ []) ∷ [];
     }
 
 abbrev settled : Settled
