@@ -3,7 +3,8 @@
 `file: PATH` names a file of src/, `in: FUNCTION` a function of it (`name` or `Type::name`), and pairs `old: TEXT` and `new: TEXT` say
 what changes: each old text stands exactly once in the file, or in the function that is named. An edit that changes more than bodies of
 functions names in `refused: PATH` the function that has to be refused, as a check names it below the crate. One that tests/edits/NAMED
-lists and that the prover finds no values against names in `test: NAME` a test that fails with the edit in it."""
+lists and that the prover finds no values against names in `test: NAME` a test that fails with the edit in it. One that no contract can
+refuse says why in `unseen: WHY`, and names such a test too; it is not checked."""
 
 import functools
 import glob
@@ -77,12 +78,14 @@ class Edit:
     def __init__(self, path, sources):
         text = text_of(path)
         self.name = path.stem
-        self.refused, self.tests = (re.findall(rf"(?m)^{it}: (\S.*)$", text) for it in ("refused", "test"))
+        self.refused, self.tests, self.unseen = (re.findall(rf"(?m)^{it}: (\S.*)$", text) for it in ("refused", "test", "unseen"))
         self.pieces = list(pieces_of(text, sources))
         inside = [next(((file, f) for f in sources.functions(file) if f.opens <= at and end <= f.end), None) for file, (at, end, _) in self.pieces]
         self.functions, self.left_out = list(dict.fromkeys(filter(None, inside))), {}
-        if not self.pieces or (None in inside) != bool(self.refused):
+        if not self.pieces or not self.unseen and (None in inside) != bool(self.refused):
             raise BadEdit("it changes nothing, or does not name the function that has to be refused where, and only where, it changes more than bodies")
+        if self.unseen and not self.tests:
+            raise BadEdit("no contract sees it, and it names no test")
         self.paths = self.refused or [sources.path(*it) for it in self.functions]
         self.closures = [] if self.refused else [it.closures(module_of(file)) for file, it in self.functions]
         self.proofs = [at for it in self.functions for at in sources.proofs(*it)]

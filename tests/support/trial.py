@@ -55,8 +55,8 @@ class Trial:
         return self
 
     def run(self, wanted):
-        """Tries the edits of these names, in rounds side by side, until each has a verdict."""
-        waiting, tries = self.read(wanted), 0
+        """Tries the edits of these names that a contract can see, in rounds side by side, until each has a verdict."""
+        waiting, tries = [it for it in self.read(wanted) if not it.unseen], 0
         while waiting:
             rounds = in_rounds(waiting) if tries < TOGETHER else [[it] for it in waiting]
             with ThreadPoolExecutor(len(rounds)) as pool:

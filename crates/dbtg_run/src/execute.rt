@@ -132,7 +132,9 @@ impl Work {
     }
 
     // The gate is passed after the last latch is left.
-    fn pass_answered<G: Gate>(&self, gate: &G) {
+    fn pass_answered<G: Gate>(&self, gate: &G)
+        requires idle { (self.now.held.areas ≡ []) × (self.now.held.cells ≡ []) }
+    {
         if let Some(entry) = self.journal.as_slice().last() {
             gate.pass(entry.unit, entry.ticket, Point::Answered);
         }

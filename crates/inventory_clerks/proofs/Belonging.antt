@@ -1,12 +1,9 @@
 -- Units that belong to a database.
-use Rattle.std.proofs.Common.{◌≡◌, ℕ, zero, suc, List, [], ◌∷◌, ◌++◌, All, length, map, Option, Some, refl, sym, ap, subst, arith, get_or, length-append}
+use Rattle.std.proofs.Common.{◌≡◌, zero, suc, List, [], ◌∷◌, ◌++◌, All, length, Option, Some, refl, subst, arith, get_or, length-append}
 use Rattle.std.specs.Prelude.{option_to_list}
-use Rattle.std.specs.List.{range_with_len}
 use Rattle.std.proofs.lemmas.List.{get_or_append_left}
-use Rattle.atomic_table.specs.Seated.{TableId}
-use Rattle.dbtg_run.specs.declared.view.About.{About}
 use Rattle.dbtg_run.specs.declared.database.Database.{Database}
-use Rattle.dbtg_run.specs.UnitView.{BelongsTo, UnitView, opening_view, opening_views}
+use Rattle.dbtg_run.specs.UnitView.{BelongsTo, UnitView}
 
 at_last : (xs : List UnitView) (x d : UnitView) → get_or (xs ++ x ∷ []) (length xs) d ≡ x
 at_last [] x d = refl
@@ -29,19 +26,7 @@ last_two_belong db units others rest second first v u is less second_is first_is
     let part : others ≡ rest ++ u ∷ [] = subst (λ o. others ≡ rest ++ option_to_list o) first_is less in
     (last_belongs db others rest u part (others_belong db units others v whole all), last_belongs db units others v whole all)
 
--- a database for two has as many
-pub opened_two : (table : TableId) (about : About) (units : List UnitView) → units ≡ opening_views table about 2 → length units ≡ 2
-opened_two table about units is = ap length is
-
 pub both_belong : (db : Database) (a b : UnitView) → BelongsTo db a → BelongsTo db b → All (BelongsTo db) (a ∷ b ∷ [])
 both_belong db a b p q zero d below = p
 both_belong db a b p q (suc zero) d below = q
 both_belong db a b p q (suc (suc k)) d below = absurd (omega arith)
-
-views_belong : (db : Database) (numbers : List ℕ) → All (BelongsTo db) (map (opening_view db.board.shared.table_id db.about) numbers)
-views_belong db [] k d below = absurd (omega arith)
-views_belong db (n ∷ numbers) zero d below = record { about = refl; table = refl }
-views_belong db (n ∷ numbers) (suc k) d below = views_belong db numbers k d (omega arith)
-
-pub opened_belong : (db : Database) (units : List UnitView) (count : ℕ) → units ≡ opening_views db.board.shared.table_id db.about count → All (BelongsTo db) units
-opened_belong db units count is = subst (All (BelongsTo db)) (sym is) (views_belong db (range_with_len 1 count))

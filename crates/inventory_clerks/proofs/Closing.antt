@@ -1,5 +1,5 @@
 -- What a settlement tells of the journals of two units.
-use Rattle.std.proofs.Common.{◌≡◌, ◌≢◌, ℕ, ◌+◌, ◌==◌, List, [], ◌∷◌, All, count_by, cond, eqb, inl, inr, Option, refl, sym, ap, ◌∙◌, subst, arith}
+use Rattle.std.proofs.Common.{◌≡◌, ◌≢◌, ℕ, ◌+◌, ◌==◌, List, [], ◌∷◌, count_by, cond, eqb, inl, inr, Option, refl, sym, ap, ◌∙◌, subst, arith}
 use Rattle.std.specs.Prelude.{Result, Ok, Err, IfOk, OnOk, ok_or}
 use Rattle.std.specs.Result.{result_ok}
 use Rattle.dbtg_unit.specs.declared.unit.Entry.{Entry}
@@ -9,8 +9,9 @@ use Rattle.dbtg_run.specs.Settling.{IsSettled}
 use Rattle.dbtg_run.specs.UnitView.{UnitView}
 use Rattle.inventory_clerks.specs.declared.order.Order.{Order}
 use Rattle.inventory_clerks.specs.declared.order.Stop.{Stop}
-use Rattle.inventory_clerks.specs.Orders.{IsFilled}
+use Rattle.inventory_clerks.specs.Orders.{AreFilled}
 use Rattle.inventory_clerks.specs.Staff.{HaveFilled}
+use Rattle.inventory_clerks.proofs.Filling.{filled_in_all}
 
 one_of_two : (a b : ℕ) → (0 + cond (eqb a 1) 1 0) + cond (eqb b 1) 1 0 ≡ 1 → a ≢ b
 one_of_two a b e same =
@@ -22,13 +23,13 @@ apart : (u v : UnitView) → count_by (λ (w : UnitView). w.unit.number == 1) (u
 apart u v once = one_of_two u.unit.number v.unit.number once
 
 pub have_filled : (db : Database) (u v : UnitView) (firsts seconds : List Order) (settled : Settled) → IsSettled db (u ∷ v ∷ []) settled
-    → All (IsFilled u.journal) firsts → All (IsFilled v.journal) seconds → HaveFilled firsts seconds settled
-have_filled db u v firsts seconds settled s p q = let two = s.count in record {
+    → (a b : List Entry) → AreFilled a u.journal firsts → AreFilled b v.journal seconds → HaveFilled firsts seconds settled
+have_filled db u v firsts seconds settled s a b p q = let two = s.count in record {
   one = u.unit.number;
   other = v.unit.number;
   apart = apart u v (s.once 1 (omega arith) (omega arith));
-  by_one = subst (λ (j : List Entry). All (IsFilled j) firsts) (sym (s.journal u (inl refl))) p;
-  by_other = subst (λ (j : List Entry). All (IsFilled j) seconds) (sym (s.journal v (inr (inl refl)))) q;
+  by_one = subst (λ (j : List Entry). AreFilled [] j firsts) (sym (s.journal u (inl refl))) (filled_in_all a u.journal firsts p);
+  by_other = subst (λ (j : List Entry). AreFilled [] j seconds) (sym (s.journal v (inr (inl refl)))) (filled_in_all b v.journal seconds q);
 }
 
 -- what is said of a result where it is there, and it is there
@@ -38,9 +39,9 @@ of_ok (Err e) v is p = absurd cc
 
 -- the same of a settlement that may not come
 pub if_settled : (db : Database) (u v : UnitView) (firsts seconds : List Order) (r : Result Settled Stop) → IfOk r (IsSettled db (u ∷ v ∷ []))
-    → All (IsFilled u.journal) firsts → All (IsFilled v.journal) seconds → IfOk r (HaveFilled firsts seconds)
-if_settled db u v firsts seconds (Ok settled) s p q = have_filled db u v firsts seconds settled s p q
-if_settled db u v firsts seconds (Err stop) s p q = tt
+    → (a b : List Entry) → AreFilled a u.journal firsts → AreFilled b v.journal seconds → IfOk r (HaveFilled firsts seconds)
+if_settled db u v firsts seconds (Ok settled) s a b p q = have_filled db u v firsts seconds settled s a b p q
+if_settled db u v firsts seconds (Err stop) s a b p q = tt
 
 -- what is said of a result where it is there, with another error in the place of its own
 pub ok_or_stop : {T E S : Type 0} (P : T → Type 0) (r : Result T E) (stop : S) (found : Option T) (q : Result T S)

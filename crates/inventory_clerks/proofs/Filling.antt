@@ -1,8 +1,7 @@
 -- Journals that grow by statements, and the orders that are filled in them.
-use Rattle.std.proofs.Common.{◌≡◌, ℕ, zero, suc, ◌+◌, ◌<◌, ◌≤◌, List, [], ◌∷◌, ◌++◌, length, take, get_or, refl, sym, ap, ◌∙◌, subst, arith, append_assoc, All, Bool, true}
+use Rattle.std.proofs.Common.{◌≡◌, ℕ, ◌+◌, ◌<◌, ◌≤◌, List, [], ◌∷◌, ◌++◌, length, take, get_or, refl, sym, ap, ◌∙◌, subst, append_assoc, Bool, true}
 use Rattle.std.specs.Prelude.{Result, Ok, Err, IfOk}
 use Rattle.std.proofs.lemmas.List.{map-append, take_all, take_more}
-use Rattle.std.proofs.lemmas.List.Elements.{All-append}
 use Rattle.dbtg_unit.specs.declared.statement.Statement.{Statement}
 use Rattle.dbtg_unit.specs.declared.statement.Statement.TheVariants.{Keep}
 use Rattle.dbtg_unit.specs.declared.unit.Answer.{Answer}
@@ -12,7 +11,7 @@ use Rattle.dbtg_unit.specs.declared.unit.Unit.{Unit}
 use Rattle.dbtg_run.specs.declared.view.About.{About}
 use Rattle.dbtg_run.specs.Drawn.{IsDone}
 use Rattle.dbtg_run.specs.Kept.{entry}
-use Rattle.inventory_clerks.specs.Orders.{Begins, HasKept, HasMade, HasRead, HasWritten, IsFilled, find_of}
+use Rattle.inventory_clerks.specs.Orders.{AreFilled, Begins, HasKept, HasMade, HasRead, HasWritten, IsFilled, find_of}
 use Rattle.inventory_clerks.specs.declared.order.Order.{Order}
 use Rattle.inventory_clerks.specs.declared.order.Stop.{Stop}
 
@@ -20,25 +19,22 @@ append_none : (xs : List Entry) → xs ≡ xs ++ []
 append_none [] = refl
 append_none (x ∷ xs) = ap (λ l. x ∷ l) (append_none xs)
 
--- the ware is found, kept, read and then changed: the order is filled
-filled_by : (order : Order) (stock : ℕ) (a b c d : List Entry) → HasKept (find_of order.code) a b → HasRead stock b c → HasWritten order stock c d → IsFilled d order
-filled_by order stock a b c d kept read written = record {
+begins_here : (a : List Entry) → Begins a a
+begins_here a = record { more = []; is = append_none a }
+
+-- the ware is found, kept, read and then changed: the order is filled, if that may be done
+pub filled_if : (order : Order) (stock : ℕ) (finding : Statement) (a b c d : List Entry) (r : Result Bool Stop) → finding ≡ find_of order.code
+    → HasKept finding a b → HasRead stock b c → IfOk r (λ done. done ≡ true → HasWritten order stock c d) → IfOk r (λ done. done ≡ true → IsFilled a d order)
+filled_if order stock finding a b c d (Ok done) is kept read written = λ yes. record {
   before = a;
   kept = b;
   read = c;
-  written = d;
-  after = [];
   stock = stock;
-  has_kept = kept;
+  behind = begins_here a;
+  has_kept = subst (λ f. HasKept f a b) is kept;
   has_read = read;
-  has_written = written;
-  journal_is = append_none d;
+  has_written = written yes;
 }
-
--- the same of a change that may not be done
-pub filled_if : (order : Order) (stock : ℕ) (finding : Statement) (a b c d : List Entry) (r : Result Bool Stop) → finding ≡ find_of order.code
-    → HasKept finding a b → HasRead stock b c → IfOk r (λ done. done ≡ true → HasWritten order stock c d) → IfOk r (λ done. done ≡ true → IsFilled d order)
-filled_if order stock finding a b c d (Ok done) is kept read written = λ yes. filled_by order stock a b c d (subst (λ f. HasKept f a b) is kept) read (written yes)
 filled_if order stock finding a b c d (Err stop) is kept read written = tt
 
 pub begins_on : (a b c : List Entry) → Begins a b → Begins b c → Begins a c
@@ -60,20 +56,43 @@ kept_by about a b c u w finding one other D E one_done other_done =
       kept_done = other_done;
     }
 
--- an order that is filled stays so
-pub filled_more : (a b : List Entry) (order : Order) → Begins a b → IsFilled a order → IsFilled b order
-filled_more a b order p f = record {
+-- what stands behind more stands behind less
+pub filled_behind : (a b c : List Entry) (order : Order) → Begins a b → IsFilled b c order → IsFilled a c order
+filled_behind a b c order p f = record {
   before = f.before;
   kept = f.kept;
   read = f.read;
-  written = f.written;
-  after = f.after ++ p.more;
   stock = f.stock;
+  behind = begins_on a b f.before p f.behind;
   has_kept = f.has_kept;
   has_read = f.has_read;
   has_written = f.has_written;
-  journal_is = p.is ∙ (ap (λ l. l ++ p.more) f.journal_is ∙ append_assoc f.written f.after p.more);
 }
+
+pub none_filled : (a : List Entry) → AreFilled a a []
+unfolding AreFilled
+none_filled a = begins_here a
+
+-- one order more
+filled_next : (a b c : List Entry) (orders : List Order) (order : Order) → AreFilled a b orders → IsFilled b c order → AreFilled a c (orders ++ order ∷ [])
+unfolding AreFilled
+filled_next a b c [] order p f = (c, filled_behind a b c order p f, begins_here c)
+filled_next a b c (o ∷ orders) order p f = (p.0, p.1, filled_next p.0 b c orders order p.2 f)
+
+-- one order more of those in a list
+pub filled_more : (a b c : List Entry) (orders : List Order) (i : ℕ) (d : Order) → i < length orders → AreFilled a b (take i orders) → IsFilled b c (get_or orders i d)
+    → AreFilled a c (take (i + 1) orders)
+filled_more a b c orders i d below all filled =
+    subst (AreFilled a c) (sym (take_more orders i d below)) (filled_next a b c (take i orders) (get_or orders i d) all filled)
+
+pub all_filled : (a b : List Entry) (orders : List Order) (i : ℕ) → length orders ≤ i → AreFilled a b (take i orders) → AreFilled a b orders
+all_filled a b orders i end all = subst (AreFilled a b) (take_all i orders end) all
+
+-- behind nothing stands all
+pub filled_in_all : (a b : List Entry) (orders : List Order) → AreFilled a b orders → AreFilled [] b orders
+unfolding AreFilled
+filled_in_all a b [] p = record { more = b; is = refl }
+filled_in_all a b (o ∷ orders) p = (p.0, filled_behind [] a p.0 o (record { more = a; is = refl }) p.1, p.2)
 
 pub none_made : (a : List Entry) → HasMade [] a a
 none_made a = record { made = []; journal = append_none a; statements = refl }
@@ -96,17 +115,3 @@ made_more about statements i a b c u x answer below is m D =
 
 pub all_made : (statements : List Statement) (i : ℕ) (a b : List Entry) → length statements ≤ i → HasMade (take i statements) a b → HasMade statements a b
 all_made statements i a b end m = subst (λ l. HasMade l a b) (take_all i statements end) m
-
-all_one : (journal : List Entry) (order : Order) → IsFilled journal order → All (IsFilled journal) (order ∷ [])
-all_one journal order filled zero d below = filled
-all_one journal order filled (suc k) d below = absurd (omega arith)
-
--- one order more of those in a list
-pub all_more : (a b : List Entry) (orders : List Order) (i : ℕ) (d : Order) → i < length orders → Begins a b → All (IsFilled a) (take i orders)
-    → IsFilled b (get_or orders i d) → All (IsFilled b) (take (i + 1) orders)
-all_more a b orders i d below grown all filled =
-    subst (All (IsFilled b)) (sym (take_more orders i d below))
-    (All-append (IsFilled b) (take i orders) (get_or orders i d ∷ []) (λ k e within. filled_more a b (get_or (take i orders) k e) grown (all k e within)) (all_one b (get_or orders i d) filled))
-
-pub all_filled : (journal : List Entry) (orders : List Order) (i : ℕ) → length orders ≤ i → All (IsFilled journal) (take i orders) → All (IsFilled journal) orders
-all_filled journal orders i end all = subst (All (IsFilled journal)) (take_all i orders end) all

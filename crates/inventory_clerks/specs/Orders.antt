@@ -74,24 +74,27 @@ pub record HasWritten (order : Order) (stock : ℕ) (old new : List Entry) : Typ
   pub left_is : is_after order stock left
   pub changed : HasChanged (change_of left) old new
 
--- in the journal the ware is found, kept, read and then changed, one directly behind another: the change is done, and what it makes
--- of the stock is what the order says of what was read
-pub record IsFilled (journal : List Entry) (order : Order) : Type 0 where
-  pub before : List Entry
-  pub kept : List Entry
-  pub read : List Entry
-  pub written : List Entry
-  pub after : List Entry
-  pub stock : ℕ
-  pub has_kept : HasKept (find_of order.code) before kept
-  pub has_read : HasRead stock kept read
-  pub has_written : HasWritten order stock read written
-  pub journal_is : journal ≡ written ++ after
-
 -- the list begins with the other
 pub record Begins (old new : List Entry) : Type 0 where
   pub more : List Entry
   pub is : new ≡ old ++ more
+
+-- behind the old list the ware is found, kept, read and then changed, one directly behind another, and the new list ends there: the
+-- change is done, and what it makes of the stock is what the order says of what was read
+pub record IsFilled (old new : List Entry) (order : Order) : Type 0 where
+  pub before : List Entry
+  pub kept : List Entry
+  pub read : List Entry
+  pub stock : ℕ
+  pub behind : Begins old before
+  pub has_kept : HasKept (find_of order.code) before kept
+  pub has_read : HasRead stock kept read
+  pub has_written : HasWritten order stock read new
+
+-- behind the old list all orders are filled, in their order: the entries that fill one stand behind those that fill the one before it
+unfoldable pub AreFilled : List Entry → List Entry → List Order → Type 0
+AreFilled old new [] = Begins old new
+AreFilled old new (order ∷ orders) = (filled : List Entry) × IsFilled old filled order × AreFilled filled new orders
 
 -- the statements are made, one after another, and nothing else
 pub record HasMade (script : List Statement) (old new : List Entry) : Type 0 where

@@ -5,7 +5,7 @@ ghost use Rattle.dbtg_unit.specs.declared.unit.Status.TheVariants.{Done};
 ghost use Rattle.dbtg_run.specs.Drawn.{IsDone};
 ghost use Rattle.dbtg_run.specs.Outcomes.{IfDone, IfNotDone};
 ghost use Rattle.dbtg_run.specs.UnitView.{BelongsTo};
-ghost use Rattle.inventory_clerks.specs.Orders.{Begins, HasChanged, HasKept, HasOpened, HasRead, HasWritten, IsFilled};
+ghost use Rattle.inventory_clerks.specs.Orders.{AreFilled, Begins, HasChanged, HasKept, HasOpened, HasRead, HasWritten, IsFilled};
 
 use crate::order::{Order, Stop, change, find, shown_stock, stock_after};
 use dbtg_run::{Database, Outcome, RunUnit};
@@ -185,7 +185,7 @@ fn try_to_fill<R: Wait>(
 ) -> Result<bool, Stop>
     requires belongs { BelongsTo db.now unit.old }
     ensures belongs { BelongsTo db.now unit.new }
-    ensures filled { IfOk result (λ done. done ≡ true → IsFilled unit.new.journal order) }
+    ensures filled { IfOk result (λ done. done ≡ true → IsFilled unit.old.journal unit.new.journal order) }
     ensures grown { Begins unit.old.journal unit.new.journal }
 {
     let finding = find(alloc, order.code)?;
@@ -204,7 +204,7 @@ fn fill<R: Wait>(
 ) -> Result<(), Stop>
     requires belongs { BelongsTo db.now unit.old }
     ensures belongs { BelongsTo db.now unit.new }
-    ensures filled { OnOk result (IsFilled unit.new.journal order) }
+    ensures filled { OnOk result (IsFilled unit.old.journal unit.new.journal order) }
     ensures grown { Begins unit.old.journal unit.new.journal }
 {
     'again: for _ in rt.forever() {
@@ -226,7 +226,7 @@ pub fn work<R: Wait>(
 ) -> (RunUnit, Result<(), Stop>)
     requires belongs { BelongsTo db.now unit }
     ensures belongs { BelongsTo db.now result.0 }
-    ensures filled { OnOk result.1 (All (IsFilled result.0.journal) orders.now) }
+    ensures filled { OnOk result.1 (AreFilled unit.journal result.0.journal orders.now) }
 {
     let mut unit = unit;
     'orders: for order in orders {

@@ -3,7 +3,7 @@ ghost use Rattle.std.specs.Prelude.{◌≡◌, ◌∷◌, [], All, IfOk, IsOk, O
 ghost use Rattle.dbtg_schema.specs.Sound.{IsSound};
 ghost use Rattle.dbtg_run.specs.Settling.{IsSettled};
 ghost use Rattle.dbtg_run.specs.UnitView.{BelongsTo};
-ghost use Rattle.inventory_clerks.specs.Orders.{HasOpened, IsFilled};
+ghost use Rattle.inventory_clerks.specs.Orders.{AreFilled, HasOpened};
 ghost use Rattle.inventory_clerks.specs.Staff.{IsStaffed};
 
 use crate::clerk::{open, work};
@@ -134,18 +134,18 @@ fn side_by_side<R: Threads + Wait + Sync>(
     requires first { BelongsTo db.now first }
     requires second { BelongsTo db.now second }
     ensures belong { BelongsTo db.now result.0.0 × BelongsTo db.now result.1.0 }
-    ensures first { OnOk result.0.1 (All (IsFilled result.0.0.journal) first_orders.now) }
-    ensures second { OnOk result.1.1 (All (IsFilled result.1.0.journal) second_orders.now) }
+    ensures first { OnOk result.0.1 (AreFilled first.journal result.0.0.journal first_orders.now) }
+    ensures second { OnOk result.1.1 (AreFilled second.journal result.1.0.journal second_orders.now) }
 {
     let backs = join(
         rt,
         move || -> Back
             requires { BelongsTo db.now first }
-            ensures { BelongsTo db.entry.now result.0 × OnOk result.1 (All (IsFilled result.0.journal) first_orders.entry.now) }
+            ensures { BelongsTo db.entry.now result.0 × OnOk result.1 (AreFilled first.journal result.0.journal first_orders.entry.now) }
         { work(rt, alloc, db, first, first_orders) },
         move || -> Back
             requires { BelongsTo db.now second }
-            ensures { BelongsTo db.entry.now result.0 × OnOk result.1 (All (IsFilled result.0.journal) second_orders.entry.now) }
+            ensures { BelongsTo db.entry.now result.0 × OnOk result.1 (AreFilled second.journal result.0.journal second_orders.entry.now) }
         { work(rt, alloc, db, second, second_orders) },
     );
     backs
@@ -173,8 +173,8 @@ pub fn fill_orders<R: Threads + Wait + Sync>(
     requires staffed { IsStaffed house }
     ensures staffed { IsStaffed result.0 }
     ensures same { result.0.db ≡ house.db }
-    ensures first { OnOk result.1 (All (IsFilled result.0.first.journal) first_orders.now) }
-    ensures second { OnOk result.1 (All (IsFilled result.0.second.journal) second_orders.now) }
+    ensures first { OnOk result.1 (AreFilled house.first.journal result.0.first.journal first_orders.now) }
+    ensures second { OnOk result.1 (AreFilled house.second.journal result.0.second.journal second_orders.now) }
 {
     let Warehouse { db, first, second } = house;
     let ((first, one), (second, other)) = side_by_side(

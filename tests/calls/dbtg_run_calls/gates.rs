@@ -24,13 +24,29 @@ fn make(alloc: Global, db: &Database, unit: &mut RunUnit, text: &[u8], tries: u3
 // The second unit takes the first one's item to another order.
 const MOVE: &[u8] = b"OPEN AREA MAIN USAGE-MODE IS UPDATE\nOPEN AREA SIDE USAGE-MODE IS UPDATE\nFIND KEY ORDR:2\nFIND KEY ITEM:1 SUPPRESS LINES\nREMOVE FROM LINES\nINSERT INTO LINES\n";
 
-// A database on SHOP with two units that have made their scripts, the second this one.
-fn begun(alloc: Global, second_text: &[u8]) -> Option<(Database, RunUnit, RunUnit)> {
-    let (db, mut units) = Database::make(alloc, Schema::read(alloc, SHOP).ok()?, 10, 2).ok()?;
+// Two areas, and a record type in each, which no set joins.
+const YARD: &[u8] =
+    b"SCHEMA NAME IS YARD.\nAREA NAME IS LEFT.\nAREA NAME IS RIGHT.\nRECORD NAME IS CRATE; WITHIN LEFT.\n  02 N PICTURE IS 9(4).\nRECORD NAME IS BARREL; WITHIN RIGHT.\n  02 N PICTURE IS 9(4).\n";
+
+// Both units of the yard open all of it, and the first stores a crate.
+const OPENS: &[u8] = b"OPEN AREA LEFT USAGE-MODE IS UPDATE\nOPEN AREA RIGHT USAGE-MODE IS UPDATE\n";
+const STORES: &[u8] = b"OPEN AREA LEFT USAGE-MODE IS UPDATE\nOPEN AREA RIGHT USAGE-MODE IS UPDATE\nSTORE CRATE N = 1\n";
+
+// A database, and two units of it.
+type Begun = (Database, RunUnit, RunUnit);
+
+// A database on this schema with two units that have made these scripts.
+fn begun_on(alloc: Global, schema: &[u8], first_text: &[u8], second_text: &[u8]) -> Option<Begun> {
+    let (db, mut units) = Database::make(alloc, Schema::read(alloc, schema).ok()?, 10, 2).ok()?;
     let (mut second, mut first) = (units.pop()?, units.pop()?);
-    make(alloc, &db, &mut first, FIRST, 8)?;
+    make(alloc, &db, &mut first, first_text, 8)?;
     make(alloc, &db, &mut second, second_text, 8)?;
     Some((db, first, second))
+}
+
+// The same on SHOP, where the second's script is this one.
+fn begun(alloc: Global, second_text: &[u8]) -> Option<Begun> {
+    begun_on(alloc, SHOP, FIRST, second_text)
 }
 
 // What a gate was told: whose statement, its ticket, and whether it was the ticket's point.
@@ -68,8 +84,8 @@ impl Gate for Watch<'_> {
 type Seen = (Option<Told>, Option<Told>, bool, bool, u64);
 
 // The first unit makes a statement, and the second one of its own at each of its points.
-fn seen(alloc: Global, first_text: &[u8], second_text: &[u8]) -> Option<Seen> {
-    let (db, mut first, second) = begun(alloc, SECOND)?;
+fn seen(alloc: Global, begun: Option<Begun>, first_text: &[u8], second_text: &[u8]) -> Option<Seen> {
+    let (db, mut first, second) = begun?;
     let statements = script(alloc, &db, first_text)?;
     let watch = Watch {
         alloc,
@@ -87,16 +103,33 @@ fn seen(alloc: Global, first_text: &[u8], second_text: &[u8]) -> Option<Seen> {
 // Twelve statements came before. A DELETE wants its areas alone: it finds them taken at the ticket, and free behind the last latch.
 #[test]
 fn a_gate_is_told_the_ticket_and_nothing_is_held_at_the_answer(rt: HostRuntime) {
-    let seen = seen(rt.alloc(), REMOVE, DELETE);
+    let seen = seen(rt.alloc(), begun(rt.alloc(), SECOND), REMOVE, DELETE);
     assert_eq!(rt; seen, Some((Some((1, 12, true)), Some((1, 12, false)), false, true, 12)));
+}
+
+// Whether the second unit's statement was done at the ticket of the first, and whether at its answer.
+fn done(seen: Option<Seen>) -> Option<(bool, bool)> {
+    let (_, _, at_the_ticket, at_the_answer, _) = seen?;
+    Some((at_the_ticket, at_the_answer))
 }
 
 // GET takes the area of its record, shared. So two units have it at once.
 #[test]
 fn two_units_share_an_area(rt: HostRuntime) {
-    let seen = seen(rt.alloc(), b"GET\n", b"GET\n");
-    let (_, _, at_the_ticket, at_the_answer, _) = seen.unwrap_or((None, None, false, false, 0));
-    assert_eq!(rt; (at_the_ticket, at_the_answer), (true, true));
+    let seen = seen(rt.alloc(), begun(rt.alloc(), SECOND), b"GET\n", b"GET\n");
+    assert_eq!(rt; done(seen), Some((true, true)));
+}
+
+// What the second unit sees of the yard, while the first deletes the crate.
+fn beside_a_delete(alloc: Global, text: &[u8]) -> Option<(bool, bool)> {
+    done(seen(alloc, begun_on(alloc, YARD, STORES, OPENS), DELETE, text))
+}
+
+// The DELETE has the one area alone, and nothing of the other: who needs the other goes on meanwhile.
+#[test]
+fn a_unit_goes_on_in_another_area(rt: HostRuntime) {
+    assert_eq!(rt; beside_a_delete(rt.alloc(), b"STORE BARREL N = 1\n"), Some((true, true)));
+    assert_eq!(rt; beside_a_delete(rt.alloc(), b"STORE CRATE N = 2\n"), Some((false, true)));
 }
 
 // What becomes of the first unit's REMOVE with so many tries, made as often as is said. Its guess of the owner is wrong at first, since

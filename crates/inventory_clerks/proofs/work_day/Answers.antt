@@ -6,5 +6,6 @@ returns-in-Ok-clause-filled g c =
     let filled = c.fill_orders-house.result in
     let house = filled.0 in
     if_settled house.db house.first house.second c.args.first_orders.now c.args.second_orders.now c.close_house.result c.close_house.ensures
+    c.args.house.first.journal c.args.house.second.journal
     (of_ok filled.1 c.in-Ok.field-0 c.in-Ok.is c.fill_orders-house.ensures.first)
     (of_ok filled.1 c.in-Ok.field-0 c.in-Ok.is c.fill_orders-house.ensures.second)
