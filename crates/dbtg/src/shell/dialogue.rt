@@ -172,37 +172,39 @@ fn answer_file<B: BufRead>(
     Ok(Ok(true))
 }
 
-fn load_file(
-    rt: &HostRuntime,
-    shell: &mut Shell<'_>,
-    call: &Call<'_>,
-    path: &str,
-) -> Result<io::Result<bool>, Broken> {
-    let opened = File::open(rt, path).and_then(|file| BufReader::new(rt.alloc(), file));
-    let mut input = match opened {
-        Ok(input) => input,
-        Err(error) => return Ok(Err(error)),
-    };
-    let mut line = Vec::with_capacity(rt.alloc(), LINE_BYTES as usize)?;
-    answer_file(rt, shell, call, &mut input, &mut line)
+// A file, and the room for a line of it.
+fn opened(rt: &HostRuntime, path: &str) -> io::Result<(BufReader<File>, Vec<u8>)> {
+    let file = File::open(rt, path)?;
+    let input = BufReader::new(rt.alloc(), file)?;
+    let line = Vec::with_capacity(rt.alloc(), LINE_BYTES as usize)?;
+    Ok((input, line))
 }
 
-// Loads a file, and tells where it cannot be read; whether the dialogue goes on.
+// Tells of a file that cannot be read.
+fn write_unread(rt: &HostRuntime, path: &str, error: &io::Error) -> Result<(), Broken> {
+    if error.kind() != io::ErrorKind::OutOfMemory {
+        if let Ok(told) = format!(in rt.alloc(); "cannot read {path}\n") {
+            return write(rt, told.as_bytes());
+        }
+    }
+    write(rt, WANT_OF_MEMORY.as_bytes())
+}
+
+// Takes the lines of a file, and tells where it cannot be read; whether the dialogue goes on.
 fn load(
     rt: &HostRuntime,
     shell: &mut Shell<'_>,
     call: &Call<'_>,
     path: &str,
 ) -> Result<bool, Broken> {
-    match load_file(rt, shell, call, path)? {
+    let loaded = match opened(rt, path) {
+        Ok((mut input, mut line)) => answer_file(rt, shell, call, &mut input, &mut line)?,
+        Err(error) => Err(error),
+    };
+    match loaded {
         Ok(goes_on) => Ok(goes_on),
-        Err(error) if error.kind() == io::ErrorKind::OutOfMemory => {
-            write(rt, WANT_OF_MEMORY.as_bytes())?;
-            Ok(true)
-        }
-        Err(_) => {
-            let told = format!(in rt.alloc(); "cannot read {path}\n")?;
-            write(rt, told.as_bytes())?;
+        Err(error) => {
+            write_unread(rt, path, &error)?;
             Ok(true)
         }
     }
