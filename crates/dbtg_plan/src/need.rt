@@ -80,10 +80,7 @@ pub fn next_need(
         Some(_cause) => Need::Ready,
         None => match next_area(schema, unit, statement, held) {
             Some(area) => Need::Area(area),
-            None => match next_cell(schema, capacity, unit, statement, held) {
-                Some(name) => Need::Take(name),
-                None => need_of_guesses(schema, unit, statement, held),
-            },
+            None => need_with_areas(schema, capacity, unit, statement, held),
         },
     }
 }
