@@ -16,9 +16,7 @@ ghost use Rattle.dbtg_step.specs.Machine.NeedOrder.{AreCellsOf, HasItsAreas, IsA
 
 use crate::course::Course;
 use dbtg_schema::{AreaNo, Schema};
-use dbtg_unit::{
-    Erase, Held, Need, Prepared, Statement, Unit, next_area, refused_at_once,
-};
+use dbtg_unit::{Erase, Held, Need, Prepared, Statement, Unit, next_area, refused_at_once};
 use std::alloc::{AllocError, Global};
 
 // The option of a DELETE.
@@ -116,7 +114,9 @@ fn need_with_areas(
     ensures refused { OnErr result (is_delete statement.now ≡ true) }
 {
     match delete_option(statement) {
-        Some(option) => dbtg_erase::need_with_areas(alloc, schema, capacity, unit, option, held, course),
+        Some(option) => dbtg_erase::need_with_areas(
+            alloc, schema, capacity, unit, option, held, course,
+        ),
         None => Ok(dbtg_plan::need_with_areas(schema, capacity, unit, statement, held)),
     }
 }

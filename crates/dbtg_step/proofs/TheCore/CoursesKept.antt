@@ -110,6 +110,6 @@ module _ (schema : Lists) (capacity : ℕ) (db : Database) (hands : Hands) (unit
   unfolding need
   area_needed a passes areas =
       sym (
-        ap (λ (o : Option Cause). if is_some o then Ready else need_of_cells schema capacity db unit hands x) passes
-        ∙ ap (λ o. next_of o (find (λ c. not (list_any (λ (e : CellName × Cell). name_eq c e.0) hands.cells)) (cells_of schema capacity db unit hands.guesses x)) (is_stale schema capacity db unit hands.guesses x) (stale_owners schema capacity db unit hands.guesses x)) areas
+      ap (λ (o : Option Cause). if is_some o then Ready else need_of_cells schema capacity db unit hands x) passes
+      ∙ ap (λ o. next_of o (find (λ c. not (list_any (λ (e : CellName × Cell). name_eq c e.0) hands.cells)) (cells_of schema capacity db unit hands.guesses x)) (is_stale schema capacity db unit hands.guesses x) (stale_owners schema capacity db unit hands.guesses x)) areas
       )
