@@ -7,7 +7,6 @@ use Rattle.std.proofs.lemmas.List.Folds.{list_any-append}
 use Rattle.dbtg_schema.specs.Lists.{Lists}
 use Rattle.dbtg_cells.specs.declared.cell.Cell.{Cell}
 use Rattle.dbtg_cells.specs.declared.name.CellName.{CellName}
-use Rattle.dbtg_unit.specs.declared.held.Need.{Need}
 use Rattle.dbtg_unit.specs.declared.held.Need.TheVariants.{Area, Ready}
 use Rattle.dbtg_unit.specs.declared.statement.Statement.{Statement}
 use Rattle.dbtg_unit.specs.declared.statement.Statement.TheVariants.{Delete}
@@ -17,14 +16,12 @@ use Rattle.dbtg_unit.specs.Database.State.Base.{Database}
 use Rattle.dbtg_unit.specs.Database.Statements.Checks.{refused_at_once}
 use Rattle.dbtg_unit.specs.Hands.Hands.{Hands}
 use Rattle.dbtg_unit.specs.Hands.Needs.{areas_in_order, cells_of, is_stale, need, need_of_cells, next_of, stale_owners}
-use Rattle.dbtg_unit.specs.Hands.Local.{holds}
 use Rattle.dbtg_cells.specs.Names.{name_eq}
 use Rattle.dbtg_erase.specs.declared.course.Course.{Course as CellCourse}
-use Rattle.dbtg_erase.specs.Course.{HasAllOf}
 use Rattle.dbtg_erase.proofs.Public.{kept_stays, nothing_kept, one_more_cell, same_cells}
 use Rattle.dbtg_step.specs.declared.course.Course.{Course}
 use Rattle.dbtg_step.specs.declared.course.Course.TheVariants.{Refused, Wants, HasAreas}
-use Rattle.dbtg_step.specs.Core.Courses.{AreCellsKept, HasMore, IsAtCells, IsCourseKept}
+use Rattle.dbtg_step.specs.Core.Courses.{AreCellsKept, HasMore, IsCourseKept}
 
 -- WHAT HAS MORE THAN WHAT
 

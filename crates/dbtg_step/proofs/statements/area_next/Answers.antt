@@ -1,4 +1,4 @@
-use Rattle.std.proofs.Common.{◌≡◌, Some, false, sym, subst, ◌∙◌, ap}
+use Rattle.std.proofs.Common.{Some, sym, subst, ◌∙◌, ap}
 use Rattle.dbtg_step.specs.Core.Courses.{IsCourseKept}
 use Rattle.dbtg_step.proofs.TheCore.CoursesKept.{area_needed}
 use Rattle.dbtg_step.proofs.statements.area_next.Goals as goal
