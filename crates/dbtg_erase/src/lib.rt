@@ -15,5 +15,5 @@ mod work_list;
 
 pub use course::Course;
 pub use laws::delete_is_determined;
-pub use next::next_need;
+pub use next::{need_with_areas, next_need};
 pub use preparing::prepare;

@@ -7,6 +7,7 @@ ghost use Rattle.dbtg_schema.specs.Structure.{set_numbers};
 ghost use Rattle.dbtg_unit.specs.Database.State.Base.{Database};
 ghost use Rattle.dbtg_unit.specs.Database.State.Belongs.{IsUnitOf};
 ghost use Rattle.dbtg_unit.specs.declared.statement.Statement.TheVariants.{Delete};
+ghost use Rattle.dbtg_unit.specs.Database.Statements.Checks.{refused_at_once};
 ghost use Rattle.dbtg_unit.specs.Database.Statements.Effect.{is_plain};
 ghost use Rattle.dbtg_unit.specs.declared.statement.Erase.{Erase};
 ghost use Rattle.dbtg_unit.specs.Hands.Hands.{Hands};
@@ -197,4 +198,24 @@ pub fn next_need(
             }
         },
     }
+}
+
+/// The same of a DELETE that no check without cells refuses and that has all its areas in hand.
+pub fn need_with_areas(
+    alloc: Global,
+    schema: &Schema,
+    capacity: u16,
+    unit: &Unit,
+    option: Erase,
+    held: &Held,
+    course: &mut Option<Course>,
+) -> Result<Need, AllocError>
+    requires kept { IsKept schema.now capacity held.now unit.now option course.old }
+    requires passed { refused_at_once schema.now capacity unit.now (Delete option) ≡ None }
+    requires areas { find (λ a. not (list_any (λ b. b == a) held.now.areas)) (areas_in_order schema.now unit.now (Delete option)) ≡ None }
+    ensures kept { IsKept schema.now capacity held.now unit.now option course.new }
+    ensures need { IfOk result (λ next. (db : Database) → Agrees schema.now capacity db held.now unit.now → next ≡ need schema.now capacity db unit.now held.now (Delete option)) }
+{
+    let name = next_cell_of(alloc, schema, capacity, unit, option, held, course)?;
+    Ok(need_of(name))
 }

@@ -19,5 +19,5 @@ mod stale;
 mod storing;
 
 pub use laws::each_statement_is_determined;
-pub use need::next_need;
+pub use need::{need_with_areas, next_need};
 pub use preparing::prepare;

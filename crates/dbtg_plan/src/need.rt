@@ -1,14 +1,16 @@
 //! What a statement needs next: its areas in order, then its cells in order, then other guesses where the record in hand shows
 //! them to be wrong. Nothing here takes memory.
-ghost use Rattle.std.specs.Prelude.{◌≡◌, true, false};
+ghost use Rattle.std.specs.Prelude.{◌≡◌, ◌==◌, not, true, false, None};
+ghost use Rattle.std.specs.List.{find, list_any};
 ghost use Rattle.dbtg_schema.specs.Sound.{IsSound};
 ghost use Rattle.dbtg_unit.specs.Database.State.Base.{Database};
 ghost use Rattle.dbtg_unit.specs.Database.State.Belongs.{IsUnitOf, IsWithin};
 ghost use Rattle.dbtg_unit.specs.Hands.EditsOf.{is_delete};
+ghost use Rattle.dbtg_unit.specs.Database.Statements.Checks.{refused_at_once};
 ghost use Rattle.dbtg_unit.specs.Database.Statements.Fits.{fits};
 ghost use Rattle.dbtg_unit.specs.Hands.Local.{Agrees};
 ghost use Rattle.dbtg_unit.specs.Hands.NeedOrder.{IsAbove, IsInHeldArea, IsInTurn};
-ghost use Rattle.dbtg_unit.specs.Hands.Needs.{cells_of, first_missing, need};
+ghost use Rattle.dbtg_unit.specs.Hands.Needs.{areas_in_order, cells_of, first_missing, need};
 
 use crate::finding::next_cell_of_find;
 use crate::inserting::next_cell_of_insert;
@@ -78,10 +80,30 @@ pub fn next_need(
         Some(_cause) => Need::Ready,
         None => match next_area(schema, unit, statement, held) {
             Some(area) => Need::Area(area),
-            None => match next_cell(schema, capacity, unit, statement, held) {
-                Some(name) => Need::Take(name),
-                None => need_of_guesses(schema, unit, statement, held),
-            },
+            None => need_with_areas(schema, capacity, unit, statement, held),
         },
+    }
+}
+
+/// What a statement other than DELETE needs next, where no check without cells refuses it and all its areas are in hand: on every
+/// database of which these cells may be in hand.
+pub fn need_with_areas(
+    schema: &Schema,
+    capacity: u16,
+    unit: &Unit,
+    statement: &Statement,
+    held: &Held,
+) -> Need
+    requires fits { fits schema.now statement.now ≡ true }
+    requires of_schema { IsUnitOf schema.now unit.now }
+    requires within { IsWithin capacity unit.now }
+    requires other { is_delete statement.now ≡ false }
+    requires passed { refused_at_once schema.now capacity unit.now statement.now ≡ None }
+    requires areas { find (λ a. not (list_any (λ b. b == a) held.now.areas)) (areas_in_order schema.now unit.now statement.now) ≡ None }
+    ensures { (db : Database) → Agrees schema.now capacity db held.now unit.now → result ≡ need schema.now capacity db unit.now held.now statement.now }
+{
+    match next_cell(schema, capacity, unit, statement, held) {
+        Some(name) => Need::Take(name),
+        None => need_of_guesses(schema, unit, statement, held),
     }
 }

@@ -56,9 +56,11 @@ fn wrong_owner(
     requires { set < length schema.now.sets }
     ensures { result ≡ wrong_owner_in held.now (guessed_sets schema.now unit.now statement.now) key.now set }
 {
+    if !is_guessed(schema, unit, statement, set) {
+        return None;
+    }
     let truth = owner_of(held, set, key);
-    let guess = held.guess(set);
-    if is_guessed(schema, unit, statement, set) && is_wrong(&truth, &guess) {
+    if is_wrong(&truth, &held.guess(set)) {
         truth
     } else {
         None

@@ -12,7 +12,7 @@ ghost use Rattle.dbtg_unit.specs.Hands.Guesses.{with_owners};
 ghost use Rattle.dbtg_unit.specs.Hands.Local.{Agrees};
 ghost use Rattle.dbtg_unit.specs.Hands.Making.{IsReady};
 ghost use Rattle.dbtg_unit.specs.Hands.Needs.{need};
-ghost use Rattle.dbtg_erase.specs.Course.{HasAllOf};
+ghost use Rattle.dbtg_step.specs.Core.Courses.{HasMore};
 ghost use Rattle.dbtg_step.specs.Core.Events.{HaveRings};
 ghost use Rattle.dbtg_run.specs.Posed.{HoldsSo, turns_left};
 ghost use Rattle.dbtg_run.specs.Tries.{AreUsedUp, IsVain, Suffice};
@@ -25,9 +25,8 @@ use crate::plays::{LookAtArea, PutCell, TakeAlone, TakeCell, TakeShared};
 use crate::tries::Tries;
 use crate::work::Work;
 use dbtg_cells::{CellName, cell_number};
-use dbtg_erase::Course;
 use dbtg_schema::AreaNo;
-use dbtg_step::next_need;
+use dbtg_step::{Course, next_need};
 use dbtg_unit::{Need, Owners, Statement, with_true_owners};
 use std::alloc::{AllocError, Global};
 
@@ -43,7 +42,7 @@ fn is_ready(wanted: &Need) -> bool
     matches!(wanted, Need::Ready)
 }
 
-// Lets go of how far a DELETE has come.
+// Lets go of what is settled of the needs.
 fn forget(course: &mut Option<Course>)
     ensures { course.new ≡ None }
 {
@@ -207,7 +206,7 @@ impl Work {
         ensures work { IsAtWork self.new }
         ensures so { IfOk result (λ _. HoldsSo exclusive self.new.exclusive self.new.held) }
         ensures vain { IfOk result (λ b. b ≡ false → IsVain wanted self.old.held self.new.held) }
-        ensures more { IfOk result (λ b. b ≡ true → HasAllOf self.old.held self.new.held) }
+        ensures more { IfOk result (λ b. b ≡ true → HasMore self.old.held self.new.held) }
         ensures nearer { IfOk result (λ b. b ≡ true → (tries : ℕ) → turns_left self.new.about tries self.new.held < turns_left self.old.about tries self.old.held) }
         ensures alone { self.old.about.units ≡ 1 → IfOk result (λ b. KnowsBetter statement.now self.old self.new b) }
     {
@@ -226,7 +225,7 @@ impl Work {
         }
     }
 
-    // Takes all that the statement needs, and keeps how far a DELETE has come. False where the tries are used up.
+    // Takes all that the statement needs, and keeps what is settled of its needs. False where the tries are used up.
     fn gather_along(
         &mut self,
         alloc: Global,
@@ -298,7 +297,7 @@ impl Work {
         ensures free { IsReady self.old.about.schema.value self.old.about.capacity self.old.unit self.old.held statement.now → IfOk result (λ b. b ≡ true) }
         ensures alone { self.old.about.units ≡ 1 → 0 < tries.old.given → IfOk result (λ b. b ≡ true) }
     {
-        // Kept from need to need, so that a DELETE's cells are not gone through anew at each.
+        // Kept from need to need, so that nothing that is settled is asked again.
         let mut course = None;
         let gathered = self.gather_along(alloc, db, statement, tries, &mut course);
         drop(course);

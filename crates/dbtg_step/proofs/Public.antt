@@ -96,9 +96,13 @@ pub use Rattle.dbtg_step.proofs.Network.TurnsBack.{needs_come_to_an_end}
 
 -- a history noted, and read again
 pub use Rattle.dbtg_step.proofs.TheCore.CellsFound.{entries_again}
--- what is kept of a statement's course stays right while more comes to hand
+-- what is kept of a statement's needs stays right while more comes to hand
 pub use Rattle.dbtg_step.proofs.TheCore.CoursesKept.{course_stays}
--- nothing kept of a statement's course is always right
+-- hands with one area more have all that they had
+pub use Rattle.dbtg_step.proofs.TheCore.CoursesKept.{more_by_area}
+-- and with one cell more
+pub use Rattle.dbtg_step.proofs.TheCore.CoursesKept.{more_by_cell}
+-- nothing kept of a statement's needs is always right
 pub use Rattle.dbtg_step.proofs.TheCore.CoursesKept.{no_course}
 -- there are as many guesses as sets after a statement too
 pub use Rattle.dbtg_step.proofs.TheCore.DrawnShown.{guesses_length}

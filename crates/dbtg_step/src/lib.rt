@@ -3,6 +3,7 @@
 
 mod auditing;
 mod comparing;
+mod course;
 mod drawing;
 mod imaging;
 mod laws;
@@ -22,6 +23,7 @@ mod watching;
 mod whole;
 
 pub use auditing::audit;
+pub use course::Course;
 pub use laws::{
     each_event_keeps_lawful, every_core_is_sequential, every_image_is_of_its_history,
     every_run_extends_history, every_run_is_lawful, every_run_is_sequential,

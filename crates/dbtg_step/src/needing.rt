@@ -27,7 +27,7 @@ use dbtg_unit::{Held, Need, Owners, Stepped, with_true_owners};
 use std::alloc::{AllocError, Global};
 use std::mem;
 
-// What the unit's statement needs next. The unit keeps how far a DELETE has come, so that it goes on from there.
+// What the unit's statement needs next. The unit keeps what is settled of its needs, so that it goes on from there.
 fn need_of(
     alloc: Global,
     schema: &Schema,

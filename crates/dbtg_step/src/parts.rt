@@ -1,7 +1,7 @@
 //! The parts of the core: where each cell is, the history, and the run-units.
 
+use crate::course::Course;
 use dbtg_cells::Cell;
-use dbtg_erase::Course;
 use dbtg_schema::Row;
 use dbtg_unit::{Entry, Held, Statement, Unit};
 
@@ -22,7 +22,7 @@ pub struct Stage {
 }
 
 /// A run-unit: what it holds, its script, how many statements of it have their ticket, and, in mid-statement, its stage; `course`
-/// is how far a DELETE in mid-statement has come with its needs.
+/// is how far its statement has come with its needs.
 #[derive(Drop)]
 pub struct Runner {
     pub unit: Unit,

@@ -1,20 +1,22 @@
 //! What each statement needs next, and what it prepares: DELETE by its own crate, the others by theirs.
-ghost use Rattle.std.specs.Prelude.{◌≡◌, true, false, IfOk, MatchOption, OnErr};
+ghost use Rattle.std.specs.Prelude.{◌≡◌, ℕ, ◌==◌, not, true, false, Some, None, IfNone, IfOk, MatchOption, OnErr};
+ghost use Rattle.std.specs.List.{find, list_any};
 ghost use Rattle.dbtg_schema.specs.Sound.{IsSound};
 ghost use Rattle.dbtg_unit.specs.Database.State.Base.{Database};
 ghost use Rattle.dbtg_unit.specs.Database.State.Belongs.{IsUnitOf, IsWithin};
+ghost use Rattle.dbtg_unit.specs.Database.Statements.Checks.{refused_at_once};
 ghost use Rattle.dbtg_unit.specs.Hands.EditsOf.{is_delete};
 ghost use Rattle.dbtg_unit.specs.Database.Statements.Fits.{fits};
 ghost use Rattle.dbtg_unit.specs.Hands.Local.{Agrees};
 ghost use Rattle.dbtg_unit.specs.Hands.Locality.{IsMadeOnEach, made_by};
 ghost use Rattle.dbtg_unit.specs.Hands.Making.{CanFinish, MayPrepare, ShowsTheSame};
-ghost use Rattle.dbtg_unit.specs.Hands.Needs.{need};
-ghost use Rattle.dbtg_step.specs.Core.Courses.{IsCourseKept};
+ghost use Rattle.dbtg_unit.specs.Hands.Needs.{areas_in_order, need};
+ghost use Rattle.dbtg_step.specs.Core.Courses.{AreCellsKept, IsAtCells, IsBehindAreas, IsCourseKept};
 ghost use Rattle.dbtg_step.specs.Machine.NeedOrder.{AreCellsOf, HasItsAreas, IsAboveHands, LiesInHeldArea, WasTakenInTurn};
 
-use dbtg_erase::Course;
-use dbtg_schema::Schema;
-use dbtg_unit::{Erase, Held, Need, Prepared, Statement, Unit};
+use crate::course::Course;
+use dbtg_schema::{AreaNo, Schema};
+use dbtg_unit::{Erase, Held, Need, Prepared, Statement, Unit, next_area, refused_at_once};
 use std::alloc::{AllocError, Global};
 
 // The option of a DELETE.
@@ -27,7 +29,101 @@ fn delete_option(statement: &Statement) -> Option<Erase>
     }
 }
 
-/// What the statement needs next; `course` keeps how far a DELETE has come, and nothing of other statements. Memory is refused to a DELETE alone, and only once it has its areas.
+// The first area that is not in hand, of a statement that no check without cells refuses.
+fn area_left(
+    schema: &Schema,
+    capacity: u16,
+    unit: &Unit,
+    statement: &Statement,
+    held: &Held,
+    course: &mut Option<Course>,
+) -> Option<AreaNo>
+    requires passed { refused_at_once schema.now capacity unit.now statement.now ≡ None }
+    ensures kept { IsCourseKept schema.now capacity held.now unit.now statement.now course.new }
+    ensures need { (a : ℕ) (db : Database) → result ≡ Some a → Need.Area a ≡ need schema.now capacity db unit.now held.now statement.now }
+    ensures behind { IfNone result (IsBehindAreas course.new) }
+{
+    // Used by the contract alone.
+    let _ = capacity;
+    match next_area(schema, unit, statement, held) {
+        Some(area) => {
+            *course = Some(Course::Wants(area));
+            Some(area)
+        }
+        None => {
+            *course = Some(Course::HasAreas(None));
+            None
+        }
+    }
+}
+
+// The first area that is not in hand, if the statement still has one to take. What is settled of checks and areas is not asked again.
+fn area_next(
+    schema: &Schema,
+    capacity: u16,
+    unit: &Unit,
+    statement: &Statement,
+    held: &Held,
+    course: &mut Option<Course>,
+) -> Option<AreaNo>
+    requires kept { IsCourseKept schema.now capacity held.now unit.now statement.now course.old }
+    ensures kept { IsCourseKept schema.now capacity held.now unit.now statement.now course.new }
+    ensures need { (a : ℕ) (db : Database) → result ≡ Some a → Need.Area a ≡ need schema.now capacity db unit.now held.now statement.now }
+    ensures behind { IfNone result (IsBehindAreas course.new) }
+{
+    match course {
+        Some(Course::HasAreas(_)) => None,
+        Some(Course::Refused) => None,
+        Some(Course::Wants(area)) => {
+            let area = *area;
+            if held.has(area) {
+                area_left(schema, capacity, unit, statement, held, course)
+            } else {
+                Some(area)
+            }
+        }
+        None => {
+            match refused_at_once(schema, capacity, unit, statement) {
+                Some(_cause) => {
+                    *course = Some(Course::Refused);
+                    None
+                }
+                None => area_left(schema, capacity, unit, statement, held, course),
+            }
+        }
+    }
+}
+
+// What is needed once the areas are in hand.
+fn need_with_areas(
+    alloc: Global,
+    schema: &Schema,
+    capacity: u16,
+    unit: &Unit,
+    statement: &Statement,
+    held: &Held,
+    course: &mut Option<dbtg_erase::Course>,
+) -> Result<Need, AllocError>
+    requires kept { AreCellsKept schema.now capacity held.now unit.now statement.now course.old }
+    requires fits { fits schema.now statement.now ≡ true }
+    requires of_schema { IsUnitOf schema.now unit.now }
+    requires within { IsWithin capacity unit.now }
+    requires at { IsAtCells schema.now capacity held.now unit.now statement.now }
+    ensures kept { AreCellsKept schema.now capacity held.now unit.now statement.now course.new }
+    ensures need { IfOk result (λ n. (db : Database) → Agrees schema.now capacity db held.now unit.now → n ≡ need schema.now capacity db unit.now held.now statement.now) }
+    ensures refused { OnErr result (is_delete statement.now ≡ true) }
+{
+    match delete_option(statement) {
+        Some(option) => dbtg_erase::need_with_areas(
+            alloc, schema, capacity, unit, option, held, course,
+        ),
+        None => Ok(dbtg_plan::need_with_areas(schema, capacity, unit, statement, held)),
+    }
+}
+
+/// What the statement needs next: its areas, then its cells, then other guesses. `course` keeps what is settled of its needs, and from
+/// `None` before the first need it has to be of this statement, with all that was in hand before still in hand. Memory is refused to a
+/// DELETE alone, and only once it has its areas.
 pub fn next_need(
     alloc: Global,
     schema: &Schema,
@@ -47,9 +143,15 @@ pub fn next_need(
     ensures in_area { IfOk result (λ n. (db : Database) → IsSound schema.now → AreCellsOf schema.now capacity db unit.now statement.now held.now → LiesInHeldArea schema.now held.now n) }
     ensures refused { OnErr result (HasItsAreas schema.now unit.now held.now statement.now) }
 {
-    match delete_option(statement) {
-        Some(option) => dbtg_erase::next_need(alloc, schema, capacity, unit, option, held, course),
-        None => Ok(dbtg_plan::next_need(schema, capacity, unit, statement, held)),
+    if let Some(area) = area_next(schema, capacity, unit, statement, held, course) {
+        return Ok(Need::Area(area));
+    }
+    match course {
+        Some(Course::HasAreas(cells)) => {
+            need_with_areas(alloc, schema, capacity, unit, statement, held, cells)
+        }
+        Some(Course::Refused) => Ok(Need::Ready),
+        Some(Course::Wants(_)) | None => unreachable!(),
     }
 }
 

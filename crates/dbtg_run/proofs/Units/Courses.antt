@@ -1,4 +1,4 @@
--- What is kept of a statement's course, from one need to the next.
+-- What is kept of a statement's needs, from one to the next.
 use Rattle.std.proofs.Common.{◌≡◌, ℕ, Bool, true, false, [], ◌∷◌, ◌++◌, Option, ap, sym, subst}
 use Rattle.std.specs.Prelude.{MatchBool}
 use Rattle.dbtg_schema.specs.Lists.{Lists}
@@ -7,25 +7,23 @@ use Rattle.dbtg_cells.specs.declared.name.CellName.{CellName}
 use Rattle.dbtg_unit.specs.declared.statement.Statement.{Statement}
 use Rattle.dbtg_unit.specs.declared.unit.Unit.{Unit}
 use Rattle.dbtg_unit.specs.Hands.Hands.{Hands}
-use Rattle.dbtg_erase.specs.declared.course.Course.{Course}
-use Rattle.dbtg_erase.specs.Course.{HasAllOf}
-use Rattle.dbtg_erase.proofs.Public.{one_more_cell, same_cells}
-use Rattle.dbtg_step.specs.Core.Courses.{IsCourseKept}
-use Rattle.dbtg_step.proofs.Public.{course_stays}
+use Rattle.dbtg_step.specs.declared.course.Course.{Course}
+use Rattle.dbtg_step.specs.Core.Courses.{HasMore, IsCourseKept}
+use Rattle.dbtg_step.proofs.Public.{course_stays, more_by_area, more_by_cell}
 
 -- of the same unit, with more in hand
-pub course_goes_on : (schema : Lists) (capacity : ℕ) (hands hands' : Hands) (unit unit' : Unit) (x : Statement) (course : Option Course) → unit' ≡ unit → HasAllOf hands hands' → IsCourseKept schema capacity hands unit x course → IsCourseKept schema capacity hands' unit' x course
-course_goes_on schema capacity hands hands' unit unit' x course same all kept =
-    subst (λ (u : Unit). IsCourseKept schema capacity hands' u x course) (sym same) (course_stays schema capacity hands unit hands' all x course kept)
+pub course_goes_on : (schema : Lists) (capacity : ℕ) (hands hands' : Hands) (unit unit' : Unit) (x : Statement) (course : Option Course) → unit' ≡ unit → HasMore hands hands' → IsCourseKept schema capacity hands unit x course → IsCourseKept schema capacity hands' unit' x course
+course_goes_on schema capacity hands hands' unit unit' x course same more kept =
+    subst (λ (u : Unit). IsCourseKept schema capacity hands' u x course) (sym same) (course_stays schema capacity hands unit hands' more x course kept)
 
--- where an area was taken, all cells are still in hand
-pub all_with_area : (taken : Bool) (old new : Hands) (a : ℕ) (P Q : Type 0) → MatchBool taken ((new ≡ record old { areas = old.areas ++ a ∷ [] }) × P) Q → taken ≡ true → HasAllOf old new
-all_with_area true old new a P Q is e = same_cells old new (ap (λ (h : Hands). h.cells) is.0)
+-- where an area was taken, all is still in hand
+pub all_with_area : (taken : Bool) (old new : Hands) (a : ℕ) (P Q : Type 0) → MatchBool taken ((new ≡ record old { areas = old.areas ++ a ∷ [] }) × P) Q → taken ≡ true → HasMore old new
+all_with_area true old new a P Q is e = more_by_area old new a is.0
 all_with_area false old new a P Q is e = absurd (cc (e))
 
 -- and where a cell was taken
-pub all_with_cell : (taken : Bool) (old new : Hands) (c : CellName) (Q : Type 0) → MatchBool taken ((x : Cell) × (new ≡ record old { cells = old.cells ++ (c, x) ∷ [] })) Q → taken ≡ true → HasAllOf old new
-all_with_cell true old new c Q is e = one_more_cell old new (c, is.0) (ap (λ (h : Hands). h.cells) is.1)
+pub all_with_cell : (taken : Bool) (old new : Hands) (c : CellName) (Q : Type 0) → MatchBool taken ((x : Cell) × (new ≡ record old { cells = old.cells ++ (c, x) ∷ [] })) Q → taken ≡ true → HasMore old new
+all_with_cell true old new c Q is e = more_by_cell old new (c, is.0) is.1
 all_with_cell false old new c Q is e = absurd (cc (e))
 
 -- where none was taken, all is as it was

@@ -13,7 +13,7 @@ use Rattle.dbtg_cells.specs.Shown.{CellValue}
 use Rattle.dbtg_cells.proofs.Public.{reverse_more, there_is}
 use Rattle.dbtg_unit.specs.declared.statement.Statement.{Statement}
 use Rattle.dbtg_unit.specs.Hands.Hands.{Hands}
-use Rattle.dbtg_erase.specs.declared.course.Course.{Course}
+use Rattle.dbtg_step.specs.declared.course.Course.{Course}
 use Rattle.dbtg_step.specs.declared.parts.Parts.{Parts}
 use Rattle.dbtg_step.specs.declared.parts.Runner.{Runner}
 use Rattle.dbtg_step.specs.declared.parts.Stage.{Stage}

@@ -15,8 +15,6 @@ use Rattle.dbtg_unit.specs.declared.held.Need.TheVariants.{Area, Take, Stale}
 use Rattle.dbtg_unit.specs.declared.statement.Statement.{Statement}
 use Rattle.dbtg_unit.specs.Hands.Guesses.{with_owners}
 use Rattle.dbtg_unit.specs.Hands.Hands.{Hands}
-use Rattle.dbtg_erase.specs.Course.{HasAllOf}
-use Rattle.dbtg_erase.proofs.Public.{one_more_cell, same_cells}
 use Rattle.dbtg_step.specs.declared.parts.Parts.{Parts}
 use Rattle.dbtg_step.specs.declared.parts.Place.{Place}
 use Rattle.dbtg_step.specs.declared.parts.Place.TheVariants.{Home as AtHome, HeldBy as WithUnit}
@@ -28,12 +26,12 @@ use Rattle.dbtg_step.specs.Machine.SequentialDatabase.{NextNeed, NeedsArea, Need
 use Rattle.dbtg_step.specs.Machine.Machine.{HeldBy, State, held_areas, holds_exclusively, relocated}
 use Rattle.dbtg_step.specs.Machine.Step.{any_but, any_other, conflicts, follows_need, is_nonempty, next_need, step, takes_area, takes_cell, IsBlocked, MovedTo}
 use Rattle.dbtg_step.specs.Machine.Network.{network, next_need_of}
-use Rattle.dbtg_step.specs.Core.Courses.{IsCourseKept}
+use Rattle.dbtg_step.specs.Core.Courses.{HasMore, IsCourseKept}
 use Rattle.dbtg_step.specs.Core.Parts.{held_cells_of, held_of, location_at, location_of, note_of, progress_of, stage_of, state_from, state_of, unit_state_of}
 use Rattle.dbtg_step.specs.Core.Stands.{holds_against, StandsNeeding, stage_holds_against}
 use Rattle.dbtg_step.specs.Core.Leaves.{IsTaken}
 use Rattle.dbtg_step.specs.Core.Events.{IsStepped, IsWell, NeedsNext, RunnerFits, RunnersFit, WantsMemory, opening_for}
-use Rattle.dbtg_step.proofs.TheCore.CoursesKept.{course_stays, no_course}
+use Rattle.dbtg_step.proofs.TheCore.CoursesKept.{course_stays, more_by_area, more_by_cell, no_course}
 use Rattle.dbtg_step.proofs.TheCore.EventsShown.{drop_found, found, length_held, moved_is, nonempty_length, staged_fits, unit_there, unit_written, written_fit}
 use Rattle.dbtg_step.proofs.TheCore.NeedsShown.{any_reverse}
 use Rattle.dbtg_step.proofs.TheCore.PlacesOfCells.{held_behind, location_placed, written_is}
@@ -122,8 +120,8 @@ module _ (schema : Lists) (capacity u : ℕ) (old : Parts) (r : Runner) (well : 
   }
 
   -- what is kept of its course stays right while more comes to hand
-  goes_on : (held : Hands) → HasAllOf r.held held → w.ticket ≡ None → (x : Statement) → slice_get r.script r.next ≡ Some x → IsCourseKept schema capacity held r.unit x r.course
-  goes_on held all t x is = course_stays schema capacity r.held r.unit held all x r.course ((well.runners (u - 1) r at).course w s.before.stage t x is)
+  goes_on : (held : Hands) → HasMore r.held held → w.ticket ≡ None → (x : Statement) → slice_get r.script r.next ≡ Some x → IsCourseKept schema capacity held r.unit x r.course
+  goes_on held more t x is = course_stays schema capacity r.held r.unit held more x r.course ((well.runners (u - 1) r at).course w s.before.stage t x is)
 
   pub blocked_is : (new : Parts) → step (network schema capacity) (opening_for schema capacity old) (state_of schema capacity old) u ≡ IsBlocked → new.table.items ≡ old.table.items → new.history.items ≡ old.history.items → new.runners.items ≡ old.runners.items → IsStepped schema capacity u Blocked old new
   blocked_is new e t h n = record { tells = (e, λ i. state_from schema capacity (t i) (h i) (n i)); table = ap length t; count = ap length n; runners = subst (RunnersFit schema capacity) (sym n) well.runners }
@@ -163,7 +161,7 @@ module _ (schema : Lists) (capacity u : ℕ) (old : Parts) (r : Runner) (well : 
         moved_is schema capacity u old r well numbered at new n h runners (location_at schema capacity old.table.items) r.held.guesses (Some (record (stage_of schema capacity r.held w) { areas = a ∷ reverse r.held.areas }))
         (area_step false e) (ap length t) (ap (location_at schema capacity) t)
         (ap (unit_state_of schema capacity) (all ∙ staged) ∙ (λ i. record { unit = r.unit; guesses = r.held.guesses; script = r.script; remaining = drop r.next r.script; progress = Some (record (stage_of schema capacity r.held w) { areas = reverse_more r.held.areas a i }) }))
-        (subst (RunnerFits schema capacity) (sym (all ∙ staged)) (staged_fits schema capacity r (record r.held { areas = r.held.areas ++ a ∷ [] }) w r.course (well.runners (u - 1) r at) refl (goes_on (record r.held { areas = r.held.areas ++ a ∷ [] }) (same_cells r.held (record r.held { areas = r.held.areas ++ a ∷ [] }) refl))))
+        (subst (RunnerFits schema capacity) (sym (all ∙ staged)) (staged_fits schema capacity r (record r.held { areas = r.held.areas ++ a ∷ [] }) w r.course (well.runners (u - 1) r at) refl (goes_on (record r.held { areas = r.held.areas ++ a ∷ [] }) (more_by_area r.held (record r.held { areas = r.held.areas ++ a ∷ [] }) a refl))))
 
     pub area_refused : (new : Parts) (n : Runner) (mid : Hands) → list_any (holds_against w.exclusive a) (take (u - 1) old.runners.items) || list_any (holds_against w.exclusive a) (drop u old.runners.items) ≡ false → new.table.items ≡ old.table.items → new.history.items ≡ old.history.items → new.runners.items ≡ slice_set old.runners.items (u - 1) n → mid ≡ r.held → n ≡ record r { held = mid } → IsStepped schema capacity u NoMemory old new
     unfolding takes_area
@@ -191,7 +189,7 @@ module _ (schema : Lists) (capacity u : ℕ) (old : Parts) (r : Runner) (well : 
         (ap length m.after_is ∙ length-set old.table.items number (WithUnit u))
         (ap (location_at schema capacity) m.after_is ∙ written_is schema capacity old.table.items c number (WithUnit u) is_number (slice_get_within old.table.items number (AtHome m.taken) m.was))
         (ap (unit_state_of schema capacity) (all ∙ staged) ∙ (λ i. record { unit = r.unit; guesses = r.held.guesses; script = r.script; remaining = drop r.next r.script; progress = Some (record (stage_of schema capacity r.held w) { cells = held_behind r.held.cells (c, m.taken) i }) }))
-        (subst (RunnerFits schema capacity) (sym (all ∙ staged)) (staged_fits schema capacity r (record r.held { cells = r.held.cells ++ (c, m.taken) ∷ [] }) w r.course (well.runners (u - 1) r at) refl (goes_on (record r.held { cells = r.held.cells ++ (c, m.taken) ∷ [] }) (one_more_cell r.held (record r.held { cells = r.held.cells ++ (c, m.taken) ∷ [] }) (c, m.taken) refl))))
+        (subst (RunnerFits schema capacity) (sym (all ∙ staged)) (staged_fits schema capacity r (record r.held { cells = r.held.cells ++ (c, m.taken) ∷ [] }) w r.course (well.runners (u - 1) r at) refl (goes_on (record r.held { cells = r.held.cells ++ (c, m.taken) ∷ [] }) (more_by_cell r.held (record r.held { cells = r.held.cells ++ (c, m.taken) ∷ [] }) (c, m.taken) refl))))
     cell_followed new n mid Blocked m h runners is =
         let same : n ≡ r = is ∙ ap (λ (x : Hands). record r { held = x }) m.0.held in
         blocked_is new (cell_step (WithUnit m.1.0) m.1.1) m.0.after_is h (runners ∙ ap (slice_set old.runners.items (u - 1)) same ∙ set_same_at old.runners.items (u - 1) r at)
@@ -214,4 +212,4 @@ module _ (schema : Lists) (capacity u : ℕ) (old : Parts) (r : Runner) (well : 
         (Some (record (stage_of schema capacity r.held w) { turning_back = is_nonempty (held_cells_of r.held.cells) }))
         (follows (Stale owners) needs) (ap length t) (ap (location_at schema capacity) t)
         (ap (unit_state_of schema capacity) is ∙ (λ i. record { unit = r.unit; guesses = with_owners r.held.guesses owners; script = r.script; remaining = drop r.next r.script; progress = Some (record (stage_of schema capacity r.held w) { turning_back = turning i }) }))
-        (subst (RunnerFits schema capacity) (sym is) (record { settled = λ q. absurd (cc (q)); guesses = merged_length r.held.guesses owners owners_count ∙ (well.runners (u - 1) r at).guesses; course = λ v q t x e. no_course schema capacity _ r.unit x }))
+        (subst (RunnerFits schema capacity) (sym is) (record { settled = λ q. absurd (cc (q)); guesses = merged_length r.held.guesses owners owners_count ∙ (well.runners (u - 1) r at).guesses; course = λ v q t x e. no_course schema capacity r.held r.unit x }))

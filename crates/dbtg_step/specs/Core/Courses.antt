@@ -1,14 +1,47 @@
--- What is kept of a statement from one need to the next: how far a DELETE has come, and nothing of others.
-use Rattle.std.specs.Prelude.{ℕ, Option, ⊤}
+-- What is kept of a statement's needs from one need to the next: what is settled of them, as asking from the beginning would settle it.
+use Rattle.std.specs.Prelude.{ℕ, ◌≡◌, not, ◌==◌, true, false, Option, Some, None, is_some, ⊤}
+use Rattle.std.specs.List.{find, list_any}
 use Rattle.dbtg_schema.specs.Lists.{Lists}
 use Rattle.dbtg_unit.specs.declared.statement.Statement.{Statement}
 use Rattle.dbtg_unit.specs.declared.statement.Statement.TheVariants.{Delete}
 use Rattle.dbtg_unit.specs.declared.unit.Unit.{Unit}
+use Rattle.dbtg_unit.specs.Database.Statements.Checks.{refused_at_once}
 use Rattle.dbtg_unit.specs.Hands.Hands.{Hands}
-use Rattle.dbtg_erase.specs.Course.{IsKept}
-use Rattle.dbtg_erase.specs.declared.course.Course.{Course}
+use Rattle.dbtg_unit.specs.Hands.Needs.{areas_in_order}
+use Rattle.dbtg_erase.specs.Course.{HasAllOf, IsKept}
+use Rattle.dbtg_erase.specs.declared.course.Course.{Course as CellCourse}
+use Rattle.dbtg_step.specs.declared.course.Course.{Course}
+use Rattle.dbtg_step.specs.declared.course.Course.TheVariants.{Refused, Wants, HasAreas}
 
--- what is kept fits what is in hand
+-- how far a DELETE has come with its cells fits what is in hand; nothing is asked of other statements
+abbrev pub AreCellsKept : Lists → ℕ → Hands → Unit → Statement → Option CellCourse → Type 0
+AreCellsKept schema capacity hands unit (Delete option) course = IsKept schema capacity hands unit option course
+AreCellsKept schema capacity hands unit _ course = ⊤
+
+-- no check without cells refuses the statement, and as long as area a is not in hand, it is the first that is not
+pub record IsWanted (schema : Lists) (capacity : ℕ) (hands : Hands) (unit : Unit) (x : Statement) (a : ℕ) : Type 0 where
+  pub passed : refused_at_once schema capacity unit x ≡ None
+  pub next : list_any (λ b. b == a) hands.areas ≡ false → find (λ c. not (list_any (λ b. b == c) hands.areas)) (areas_in_order schema unit x) ≡ Some a
+
+-- no check without cells refuses the statement, and all its areas are in hand
+pub record IsAtCells (schema : Lists) (capacity : ℕ) (hands : Hands) (unit : Unit) (x : Statement) : Type 0 where
+  pub passed : refused_at_once schema capacity unit x ≡ None
+  pub areas : find (λ a. not (list_any (λ b. b == a) hands.areas)) (areas_in_order schema unit x) ≡ None
+
+-- what is kept fits what is in hand; nothing kept always does
 abbrev pub IsCourseKept : Lists → ℕ → Hands → Unit → Statement → Option Course → Type 0
-IsCourseKept schema capacity hands unit (Delete option) course = IsKept schema capacity hands unit option course
-IsCourseKept schema capacity hands unit _ course = ⊤
+IsCourseKept schema capacity hands unit x None = ⊤
+IsCourseKept schema capacity hands unit x (Some Refused) = is_some (refused_at_once schema capacity unit x) ≡ true
+IsCourseKept schema capacity hands unit x (Some (Wants a)) = IsWanted schema capacity hands unit x a
+IsCourseKept schema capacity hands unit x (Some (HasAreas course)) = IsAtCells schema capacity hands unit x × AreCellsKept schema capacity hands unit x course
+
+-- nothing is left to be settled but cells
+abbrev pub IsBehindAreas : Option Course → Type 0
+IsBehindAreas (Some Refused) = ⊤
+IsBehindAreas (Some (HasAreas course)) = ⊤
+IsBehindAreas _ = ⊥
+
+-- each area of the first hands is in the second, and each cell, as it is
+pub record HasMore (hands hands' : Hands) : Type 0 where
+  pub areas : (a : ℕ) → list_any (λ b. b == a) hands.areas ≡ true → list_any (λ b. b == a) hands'.areas ≡ true
+  pub cells : HasAllOf hands hands'

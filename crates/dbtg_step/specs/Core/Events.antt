@@ -15,7 +15,7 @@ use Rattle.dbtg_unit.specs.declared.statement.Statement.{Statement}
 use Rattle.dbtg_unit.specs.Database.State.Base.{Database}
 use Rattle.dbtg_unit.specs.Hands.Local.{Agrees}
 use Rattle.dbtg_unit.specs.Hands.Needs.{need, ring_names}
-use Rattle.dbtg_erase.specs.declared.course.Course.{Course}
+use Rattle.dbtg_step.specs.declared.course.Course.{Course}
 use Rattle.dbtg_step.specs.declared.parts.Parts.{Parts}
 use Rattle.dbtg_step.specs.declared.parts.Runner.{Runner}
 use Rattle.dbtg_step.specs.declared.parts.Stage.{Stage}

@@ -43,8 +43,8 @@ needs_left schema capacity db unit statement guesses areas cells =
     count (λ a. not (holds_area areas a)) (areas_in_order schema unit statement)
     + count (λ c. not (holds_cell cells c)) (cells_of schema capacity db unit guesses statement)
     + cond (is_stale schema capacity db unit guesses statement)
-        (suc (length (cells_of schema capacity db unit (noted_owners schema capacity db unit statement guesses) statement)))
-        0
+    (suc (length (cells_of schema capacity db unit (noted_owners schema capacity db unit statement guesses) statement)))
+    0
 
 -- on one database: with the true owners noted no guess is stale; and what is left falls with each need that is met, an area
 -- or cell that is taken, or a turn back, after which no cell is held
