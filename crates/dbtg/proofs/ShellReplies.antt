@@ -64,6 +64,7 @@ is_text : (A B : List ℕ → Type 0) (r : Reply) → ((out : List ℕ) → A ou
 is_text A B (reply.Text out) f told = f out.items told
 is_text A B reply.Untold f told = told
 is_text A B (reply.Save directory) f told = told
+is_text A B (reply.Load path) f told = told
 is_text A B reply.Quit f told = told
 
 -- a line comes to nothing where there is no such unit, and where it has a fault
