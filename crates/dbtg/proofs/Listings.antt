@@ -27,7 +27,8 @@ use Rattle.dbtg_command.specs.declared.fault.Fault.{Fault}
 use Rattle.dbtg_command.specs.declared.fault.Fault.TheVariants.{Memory, MovesOver}
 use Rattle.dbtg_command.specs.declared.order.Order.TheVariants.{Serial}
 use Rattle.dbtg_command.specs.declared.place.Place.{Place}
-use Rattle.dbtg.specs.Listing.{AreResultTexts, AreTold, IsListing, IsLong, IsOver, IsResultText, IsUntold, OutcomesHeld, ToldOfOutcomes, are_short, result_line, result_text, summary_text, worded}
+use Rattle.dbtg.specs.Listing.{AreResultTexts, AreTold, IsListing, IsLong, IsOver, IsResultText, OutcomesHeld, ToldOfOutcomes, result_line, result_text, summary_text, worded}
+use Rattle.dbtg.specs.Inside.Listing.{IsUntold, are_short}
 use Rattle.dbtg.specs.Replaying.{given_text}
 use Rattle.dbtg_command.specs.Refusals.{is_count}
 use Rattle.dbtg_command.specs.Sources.{ReadSchema, ReadScripts}

@@ -17,7 +17,8 @@ use Rattle.dbtg_command.specs.declared.order.OrderKind.{OrderKind}
 use Rattle.dbtg_command.specs.declared.order.OrderKind.TheVariants as kind
 use Rattle.dbtg_command.specs.declared.place.Place.{Place}
 use Rattle.dbtg_command.specs.Refusals.{AcceptsOrder, is_count, moves_in, turns_in}
-use Rattle.dbtg_command.specs.Sources.{HoldsOrder, ReadMoves, ReadSchema, ReadScripts, ReadTurns, StandsIn, kind_of}
+use Rattle.dbtg_command.specs.Sources.{HoldsOrder, ReadMoves, ReadSchema, ReadScripts, ReadTurns, kind_of}
+use Rattle.dbtg_command.specs.Inside.Sources.{StandsIn}
 use Rattle.dbtg_command.proofs.Public.{all_accepted, all_are, order_is, read_texts}
 use Rattle.dbtg.specs.Replaying.{IsPrinted, IsPrintedRun, IsReplay, ReplaysHeld, RunByTurnsIs, echo_of, shown_text}
 use Rattle.dbtg.specs.Threading.{IsThreads, ThreadsHeld}

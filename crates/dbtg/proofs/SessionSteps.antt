@@ -17,7 +17,8 @@ use Rattle.dbtg_script.specs.StatementFaults.{line_faults, refusal as script_ref
 use Rattle.dbtg_script.specs.Statements.{line_statement, prepend, script}
 use Rattle.dbtg_script.proofs.Public.{is_read_behind, nothing_read}
 use Rattle.dbtg_command.specs.Refusals.{is_count}
-use Rattle.dbtg.specs.Sessions.{HasMadeLine, IsAsBefore, IsScriptOf, IsSession, MakesLine, RefusesBehind, RefusesLine, Takes, Typed, text_of}
+use Rattle.dbtg.specs.Inside.Sessions.{HasMadeLine, IsAsBefore, IsScriptOf, IsSession, MakesLine}
+use Rattle.dbtg.specs.Sessions.{RefusesBehind, RefusesLine, Takes, Typed, text_of}
 use Rattle.dbtg.specs.declared.shell.session.Refusal.{Refusal}
 use Rattle.dbtg.specs.declared.shell.session.Script.{Script}
 

@@ -20,7 +20,8 @@ use Rattle.dbtg_command.specs.declared.order.Order.TheVariants.{Turns}
 use Rattle.dbtg.specs.declared.shell.session.Script.{Script}
 use Rattle.dbtg_command.specs.Refusals.{AllAccepted, is_count, schema_in}
 use Rattle.dbtg.specs.Replaying.{IsReplay}
-use Rattle.dbtg.specs.Sessions.{AreTurnsOf, IsSession}
+use Rattle.dbtg.specs.Sessions.{AreTurnsOf}
+use Rattle.dbtg.specs.Inside.Sessions.{IsSession}
 use Rattle.dbtg.specs.Threading.{AreOf, IsPrintedOnThreads, audit_line}
 use Rattle.dbtg.proofs.SavedTurns.{saved_again}
 

@@ -10,10 +10,6 @@ abbrev pub behind_spaces : List ℕ → List ℕ
 behind_spaces [] = []
 behind_spaces (b ∷ bs) = if b == 32 then behind_spaces bs else b ∷ bs
 
--- digits, and a colon behind them
-abbrev pub names_unit : List ℕ → Bool
-names_unit line = is_number (in_front 58 line) && nat_lt (length (in_front 58 line)) (length line)
-
 -- a period begins a command, digits and a colon name a unit; every other line is a statement as it stands. A number above 10 to the
 -- 18th counts as that: no unit has either
 abbrev pub asked_of : List ℕ → List ℕ → Asked → Type 0

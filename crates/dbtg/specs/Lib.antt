@@ -5,3 +5,4 @@ pub mod Asking
 pub mod Sessions
 pub mod Picturing
 pub mod Listing
+pub mod Inside

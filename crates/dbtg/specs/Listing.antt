@@ -2,7 +2,7 @@
 -- result, the first order that leads to it and what its moves print.
 -- text and scripts are bytes, lists the schema that a text says, all is what can come out, one is a result and k its number.
 use Rattle.std.specs.Prelude.{ℕ, ◌≡◌, ◌<◌, ◌≤◌, ◌+◌, ◌++◌, ◌∷◌, ◌⊎◌, nat_lt, Bool, true, List, [], Option, Some, None, Contains, codes, decimal, length, map, if◌then◌else◌}
-use Rattle.std.specs.List.{flat_map, list_all}
+use Rattle.std.specs.List.{flat_map}
 use Rattle.dbtg_schema.specs.Lists.{Lists}
 use Rattle.dbtg_unit.specs.declared.moves.Move.{Move}
 use Rattle.dbtg_unit.specs.declared.statement.Statement.{Statement}
@@ -82,19 +82,11 @@ pub record IsLong (lists : Lists) (capacity : ℕ) (scripts : List (List Stateme
   pub stand : StandFor lists capacity scripts one.turns moves
   pub many : 1000000 < length moves
 
--- every status has four digits
-abbrev pub are_short : Answered → Bool
-are_short a = list_all (λ s. nat_lt s 10000) a.statuses.items
-
 -- the text is the summary of what comes out, and then that of each result
 pub record AreTold (lists : Lists) (capacity : ℕ) (scripts : List (List Statement)) (all : Outcomes) (out : List ℕ) : Type 0 where
   pub texts : List ℕ
   pub are_texts : AreResultTexts lists capacity scripts 1 all.results.items texts
   pub is_text : out ≡ summary_text all ++ texts
-
--- one of the results is too long, and the fault says so, unless memory ran out
-abbrev pub IsUntold : Lists → ℕ → List (List Statement) → Outcomes → Fault → Type 0
-IsUntold lists capacity scripts all told = (told ≡ fault.Memory) ⊎ ((told ≡ fault.MovesOver) × (one : OneResult) × Contains all.results.items one × IsLong lists capacity scripts one)
 
 -- the text tells of all that can come out
 pub record IsListing (m : Meeting) (limit : ℕ) (out : List ℕ) : Type 0 where

@@ -17,7 +17,8 @@ use Rattle.dbtg_command.specs.declared.place.Place.{Place}
 use Rattle.dbtg_command.specs.declared.place.Place.TheVariants.{Script}
 use Rattle.dbtg_command.specs.Checking.{ChecksHeld, IsCheck}
 use Rattle.dbtg_command.specs.Refusals.{AcceptsTexts, RefusesReplay, RefusesSchema, RefusesScript, RefusesScripts, RefusesOrder, RefusesTexts, schema_in}
-use Rattle.dbtg_command.specs.Sources.{HoldsOrder, HoldsScripts, StandsIn, ToldOfOrder, ToldOfRun, ToldOfSchema, ToldOfScripts, ToldOfTexts, kind_of, order_map}
+use Rattle.dbtg_command.specs.Sources.{HoldsOrder, HoldsScripts, ToldOfOrder, ToldOfRun, ToldOfSchema, ToldOfScripts, ToldOfTexts, kind_of, order_map}
+use Rattle.dbtg_command.specs.Inside.Sources.{StandsIn}
 use Rattle.dbtg_command.proofs.InTurn.{memory_refuses, refused_behind}
 use Rattle.dbtg_command.proofs.TextsRead.{all_accepted, held_behind}
 

@@ -3,9 +3,8 @@ pub mod Telling
 pub mod Checking
 pub mod Capacity
 pub mod Sources
-pub mod Files
 pub mod Explaining
 pub mod Calling
-pub mod Reasons
 pub mod FaultyWord
 pub mod Drawing
+pub mod Inside

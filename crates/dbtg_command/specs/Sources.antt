@@ -1,7 +1,7 @@
 -- The texts that a source gives a command, and which fault it tells: the first, in the order in which they are read and judged:
 -- number of scripts, schema, scripts from 1 on, moves or turns. `holds` says that the source gives a text in a place, `fails` that it
 -- cannot, and tells a fault.
-use Rattle.std.specs.Prelude.{ℕ, ◌≡◌, ◌+◌, ◌-◌, ◌≤◌, ◌<◌, true, false, List, [], ◌∷◌, Some, None, ◌⊎◌, length, slice_get}
+use Rattle.std.specs.Prelude.{ℕ, ◌≡◌, ◌+◌, ◌≤◌, ◌<◌, true, false, List, [], ◌∷◌, None, ◌⊎◌, length}
 use Rattle.dbtg_schema.specs.Lists.{Lists}
 use Rattle.dbtg_schema.specs.Texts.SchemaFaults.{refusal as schema_refusal}
 use Rattle.dbtg_script.specs.Moves.{refusal as moves_refusal}
@@ -36,13 +36,6 @@ HasPlace count which Schema = Unit {0}
 HasPlace count which (Script n) = (1 ≤ n) × (n ≤ count)
 HasPlace count which Moves = which ≡ kind.Moves
 HasPlace count which Turns = which ≡ kind.Turns
-
--- of a schema, scripts and moves or turns, this one stands in this place; they are texts, or paths of files
-abbrev pub StandsIn : List ℕ → List (List ℕ) → Order (List ℕ) → Place → List ℕ → Type 0
-StandsIn schema scripts order Schema it = it ≡ schema
-StandsIn schema scripts order (Script n) it = slice_get scripts (n - 1) ≡ Some it
-StandsIn schema scripts order Moves it = order ≡ by.Moves it
-StandsIn schema scripts order Turns it = order ≡ by.Turns it
 
 -- each text is held in the place of its script, from number n on
 abbrev pub HoldsScripts : (Place → List ℕ → Type 0) → ℕ → List (List ℕ) → Type 0

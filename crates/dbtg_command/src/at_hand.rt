@@ -1,6 +1,7 @@
 //! Texts whose bytes are at hand.
 ghost use Rattle.std.specs.Prelude.{◌≡◌, length};
-ghost use Rattle.dbtg_command.specs.Sources.{HasPlace, StandsIn, kind_of, order_map};
+ghost use Rattle.dbtg_command.specs.Sources.{HasPlace, kind_of, order_map};
+ghost use Rattle.dbtg_command.specs.Inside.Sources.{StandsIn};
 ghost use Rattle.dbtg_command.specs.declared.fault.Fault.TheVariants.{Memory};
 
 use crate::fault::Fault;

@@ -1,8 +1,9 @@
 //! Files as the source of the texts. No contract can say what a file has: that is what the reader of files says, and all that is
 //! proved here holds for each reader.
 ghost use Rattle.std.specs.Prelude.{◌≡◌, ℕ, List, IfErr, IfOk, length, map};
-ghost use Rattle.dbtg_command.specs.Files.{FileFails, FileHolds, IsUnread, most_of};
-ghost use Rattle.dbtg_command.specs.Sources.{HasPlace, StandsIn, kind_of, order_map};
+ghost use Rattle.dbtg_command.specs.Inside.Files.{FileFails, FileHolds, IsUnread, most_of};
+ghost use Rattle.dbtg_command.specs.Sources.{HasPlace, kind_of, order_map};
+ghost use Rattle.dbtg_command.specs.Inside.Sources.{StandsIn};
 
 use crate::fault::Fault;
 use crate::order::{Order, OrderKind};

@@ -1,7 +1,7 @@
 //! The second line that `--explain` asks for: where a fault is, and what it means.
 ghost use Rattle.std.specs.Prelude.{◌≡◌, [], IfOk, codes};
 ghost use Rattle.dbtg_command.specs.Explaining.{fault_field};
-ghost use Rattle.dbtg_command.specs.Reasons.{IsToldIn, place_of, told_at};
+ghost use Rattle.dbtg_command.specs.Inside.Reasons.{IsToldIn, place_of, told_at};
 ghost use Rattle.dbtg_command.specs.declared.explain.Kind.TheVariants.{Schema, Script};
 
 use crate::explain::{Kind, advice_for, line_of, meaning_of, said_of_schema_word, said_of_word};

@@ -36,10 +36,8 @@ use Rattle.dbtg_unit.specs.Hands.Local.{Agrees, holds}
 use Rattle.dbtg_unit.specs.Hands.Locality.{IsMadeOnEach, made_by}
 use Rattle.dbtg_unit.specs.Hands.Prepared.{Plan}
 use Rattle.dbtg_unit.specs.Hands.Making.{CanFinish, CanMake, HaveNextVersions, MayPrepare}
-use Rattle.dbtg_unit.proofs.Public.{In, all_at, all_from, firsts_pairs, held_cell_agrees, held_shows, in_member, left_live, left_once, listed_has_occurrence}
-use Rattle.dbtg_unit.proofs.Public.{live_is_latest, may_plan, member_of_owner, met_are_live, met_once, owner_stands_at_place, pairwise_weaker, plan_makes}
-use Rattle.dbtg_unit.proofs.Public.{range_distinct, skips_closings, skips_leavings, skips_map, slots_vacated}
-use Rattle.dbtg_erase.specs.ErasePlan.{whole_plan}
+use Rattle.dbtg_unit.proofs.Public.{In, all_at, all_from, firsts_pairs, held_cell_agrees, held_shows, in_member, left_live, left_once, listed_has_occurrence, live_is_latest, may_plan, member_of_owner, met_are_live, met_once, owner_stands_at_place, pairwise_weaker, plan_makes, range_distinct, skips_closings, skips_leavings, skips_map, slots_vacated}
+use Rattle.dbtg_erase.specs.Inside.ErasePlan.{whole_plan}
 use Rattle.dbtg_erase.proofs.CanErase.{HasNext, IsIn, apart, closings_possible, losings_possible, numbers_possible, places_possible, vacatings_possible}
 use Rattle.dbtg_erase.proofs.ErasePlan.{edits_are as planned_edits, left_held}
 use Rattle.dbtg_erase.proofs.PlanIsEffect.{Passed, is_prepared, plan_by}

@@ -29,7 +29,8 @@ use Rattle.dbtg_unit.specs.Hands.Needs.{ring_names}
 use Rattle.dbtg_unit.proofs.Public.{In, any_agrees, filter_agrees, flat_map_agrees, holds_there, in_flat_map, in_left, in_map, in_right, of_flat_map}
 use Rattle.dbtg_erase.specs.declared.course.Course.{Course}
 use Rattle.dbtg_erase.specs.declared.names.Names.{Names}
-use Rattle.dbtg_erase.specs.Course.{AroundKept, HasAllOf, IsCourse, IsKept, IsKeptFor, MembersKept}
+use Rattle.dbtg_erase.specs.Course.{AroundKept, IsCourse, IsKept, IsKeptFor, MembersKept}
+use Rattle.dbtg_erase.specs.Inside.Course.{HasAllOf}
 use Rattle.dbtg_erase.specs.NextCell.{first_missing, least_name, outer_names}
 use Rattle.dbtg_erase.specs.WorkList.{cells_of_gone, elsewhere_in, list_in, members_in_hand, most_gone, own_sets, taken_in, taken_of_set}
 use Rattle.dbtg_erase.proofs.Bringing.{kept_at, still_at}

@@ -14,7 +14,7 @@ use Rattle.dbtg_unit.specs.Hands.Hands.{Hands}
 use Rattle.dbtg_unit.specs.Hands.Local.{Agrees}
 use Rattle.dbtg_unit.specs.Hands.Needs.{areas_in_order, need}
 use Rattle.dbtg_unit.proofs.Public.{one_plan_does_the_same}
-use Rattle.dbtg_erase.specs.ErasePlan.{whole_plan}
+use Rattle.dbtg_erase.specs.Inside.ErasePlan.{whole_plan}
 use Rattle.dbtg_erase.specs.Locality.{DeleteIsDetermined}
 use Rattle.dbtg_erase.proofs.NextNeed.{area_wanted, cell_wanted, ready_refused}
 use Rattle.dbtg_erase.proofs.PlanIsEffect.{plan_is_effect}

@@ -16,11 +16,7 @@ use Rattle.dbtg_cells.specs.declared.name.CellName.TheVariants.{Extent, Ring}
 use Rattle.dbtg_cells.specs.Keys.{is_member, key_eq}
 use Rattle.dbtg_cells.specs.Names.{name_eq}
 use Rattle.dbtg_cells.proofs.Public.{either_way, key_eq_refl, map_twice, same_key, same_name}
-use Rattle.dbtg_unit.proofs.Public.{In, after_delete, all_at, all_from, all_in, any_element, any_in, filter_agrees, flat_map_agrees, in_filter, in_flat_map}
-use Rattle.dbtg_unit.proofs.Public.{in_left, in_map, in_range, in_right, is_taken_out, left_are_taken_out, listed_has_occurrence, map_same, member_in}
-use Rattle.dbtg_unit.proofs.Public.{member_of_owner, members_in_hand as members_are, met_are_live, names_once_complete, of_append, of_filter, of_flat_map}
-use Rattle.dbtg_unit.proofs.Public.{of_map, own_checks_agree, owner_in as among_owners, owner_in_hand, same_record, version_in_hand, version_left}
-use Rattle.dbtg_unit.proofs.Public.{with_those_pass}
+use Rattle.dbtg_unit.proofs.Public.{In, after_delete, all_at, all_from, all_in, any_element, any_in, filter_agrees, flat_map_agrees, in_filter, in_flat_map, in_left, in_map, in_range, in_right, is_taken_out, left_are_taken_out, listed_has_occurrence, map_same, member_in, member_of_owner, members_in_hand as members_are, met_are_live, names_once_complete, of_append, of_filter, of_flat_map, of_map, own_checks_agree, owner_in as among_owners, owner_in_hand, same_record, version_in_hand, version_left, with_those_pass}
 use Rattle.dbtg_unit.specs.Database.Statements.View.{whole}
 use Rattle.dbtg_unit.specs.declared.edit.CellEdit.{CellEdit}
 use Rattle.dbtg_unit.specs.declared.edit.Edit.TheVariants.{ChangeOwner, CloseRing, RaiseVersion, TakeOut, Vacate}
@@ -42,7 +38,7 @@ use Rattle.dbtg_unit.specs.Hands.InHand.{owner_in, version_in, in_hand}
 use Rattle.dbtg_unit.specs.Database.State.Kept.{entry_again, noted_again}
 use Rattle.dbtg_unit.specs.Hands.Local.{Agrees, holds}
 use Rattle.dbtg_unit.specs.Hands.Prepared.{Plan, renoted_at}
-use Rattle.dbtg_erase.specs.ErasePlan.{erasing_plan, raised_versions}
+use Rattle.dbtg_erase.specs.Inside.ErasePlan.{erasing_plan, raised_versions}
 use Rattle.dbtg_erase.specs.WorkList.{gone_in, list_in, members_in_hand, own_sets}
 use Rattle.dbtg_erase.proofs.Reading.{all_members_are, gone_agrees, unowned, unowned_in}
 

@@ -13,8 +13,7 @@ use Rattle.dbtg_cells.specs.declared.key.Owner.TheVariants.{Rec}
 use Rattle.dbtg_cells.specs.declared.name.CellName.{CellName}
 use Rattle.dbtg_cells.specs.Names.{name_eq}
 use Rattle.dbtg_cells.proofs.Public.{same_name}
-use Rattle.dbtg_unit.proofs.Public.{In, all_at, in_flat_map, in_map, members_in_hand as members_are, met_are_live, own_checks_agree, owner_in_hand}
-use Rattle.dbtg_unit.proofs.Public.{passes_check, same_record}
+use Rattle.dbtg_unit.proofs.Public.{In, all_at, in_flat_map, in_map, members_in_hand as members_are, met_are_live, own_checks_agree, owner_in_hand, passes_check, same_record}
 use Rattle.dbtg_unit.specs.Database.Statements.View.{whole}
 use Rattle.dbtg_unit.specs.declared.statement.Erase.{Erase}
 use Rattle.dbtg_unit.specs.declared.unit.Cause.{Cause}
@@ -29,7 +28,8 @@ use Rattle.dbtg_unit.specs.Hands.Erasing.{cells_of_doomed, delete_cells, doomed_
 use Rattle.dbtg_unit.specs.Hands.Hands.{Hands}
 use Rattle.dbtg_unit.specs.Hands.InHand.{owner_in, in_hand}
 use Rattle.dbtg_unit.specs.Hands.Local.{Agrees, holds}
-use Rattle.dbtg_erase.specs.NextCell.{first_missing, is_missing, least_name, next_cell_in, next_of_gone, next_of_passed, outer_names, ring_of, stops_at, unless_stopped}
+use Rattle.dbtg_erase.specs.NextCell.{first_missing, is_missing, least_name, outer_names}
+use Rattle.dbtg_erase.specs.Inside.NextCell.{next_cell_in, next_of_gone, next_of_passed, ring_of, stops_at, unless_stopped}
 use Rattle.dbtg_erase.specs.WorkList.{cells_of_gone, gone_in, list_in, own_sets}
 use Rattle.dbtg_erase.proofs.Bringing.{prefix}
 use Rattle.dbtg_erase.proofs.ErasePlan.{any_filter, any_same}

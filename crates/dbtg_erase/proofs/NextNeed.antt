@@ -20,7 +20,7 @@ use Rattle.dbtg_unit.specs.Hands.Hands.{Hands}
 use Rattle.dbtg_unit.specs.Hands.Local.{Agrees}
 use Rattle.dbtg_unit.specs.Hands.Needs.{areas_in_order, cells_of, is_stale, is_wrong_guess, need, need_of_cells, next_of, stale_owners}
 use Rattle.dbtg_unit.proofs.Public.{holds_any}
-use Rattle.dbtg_erase.specs.NextCell.{need_of, next_cell_of}
+use Rattle.dbtg_erase.specs.Inside.NextCell.{need_of, next_cell_of}
 use Rattle.dbtg_erase.proofs.NextCell.{next_cell_is}
 
 module _ (schema : Lists) (capacity : ℕ) (unit : Unit) (option : Erase) (hands : Hands) (db : Database) where

@@ -22,15 +22,15 @@ use Rattle.dbtg_unit.specs.Database.Statements.Conditions.{has_members, is_plain
 use Rattle.dbtg_unit.specs.Hands.Edits.{edited_at}
 use Rattle.dbtg_unit.specs.Hands.EditsOf.{delete_edits, edits_of_current}
 use Rattle.dbtg_unit.specs.Database.Statements.Effect.{Outcome, deleted, effect, effect_on_cells, refused, unless_refused}
-use Rattle.dbtg_unit.proofs.Public.{In, MayPlan, every_effect_is_its_edits, first_check_passes, legal_after, on_current, passes_append, passes_check}
-use Rattle.dbtg_unit.proofs.Public.{prepared_has_all}
+use Rattle.dbtg_unit.proofs.Public.{In, MayPlan, every_effect_is_its_edits, first_check_passes, legal_after, on_current, passes_append, passes_check, prepared_has_all}
 use Rattle.dbtg_unit.specs.Hands.Erasing.{delete_cells, delete_cells_of}
 use Rattle.dbtg_unit.specs.Hands.Guesses.{guesses_after}
 use Rattle.dbtg_unit.specs.Hands.Hands.{Hands}
 use Rattle.dbtg_unit.specs.Hands.Local.{Agrees, holds}
-use Rattle.dbtg_unit.specs.Hands.Prepared.{IsEffect, IsPrepared, Plan, refusal, unless_refusal}
+use Rattle.dbtg_unit.specs.Hands.Prepared.{IsEffect, IsPrepared, Plan, refusal}
+use Rattle.dbtg_unit.specs.Inside.Prepared.{unless_refusal}
 use Rattle.dbtg_unit.specs.Database.State.Units.{forgotten}
-use Rattle.dbtg_erase.specs.ErasePlan.{delete_plan, erasing_plan, whole_plan}
+use Rattle.dbtg_erase.specs.Inside.ErasePlan.{delete_plan, erasing_plan, whole_plan}
 use Rattle.dbtg_erase.specs.WorkList.{gone_in}
 use Rattle.dbtg_erase.proofs.ErasePlan.{checks_are, edits_are, edits_held, kept_are}
 

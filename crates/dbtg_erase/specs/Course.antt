@@ -1,6 +1,6 @@
 -- How far a DELETE has come with its cells, as it is kept from one need to the next.
 -- k and d are keys, c the name of a cell, p a test of names.
-use Rattle.std.specs.Prelude.{ℕ, ◌≡◌, ◌≤◌, Bool, true, List, [], ◌∷◌, Option, Some, None, filter, length, map, slice_get, take, ⊤}
+use Rattle.std.specs.Prelude.{ℕ, ◌≡◌, ◌≤◌, Bool, List, [], ◌∷◌, Option, Some, None, filter, length, map, slice_get, take, ⊤}
 use Rattle.std.specs.List.{find, flat_map}
 use Rattle.dbtg_schema.specs.Lists.{Lists}
 use Rattle.dbtg_cells.specs.declared.key.DbKey.{DbKey}
@@ -9,16 +9,11 @@ use Rattle.dbtg_unit.specs.declared.statement.Erase.{Erase}
 use Rattle.dbtg_unit.specs.declared.unit.Unit.{Unit}
 use Rattle.dbtg_unit.specs.Database.State.CellNames.{slot_name}
 use Rattle.dbtg_unit.specs.Hands.Erasing.{brought, own_rings}
-use Rattle.dbtg_unit.specs.Hands.Hands.{Hands, cell_of}
-use Rattle.dbtg_unit.specs.Hands.Local.{holds}
+use Rattle.dbtg_unit.specs.Hands.Hands.{Hands}
 use Rattle.dbtg_erase.specs.declared.course.Course.{Course}
 use Rattle.dbtg_erase.specs.declared.names.Names.{Names}
 use Rattle.dbtg_erase.specs.NextCell.{first_missing, least_name, outer_names}
 use Rattle.dbtg_erase.specs.WorkList.{cells_of_gone, gone_in, members_in_hand, most_gone, taken_in}
-
--- each cell in the first hands is in the second, as it is
-abbrev pub HasAllOf : Hands → Hands → Type 0
-HasAllOf hands hands' = (c : CellName) → holds hands.cells c ≡ true → cell_of c hands'.cells ≡ cell_of c hands.cells
 
 -- the names that are passed are in hand
 abbrev pub ArePassed : Hands → Names → Type 0

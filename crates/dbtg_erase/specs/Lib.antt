@@ -1,5 +1,5 @@
 pub mod WorkList
-pub mod ErasePlan
 pub mod NextCell
 pub mod Course
 pub mod Locality
+pub mod Inside

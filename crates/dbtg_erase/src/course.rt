@@ -7,7 +7,8 @@ ghost use Rattle.dbtg_unit.specs.Database.State.CellNames.{slot_name};
 ghost use Rattle.dbtg_unit.specs.Hands.Erasing.{own_rings, with_those};
 ghost use Rattle.dbtg_unit.specs.Hands.Hands.{Hands};
 ghost use Rattle.dbtg_erase.specs.Course.{AreOfMembers, IsCourse, MembersKept};
-ghost use Rattle.dbtg_erase.specs.NextCell.{first_missing, next_of_gone};
+ghost use Rattle.dbtg_erase.specs.NextCell.{first_missing};
+ghost use Rattle.dbtg_erase.specs.Inside.NextCell.{next_of_gone};
 ghost use Rattle.dbtg_erase.specs.WorkList.{cells_of_gone, gone_in, taken_in};
 
 use crate::around::around;

@@ -6,7 +6,7 @@ ghost use Rattle.dbtg_unit.specs.declared.edit.Edit.TheVariants.{ChangeOwner, Va
 ghost use Rattle.dbtg_unit.specs.Hands.EditsOf.{closing_edits, erasing_edits, leave_number, leaving_edits, left_behind, losing_edits, lost_sets, slot_edit, staying_owner};
 ghost use Rattle.dbtg_unit.specs.Database.Statements.Effect.{is_gone};
 ghost use Rattle.dbtg_unit.specs.Hands.InHand.{owner_in};
-ghost use Rattle.dbtg_erase.specs.ErasePlan.{close_ring, lose_owner};
+ghost use Rattle.dbtg_erase.specs.Inside.ErasePlan.{close_ring, lose_owner};
 ghost use Rattle.dbtg_erase.specs.WorkList.{members_in_hand};
 
 use crate::keys::Keys;

@@ -15,7 +15,7 @@ ghost use Rattle.dbtg_unit.specs.Hands.Local.{Agrees};
 ghost use Rattle.dbtg_unit.specs.Hands.NeedOrder.{IsAbove, IsInHeldArea, IsInTurn};
 ghost use Rattle.dbtg_unit.specs.Hands.Needs.{areas_in_order, need};
 ghost use Rattle.dbtg_erase.specs.Course.{IsCourse, IsKept, IsKeptFor};
-ghost use Rattle.dbtg_erase.specs.NextCell.{need_of, next_cell_in, next_cell_of, next_of_gone, next_of_passed, stops_at};
+ghost use Rattle.dbtg_erase.specs.Inside.NextCell.{need_of, next_cell_in, next_cell_of, next_of_gone, next_of_passed, stops_at};
 ghost use Rattle.dbtg_erase.specs.WorkList.{gone_in};
 
 use crate::course::Course;

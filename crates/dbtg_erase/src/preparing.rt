@@ -8,7 +8,7 @@ ghost use Rattle.dbtg_unit.specs.Hands.InHand.{in_hand, owner_in, version_in};
 ghost use Rattle.dbtg_unit.specs.Hands.Locality.{IsMadeOnEach, made_by};
 ghost use Rattle.dbtg_unit.specs.Hands.Making.{CanFinish, HaveNextVersions, MayPrepare};
 ghost use Rattle.dbtg_unit.specs.declared.statement.Statement.TheVariants.{Delete};
-ghost use Rattle.dbtg_erase.specs.ErasePlan.{erasing_plan, raised_versions, whole_plan};
+ghost use Rattle.dbtg_erase.specs.Inside.ErasePlan.{erasing_plan, raised_versions, whole_plan};
 ghost use Rattle.dbtg_erase.specs.WorkList.{gone_in, list_in, members_in_hand};
 
 use crate::edits::erasing_edits;

@@ -4,7 +4,8 @@ ghost use Rattle.std.specs.List.{flat_map};
 ghost use Rattle.dbtg_schema.specs.Structure.{owns};
 ghost use Rattle.dbtg_unit.specs.Database.State.CellNames.{slot_name};
 ghost use Rattle.dbtg_unit.specs.Hands.Erasing.{own_rings};
-ghost use Rattle.dbtg_erase.specs.NextCell.{first_missing, ring_of};
+ghost use Rattle.dbtg_erase.specs.NextCell.{first_missing};
+ghost use Rattle.dbtg_erase.specs.Inside.NextCell.{ring_of};
 ghost use Rattle.dbtg_erase.specs.WorkList.{cells_of_gone, list_in, members_in_hand};
 
 use crate::names::missing;

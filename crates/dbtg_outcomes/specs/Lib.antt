@@ -1,13 +1,8 @@
 pub mod Counted
-pub mod Gathered
-pub mod Given
 pub mod Groups
-pub mod Grouped
 pub mod Laws
 pub mod Orders
 pub mod Outcomes
 pub mod Results
-pub mod Search
 pub mod Spelling
-pub mod Statuses
-pub mod Steps
+pub mod Inside

@@ -6,10 +6,7 @@ use Rattle.dbtg_schema.specs.Sound.{IsSound}
 use Rattle.dbtg_unit.specs.declared.statement.Statement.{Statement}
 use Rattle.dbtg_unit.specs.Database.Statements.Codes.{status_code}
 use Rattle.dbtg_unit.specs.Database.Statements.Effect.{Outcome}
-use Rattle.dbtg_unit.specs.Database.State.Image.{image_of}
-use Rattle.dbtg_unit.specs.Database.Laws.Replay.{IsHistoryOf, outcome_of}
-use Rattle.dbtg_unit.specs.Database.Laws.Replaying.{statements_of}
-use Rattle.dbtg_step.specs.declared.results.Run.{Run}
+use Rattle.dbtg_unit.specs.Database.Laws.Replay.{outcome_of}
 use Rattle.dbtg_step.specs.Laws.{scripts_fit}
 use Rattle.dbtg_outcomes.specs.declared.answered.Answered.{Answered}
 use Rattle.dbtg_outcomes.specs.declared.outcomes.OneResult.{OneResult}
@@ -24,13 +21,6 @@ pub record IsMeeting (m : Meeting) : Type 0 where
   pub sound : IsSound m.schema
   pub few : length m.scripts ≤ 255
   pub fit : scripts_fit m.schema m.scripts ≡ true
-
--- what comes of an order of statements
-pub record IsRunOf (m : Meeting) (o : List (ℕ × Statement)) (run : Run) : Type 0 where
-  pub order_is : statements_of run.history ≡ o
-  pub history_of : IsHistoryOf m.schema m.capacity (length m.scripts) run.history
-  pub image_is : run.image ≡ image_of m.schema m.capacity (state_of m o).database
-  pub units_are : run.units ≡ (state_of m o).units
 
 -- a group of orders as a result: the turns of the first, and how many they are
 abbrev pub result_of : List (ℕ × Statement) × ℕ → OneResult

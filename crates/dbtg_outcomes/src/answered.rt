@@ -1,6 +1,6 @@
 //! The statuses that each statement has, over all orders.
 ghost use Rattle.std.specs.Prelude.{◌≡◌, ◌≤◌, ◌<◌, ◌==◌, ◌&&◌, length, IfOk, OnOk};
-ghost use Rattle.dbtg_outcomes.specs.Statuses.{AreAllAnswered, AreAnswered, AreOfNotes, IsAnswered, IsEntered, TakesNote};
+ghost use Rattle.dbtg_outcomes.specs.Inside.Statuses.{AreAllAnswered, AreAnswered, AreOfNotes, IsAnswered, IsEntered, TakesNote};
 
 use crate::notes::Note;
 use dbtg_schema::Row;

@@ -1,6 +1,6 @@
 //! Numbers of orders. There may be more than a `u64` can count: then the number is not known, but known to be over it.
 ghost use Rattle.std.specs.Prelude.{◌≡◌};
-ghost use Rattle.dbtg_outcomes.specs.Grouped.{sum_of};
+ghost use Rattle.dbtg_outcomes.specs.Inside.Grouped.{sum_of};
 
 /// The number of those and these together.
 pub fn together(some: Option<u64>, more: Option<u64>) -> Option<u64>

@@ -1,6 +1,6 @@
 //! Histories in groups: those of one group have the same key. Of each group the first is kept, with the number of orders.
 ghost use Rattle.std.specs.Prelude.{◌≡◌, ◌++◌, ◌∷◌, ◌<◌, [], false, length, map, IfOk, IfSome, IfNone, OnOk};
-ghost use Rattle.dbtg_outcomes.specs.Grouped.{IsAdded, IsAt, keys_of};
+ghost use Rattle.dbtg_outcomes.specs.Inside.Grouped.{IsAdded, IsAt, keys_of};
 ghost use Rattle.dbtg_outcomes.specs.Groups.{among};
 
 use crate::count::together;

@@ -5,7 +5,8 @@ ghost use Rattle.dbtg_unit.specs.Database.Statements.Fits.{fits};
 ghost use Rattle.dbtg_unit.specs.Database.Laws.Replay.{IsHistoryOf, entries_of};
 ghost use Rattle.dbtg_unit.specs.Database.Laws.Replaying.{statements_of};
 ghost use Rattle.dbtg_step.specs.Core.Whole.{HasMade};
-ghost use Rattle.dbtg_outcomes.specs.Outcomes.{HasStatus, IsMeeting, IsRunOf};
+ghost use Rattle.dbtg_outcomes.specs.Outcomes.{HasStatus, IsMeeting};
+ghost use Rattle.dbtg_outcomes.specs.Inside.Outcomes.{IsRunOf};
 ghost use Rattle.dbtg_outcomes.specs.Results.{answers_told, result_text, state_key};
 
 use crate::spelled::Spelled;

@@ -1,6 +1,6 @@
 //! The statuses that statements have in some order, as a search notes them.
 ghost use Rattle.std.specs.Prelude.{◌≡◌, true, Contains, OnOk};
-ghost use Rattle.dbtg_outcomes.specs.Statuses.{HasNoted};
+ghost use Rattle.dbtg_outcomes.specs.Inside.Statuses.{HasNoted};
 
 use std::alloc::AllocError;
 

@@ -3,11 +3,11 @@ ghost use Rattle.std.specs.Prelude.{◌≡◌, ◌≤◌, ◌<◌, Some, true, l
 ghost use Rattle.dbtg_schema.specs.Sound.{IsSound};
 ghost use Rattle.dbtg_step.specs.Laws.{scripts_fit};
 ghost use Rattle.dbtg_outcomes.specs.declared.search.Stop.TheVariants.{States};
-ghost use Rattle.dbtg_outcomes.specs.Given.{all_orders, one_result};
+ghost use Rattle.dbtg_outcomes.specs.Inside.Given.{all_orders, one_result};
 ghost use Rattle.dbtg_outcomes.specs.Orders.{count_statements};
 ghost use Rattle.dbtg_outcomes.specs.Outcomes.{AreOutcomes, IsMeeting, count_states};
-ghost use Rattle.dbtg_outcomes.specs.Search.{IsAt};
-ghost use Rattle.dbtg_outcomes.specs.Steps.{AreByResult, HasHistory, Joins};
+ghost use Rattle.dbtg_outcomes.specs.Inside.Search.{IsAt};
+ghost use Rattle.dbtg_outcomes.specs.Inside.Steps.{AreByResult, HasHistory, Joins};
 
 use crate::answered::{Answered, answered_by};
 use crate::count::together;

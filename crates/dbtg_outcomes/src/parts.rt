@@ -1,6 +1,7 @@
 //! The parts of a database and of its units, spelled as numbers.
 ghost use Rattle.std.specs.Prelude.{◌≡◌, ◌++◌, OnOk};
-ghost use Rattle.dbtg_outcomes.specs.Spelling.{noted_numbers, stored_numbers, currency_apart, currency_numbers, image_apart, image_numbers, kept_apart, kept_numbers, key_apart, key_numbers, mode_apart, mode_numbers, owner_apart, owner_numbers, place_apart, place_numbers, unit_apart, unit_numbers, value_apart, value_numbers};
+ghost use Rattle.dbtg_outcomes.specs.Spelling.{noted_numbers, stored_numbers, currency_numbers, image_numbers, kept_numbers, key_numbers, mode_numbers, owner_numbers, place_numbers, unit_numbers, value_numbers};
+ghost use Rattle.dbtg_outcomes.specs.Inside.Spelling.{currency_apart, image_apart, kept_apart, key_apart, mode_apart, owner_apart, place_apart, unit_apart, value_apart};
 
 use crate::spelled::{Spelled, spell_each};
 use dbtg_cells::{DbKey, Mode, Owner, Value};

@@ -3,12 +3,13 @@
 ghost use Rattle.std.specs.Prelude.{◌≡◌, ◌≤◌, ◌<◌, ◌∷◌, [], Some, length, option_map, All, IfErr, IfOk, OnOk};
 ghost use Rattle.dbtg_unit.specs.Database.Laws.Replaying.{statements_of};
 ghost use Rattle.dbtg_outcomes.specs.declared.search.Stop.TheVariants.{Memory, States};
-ghost use Rattle.dbtg_outcomes.specs.Grouped.{IsAdded};
+ghost use Rattle.dbtg_outcomes.specs.Inside.Grouped.{IsAdded};
 ghost use Rattle.dbtg_outcomes.specs.Orders.{count_statements, next_of};
-ghost use Rattle.dbtg_outcomes.specs.Outcomes.{IsMeeting, IsRunOf, states_within};
+ghost use Rattle.dbtg_outcomes.specs.Outcomes.{IsMeeting, states_within};
+ghost use Rattle.dbtg_outcomes.specs.Inside.Outcomes.{IsRunOf};
 ghost use Rattle.dbtg_outcomes.specs.Results.{state_key, units_of};
-ghost use Rattle.dbtg_outcomes.specs.Search.{IsAt};
-ghost use Rattle.dbtg_outcomes.specs.Steps.{Advances, Extends, ExtendsAll, HasHistory, IsOver, IsUnderWay, LeadToMore};
+ghost use Rattle.dbtg_outcomes.specs.Inside.Search.{IsAt};
+ghost use Rattle.dbtg_outcomes.specs.Inside.Steps.{Advances, Extends, ExtendsAll, HasHistory, IsOver, IsUnderWay, LeadToMore};
 
 use crate::groups::{Group, Groups};
 use crate::meeting::{Meeting, made_by};

@@ -25,10 +25,11 @@ use Rattle.dbtg_unit.specs.Hands.Local.{Agrees}
 use Rattle.dbtg_unit.specs.Hands.Locality.{DoTheSame}
 use Rattle.dbtg_unit.specs.Hands.Needs.{areas_in_order, cells_of, first_missing, need}
 use Rattle.dbtg_unit.proofs.Public.{HasPlan, MayPlan, one_plan_does_the_same}
-use Rattle.dbtg_unit.specs.Hands.Prepared.{refusal, unless_refusal}
-use Rattle.dbtg_plan.specs.Finding.{found_in, plan_of_found}
+use Rattle.dbtg_unit.specs.Hands.Prepared.{refusal}
+use Rattle.dbtg_unit.specs.Inside.Prepared.{unless_refusal}
+use Rattle.dbtg_plan.specs.Inside.Finding.{found_in, plan_of_found}
 use Rattle.dbtg_plan.specs.Locality.{EachIsDetermined}
-use Rattle.dbtg_unit.specs.Hands.PlanOf.{plan_of}
+use Rattle.dbtg_unit.specs.Inside.PlanOf.{plan_of}
 use Rattle.dbtg_plan.proofs.Plans.EffectIsPlan.{effect_in_hand}
 use Rattle.dbtg_plan.proofs.Find.FindPlans.{find_is_effect, next_cell_is}
 use Rattle.dbtg_plan.proofs.Connect.InsertIsEffect.{insert_is_effect}

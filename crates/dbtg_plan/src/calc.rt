@@ -5,7 +5,7 @@ ghost use Rattle.std.specs.List.{slice_index_or};
 ghost use Rattle.dbtg_unit.specs.Database.State.Base.{calc_items, picked};
 ghost use Rattle.dbtg_unit.specs.Database.Statements.Conditions.{calc_taken};
 ghost use Rattle.dbtg_unit.specs.Hands.InHand.{in_hand};
-ghost use Rattle.dbtg_plan.specs.Calc.{fresh_key};
+ghost use Rattle.dbtg_plan.specs.Inside.Calc.{fresh_key};
 
 use dbtg_cells::{DbKey, Extent, Value};
 use dbtg_schema::{ItemNo, RecordNo, Row, Schema};

@@ -8,7 +8,7 @@ ghost use Rattle.dbtg_unit.specs.Hands.Local.{Agrees};
 ghost use Rattle.dbtg_unit.specs.Hands.Making.{CanFinish, MayPrepare};
 ghost use Rattle.dbtg_unit.specs.Hands.Needs.{cells_to_find, current_owner, find_cells, first_missing};
 ghost use Rattle.dbtg_unit.specs.declared.statement.Statement.TheVariants.{Find};
-ghost use Rattle.dbtg_plan.specs.Finding.{found_in, next_cell_in, owners_in, plan_of_found};
+ghost use Rattle.dbtg_plan.specs.Inside.Finding.{found_in, next_cell_in, owners_in, plan_of_found};
 
 mod area;
 mod current;

@@ -1,7 +1,7 @@
 //! GET, KEEP and FREE: what is done with the current of run-unit alone.
 ghost use Rattle.std.specs.Prelude.{◌≡◌, IfOk};
 ghost use Rattle.dbtg_unit.specs.Hands.InHand.{in_hand};
-ghost use Rattle.dbtg_unit.specs.Hands.PlanOf.{plan_of};
+ghost use Rattle.dbtg_unit.specs.Inside.PlanOf.{plan_of};
 
 use crate::outcomes::done;
 use dbtg_cells::copy_items;

@@ -8,12 +8,13 @@ ghost use Rattle.dbtg_unit.specs.declared.statement.Statement.TheVariants.{Modif
 ghost use Rattle.dbtg_unit.specs.Database.State.Base.{Database, key_item};
 ghost use Rattle.dbtg_unit.specs.Database.Statements.Checks.{modify_checks};
 ghost use Rattle.dbtg_unit.specs.Database.Statements.Conditions.{calc_taken, changed_items, names_calc, refuses_equal};
-ghost use Rattle.dbtg_unit.specs.Hands.PlanOf.{calc_edits, modify_edits, modifying, plan_of, replacing_edits, slot_edit};
+ghost use Rattle.dbtg_unit.specs.Hands.PlanOf.{calc_edits, modify_edits, modifying, replacing_edits, slot_edit};
+ghost use Rattle.dbtg_unit.specs.Inside.PlanOf.{plan_of};
 ghost use Rattle.dbtg_unit.specs.Hands.InHand.{in_hand, items_in};
 ghost use Rattle.dbtg_unit.specs.Hands.Making.{HaveNextVersions};
 ghost use Rattle.dbtg_unit.specs.Hands.Needs.{cells_of, first_missing, ring_names};
 ghost use Rattle.dbtg_unit.specs.Database.State.Units.{place_in};
-ghost use Rattle.dbtg_plan.specs.Modifying.{is_refused, is_rekeyed};
+ghost use Rattle.dbtg_plan.specs.Inside.Modifying.{is_refused, is_rekeyed};
 
 use crate::calc::{copy_calc, is_calc_taken};
 use crate::members::{copy_sort_key, slot_edit};

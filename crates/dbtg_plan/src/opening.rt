@@ -5,7 +5,8 @@ ghost use Rattle.dbtg_unit.specs.Database.Statements.Checks.{refused_at_once};
 ghost use Rattle.dbtg_unit.specs.Database.Statements.Effect.{conflict};
 ghost use Rattle.dbtg_unit.specs.Hands.InHand.{in_hand, users_in};
 ghost use Rattle.dbtg_unit.specs.Hands.Making.{CanFinish, MayPrepare, ShowsTheSame};
-ghost use Rattle.dbtg_unit.specs.Hands.PlanOf.{mode_plan, plan_of};
+ghost use Rattle.dbtg_unit.specs.Hands.PlanOf.{mode_plan};
+ghost use Rattle.dbtg_unit.specs.Inside.PlanOf.{plan_of};
 
 use dbtg_cells::{CellName, Mode};
 use dbtg_schema::{AreaNo, Row, Schema};

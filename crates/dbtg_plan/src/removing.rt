@@ -9,7 +9,7 @@ ghost use Rattle.dbtg_unit.specs.Hands.EditsOf.{ring_edits, slot_edit};
 ghost use Rattle.dbtg_unit.specs.Hands.InHand.{owner_in, in_hand};
 ghost use Rattle.dbtg_unit.specs.Hands.Making.{HaveNextVersions};
 ghost use Rattle.dbtg_unit.specs.Hands.Needs.{cells_of, first_missing};
-ghost use Rattle.dbtg_unit.specs.Hands.PlanOf.{plan_of};
+ghost use Rattle.dbtg_unit.specs.Inside.PlanOf.{plan_of};
 
 use crate::members::slot_edit;
 use crate::missing::{missing_ring, missing_slot};

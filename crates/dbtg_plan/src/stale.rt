@@ -3,7 +3,7 @@ ghost use Rattle.std.specs.Prelude.{◌≡◌, ◌==◌, ◌<◌, is_some, lengt
 ghost use Rattle.std.specs.List.{list_any};
 ghost use Rattle.dbtg_schema.specs.Structure.{rekeyed_sets};
 ghost use Rattle.dbtg_unit.specs.Hands.Needs.{guessed_sets, is_wrong_guess};
-ghost use Rattle.dbtg_plan.specs.Stale.{need_of_guesses, need_of_owners, wrong_owner_in, wrong_owners_in};
+ghost use Rattle.dbtg_plan.specs.Inside.Stale.{need_of_guesses, need_of_owners, wrong_owner_in, wrong_owners_in};
 
 use dbtg_cells::{DbKey, Owner, same_owner};
 use dbtg_schema::{RecordNo, Schema, SetNo};

@@ -1,20 +1,13 @@
 -- What a ticket makes of a unit.
-use Rattle.std.specs.Prelude.{◌≡◌, ◌<◌, List, [], ◌∷◌, ◌++◌, map, length, Some}
-use Rattle.dbtg_cells.specs.declared.cell.Cell.{Cell}
-use Rattle.dbtg_cells.specs.declared.name.CellName.{CellName}
+use Rattle.std.specs.Prelude.{◌≡◌, ◌<◌, List, [], ◌∷◌, ◌++◌, length, Some}
 use Rattle.dbtg_unit.specs.declared.statement.Statement.{Statement}
 use Rattle.dbtg_unit.specs.declared.unit.Answer.{Answer}
 use Rattle.dbtg_unit.specs.declared.unit.Entry.{Entry}
 use Rattle.dbtg_unit.specs.declared.unit.Unit.{Unit}
-use Rattle.dbtg_unit.specs.Hands.Prepared.{Plan, edited_values, values_of}
 use Rattle.dbtg_unit.specs.Database.Laws.Replay.{IsHistoryOf, entries_of, opening_state, replay as replay_entries, unit_of}
 use Rattle.dbtg_run.specs.declared.view.About.{About}
-use Rattle.dbtg_run.specs.Views.{Has, bare}
+use Rattle.dbtg_run.specs.Views.{Has}
 use Rattle.dbtg_run.specs.Kept.{entry}
-
--- the held cells after the plan, without room
-abbrev pub cells_after : Plan → List (CellName × Cell) → List (CellName × Cell)
-cells_after plan cells = map (λ v. (v.0, bare v.1)) (edited_values plan.cells (values_of cells))
 
 -- the unit's journal has one entry more, of this statement and answer, with a ticket above its earlier ones; and a history of
 -- the sequential database that ends with this entry gives the unit as it is, and has just the journal of the unit's entries

@@ -1,10 +1,9 @@
 pub mod Views
 pub mod Kept
 pub mod Posed
-pub mod Works
-pub mod Tries
 pub mod UnitView
 pub mod Drawn
 pub mod Outcomes
 pub mod Settling
 pub mod Running
+pub mod Inside

@@ -3,7 +3,7 @@ ghost use Rattle.std.specs.Prelude.{◌≡◌, ◌≢◌, ◌↔◌, ◌<◌, �
 ghost use Rattle.dbtg_unit.specs.Database.Statements.Fits.{fits};
 ghost use Rattle.dbtg_run.specs.Drawn.{IsDone};
 ghost use Rattle.dbtg_run.specs.Outcomes.{IfDone, IfNotDone, NeedsNoLatch};
-ghost use Rattle.dbtg_run.specs.Tries.{AreUsedUp, Suffice};
+ghost use Rattle.dbtg_run.specs.Inside.Tries.{AreUsedUp, Suffice};
 ghost use Rattle.dbtg_run.specs.UnitView.{BelongsTo};
 
 use crate::database::Database;

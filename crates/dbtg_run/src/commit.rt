@@ -4,9 +4,10 @@ ghost use Rattle.dbtg_unit.specs.Database.Statements.Fits.{fits};
 ghost use Rattle.dbtg_unit.specs.Hands.EditsOf.{is_delete};
 ghost use Rattle.dbtg_unit.specs.Hands.Making.{CanFinish, IsReady};
 ghost use Rattle.dbtg_unit.specs.Hands.Prepared.{unit_after};
-ghost use Rattle.dbtg_run.specs.Drawn.{IsDone, cells_after};
-ghost use Rattle.dbtg_run.specs.Posed.{HoldsSo};
-ghost use Rattle.dbtg_run.specs.Works.{Belongs, IsAtWork};
+ghost use Rattle.dbtg_run.specs.Drawn.{IsDone};
+ghost use Rattle.dbtg_run.specs.Inside.Drawn.{cells_after};
+ghost use Rattle.dbtg_run.specs.Inside.Posed.{HoldsSo};
+ghost use Rattle.dbtg_run.specs.Inside.Works.{Belongs, IsAtWork};
 
 use crate::database::Database;
 use crate::outcome::{Gate, Point};

@@ -1,6 +1,6 @@
 //! The database that units share. It holds no seat.
 ghost use Rattle.std.specs.Prelude.{◌≡◌, ◌<◌};
-ghost use Rattle.dbtg_run.specs.Posed.{IsSized};
+ghost use Rattle.dbtg_run.specs.Inside.Posed.{IsSized};
 
 use crate::rule::Board;
 use crate::view::About;

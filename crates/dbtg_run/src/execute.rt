@@ -5,9 +5,9 @@ ghost use Rattle.dbtg_unit.specs.Hands.Making.{CanFinish, IsReady};
 ghost use Rattle.dbtg_unit.specs.Hands.EditsOf.{is_delete};
 ghost use Rattle.dbtg_run.specs.Drawn.{IsDone};
 ghost use Rattle.dbtg_run.specs.Outcomes.{IfDone, IfNotDone, NeedsNoLatch};
-ghost use Rattle.dbtg_run.specs.Posed.{HoldsSo};
-ghost use Rattle.dbtg_run.specs.Tries.{AreUsedUp, Suffice};
-ghost use Rattle.dbtg_run.specs.Works.{Belongs, IsAtWork, IsSameUnit};
+ghost use Rattle.dbtg_run.specs.Inside.Posed.{HoldsSo};
+ghost use Rattle.dbtg_run.specs.Inside.Tries.{AreUsedUp, Suffice};
+ghost use Rattle.dbtg_run.specs.Inside.Works.{Belongs, IsAtWork, IsSameUnit};
 
 use crate::database::Database;
 use crate::outcome::{Gate, Outcome, Point};

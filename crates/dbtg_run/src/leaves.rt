@@ -2,7 +2,7 @@
 ghost use Rattle.std.specs.Prelude.{◌≡◌, ℕ, ◌+◌, ◌<◌, List, [], ◌∷◌, ◌++◌, cond, length};
 ghost use Rattle.dbtg_cells.specs.declared.cell.Cell.{Cell};
 ghost use Rattle.dbtg_cells.specs.declared.name.CellName.{CellName};
-ghost use Rattle.dbtg_run.specs.Works.{Belongs, IsAtWork, IsSameUnit};
+ghost use Rattle.dbtg_run.specs.Inside.Works.{Belongs, IsAtWork, IsSameUnit};
 
 use crate::database::Database;
 use crate::plays::{LeaveArea, PutCell};

@@ -20,7 +20,7 @@ ghost use Rattle.dbtg_unit.specs.declared.statement.Statement.{Statement};
 ghost use Rattle.dbtg_unit.specs.declared.unit.Answer.{Answer};
 ghost use Rattle.dbtg_unit.specs.declared.unit.Status.TheVariants.{Done};
 ghost use Rattle.dbtg_unit.specs.declared.unit.Unit.{Unit};
-ghost use Rattle.dbtg_run.specs.Kept.{LooksAtArea, TakesArea, LeavesArea, TakesCell, PutsCell, Draws, Learns, others_of, one_of, gathered, spent};
+ghost use Rattle.dbtg_run.specs.Inside.Kept.{LooksAtArea, TakesArea, LeavesArea, TakesCell, PutsCell, Draws, Learns, others_of, one_of, gathered, spent};
 
 use crate::view::View;
 use atomic_table::{Join, Play, Split};

@@ -8,7 +8,7 @@ use std::alloc::Global;
 pub struct Latches;
 
 impl TableRule<Option<Cell>, View, About> for Latches {
-    ghost use Rattle.dbtg_run.specs.Kept.{Kept, first_view};
+    ghost use Rattle.dbtg_run.specs.Inside.Kept.{Kept, first_view};
 
     ghost holds = { Kept };
 

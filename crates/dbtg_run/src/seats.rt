@@ -1,7 +1,7 @@
 //! Seats at the table: one is cut from another, one joins another, and one that has all units learns the history.
 ghost use Rattle.std.specs.Prelude.{◌≡◌, ℕ, ◌+◌, ◌<◌, ◌≤◌, List, [], ◌∷◌, length, true};
 ghost use Rattle.dbtg_run.specs.Views.{lone};
-ghost use Rattle.dbtg_run.specs.Kept.{Whole, gathered, one_of, others_of};
+ghost use Rattle.dbtg_run.specs.Inside.Kept.{Whole, gathered, one_of, others_of};
 ghost use Rattle.dbtg_run.specs.declared.view.Member.{Member};
 
 use crate::plays::{Gather, Learn, OneOff};

@@ -1,7 +1,8 @@
 //! The end of a database: its units come together, and their journals are one history.
 ghost use Rattle.std.specs.Prelude.{◌≡◌, ◌↔◌, ◌<◌, ◌≤◌, length, All, IfOk, IfErr};
 ghost use Rattle.dbtg_step.specs.Core.Audit.{IsAudited};
-ghost use Rattle.dbtg_run.specs.Settling.{AreAll, HaveJoined, IsSettled, all_entries, by_ticket};
+ghost use Rattle.dbtg_run.specs.Inside.Settling.{AreAll, HaveJoined, all_entries, by_ticket};
+ghost use Rattle.dbtg_run.specs.Settling.{IsSettled};
 ghost use Rattle.dbtg_run.specs.UnitView.{BelongsTo};
 
 use crate::database::Database;

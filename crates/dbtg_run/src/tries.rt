@@ -1,6 +1,6 @@
 //! The tries of a statement.
 ghost use Rattle.std.specs.Prelude.{◌≡◌, ◌+◌, ◌<◌, ◌≤◌, MatchBool};
-ghost use Rattle.dbtg_run.specs.Tries.{AreUsedUp, Suffice};
+ghost use Rattle.dbtg_run.specs.Inside.Tries.{AreUsedUp, Suffice};
 
 /// How many tries a statement has, and how many of its looks were in vain. Each of those uses one.
 #[derive(Drop)]

@@ -3,7 +3,7 @@ ghost use Rattle.std.specs.Prelude.{◌≡◌, ◌<◌, [], Bool, IfOk};
 ghost use Rattle.dbtg_run.specs.Posed.{IsOurs};
 ghost use Rattle.dbtg_run.specs.Settling.{resting};
 ghost use Rattle.dbtg_run.specs.Views.{lone};
-ghost use Rattle.dbtg_run.specs.Works.{IsAtWork};
+ghost use Rattle.dbtg_run.specs.Inside.Works.{IsAtWork};
 
 use crate::rule::Chair;
 use crate::view::About;
@@ -25,7 +25,7 @@ impl Model for RunUnit {
 
     ghost Value = { UnitView };
 
-    ghost use Rattle.dbtg_run.specs.Works.{IsAtWork};
+    ghost use Rattle.dbtg_run.specs.Inside.Works.{IsAtWork};
 
     ghost view = { λ r. record { table = r.work.value.seat.table_id; about = r.work.value.about; unit = r.work.value.unit; journal = r.work.value.journal.items } };
 

@@ -1,6 +1,6 @@
 //! A unit at work: what it is, its entries, what it has in hand, and its seat at the table.
 ghost use Rattle.std.specs.Prelude.{◌≡◌};
-ghost use Rattle.dbtg_run.specs.Posed.{posed, AreInside};
+ghost use Rattle.dbtg_run.specs.Inside.Posed.{posed, AreInside};
 
 use crate::rule::Chair;
 use crate::view::About;

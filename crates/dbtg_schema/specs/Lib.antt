@@ -2,12 +2,10 @@ pub mod Lists
 pub mod Lookups
 pub mod Closure
 pub mod Structure
-pub mod NameIndexes
 pub mod WellFormed
 pub mod Erasing
-pub mod Connecting
-pub mod SetsOfTypes
 pub mod Sound
 pub mod Named
 pub mod Laws
 pub mod Texts
+pub mod Inside

@@ -4,7 +4,6 @@
 -- May use: the words on lists (`Lookups`), and the lists and limits of a schema.
 -- Promises: `refusal` says the first fault of any text, and `schema_of` the lists of a text without one; the reader is held to
 -- both.
-pub mod Automaton
 pub mod Causes
 pub mod Forms
 pub mod Labels
@@ -13,5 +12,4 @@ pub mod SchemaFaults
 pub mod SchemaGrammar
 pub mod SchemaLists
 pub mod Spelling
-pub mod Views
 pub mod Words

@@ -2,9 +2,9 @@
 
 ghost use Rattle.dbtg_schema.specs.Texts.Forms.{may_end, start_with, starts};
 ghost use Rattle.dbtg_schema.specs.Texts.SchemaGrammar.{fits};
-ghost use Rattle.dbtg_schema.specs.Texts.Words.{view};
+ghost use Rattle.dbtg_schema.specs.Inside.Words.{view};
 ghost use Rattle.std.specs.Prelude.{◌≡◌, ◌<◌, ◌^◌, ℕ, length, map, option_map};
-ghost use Rattle.dbtg_schema.specs.Texts.Automaton.{rest_of, view_start, view_starts, view_kind, spelling};
+ghost use Rattle.dbtg_schema.specs.Inside.Automaton.{rest_of, view_start, view_starts, view_kind, spelling};
 
 use crate::names::is_name;
 use crate::pictures::spelled_picture;

@@ -5,7 +5,7 @@ ghost use Rattle.std.specs.List.{All, AllByRecursion};
 ghost use Rattle.dbtg_schema.specs.declared.role.Role.TheVariants as role;
 ghost use Rattle.dbtg_schema.specs.Texts.Labels.{named, count_of, until, entries, first_named};
 ghost use Rattle.dbtg_schema.specs.Texts.SchemaLists.{number_of, areas_from, item_from, items_from, calc_items_from, calc_from, record_type_from, types_from, duplicates_from, order_from, class_from, items_at, key_from, type_named, member_from, owner_from, set_from, sets_from};
-ghost use Rattle.dbtg_schema.specs.Texts.Views.{views};
+ghost use Rattle.dbtg_schema.specs.Inside.Views.{views};
 
 use crate::entries::front_entry;
 use crate::find::find_name;

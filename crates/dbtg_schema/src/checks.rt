@@ -5,12 +5,11 @@ ghost use Rattle.dbtg_schema.specs.Texts.Spelling.{among};
 ghost use Rattle.dbtg_schema.specs.Texts.Forms.{starts};
 ghost use Rattle.dbtg_schema.specs.Texts.Labels.{first_named, is, named, since};
 ghost use Rattle.dbtg_schema.specs.Texts.SchemaFaults.{at_end, at_other, at_word, calc_faults, ended, fault, is_allowed, is_key_wrong, is_owner, is_surplus, is_there_twice, items_of, line_of, member_end, record_end, said, unknown_vias, wants_calc, wants_name, wants_picture, when};
-ghost use Rattle.std.specs.Prelude.{◌≡◌, ◌||◌, ℕ, [], map, filter};
+ghost use Rattle.std.specs.Prelude.{◌≡◌, ◌||◌, ℕ, [], map, filter, Some, None};
 ghost use Rattle.std.specs.List.{list_all};
-ghost use Rattle.dbtg_schema.specs.Texts.Automaton.{rest_of, view_starts};
-ghost use Rattle.dbtg_schema.specs.Texts.Words.{view};
-ghost use Rattle.dbtg_schema.specs.Texts.Views.{view_labelled, views};
-ghost use Rattle.std.specs.Prelude.{Some, None};
+ghost use Rattle.dbtg_schema.specs.Inside.Automaton.{rest_of, view_starts};
+ghost use Rattle.dbtg_schema.specs.Inside.Words.{view};
+ghost use Rattle.dbtg_schema.specs.Inside.Views.{view_labelled, views};
 ghost use Rattle.dbtg_schema.specs.declared.role.Role.TheVariants as role;
 
 use crate::automaton::{Kind, Start, State};

@@ -1,7 +1,7 @@
 //! The sets in which STORE connects a record. They are worked out once for each record type, when a schema is made.
 
 ghost use Rattle.std.specs.Prelude.{◌≡◌, IfOk};
-ghost use Rattle.dbtg_schema.specs.Connecting.{connects_in, AreConnecting, AreConnectingOfEach};
+ghost use Rattle.dbtg_schema.specs.Inside.Connecting.{connects_in, AreConnecting, AreConnectingOfEach};
 ghost use Rattle.dbtg_schema.specs.Erasing.{marked};
 
 use crate::erasing::is_marked;

@@ -1,12 +1,13 @@
 //! Record types, items and members among the words before.
 
-ghost use Rattle.dbtg_schema.specs.Texts.Labels.{entries, front_entry, named, until};
+ghost use Rattle.dbtg_schema.specs.Texts.Labels.{entries, named, until};
+ghost use Rattle.dbtg_schema.specs.Inside.Labels.{front_entry};
 ghost use Rattle.dbtg_schema.specs.Texts.SchemaFaults.{has_other_key, item_picture, key_picture, picture_in, record_named, unequal};
 ghost use Rattle.std.specs.Prelude.{◌≡◌, ◌≤◌, ◌<◌, ℕ, length, take, count_by, option_map};
 ghost use Rattle.std.specs.List.{list_any};
 ghost use Rattle.std.specs.Str.{bytes_eq};
 ghost use Rattle.dbtg_schema.specs.declared.role.Role.TheVariants as role;
-ghost use Rattle.dbtg_schema.specs.Texts.Views.{views};
+ghost use Rattle.dbtg_schema.specs.Inside.Views.{views};
 
 use crate::pictures::spelled_picture;
 use crate::queries::{Labelled, first_named, has_role, since};

@@ -3,7 +3,8 @@
 ghost use Rattle.std.specs.Prelude.{◌≡◌, ◌==◌, ◌<◌, ◌≤◌, ◌||◌, ◌&&◌, true, ℕ, IfOk, is_some, nat_lt, length, filter};
 ghost use Rattle.std.specs.List.{list_all, list_any, range_with_len};
 ghost use Rattle.dbtg_schema.specs.Structure.{erase_areas, home, member_clause, owns, reachable_types};
-ghost use Rattle.dbtg_schema.specs.Erasing.{leads_to, is_home_of, touches, marked, marked_in, is_given, AreWays, AreErased, AreErasedOfEach};
+ghost use Rattle.dbtg_schema.specs.Inside.Erasing.{leads_to, is_home_of, touches, marked_in, is_given, AreWays, AreErased, AreErasedOfEach};
+ghost use Rattle.dbtg_schema.specs.Erasing.{marked};
 
 use crate::numbers::{AreaNo, RecordNo, SetNo};
 use crate::row::Row;
@@ -54,7 +55,7 @@ fn leads_by(schema: &Schema, set: SetNo, owner: RecordNo, member: RecordNo) -> b
 }
 
 /// Does a set lead from this owner type to this member type? There are so many sets.
-#[tactic(auto, unfolding(crate::specs::Erasing::leads_to))]
+#[tactic(auto, unfolding(crate::specs::Inside::Erasing::leads_to))]
 fn leads(schema: &Schema, sets: u8, owner: RecordNo, member: RecordNo) -> bool
     requires { sets ≡ length schema.now.sets }
     ensures { result ≡ leads_to schema.now owner member }
@@ -70,7 +71,7 @@ fn is_home_by(schema: &Schema, set: SetNo, rtype: RecordNo, area: AreaNo) -> boo
 }
 
 /// Is this the home of a set in which the type is a member?
-#[tactic(auto, unfolding(crate::specs::Erasing::is_home_of))]
+#[tactic(auto, unfolding(crate::specs::Inside::Erasing::is_home_of))]
 fn is_home(schema: &Schema, sets: u8, rtype: RecordNo, area: AreaNo) -> bool
     requires { sets ≡ length schema.now.sets }
     ensures { result ≡ is_home_of schema.now rtype area }
@@ -153,7 +154,7 @@ fn is_given_by(table: &[[bool; 16]], marks: &[bool], row: u8, number: u8) -> boo
 }
 
 /// Has a marked row this mark? There are so many rows.
-#[tactic(auto, unfolding(crate::specs::Erasing::is_given))]
+#[tactic(auto, unfolding(crate::specs::Inside::Erasing::is_given))]
 fn is_given(table: &[[bool; 16]], rows: u8, marks: &[bool], number: u8) -> bool
     ensures { result ≡ is_given table.now rows marks.now number }
 {

@@ -4,7 +4,7 @@ ghost use Rattle.std.specs.Prelude.{◌≡◌, ◌≤◌, List, ℕ, Some, None,
 ghost use Rattle.std.specs.List.{All};
 ghost use Rattle.std.specs.Option.{option_or};
 ghost use Rattle.std.specs.Str.{bytes_eq};
-ghost use Rattle.dbtg_schema.specs.NameIndexes.{leads_to, IsIndexOf, AreItemIndexes, IsSchemaIndex};
+ghost use Rattle.dbtg_schema.specs.Inside.NameIndexes.{leads_to, IsIndexOf, AreItemIndexes, IsSchemaIndex};
 
 use crate::find::HasName;
 use crate::numbers::{AreaNo, ItemNo, RecordNo, SetNo};

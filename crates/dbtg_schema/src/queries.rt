@@ -5,7 +5,7 @@ ghost use Rattle.dbtg_schema.specs.Texts.Labels.{count_of, first_named, is, name
 ghost use Rattle.dbtg_schema.specs.Texts.SchemaFaults.{open_record};
 ghost use Rattle.std.specs.Prelude.{◌≡◌, ℕ, ◌≤◌, length, count_by};
 ghost use Rattle.std.specs.List.{list_any};
-ghost use Rattle.dbtg_schema.specs.Texts.Views.{view_labelled, views};
+ghost use Rattle.dbtg_schema.specs.Inside.Views.{view_labelled, views};
 
 use crate::role::Role;
 use crate::scanner::Word;

@@ -1,17 +1,18 @@
 //! Reading a schema text: its words with their roles, or the first fault.
 
-ghost use Rattle.dbtg_schema.specs.Texts.Words.{is_noise, last_line, text_words};
+ghost use Rattle.dbtg_schema.specs.Texts.Words.{is_noise, last_line, text_words, Word as SeenWord, words};
 ghost use Rattle.dbtg_schema.specs.Texts.Forms.{Derives, labels};
 ghost use Rattle.dbtg_schema.specs.Texts.SchemaGrammar.{fits, schema};
 ghost use Rattle.dbtg_schema.specs.Texts.SchemaFaults.{refusal};
 ghost use Rattle.std.specs.Prelude.{◌≡◌, ◌∷◌, ◌++◌, ℕ, List, [], Some, None, IfOk, OnOk, IfErr, MatchResult, not, ◌<◌, ◌≤◌, ◌^◌, length};
-ghost use Rattle.dbtg_schema.specs.Texts.Words.{Word as SeenWord, view, words};
-ghost use Rattle.dbtg_schema.specs.Texts.Automaton.{rest_of};
-ghost use Rattle.dbtg_schema.specs.Texts.Views.{views};
+ghost use Rattle.dbtg_schema.specs.Inside.Words.{view};
+ghost use Rattle.dbtg_schema.specs.Inside.Automaton.{rest_of};
+ghost use Rattle.dbtg_schema.specs.Inside.Views.{views};
 ghost use Rattle.dbtg_schema.specs.Texts.SchemaLists.{schema_of};
 ghost use Rattle.dbtg_schema.specs.WellFormed.{IsSchema};
 ghost use Rattle.dbtg_schema.specs.Sound.{IsSound};
-ghost use Rattle.dbtg_schema.specs.Texts.Reading.{faults_at, verdict, RefusedAtOnce, Refuses, WithinLimits};
+ghost use Rattle.dbtg_schema.specs.Texts.Reading.{faults_at, RefusedAtOnce, Refuses};
+ghost use Rattle.dbtg_schema.specs.Inside.Reading.{verdict, WithinLimits};
 ghost use Rattle.dbtg_schema.specs.Lookups.{first};
 ghost use Rattle.dbtg_schema.specs.declared.fault.Fault.{Fault as SeenFault};
 

@@ -1,7 +1,8 @@
 //! The words of a text, each with its line.
 
 ghost use Rattle.std.specs.Prelude.{◌≡◌, ℕ, ◌+◌, ◌-◌, ◌<◌, ◌≤◌, ◌^◌, ◌∷◌, [], length, MatchOption, OnSome, IfSome, slice_index, true, false};
-ghost use Rattle.dbtg_schema.specs.Texts.Words.{words, view, is_gap, is_letter, line_after};
+ghost use Rattle.dbtg_schema.specs.Texts.Words.{words, is_gap, is_letter, line_after};
+ghost use Rattle.dbtg_schema.specs.Inside.Words.{view};
 
 /// A word of a text, and the line on which it stands, from 1.
 #[derive(Clone, Copy)]

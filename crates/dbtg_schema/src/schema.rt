@@ -3,18 +3,19 @@
 ghost use Rattle.std.specs.Prelude.{◌≡◌, ◌==◌, ◌<◌, ◌≤◌, length, All, None, [], IfNone, IfOk, IfSome, MatchResult, filter, map, IfErr, OnOk, option_map, slice_get};
 ghost use Rattle.dbtg_schema.specs.declared.fault.Cause.TheVariants.{TextTooLong};
 ghost use Rattle.dbtg_schema.specs.declared.fault.SchemaFault.TheVariants.{Memory, Refused};
-ghost use Rattle.dbtg_schema.specs.Connecting.{AreConnecting};
-ghost use Rattle.dbtg_schema.specs.Erasing.{AreErased};
+ghost use Rattle.dbtg_schema.specs.Inside.Connecting.{AreConnecting};
+ghost use Rattle.dbtg_schema.specs.Inside.Erasing.{AreErased};
 ghost use Rattle.dbtg_schema.specs.Lookups.{some_and};
-ghost use Rattle.dbtg_schema.specs.NameIndexes.{IsSchemaIndex};
-ghost use Rattle.dbtg_schema.specs.SetsOfTypes.{AreSetsOf, AreSetsOfEach};
+ghost use Rattle.dbtg_schema.specs.Inside.NameIndexes.{IsSchemaIndex};
+ghost use Rattle.dbtg_schema.specs.Inside.SetsOfTypes.{AreSetsOf, AreSetsOfEach};
 ghost use Rattle.dbtg_schema.specs.Texts.Words.{text_words};
 ghost use Rattle.dbtg_schema.specs.Texts.Forms.{labels, Derives};
 ghost use Rattle.dbtg_schema.specs.Texts.SchemaGrammar.{fits, schema};
 ghost use Rattle.dbtg_schema.specs.Texts.SchemaFaults.{refusal};
 ghost use Rattle.dbtg_schema.specs.Texts.SchemaLists.{schema_of};
-ghost use Rattle.dbtg_schema.specs.Texts.Reading.{RefusedAtOnce, Refuses, WithinLimits};
-ghost use Rattle.dbtg_schema.specs.Texts.Views.{views};
+ghost use Rattle.dbtg_schema.specs.Texts.Reading.{RefusedAtOnce, Refuses};
+ghost use Rattle.dbtg_schema.specs.Inside.Reading.{WithinLimits};
+ghost use Rattle.dbtg_schema.specs.Inside.Views.{views};
 ghost use Rattle.dbtg_schema.specs.WellFormed.{IsSchema};
 ghost use Rattle.dbtg_schema.specs.Sound.{IsSound};
 ghost use Rattle.dbtg_schema.specs.Named.{IsNamed};
@@ -59,10 +60,10 @@ impl Model for Schema {
 
     ghost Value = { Lists };
 
-    ghost use Rattle.dbtg_schema.specs.Connecting.{AreConnectingOfEach};
-    ghost use Rattle.dbtg_schema.specs.Erasing.{AreErasedOfEach};
-    ghost use Rattle.dbtg_schema.specs.NameIndexes.{IsSchemaIndex};
-    ghost use Rattle.dbtg_schema.specs.SetsOfTypes.{AreSetsOfEach};
+    ghost use Rattle.dbtg_schema.specs.Inside.Connecting.{AreConnectingOfEach};
+    ghost use Rattle.dbtg_schema.specs.Inside.Erasing.{AreErasedOfEach};
+    ghost use Rattle.dbtg_schema.specs.Inside.NameIndexes.{IsSchemaIndex};
+    ghost use Rattle.dbtg_schema.specs.Inside.SetsOfTypes.{AreSetsOfEach};
     ghost use Rattle.dbtg_schema.specs.WellFormed.{IsSchema};
     ghost use Rattle.std.specs.Prelude.{length};
 

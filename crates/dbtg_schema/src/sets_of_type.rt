@@ -4,7 +4,7 @@
 ghost use Rattle.std.specs.Prelude.{◌≡◌, ◌==◌, ◌≤◌, ◌++◌, ◌∷◌, [], cond, IfOk, OnOk, length};
 ghost use Rattle.std.specs.List.{find};
 ghost use Rattle.dbtg_schema.specs.Lookups.{some_and};
-ghost use Rattle.dbtg_schema.specs.SetsOfTypes.{sets_alone, AreSetsOf, AreSetsOfEach};
+ghost use Rattle.dbtg_schema.specs.Inside.SetsOfTypes.{sets_alone, AreSetsOf, AreSetsOfEach};
 ghost use Rattle.dbtg_schema.specs.Structure.{is_automatic};
 
 use crate::numbers::{RecordNo, SetNo};

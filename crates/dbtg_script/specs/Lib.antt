@@ -5,15 +5,11 @@ pub mod Labels
 pub mod Lookups
 pub mod Values
 pub mod StatementFaults
-pub mod Automaton
-pub mod Views
-pub mod Words
 pub mod Reading
 pub mod Statements
-pub mod Known
-pub mod Usual
 pub mod Moves
 pub mod Turns
 pub mod Derivations
 pub mod Laws
 pub mod Printing
+pub mod Inside

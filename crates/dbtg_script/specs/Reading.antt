@@ -13,7 +13,7 @@ use Rattle.dbtg_script.specs.declared.fault.ScriptFault.TheVariants as script
 use Rattle.dbtg_script.specs.Lines.{ends_in_text, is_allowed, is_statement}
 use Rattle.dbtg_script.specs.Tokens.{Token, tokens}
 use Rattle.dbtg_script.specs.StatementGrammar.{Form, Labelled, fits, statement}
-use Rattle.dbtg_script.specs.StatementFaults.{at_other, faults_from, lines_faults, said, when}
+use Rattle.dbtg_script.specs.StatementFaults.{at_other, faults_from, said, when}
 
 -- the first fault of a line from here on
 unfoldable pub verdict : Lists → List Labelled → Form → List Token → Option Cause
@@ -43,16 +43,7 @@ abbrev pub Refuses : LineFault → Option Cause → Type 0
 Refuses line.Memory v = Unit {0}
 Refuses (line.Refused cause) v = v ≡ Some cause
 
--- the first fault of lines, of which the first has this number, behind so many statements
-unfoldable pub lines_verdict : Lists → ℕ → ℕ → List (List ℕ) → Option Fault
-lines_verdict schema count number ls = first (lines_faults schema count number ls)
-
 -- the script is refused with this fault, unless memory ran out
 abbrev pub RefusesScript : ScriptFault → Option Fault → Type 0
 RefusesScript script.Memory v = Unit {0}
 RefusesScript (script.Refused line cause) v = v ≡ Some (record { line = line; cause = cause })
-
--- the fault of a line, with the number of the line
-abbrev pub at_line : ℕ → LineFault → ScriptFault
-at_line number line.Memory = script.Memory
-at_line number (line.Refused cause) = script.Refused number cause

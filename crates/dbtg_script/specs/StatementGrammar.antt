@@ -48,10 +48,6 @@ fits k (literal t) = is_value k
 abbrev pub Form : Type 0
 Form = forms.Form Kind Role
 
--- where a form can begin
-abbrev pub Start : Type 0
-Start = forms.Start Kind Role
-
 -- a token with its role
 abbrev pub Labelled : Type 0
 Labelled = forms.Labelled Token Role

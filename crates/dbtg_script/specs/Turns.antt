@@ -1,8 +1,6 @@
 -- The turns of a turns file: words as in a moves file, but no quits.
 use Rattle.std.specs.Prelude.{◌≡◌, ℕ, List, map, Option, Some}
 use Rattle.dbtg_script.specs.declared.moves.MovesCause.{MovesCause}
-use Rattle.dbtg_script.specs.declared.moves.MovesFault.{MovesFault}
-use Rattle.dbtg_script.specs.declared.moves.MovesFault.TheVariants as moves_fault
 use Rattle.dbtg_script.specs.declared.turns.TurnsFault.{TurnsFault}
 use Rattle.dbtg_script.specs.declared.turns.TurnsFault.TheVariants as turns_fault
 use Rattle.dbtg_script.specs.Moves.{words, spelled_turn, said, refused_word}
@@ -19,8 +17,3 @@ turns_refusal text = refused_word 0 1 (map spelled_turn (words text))
 abbrev pub RefusesTurns : TurnsFault → Option (ℕ × MovesCause) → Type 0
 RefusesTurns turns_fault.Memory v = Unit {0}
 RefusesTurns (turns_fault.Refused word cause) v = v ≡ Some (word, cause)
-
--- the same fault, of turns
-abbrev pub as_turns_fault : MovesFault → TurnsFault
-as_turns_fault moves_fault.Memory = turns_fault.Memory
-as_turns_fault (moves_fault.Refused word cause) = turns_fault.Refused word cause

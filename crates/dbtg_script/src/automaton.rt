@@ -1,7 +1,7 @@
 //! The grammar of statements as an automaton: in each state the words that are wanted.
 
 ghost use Rattle.dbtg_schema.specs.Texts.Forms.{may_end, start_with, starts};
-ghost use Rattle.dbtg_script.specs.Automaton.{rest_of, view_kind, view_start, view_starts};
+ghost use Rattle.dbtg_script.specs.Inside.Automaton.{rest_of, view_kind, view_start, view_starts};
 ghost use Rattle.dbtg_script.specs.StatementGrammar.{fits, fits_plain};
 ghost use Rattle.dbtg_script.specs.Tokens.{view};
 ghost use Rattle.std.specs.Prelude.{◌≡◌, option_map};

@@ -1,6 +1,6 @@
 //! The words of the statement grammar.
 
-ghost use Rattle.dbtg_script.specs.Automaton.{spelling};
+ghost use Rattle.dbtg_script.specs.Inside.Automaton.{spelling};
 ghost use Rattle.std.specs.Prelude.{◌≡◌};
 
 /// A word of the grammar.

@@ -3,7 +3,7 @@
 ghost use Rattle.dbtg_schema.specs.Texts.Spelling.{among};
 ghost use Rattle.dbtg_script.specs.Labels.{first_word, given, is, last_text, lead, named, text_of, texts};
 ghost use Rattle.dbtg_script.specs.Tokens.{view};
-ghost use Rattle.dbtg_script.specs.Views.{view_labelled, views};
+ghost use Rattle.dbtg_script.specs.Inside.Views.{view_labelled, views};
 ghost use Rattle.std.specs.Prelude.{◌≡◌, ◌≤◌, length, option_map};
 
 use crate::role::Role;

@@ -1,12 +1,13 @@
 //! Reading a script: the statement of each line, or the first fault.
 
 ghost use Rattle.dbtg_schema.specs.Texts.Forms.{labels};
-ghost use Rattle.dbtg_script.specs.Automaton.{rest_of};
+ghost use Rattle.dbtg_script.specs.Inside.Automaton.{rest_of};
 ghost use Rattle.dbtg_schema.specs.Lookups.{first};
 ghost use Rattle.dbtg_schema.specs.Lists.{Lists};
-ghost use Rattle.dbtg_script.specs.Known.{IsKnown, Says};
+ghost use Rattle.dbtg_script.specs.Inside.Known.{IsKnown, Says};
 ghost use Rattle.dbtg_script.specs.Lines.{ends_in_text, trimmed};
-ghost use Rattle.dbtg_script.specs.Reading.{IsToldAtOnce, Refuses, RefusesScript, at_line, faults_at, faults_at_once, first_word_faults, verdict};
+ghost use Rattle.dbtg_script.specs.Reading.{IsToldAtOnce, Refuses, RefusesScript, faults_at, faults_at_once, first_word_faults, verdict};
+ghost use Rattle.dbtg_script.specs.Inside.Reading.{at_line};
 ghost use Rattle.dbtg_script.specs.StatementFaults.{line_faults, refusal, statement_faults, when};
 ghost use Rattle.dbtg_script.specs.Statements.{line_statement, prepend, script, statement_of};
 ghost use Rattle.dbtg_script.specs.StatementGrammar.{fits, statement};

@@ -5,7 +5,7 @@ ghost use Rattle.dbtg_schema.specs.Structure.{calc_of, item_list};
 ghost use Rattle.dbtg_script.specs.Labels.{has, texts};
 ghost use Rattle.dbtg_script.specs.StatementFaults.{set_in, type_in};
 ghost use Rattle.dbtg_script.specs.Statements.{calc_value, calc_values, change_of, changes_of, current_of, erase_of, form_of, in_place, is_negative, key_of, mode_of, name_at, named_type, set_bits, signed, sorted_value, statement_by, statement_of, suppress_of, values_of, which_of};
-ghost use Rattle.dbtg_script.specs.Views.{views};
+ghost use Rattle.dbtg_script.specs.Inside.Views.{views};
 ghost use Rattle.dbtg_script.specs.declared.role.Role.TheVariants as role;
 ghost use Rattle.std.specs.Prelude.{◌≡◌, ◌<◌, ◌≤◌, ◌^◌, ◌||◌, IfOk, length, unwrap_or};
 

@@ -1,6 +1,7 @@
 //! Reading turns: words that say which unit makes its next statement.
 
-ghost use Rattle.dbtg_script.specs.Turns.{RefusesTurns, as_turns_fault, turns_of, turns_refusal};
+ghost use Rattle.dbtg_script.specs.Turns.{RefusesTurns, turns_of, turns_refusal};
+ghost use Rattle.dbtg_script.specs.Inside.Turns.{as_turns_fault};
 ghost use Rattle.dbtg_script.specs.Moves.{RefusedAtOnce, spelled_turn, words};
 ghost use Rattle.std.specs.Prelude.{◌≡◌, IfErr, IfOk, MatchResult, None, OnOk};
 

@@ -2,11 +2,11 @@
 //! fault, is left to the reader of all lines.
 
 ghost use Rattle.dbtg_schema.specs.Structure.{item_list};
-ghost use Rattle.dbtg_script.specs.Known.{Says};
+ghost use Rattle.dbtg_script.specs.Inside.Known.{Says};
 ghost use Rattle.dbtg_script.specs.Lookups.{item_named};
 ghost use Rattle.dbtg_script.specs.StatementGrammar.{fits, value};
 ghost use Rattle.dbtg_script.specs.Tokens.{equals, plain, tokens, view};
-ghost use Rattle.dbtg_script.specs.Usual.{AreAssigned, AreSaid, IsAssigned, IsGiven, IsOfSet, nothing};
+ghost use Rattle.dbtg_script.specs.Inside.Usual.{AreAssigned, AreSaid, IsAssigned, IsGiven, IsOfSet, nothing};
 ghost use Rattle.std.specs.Prelude.{◌≡◌, ◌<◌, ◌∷◌, ℕ, [], IfOk, IfSome, Some, codes, false, true};
 
 use crate::automaton::Kind;

@@ -6,8 +6,8 @@ ghost use Rattle.dbtg_schema.specs.Structure.{picture_of};
 ghost use Rattle.dbtg_script.specs.Lookups.{item_picture, type_named};
 ghost use Rattle.dbtg_script.specs.StatementFaults.{type_in, type_text};
 ghost use Rattle.dbtg_script.specs.Tokens.{view};
-ghost use Rattle.dbtg_script.specs.Views.{view_labelled, views};
-ghost use Rattle.dbtg_script.specs.Words.{AreNoted, IsNamed};
+ghost use Rattle.dbtg_script.specs.Inside.Views.{view_labelled, views};
+ghost use Rattle.dbtg_script.specs.Inside.Words.{AreNoted, IsNamed};
 ghost use Rattle.dbtg_script.specs.declared.role.Role.TheVariants as role;
 ghost use Rattle.std.specs.Prelude.{◌≡◌, ◌<◌, ◌++◌, ◌∷◌, [], IfSome, OnOk, option_and_then};
 
@@ -43,8 +43,8 @@ pub struct Words<'a> {
 }
 
 impl<'a> Model for Words<'a> {
-    ghost use Rattle.dbtg_script.specs.Views.{views};
-    ghost use Rattle.dbtg_script.specs.Words.{AreNoted, LineWords};
+    ghost use Rattle.dbtg_script.specs.Inside.Views.{views};
+    ghost use Rattle.dbtg_script.specs.Inside.Words.{AreNoted, LineWords};
 
     ghost Value = { LineWords };
 

@@ -8,13 +8,10 @@ pub mod Core
 pub mod CoreSteps
 pub mod Courses
 pub mod Events
-pub mod Imaging
-pub mod Leaves
 pub mod Openings
 pub mod Parts
 pub mod Positions
 pub mod Runs
 pub mod Serial
-pub mod Stands
 pub mod Turns
 pub mod Whole

@@ -5,7 +5,8 @@ ghost use Rattle.dbtg_schema.specs.Sound.{IsSound};
 ghost use Rattle.dbtg_unit.specs.declared.unit.Entry.{Entry};
 ghost use Rattle.dbtg_unit.specs.Database.Statements.Fits.{fits};
 ghost use Rattle.dbtg_unit.specs.Database.Laws.Replay.{IsHistoryOf};
-ghost use Rattle.dbtg_step.specs.Core.Audit.{GoesOn, HasJoined, IsAudited};
+ghost use Rattle.dbtg_step.specs.Inside.Audit.{GoesOn, HasJoined};
+ghost use Rattle.dbtg_step.specs.Core.Audit.{IsAudited};
 ghost use Rattle.dbtg_step.specs.Core.Whole.{state_now};
 
 use crate::comparing::same_answer;

@@ -10,10 +10,10 @@ ghost use Rattle.dbtg_unit.specs.Hands.Local.{Agrees};
 ghost use Rattle.dbtg_unit.specs.Hands.Locality.{IsMadeOn, seen};
 ghost use Rattle.dbtg_unit.specs.Hands.Making.{MayPrepare, ShowsTheSame};
 ghost use Rattle.dbtg_step.specs.declared.parts.Runner.{Runner};
-ghost use Rattle.dbtg_step.specs.Core.Stands.{StandsNeeding};
-ghost use Rattle.dbtg_step.specs.Core.Leaves.{IsDrawn, IsUnmade};
-ghost use Rattle.dbtg_step.specs.Core.Parts.{stage_while_held};
-ghost use Rattle.dbtg_step.specs.Core.Events.{IsStepped, IsWell, NeedsNext};
+ghost use Rattle.dbtg_step.specs.Inside.Stands.{StandsNeeding};
+ghost use Rattle.dbtg_step.specs.Inside.Leaves.{IsDrawn, IsUnmade};
+ghost use Rattle.dbtg_step.specs.Inside.Parts.{stage_while_held};
+ghost use Rattle.dbtg_step.specs.Inside.Events.{IsStepped, IsWell, NeedsNext};
 
 use crate::parts::{Parts, Runner, Stage};
 use crate::runner::{close, pass, statement_of};

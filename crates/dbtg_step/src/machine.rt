@@ -9,8 +9,9 @@ ghost use Rattle.dbtg_schema.specs.Sound.{IsSound};
 ghost use Rattle.dbtg_step.specs.Machine.Headline.{machine_of, opening_of};
 ghost use Rattle.dbtg_step.specs.Laws.{scripts_fit};
 ghost use Rattle.dbtg_step.specs.Machine.Network.{network};
-ghost use Rattle.dbtg_step.specs.Core.Events.{IsWell};
-ghost use Rattle.dbtg_step.specs.Core.Parts.{core_of, machine};
+ghost use Rattle.dbtg_step.specs.Inside.Events.{IsWell};
+ghost use Rattle.dbtg_step.specs.Inside.Parts.{core_of};
+ghost use Rattle.dbtg_step.specs.Core.Parts.{machine};
 ghost use Rattle.dbtg_step.specs.Core.Positions.{position_at};
 ghost use Rattle.dbtg_step.specs.Core.Runs.{IsHandedOut};
 ghost use Rattle.dbtg_step.specs.Core.Turns.{AllBetween, HaveTurned};
@@ -40,7 +41,7 @@ pub struct Core {
 
 impl Model for Core {
     ghost use Rattle.dbtg_step.specs.Core.Parts.{CoreParts};
-    ghost use Rattle.dbtg_step.specs.Core.Events.{IsWell};
+    ghost use Rattle.dbtg_step.specs.Inside.Events.{IsWell};
 
     ghost Value = { CoreParts };
 

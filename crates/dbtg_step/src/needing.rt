@@ -13,9 +13,9 @@ ghost use Rattle.dbtg_unit.specs.Hands.Local.{Agrees};
 ghost use Rattle.dbtg_unit.specs.Hands.Needs.{need};
 ghost use Rattle.dbtg_step.specs.Machine.NeedOrder.{HasItsAreas};
 ghost use Rattle.dbtg_step.specs.Core.Courses.{IsCourseKept};
-ghost use Rattle.dbtg_step.specs.Core.Stands.{holds_against, StandsNeeding};
-ghost use Rattle.dbtg_step.specs.Core.Leaves.{IsTaken};
-ghost use Rattle.dbtg_step.specs.Core.Events.{ChangesCourseAlone, IsStepped, IsWell, NeedsNext};
+ghost use Rattle.dbtg_step.specs.Inside.Stands.{holds_against, StandsNeeding};
+ghost use Rattle.dbtg_step.specs.Inside.Leaves.{IsTaken};
+ghost use Rattle.dbtg_step.specs.Inside.Events.{ChangesCourseAlone, IsStepped, IsWell, NeedsNext};
 
 use crate::drawing::draws;
 use crate::parts::{Parts, Place, Runner, Stage};

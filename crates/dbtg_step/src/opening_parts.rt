@@ -8,8 +8,9 @@ ghost use Rattle.dbtg_cells.specs.CellNumbers.{cells_in_order, rings_of, slots_o
 ghost use Rattle.dbtg_unit.specs.Database.State.Base.{opening};
 ghost use Rattle.dbtg_unit.specs.Database.State.Cells.{cell};
 ghost use Rattle.dbtg_unit.specs.Database.State.Units.{opening_unit};
-ghost use Rattle.dbtg_step.specs.Core.Openings.{homes_of, homes_shown, locations_of, opening_runner, runners_from};
-ghost use Rattle.dbtg_step.specs.Core.Whole.{HasTaken};
+ghost use Rattle.dbtg_step.specs.Core.Openings.{homes_of, homes_shown};
+ghost use Rattle.dbtg_step.specs.Inside.Openings.{locations_of, opening_runner, runners_from};
+ghost use Rattle.dbtg_step.specs.Inside.Whole.{HasTaken};
 
 use crate::parts::{Place, Runner};
 use dbtg_cells::{Cell, CellName, Extent, Owner, Ring, Slot, Usage};

@@ -1,9 +1,9 @@
 //! A unit quits: before its ticket it gives back all that it holds. This takes no memory.
 ghost use Rattle.std.specs.Prelude.{◌≡◌, ◌≤◌, ◌<◌, ◌-◌, [], length, None, reverse, slice_get, Some};
 ghost use Rattle.dbtg_step.specs.declared.parts.Runner.{Runner};
-ghost use Rattle.dbtg_step.specs.Core.Parts.{written_homes};
-ghost use Rattle.dbtg_step.specs.Core.Stands.{HavePlaces, StandsUnticketed};
-ghost use Rattle.dbtg_step.specs.Core.Events.{IsQuit, IsWell};
+ghost use Rattle.dbtg_step.specs.Inside.Parts.{written_homes};
+ghost use Rattle.dbtg_step.specs.Inside.Stands.{HavePlaces, StandsUnticketed};
+ghost use Rattle.dbtg_step.specs.Inside.Events.{IsQuit, IsWell};
 
 use crate::parts::{Parts, Place};
 use crate::table::put_home;

@@ -1,8 +1,8 @@
 //! What the events change of a run-unit.
 ghost use Rattle.std.specs.Prelude.{◌≡◌, ℕ, ◌<◌, ◌+◌, ◌∷◌, [], ◌++◌, OnOk, OnErr, Some, None, true, false, length, map, nat_lt, slice_get, IfOk};
 ghost use Rattle.dbtg_step.specs.Machine.Network.{is_delete};
-ghost use Rattle.dbtg_step.specs.Core.Parts.{stage_while_held};
-ghost use Rattle.dbtg_step.specs.Core.Stands.{HasStatement, IsStanding};
+ghost use Rattle.dbtg_step.specs.Inside.Parts.{stage_while_held};
+ghost use Rattle.dbtg_step.specs.Inside.Stands.{HasStatement, IsStanding};
 ghost use Rattle.dbtg_unit.specs.declared.statement.Statement.{Statement};
 
 use crate::parts::{Runner, Stage};

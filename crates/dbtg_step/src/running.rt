@@ -7,9 +7,10 @@ ghost use Rattle.dbtg_step.specs.Core.CoreSteps.{after_move, result_of_move};
 ghost use Rattle.dbtg_step.specs.Machine.Headline.{RunIs};
 ghost use Rattle.dbtg_step.specs.Laws.{scripts_fit};
 ghost use Rattle.dbtg_step.specs.Core.Parts.{CoreParts, machine};
-ghost use Rattle.dbtg_step.specs.Core.Runs.{IsHandedOut, after_moves, results_of_moves};
+ghost use Rattle.dbtg_step.specs.Core.Runs.{IsHandedOut};
+ghost use Rattle.dbtg_step.specs.Inside.Runs.{after_moves, results_of_moves};
 ghost use Rattle.dbtg_step.specs.Core.Serial.{SerialRunIs, in_turn_from};
-ghost use Rattle.dbtg_step.specs.Core.Whole.{HasMadeAll};
+ghost use Rattle.dbtg_step.specs.Inside.Whole.{HasMadeAll};
 
 use crate::machine::Core;
 use crate::results::Run;

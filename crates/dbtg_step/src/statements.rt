@@ -11,7 +11,8 @@ ghost use Rattle.dbtg_unit.specs.Hands.Local.{Agrees};
 ghost use Rattle.dbtg_unit.specs.Hands.Locality.{IsMadeOnEach, made_by};
 ghost use Rattle.dbtg_unit.specs.Hands.Making.{CanFinish, MayPrepare, ShowsTheSame};
 ghost use Rattle.dbtg_unit.specs.Hands.Needs.{areas_in_order, need};
-ghost use Rattle.dbtg_step.specs.Core.Courses.{AreCellsKept, IsAtCells, IsBehindAreas, IsCourseKept};
+ghost use Rattle.dbtg_step.specs.Core.Courses.{AreCellsKept, IsAtCells, IsCourseKept};
+ghost use Rattle.dbtg_step.specs.Inside.Courses.{IsBehindAreas};
 ghost use Rattle.dbtg_step.specs.Machine.NeedOrder.{AreCellsOf, HasItsAreas, IsAboveHands, LiesInHeldArea, WasTakenInTurn};
 
 use crate::course::Course;

@@ -2,8 +2,8 @@
 ghost use Rattle.std.specs.Prelude.{◌≡◌, ℕ, ◌≤◌, ◌<◌, ◌-◌, length, slice_get, [], Some};
 ghost use Rattle.dbtg_schema.specs.Lists.{Lists};
 ghost use Rattle.dbtg_step.specs.declared.parts.Runner.{Runner};
-ghost use Rattle.dbtg_step.specs.Core.Stands.{StandsBetween, StandsTicketed, StandsTurning};
-ghost use Rattle.dbtg_step.specs.Core.Events.{IsStepped, IsWell};
+ghost use Rattle.dbtg_step.specs.Inside.Stands.{StandsBetween, StandsTicketed, StandsTurning};
+ghost use Rattle.dbtg_step.specs.Inside.Events.{IsStepped, IsWell};
 
 use crate::needing::follows;
 use crate::parts::{Parts, Stage};

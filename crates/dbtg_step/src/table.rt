@@ -1,8 +1,8 @@
 //! The table of cells, by their numbers.
 ghost use Rattle.std.specs.Prelude.{◌≡◌, ◌<◌, length};
-ghost use Rattle.dbtg_step.specs.Core.Parts.{written_home};
-ghost use Rattle.dbtg_step.specs.Core.Stands.{HasPlace, HavePlaces};
-ghost use Rattle.dbtg_step.specs.Core.Leaves.{IsCellGiven};
+ghost use Rattle.dbtg_step.specs.Inside.Parts.{written_home};
+ghost use Rattle.dbtg_step.specs.Inside.Stands.{HasPlace, HavePlaces};
+ghost use Rattle.dbtg_step.specs.Inside.Leaves.{IsCellGiven};
 
 use crate::parts::Place;
 use dbtg_cells::{Cell, CellName, cell_number};

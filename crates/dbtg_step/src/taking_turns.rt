@@ -9,9 +9,11 @@ ghost use Rattle.dbtg_step.specs.declared.taking_turns.Noted.{Noted};
 ghost use Rattle.dbtg_step.specs.Core.Runs.{IsHandedOut};
 ghost use Rattle.dbtg_step.specs.Laws.{scripts_fit};
 ghost use Rattle.dbtg_step.specs.Machine.Network.{network};
-ghost use Rattle.dbtg_step.specs.Core.Parts.{CoreParts, core_of, machine, state_of, unit_state_of};
-ghost use Rattle.dbtg_step.specs.Core.Events.{IsWell};
-ghost use Rattle.dbtg_step.specs.Core.Turns.{AllBetween, AreGiven, HaveTurned, IsDone, IsNoted, NotesMore, TurnedIs};
+ghost use Rattle.dbtg_step.specs.Core.Parts.{CoreParts, machine, unit_state_of};
+ghost use Rattle.dbtg_step.specs.Inside.Parts.{core_of, state_of};
+ghost use Rattle.dbtg_step.specs.Inside.Events.{IsWell};
+ghost use Rattle.dbtg_step.specs.Core.Turns.{AllBetween, AreGiven, HaveTurned, IsNoted, NotesMore, TurnedIs};
+ghost use Rattle.dbtg_step.specs.Inside.Turns.{IsDone};
 
 use crate::machine::Core;
 use crate::parts::{Parts, Runner};

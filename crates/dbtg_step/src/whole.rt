@@ -12,7 +12,8 @@ ghost use Rattle.dbtg_unit.specs.Hands.Making.{HaveNextVersions};
 ghost use Rattle.dbtg_unit.specs.Hands.Prepared.{values_of};
 ghost use Rattle.dbtg_unit.specs.Database.Laws.Replay.{IsHistoryOf};
 ghost use Rattle.dbtg_unit.specs.Database.State.Units.{opening_unit};
-ghost use Rattle.dbtg_step.specs.Core.Whole.{HasMade, HoldsAll, IsEffect, IsGuessed, IsMadeRun, IsWhole, goes_by_guesses, state_now};
+ghost use Rattle.dbtg_step.specs.Core.Whole.{HasMade, IsMadeRun, state_now};
+ghost use Rattle.dbtg_step.specs.Inside.Whole.{HoldsAll, IsEffect, IsGuessed, IsWhole, goes_by_guesses};
 
 use crate::drawing::{enter, make, make_room};
 use crate::imaging::{CellSource, read_image};
@@ -148,7 +149,8 @@ pub struct WholeDatabase<'a> {
 
 impl<'a> Model for WholeDatabase<'a> {
     ghost use Rattle.std.specs.Prelude.{length};
-    ghost use Rattle.dbtg_step.specs.Core.Whole.{IsWhole, Making};
+    ghost use Rattle.dbtg_step.specs.Inside.Whole.{IsWhole};
+    ghost use Rattle.dbtg_step.specs.Core.Whole.{Making};
 
     ghost Value = { Making };
 

@@ -10,7 +10,6 @@ pub mod EditsOf
 pub mod Erasing
 pub mod Guesses
 pub mod Hands
-pub mod HeldNames
 pub mod InHand
 pub mod Lends
 pub mod Local

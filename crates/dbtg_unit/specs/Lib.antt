@@ -1,2 +1,3 @@
 pub mod Database
 pub mod Hands
+pub mod Inside

@@ -5,7 +5,7 @@ ghost use Rattle.std.specs.List.{list_any, range_with_len};
 ghost use Rattle.dbtg_schema.specs.Erasing.{marked};
 ghost use Rattle.dbtg_schema.specs.Lookups.{some_and};
 ghost use Rattle.dbtg_schema.specs.Structure.{area_of, automatic_sets, erase_areas, home, is_automatic, member_clause, rekeyed_sets, set_member_types, set_numbers};
-ghost use Rattle.dbtg_unit.specs.Database.Statements.Areas.{asks};
+ghost use Rattle.dbtg_unit.specs.Inside.Areas.{asks};
 ghost use Rattle.dbtg_unit.specs.Database.Statements.Checks.{area_of_current, areas_of, find_areas, is_update};
 
 use crate::changes::is_rekeyed_in;

@@ -47,7 +47,7 @@ impl Model for Held {
     ghost use Rattle.std.specs.List.{zip};
     ghost use Rattle.indexmap.specs.IndexMap.{get};
     ghost use Rattle.dbtg_unit.specs.Hands.Hands.{Hands};
-    ghost use Rattle.dbtg_unit.specs.Hands.HeldNames.{key_eq, IsIndexOf};
+    ghost use Rattle.dbtg_unit.specs.Inside.HeldNames.{key_eq, IsIndexOf};
 
     ghost Value = { Hands };
 

@@ -5,7 +5,7 @@ ghost use Rattle.std.specs.Prelude.{◌≡◌, None, OnErr, OnOk};
 ghost use Rattle.std.specs.List.{position_from};
 ghost use Rattle.indexmap.specs.IndexMap.{get};
 ghost use Rattle.dbtg_cells.specs.Names.{name_eq};
-ghost use Rattle.dbtg_unit.specs.Hands.HeldNames.{IsIndexOf, entered, key_eq, left, name_key};
+ghost use Rattle.dbtg_unit.specs.Inside.HeldNames.{IsIndexOf, entered, key_eq, left, name_key};
 
 use dbtg_cells::{CellName, same_name};
 use indexmap::IndexMap;

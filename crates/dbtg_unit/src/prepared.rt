@@ -1,7 +1,8 @@
 //! What a statement has prepared, and how it is done: without memory and without a refusal.
 ghost use Rattle.std.specs.Prelude.{◌≡◌, slice_set};
 ghost use Rattle.dbtg_unit.specs.Hands.Locality.{made_by, seen};
-ghost use Rattle.dbtg_unit.specs.Hands.Making.{CanEditHeld, CanMake, IsMade};
+ghost use Rattle.dbtg_unit.specs.Hands.Making.{CanEditHeld, CanMake};
+ghost use Rattle.dbtg_unit.specs.Inside.Making.{IsMade};
 ghost use Rattle.dbtg_unit.specs.Hands.Prepared.{edited_values, guesses_edited, refusal, renoted_at, unit_after, unit_edited, values_of};
 
 use crate::apply::edit_cell;

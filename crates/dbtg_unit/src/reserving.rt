@@ -3,7 +3,8 @@
 ghost use Rattle.std.specs.Prelude.{◌≡◌, IsOk, OnOk};
 ghost use Rattle.dbtg_cells.specs.Cells.{shown};
 ghost use Rattle.dbtg_unit.specs.Hands.Making.{ShowsTheSame};
-ghost use Rattle.dbtg_unit.specs.Hands.Reserving.{CanTakeMember, CanTakeUser, KeepRoom, KeepsOthers, KeepsRoom, OfHeld};
+ghost use Rattle.dbtg_unit.specs.Hands.Reserving.{CanTakeMember, CanTakeUser, KeepRoom, KeepsOthers, OfHeld};
+ghost use Rattle.dbtg_unit.specs.Inside.Reserving.{KeepsRoom};
 
 use crate::held::Held;
 use dbtg_cells::{Cell, CellName, DbKey};

@@ -2,7 +2,7 @@
 ghost use Rattle.std.specs.Prelude.{◌≡◌, ◌<◌, length, slice_set, if◌then◌else◌, Some};
 ghost use Rattle.dbtg_schema.specs.Lookups.{at};
 ghost use Rattle.dbtg_schema.specs.Structure.{area_of, owns};
-ghost use Rattle.dbtg_unit.specs.Database.State.Seen.{seen_in_set, seen_in_sets};
+ghost use Rattle.dbtg_unit.specs.Inside.Seen.{seen_in_set, seen_in_sets};
 ghost use Rattle.dbtg_unit.specs.Database.State.Units.{seen_with, suppresses};
 
 use crate::entries::{entry_at, set_entry};

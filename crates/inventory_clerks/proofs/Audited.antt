@@ -7,7 +7,7 @@ use Rattle.dbtg_unit.specs.declared.unit.Entry.{Entry}
 use Rattle.dbtg_unit.specs.declared.unit.Unit.{Unit}
 use Rattle.dbtg_unit.specs.Database.State.Image.{Image}
 use Rattle.dbtg_step.specs.Core.Audit.{IsAudited}
-use Rattle.inventory_clerks.specs.Auditing.{IsTextOf, text_of}
+use Rattle.inventory_clerks.specs.Inside.Auditing.{IsTextOf, text_of}
 
 pub found_is_left : {V : Type 0} (items : V → List ℕ) (schema : Lists) (capacity units : ℕ) (history : List Entry) (found : Option V) (text left : List ℕ)
     → MatchOption found (IsHistoryOf schema capacity units history → ⊥) (λ out. IsTextOf schema capacity units history (items out))

@@ -10,7 +10,7 @@ use Rattle.dbtg_run.specs.UnitView.{UnitView}
 use Rattle.inventory_clerks.specs.declared.order.Order.{Order}
 use Rattle.inventory_clerks.specs.declared.order.Stop.{Stop}
 use Rattle.inventory_clerks.specs.Orders.{AreFilled}
-use Rattle.inventory_clerks.specs.Staff.{HaveFilled}
+use Rattle.inventory_clerks.specs.Inside.Staff.{HaveFilled}
 use Rattle.inventory_clerks.proofs.Filling.{filled_in_all}
 
 one_of_two : (a b : ℕ) → (0 + cond (eqb a 1) 1 0) + cond (eqb b 1) 1 0 ≡ 1 → a ≢ b

@@ -1,7 +1,7 @@
 -- Rounds of orders.
 use Rattle.std.proofs.Common.{◌≡◌, ℕ, ◌+◌, List, [], ◌++◌, refl, add-one}
 use Rattle.inventory_clerks.specs.declared.order.Order.{Order}
-use Rattle.inventory_clerks.specs.Orders.{rounds_of}
+use Rattle.inventory_clerks.specs.Inside.Orders.{rounds_of}
 
 pub no_round : (orders : List Order) → rounds_of 0 orders ≡ []
 unfolding rounds_of

@@ -1,3 +1,3 @@
 pub mod Orders
-pub mod Auditing
 pub mod Staff
+pub mod Inside

@@ -1,5 +1,5 @@
 -- What it is that an order is filled.
-use Rattle.std.specs.Prelude.{ℕ, zero, suc, ◌≡◌, ◌+◌, List, [], ◌∷◌, ◌++◌, false, Option, Some, None, map, slice_get}
+use Rattle.std.specs.Prelude.{ℕ, ◌≡◌, ◌+◌, List, [], ◌∷◌, ◌++◌, false, Option, Some, None, map, slice_get}
 use Rattle.dbtg_cells.specs.declared.key.Value.{Value}
 use Rattle.dbtg_cells.specs.declared.key.Value.TheVariants.{Num, Text}
 use Rattle.dbtg_schema.specs.Lists.{Lists}
@@ -38,11 +38,6 @@ stock_shown answer = stock_in answer.items
 -- what is there after an order: what was there, with what is brought and without what is taken
 abbrev pub is_after : Order → ℕ → ℕ → Type 0
 is_after order before after = after + order.taken ≡ before + order.brought
-
--- the orders so often, one round behind another
-unfoldable pub rounds_of : ℕ → List Order → List Order
-rounds_of zero orders = []
-rounds_of (suc n) orders = rounds_of n orders ++ orders
 
 -- two statements of the unit, one directly behind the other: a record is found and kept
 pub record HasKept (finding : Statement) (old new : List Entry) : Type 0 where

@@ -1,22 +1,8 @@
 -- Who works in a warehouse, and what they have done at the end of the day.
-use Rattle.std.specs.Prelude.{ℕ, ◌≢◌, List, []}
-use Rattle.dbtg_unit.specs.Database.Laws.Replay.{entries_of}
-use Rattle.dbtg_run.specs.declared.settled.Settled.{Settled}
 use Rattle.dbtg_run.specs.UnitView.{BelongsTo}
-use Rattle.inventory_clerks.specs.declared.order.Order.{Order}
 use Rattle.inventory_clerks.specs.declared.warehouse.Warehouse.{Warehouse}
-use Rattle.inventory_clerks.specs.Orders.{AreFilled}
 
 -- the units of both clerks are units of the warehouse's database
 pub record IsStaffed (house : Warehouse) : Type 0 where
   pub first : BelongsTo house.db house.first
   pub second : BelongsTo house.db house.second
-
--- in the history are two units: the entries of the one fill all orders of the first clerk, each by entries of its own, and those of
--- the other all of the second
-pub record HaveFilled (firsts seconds : List Order) (settled : Settled) : Type 0 where
-  pub one : ℕ
-  pub other : ℕ
-  pub apart : one ≢ other
-  pub by_one : AreFilled [] (entries_of one settled.history) firsts
-  pub by_other : AreFilled [] (entries_of other settled.history) seconds

@@ -4,9 +4,10 @@
 ghost use Rattle.std.specs.Prelude.{◌≡◌, IfNone, IfOk, IfSome, MatchOption, None, true};
 ghost use Rattle.dbtg_schema.specs.Sound.{IsSound};
 ghost use Rattle.dbtg_unit.specs.Database.Laws.Replay.{IsHistoryOf};
-ghost use Rattle.inventory_clerks.specs.Auditing.{IsTextOf, text_of};
-ghost use Rattle.inventory_clerks.specs.Orders.{rounds_of};
-ghost use Rattle.inventory_clerks.specs.Staff.{HaveFilled, IsStaffed};
+ghost use Rattle.inventory_clerks.specs.Inside.Auditing.{IsTextOf, text_of};
+ghost use Rattle.inventory_clerks.specs.Inside.Orders.{rounds_of};
+ghost use Rattle.inventory_clerks.specs.Inside.Staff.{HaveFilled};
+ghost use Rattle.inventory_clerks.specs.Staff.{IsStaffed};
 
 mod clerk;
 mod order;

@@ -1,6 +1,7 @@
 //! What a line of the shell asks for.
 ghost use Rattle.std.specs.Prelude.{◌≡◌};
-ghost use Rattle.dbtg.specs.Asking.{asked_of, behind_spaces, names_unit};
+ghost use Rattle.dbtg.specs.Asking.{asked_of, behind_spaces};
+ghost use Rattle.dbtg.specs.Inside.Asking.{names_unit};
 
 use dbtg_script::{behind, in_front, is_number, number};
 

@@ -5,7 +5,8 @@ ghost use Rattle.dbtg_unit.specs.Database.Statements.Fits.{fits};
 ghost use Rattle.dbtg_unit.specs.Database.State.Image.{image_of};
 ghost use Rattle.dbtg_step.specs.Core.Whole.{HasMade, state_now};
 ghost use Rattle.dbtg_command.specs.Refusals.{is_count};
-ghost use Rattle.dbtg.specs.Sessions.{AreTurnsOf, HasEntered, HasNoRoom, IsAsBefore, MakesLine, RefusesBehind, RefusesLine, Takes};
+ghost use Rattle.dbtg.specs.Sessions.{AreTurnsOf, RefusesBehind, RefusesLine, Takes};
+ghost use Rattle.dbtg.specs.Inside.Sessions.{HasEntered, HasNoRoom, IsAsBefore, MakesLine};
 ghost use Rattle.dbtg.specs.declared.shell.session.Refusal.TheVariants.{Fault, Memory};
 
 use crate::threads::units_in_turn;
@@ -189,7 +190,8 @@ pub struct Session<'a> {
 
 impl<'a> Model for Session<'a> {
     ghost use Rattle.std.specs.Prelude.{map};
-    ghost use Rattle.dbtg.specs.Sessions.{IsSession, Typed};
+    ghost use Rattle.dbtg.specs.Inside.Sessions.{IsSession};
+    ghost use Rattle.dbtg.specs.Sessions.{Typed};
 
     ghost Value = { Typed };
 

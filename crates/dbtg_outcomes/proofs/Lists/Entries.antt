@@ -10,7 +10,7 @@ use Rattle.std.proofs.lemmas.Slice.Eq.{bytes_eq-Decides}
 use Rattle.indexmap.specs.Layout.{set_value_at}
 use Rattle.indexmap.proofs.MapLemmas.{Found-position, Missing-position}
 use Rattle.dbtg_outcomes.specs.Groups.{among}
-use Rattle.dbtg_outcomes.specs.Grouped.{HasMore, IsAt, keys_of, sum_of}
+use Rattle.dbtg_outcomes.specs.Inside.Grouped.{HasMore, IsAt, keys_of, sum_of}
 use Rattle.dbtg_outcomes.specs.declared.groups.Group.{Group}
 
 module _ {K : Type 0} (items : K → List ℕ) where

@@ -8,7 +8,7 @@ use Rattle.std.proofs.lemmas.Bool.{cases_Bool, true≢false, or_left, or_right}
 use Rattle.std.proofs.Math.Nat.{mul-suc}
 use Rattle.std.proofs.lemmas.Slice.Eq.{bytes_eq-Decides}
 use Rattle.std.proofs.lemmas.List.{map-append}
-use Rattle.dbtg_outcomes.specs.Gathered.{each_of}
+use Rattle.dbtg_outcomes.specs.Inside.Gathered.{each_of}
 use Rattle.dbtg_outcomes.specs.Groups.{among, firsts, groups}
 
 -- KEYS

@@ -11,14 +11,15 @@ use Rattle.dbtg_unit.specs.Database.Laws.Replaying.{statements_of}
 use Rattle.dbtg_step.specs.declared.results.Run.{Run}
 use Rattle.dbtg_outcomes.specs.declared.groups.Group.{Group}
 use Rattle.dbtg_outcomes.specs.declared.notes.Note.{Note}
-use Rattle.dbtg_outcomes.specs.Gathered.{each_of, gathered}
-use Rattle.dbtg_outcomes.specs.Grouped.{IsAdded}
+use Rattle.dbtg_outcomes.specs.Inside.Gathered.{each_of, gathered}
+use Rattle.dbtg_outcomes.specs.Inside.Grouped.{IsAdded}
 use Rattle.dbtg_outcomes.specs.Orders.{extended, extended_by, next_of}
-use Rattle.dbtg_outcomes.specs.Outcomes.{HasStatus, IsRunOf}
+use Rattle.dbtg_outcomes.specs.Outcomes.{HasStatus}
+use Rattle.dbtg_outcomes.specs.Inside.Outcomes.{IsRunOf}
 use Rattle.dbtg_outcomes.specs.Results.{Meeting, state_key, units_of}
-use Rattle.dbtg_outcomes.specs.Search.{AreHeld, AreNoted, Hold, IsHeld}
-use Rattle.dbtg_outcomes.specs.Statuses.{HasNoted}
-use Rattle.dbtg_outcomes.specs.Steps.{Extends, ExtendsAll, LeadToMore, next_orders, nexts, with_each}
+use Rattle.dbtg_outcomes.specs.Inside.Search.{AreHeld, AreNoted, Hold, IsHeld}
+use Rattle.dbtg_outcomes.specs.Inside.Statuses.{HasNoted}
+use Rattle.dbtg_outcomes.specs.Inside.Steps.{Extends, ExtendsAll, LeadToMore, next_orders, nexts, with_each}
 use Rattle.dbtg_outcomes.proofs.Lists.Gathered.{each_append, gathered_append, gathered_longer}
 use Rattle.dbtg_outcomes.proofs.States.Layers.{stand_length}
 use Rattle.dbtg_outcomes.proofs.Orders.Nexts.{hold_ended, hold_extended, noted_extended}

@@ -13,13 +13,14 @@ use Rattle.dbtg_step.specs.declared.results.Run.{Run}
 use Rattle.dbtg_step.specs.Machine.SequentialDatabase.{unit_at}
 use Rattle.dbtg_outcomes.specs.declared.groups.Group.{Group}
 use Rattle.dbtg_outcomes.specs.declared.notes.Note.{Note}
-use Rattle.dbtg_outcomes.specs.Gathered.{each_of, gathered}
-use Rattle.dbtg_outcomes.specs.Grouped.{IsAdded}
+use Rattle.dbtg_outcomes.specs.Inside.Gathered.{each_of, gathered}
+use Rattle.dbtg_outcomes.specs.Inside.Grouped.{IsAdded}
 use Rattle.dbtg_outcomes.specs.Orders.{extended_by, made, next_of}
-use Rattle.dbtg_outcomes.specs.Outcomes.{HasStatus, IsMeeting, IsRunOf}
+use Rattle.dbtg_outcomes.specs.Outcomes.{HasStatus, IsMeeting}
+use Rattle.dbtg_outcomes.specs.Inside.Outcomes.{IsRunOf}
 use Rattle.dbtg_outcomes.specs.Results.{Meeting, state_key}
-use Rattle.dbtg_outcomes.specs.Search.{AreNoted, Hold, IsHeld, Stand}
-use Rattle.dbtg_outcomes.specs.Statuses.{HasNoted}
+use Rattle.dbtg_outcomes.specs.Inside.Search.{AreNoted, Hold, IsHeld, Stand}
+use Rattle.dbtg_outcomes.specs.Inside.Statuses.{HasNoted}
 use Rattle.dbtg_outcomes.proofs.Lists.Gathered.{gathered_append, gathered_apart}
 use Rattle.dbtg_outcomes.proofs.States.Histories.{made_is}
 use Rattle.dbtg_outcomes.proofs.States.Layers.{entered}

@@ -10,7 +10,7 @@ use Rattle.dbtg_unit.specs.declared.statement.Statement.{Statement}
 use Rattle.dbtg_outcomes.specs.declared.answered.Answered.{Answered}
 use Rattle.dbtg_outcomes.specs.declared.notes.Note.{Note}
 use Rattle.dbtg_outcomes.specs.Outcomes.{place_of, places_from}
-use Rattle.dbtg_outcomes.specs.Statuses.{AreAllAnswered, AreAnswered, AreOfNotes, IsAnswered, IsEntered, TakesNote}
+use Rattle.dbtg_outcomes.specs.Inside.Statuses.{AreAllAnswered, AreAnswered, AreOfNotes, IsAnswered, IsEntered, TakesNote}
 use Rattle.dbtg_outcomes.proofs.Lists.Members.{contains_in}
 use Rattle.dbtg_outcomes.proofs.Lists.Ranges.{next_range}
 

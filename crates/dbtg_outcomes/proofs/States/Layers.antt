@@ -7,12 +7,12 @@ use Rattle.std.proofs.lemmas.Slice.Eq.{bytes_eq-Decides}
 use Rattle.dbtg_unit.specs.declared.statement.Statement.{Statement}
 use Rattle.dbtg_outcomes.specs.declared.groups.Group.{Group}
 use Rattle.dbtg_outcomes.specs.Counted.{counted}
-use Rattle.dbtg_outcomes.specs.Grouped.{IsAdded, keys_of, sum_of}
+use Rattle.dbtg_outcomes.specs.Inside.Grouped.{IsAdded, keys_of, sum_of}
 use Rattle.dbtg_outcomes.specs.Groups.{among}
 use Rattle.dbtg_outcomes.specs.Orders.{orders}
 use Rattle.dbtg_outcomes.specs.Results.{Meeting}
-use Rattle.dbtg_outcomes.specs.Gathered.{enter}
-use Rattle.dbtg_outcomes.specs.Search.{AreHeld, IsHeld, Stand}
+use Rattle.dbtg_outcomes.specs.Inside.Gathered.{enter}
+use Rattle.dbtg_outcomes.specs.Inside.Search.{AreHeld, IsHeld, Stand}
 use Rattle.dbtg_outcomes.proofs.Lists.Weights.{Apart}
 
 -- NUMBERS OF ORDERS

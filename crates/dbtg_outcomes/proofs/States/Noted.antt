@@ -8,8 +8,8 @@ use Rattle.dbtg_unit.proofs.Public.{in_left, in_right}
 use Rattle.dbtg_outcomes.specs.declared.notes.Note.{Note}
 use Rattle.dbtg_outcomes.specs.Orders.{next_of}
 use Rattle.dbtg_outcomes.specs.Results.{Meeting}
-use Rattle.dbtg_outcomes.specs.Search.{AreNoted, HasNote, IsNextNote, IsNote}
-use Rattle.dbtg_outcomes.specs.Statuses.{HasNoted}
+use Rattle.dbtg_outcomes.specs.Inside.Search.{AreNoted, HasNote, IsNextNote, IsNote}
+use Rattle.dbtg_outcomes.specs.Inside.Statuses.{HasNoted}
 use Rattle.dbtg_outcomes.proofs.Lists.Members.{contains_in, in_contains}
 
 pub contains_left : {X : Type 0} (xs ys : List X) (x : X) → Contains xs x → Contains (xs ++ ys) x

@@ -12,16 +12,17 @@ use Rattle.dbtg_outcomes.specs.declared.notes.Note.{Note}
 use Rattle.dbtg_outcomes.specs.declared.outcomes.Outcomes as given
 use Rattle.dbtg_outcomes.specs.declared.search.Search.{Search}
 use Rattle.dbtg_outcomes.specs.Counted.{counted}
-use Rattle.dbtg_outcomes.specs.Gathered.{gathered}
-use Rattle.dbtg_outcomes.specs.Given.{all_orders, one_result}
-use Rattle.dbtg_outcomes.specs.Grouped.{IsAdded, sum_of}
+use Rattle.dbtg_outcomes.specs.Inside.Gathered.{gathered}
+use Rattle.dbtg_outcomes.specs.Inside.Given.{all_orders, one_result}
+use Rattle.dbtg_outcomes.specs.Inside.Grouped.{IsAdded, sum_of}
 use Rattle.dbtg_outcomes.specs.Groups.{groups}
 use Rattle.dbtg_outcomes.specs.Orders.{count_statements, orders}
-use Rattle.dbtg_outcomes.specs.Outcomes.{AreOutcomes, IsMeeting, IsRunOf, result_of}
+use Rattle.dbtg_outcomes.specs.Outcomes.{AreOutcomes, IsMeeting, result_of}
+use Rattle.dbtg_outcomes.specs.Inside.Outcomes.{IsRunOf}
 use Rattle.dbtg_outcomes.specs.Results.{Meeting, result_text}
-use Rattle.dbtg_outcomes.specs.Search.{AreHeld, Hold, IsAt, IsHeld, layer}
-use Rattle.dbtg_outcomes.specs.Statuses.{AreAllAnswered, AreOfNotes}
-use Rattle.dbtg_outcomes.specs.Steps.{AreByResult, HoldAll, Joins}
+use Rattle.dbtg_outcomes.specs.Inside.Search.{AreHeld, Hold, IsAt, IsHeld, layer}
+use Rattle.dbtg_outcomes.specs.Inside.Statuses.{AreAllAnswered, AreOfNotes}
+use Rattle.dbtg_outcomes.specs.Inside.Steps.{AreByResult, HoldAll, Joins}
 use Rattle.dbtg_outcomes.proofs.Orders.Extending.{last_held}
 use Rattle.dbtg_outcomes.proofs.Lists.Gathered.{gathered_is, total_groups}
 use Rattle.dbtg_outcomes.proofs.States.Layers.{stand_alone, sum_counted}

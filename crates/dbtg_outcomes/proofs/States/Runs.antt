@@ -12,7 +12,8 @@ use Rattle.dbtg_unit.specs.Database.Laws.Replaying.{statements_of}
 use Rattle.dbtg_unit.proofs.Public.{opening_length, statements_determine}
 use Rattle.dbtg_step.specs.declared.results.Run.{Run}
 use Rattle.dbtg_step.specs.Core.Whole.{HasMade, IsMadeRun, Making, state_now}
-use Rattle.dbtg_outcomes.specs.Outcomes.{HasStatus, IsRunOf}
+use Rattle.dbtg_outcomes.specs.Outcomes.{HasStatus}
+use Rattle.dbtg_outcomes.specs.Inside.Outcomes.{IsRunOf}
 use Rattle.dbtg_outcomes.specs.Results.{Meeting, state_of}
 use Rattle.dbtg_outcomes.proofs.States.Histories.{as_many}
 

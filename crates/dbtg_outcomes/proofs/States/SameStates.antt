@@ -15,7 +15,8 @@ use Rattle.dbtg_unit.proofs.Public.{In, map_agrees}
 use Rattle.dbtg_step.specs.Machine.SequentialDatabase.{unit_at}
 use Rattle.dbtg_outcomes.specs.Orders.{extended, extended_by, made, next_of}
 use Rattle.dbtg_outcomes.specs.Results.{Meeting, answers_told, by_unit, entries_in, entry_in, result_text, state_key, state_of, unit_answers, units_of}
-use Rattle.dbtg_outcomes.specs.Spelling.{image_apart, image_numbers, list_apart, list_numbers, one_apart, one_number, unit_apart, unit_numbers, behind}
+use Rattle.dbtg_outcomes.specs.Inside.Spelling.{image_apart, list_apart, one_apart, unit_apart, behind}
+use Rattle.dbtg_outcomes.specs.Spelling.{image_numbers, list_numbers, one_number, unit_numbers}
 use Rattle.dbtg_outcomes.proofs.States.SameImages.{map_same, same_databases}
 use Rattle.dbtg_outcomes.proofs.Orders.Begun.{made_more}
 

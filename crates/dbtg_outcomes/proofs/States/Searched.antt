@@ -17,14 +17,14 @@ use Rattle.dbtg_step.specs.Machine.SequentialDatabase.{unit_at}
 use Rattle.dbtg_outcomes.specs.declared.groups.Group.{Group}
 use Rattle.dbtg_outcomes.specs.declared.notes.Note.{Note}
 use Rattle.dbtg_outcomes.specs.declared.search.Search as given
-use Rattle.dbtg_outcomes.specs.Gathered.{gathered}
+use Rattle.dbtg_outcomes.specs.Inside.Gathered.{gathered}
 use Rattle.dbtg_outcomes.specs.Orders.{completed, count_statements, made, next_of, orders}
 use Rattle.dbtg_outcomes.specs.Outcomes.{AreStatuses, Comes, IsMeeting, count_states, states_within}
 use Rattle.dbtg_outcomes.specs.Results.{Meeting, state_key, units_of}
-use Rattle.dbtg_outcomes.specs.Search.{AreHeld, HasNote, IsAt, IsHeld, IsNextNote, IsNote, layer}
-use Rattle.dbtg_outcomes.specs.Steps.{Advances, ExtendsAll, HasHistory, IsOver, IsUnderWay, LeadToMore, next_orders, nexts, with_each}
+use Rattle.dbtg_outcomes.specs.Inside.Search.{AreHeld, HasNote, IsAt, IsHeld, IsNextNote, IsNote, layer}
+use Rattle.dbtg_outcomes.specs.Inside.Steps.{Advances, ExtendsAll, HasHistory, IsOver, IsUnderWay, LeadToMore, next_orders, nexts, with_each}
 use Rattle.dbtg_outcomes.specs.declared.answered.Answered.{Answered}
-use Rattle.dbtg_outcomes.specs.Statuses.{AreOfNotes}
+use Rattle.dbtg_outcomes.specs.Inside.Statuses.{AreOfNotes}
 use Rattle.dbtg_outcomes.proofs.Orders.Begun.{IsNext, amid, begun_left, begun_more, completes, next_left}
 use Rattle.dbtg_outcomes.proofs.Lists.Gathered.{gathered_is}
 use Rattle.dbtg_outcomes.proofs.States.Layers.{stand_alone, stand_length}

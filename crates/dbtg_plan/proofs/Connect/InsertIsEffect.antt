@@ -18,7 +18,7 @@ use Rattle.dbtg_cells.specs.declared.ring.Occurrence.{Occurrence}
 use Rattle.dbtg_cells.specs.Keys.{key_eq, is_member, owner_eq}
 use Rattle.dbtg_cells.specs.Members.{keys_in}
 use Rattle.dbtg_cells.proofs.Public.{key_eq_refl, owner_eq_refl}
-use Rattle.dbtg_unit.specs.Database.Statements.Checks.{about, own_checks, insert_checks, place_checks}
+use Rattle.dbtg_unit.specs.Database.Statements.Checks.{about, own_checks, insert_checks, place_checks, accepts_type, refused_at_once}
 use Rattle.dbtg_unit.specs.declared.edit.CellEdit.{CellEdit}
 use Rattle.dbtg_unit.specs.declared.edit.Edit.TheVariants.{ChangeOwner, RaiseVersion}
 use Rattle.dbtg_unit.specs.declared.statement.Statement.{Statement}
@@ -30,32 +30,28 @@ use Rattle.dbtg_unit.specs.declared.unit.Unit.{Unit}
 use Rattle.dbtg_unit.specs.Database.State.Base.{Database, Record, is_live, items_of, key_item, members_of, owner_of}
 use Rattle.dbtg_unit.specs.Hands.CanEdit.{CanPlace}
 use Rattle.dbtg_unit.specs.Database.State.CellNames.{place_of, slot_name}
-use Rattle.dbtg_unit.specs.Database.Statements.Checks.{accepts_type, refused_at_once}
 use Rattle.dbtg_unit.specs.Hands.EditsOf.{placed_at}
 use Rattle.dbtg_unit.specs.Database.Statements.Effect.{Outcome, connected_in, effect, insert_checks, inserted, next_version, place_checks, raised, version_of}
 use Rattle.dbtg_unit.specs.Database.Statements.Fits.{values_fit}
 use Rattle.dbtg_unit.specs.Hands.Guesses.{guesses_after, noted_guesses}
 use Rattle.dbtg_unit.specs.Hands.Hands.{Hands}
-use Rattle.dbtg_unit.specs.Hands.InHand.{items_in, occurrence_in, owner_in, stored_in, version_in}
+use Rattle.dbtg_unit.specs.Hands.InHand.{items_in, occurrence_in, owner_in, stored_in, version_in, in_hand}
 use Rattle.dbtg_unit.specs.Database.State.Legal.{Legal}
 use Rattle.dbtg_unit.specs.Hands.Local.{Agrees, holds}
 use Rattle.dbtg_unit.specs.Hands.Making.{CanEditHeld, CanFinish, CanMake, MayPrepare, ShowsTheSame}
 use Rattle.dbtg_unit.specs.Hands.Needs.{current_owner, ring_names, slot_names}
-use Rattle.dbtg_unit.specs.Hands.Prepared.{IsEffect, IsPrepared, Plan, unit_after, refusal, unless_refusal}
+use Rattle.dbtg_unit.specs.Hands.Prepared.{IsEffect, IsPrepared, Plan, unit_after, refusal}
+use Rattle.dbtg_unit.specs.Inside.Prepared.{unless_refusal}
 use Rattle.dbtg_unit.specs.Hands.Reserving.{CanTakeMember, OfHeld}
 use Rattle.dbtg_unit.specs.Database.State.Units.{place_in}
-use Rattle.dbtg_unit.proofs.Public.{In, MayPlan, agrees_same, can_make_raised, holds_same, in_left, in_range, in_right, insert_checks_agree, items_in_hand}
-use Rattle.dbtg_unit.proofs.Public.{legal_after, live_in_hand, may_plan, member_connected, member_nowhere, member_owner_found, members_in_hand}
-use Rattle.dbtg_unit.proofs.Public.{occurrence_in_same, owner_in_hand, owner_leaves_version, passes_check, passes_without_cells, prepared_has_all}
-use Rattle.dbtg_unit.proofs.Public.{same_occurrence, same_record, same_sym, some_from_not_none, version_in_hand, versions_same}
-use Rattle.dbtg_unit.specs.Hands.InHand.{in_hand}
+use Rattle.dbtg_unit.proofs.Public.{In, MayPlan, agrees_same, can_make_raised, holds_same, in_left, in_range, in_right, insert_checks_agree, items_in_hand, legal_after, live_in_hand, may_plan, member_connected, member_nowhere, member_owner_found, members_in_hand, occurrence_in_same, owner_in_hand, owner_leaves_version, passes_check, passes_without_cells, prepared_has_all, same_occurrence, same_record, same_sym, some_from_not_none, version_in_hand, versions_same}
 use Rattle.dbtg_unit.specs.Database.Statements.View.{View, whole}
-use Rattle.dbtg_unit.specs.Hands.PlanOf.{inserting, plan_of, planned_on_current}
+use Rattle.dbtg_unit.specs.Hands.PlanOf.{inserting, planned_on_current, joining_edit}
+use Rattle.dbtg_unit.specs.Inside.PlanOf.{plan_of}
 use Rattle.dbtg_plan.proofs.Plans.EffectIsPlan.{current_plan_is_effect, effect_in_hand, planned_cells}
 use Rattle.dbtg_plan.proofs.Plans.SamePlan.{in_sets, insert_ring, insert_slot, insert_stands}
 use Rattle.dbtg_unit.specs.Database.Statements.Conditions.{joined_place}
-use Rattle.dbtg_unit.specs.Hands.PlanOf.{joining_edit}
-use Rattle.dbtg_plan.specs.Joining.{joined_occurrence}
+use Rattle.dbtg_plan.specs.Inside.Joining.{joined_occurrence}
 use Rattle.dbtg_plan.proofs.Connect.PlacesDecide.{can_join_in_hand, place_checks_in_hand}
 use Rattle.dbtg_plan.proofs.Plans.IsEffect.{done_is_effect, noted_renoted}
 use Rattle.dbtg_plan.proofs.Plans.RingEdits.{can_edit_ring, free_owner}

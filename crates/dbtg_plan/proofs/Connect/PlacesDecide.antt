@@ -31,12 +31,11 @@ use Rattle.dbtg_unit.specs.Hands.Hands.{Hands}
 use Rattle.dbtg_unit.specs.Database.State.Legal.{Legal, pairwise, keys_in_order}
 use Rattle.dbtg_unit.specs.Hands.Local.{Agrees, holds}
 use Rattle.dbtg_unit.specs.Database.Laws.Placing.{comparable, compares}
-use Rattle.dbtg_unit.proofs.Public.{all_members, checks_at_agree, divided_by_new_member, entries_in_hand, keys_compare, pairwise_weaker, passes_check}
-use Rattle.dbtg_unit.proofs.Public.{same_occurrence}
+use Rattle.dbtg_unit.proofs.Public.{all_members, checks_at_agree, divided_by_new_member, entries_in_hand, keys_compare, pairwise_weaker, passes_check, same_occurrence}
 use Rattle.dbtg_unit.specs.Hands.InHand.{in_hand}
 use Rattle.dbtg_unit.specs.Database.Statements.View.{whole}
 use Rattle.dbtg_unit.specs.Database.Statements.Conditions.{joined_place}
-use Rattle.dbtg_plan.specs.Joining.{joined_occurrence}
+use Rattle.dbtg_plan.specs.Inside.Joining.{joined_occurrence}
 
 -- A PLACE FOR A NEW MEMBER
 

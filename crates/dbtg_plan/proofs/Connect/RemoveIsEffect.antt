@@ -15,10 +15,8 @@ use Rattle.dbtg_cells.specs.declared.ring.Occurrence.{Occurrence}
 use Rattle.dbtg_cells.specs.Keys.{is_member, owner_eq}
 use Rattle.dbtg_cells.specs.Members.{keys_in}
 use Rattle.dbtg_cells.proofs.Public.{same_owner}
-use Rattle.dbtg_unit.proofs.Public.{In, MayPlan, may_plan, can_make_raised, in_left, in_range, in_right, listed_in_hand, live_in_hand, member_has_list}
-use Rattle.dbtg_unit.proofs.Public.{members_in_hand, owner_has_member, owner_in_hand, owner_leaves_version, prepared_has_all, remove_checks_agree}
-use Rattle.dbtg_unit.proofs.Public.{same_record, some_and_value, version_in_hand}
-use Rattle.dbtg_unit.specs.Database.Statements.Checks.{about, remove_checks}
+use Rattle.dbtg_unit.proofs.Public.{In, MayPlan, may_plan, can_make_raised, in_left, in_range, in_right, listed_in_hand, live_in_hand, member_has_list, members_in_hand, owner_has_member, owner_in_hand, owner_leaves_version, prepared_has_all, remove_checks_agree, same_record, some_and_value, version_in_hand}
+use Rattle.dbtg_unit.specs.Database.Statements.Checks.{about, remove_checks, refused_at_once}
 use Rattle.dbtg_unit.specs.declared.edit.CellEdit.{CellEdit}
 use Rattle.dbtg_unit.specs.declared.edit.Edit.TheVariants.{ChangeOwner, RaiseVersion, TakeOut}
 use Rattle.dbtg_unit.specs.declared.statement.Statement.TheVariants.{Remove}
@@ -27,19 +25,19 @@ use Rattle.dbtg_unit.specs.declared.unit.Cause.TheVariants.{NotMember}
 use Rattle.dbtg_unit.specs.declared.unit.Unit.{Unit}
 use Rattle.dbtg_unit.specs.Database.State.Base.{Database, is_live, members_of, owner_of}
 use Rattle.dbtg_unit.specs.Database.State.CellNames.{place_of, slot_name}
-use Rattle.dbtg_unit.specs.Database.Statements.Checks.{refused_at_once}
 use Rattle.dbtg_unit.specs.Hands.EditsOf.{ring_edits, slot_edit}
 use Rattle.dbtg_unit.specs.Database.Statements.Effect.{Outcome, effect, remove_checks, removed, version_of, without}
 use Rattle.dbtg_unit.specs.Hands.Guesses.{guesses_after, noted_guesses}
 use Rattle.dbtg_unit.specs.Hands.Hands.{Hands}
-use Rattle.dbtg_unit.specs.Hands.InHand.{owner_in, version_in}
+use Rattle.dbtg_unit.specs.Hands.InHand.{owner_in, version_in, in_hand}
 use Rattle.dbtg_unit.specs.Hands.Local.{Agrees, holds}
 use Rattle.dbtg_unit.specs.Hands.Making.{CanFinish, CanMake, HaveNextVersions, MayPrepare}
 use Rattle.dbtg_unit.specs.Hands.Needs.{is_wrong_guess, ring_names, slot_names}
-use Rattle.dbtg_unit.specs.Hands.Prepared.{IsEffect, IsPrepared, unit_after, refusal, unless_refusal}
-use Rattle.dbtg_unit.specs.Hands.InHand.{in_hand}
+use Rattle.dbtg_unit.specs.Hands.Prepared.{IsEffect, IsPrepared, unit_after, refusal}
+use Rattle.dbtg_unit.specs.Inside.Prepared.{unless_refusal}
 use Rattle.dbtg_unit.specs.Database.Statements.View.{View, whole}
-use Rattle.dbtg_unit.specs.Hands.PlanOf.{plan_of, planned_on_current, removing}
+use Rattle.dbtg_unit.specs.Inside.PlanOf.{plan_of}
+use Rattle.dbtg_unit.specs.Hands.PlanOf.{planned_on_current, removing}
 use Rattle.dbtg_plan.proofs.Plans.EffectIsPlan.{current_plan_is_effect, effect_in_hand, planned_cells}
 use Rattle.dbtg_plan.proofs.Plans.SamePlan.{in_sets, remove_slot}
 use Rattle.dbtg_plan.proofs.Connect.InsertIsEffect.{own_passed, version_raised}

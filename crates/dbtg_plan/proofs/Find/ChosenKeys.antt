@@ -7,7 +7,7 @@ use Rattle.dbtg_cells.specs.declared.key.DbKey.{DbKey}
 use Rattle.dbtg_unit.specs.declared.statement.Which.TheVariants.{Last, Next, Prior}
 use Rattle.dbtg_unit.specs.Database.Statements.Found.{chosen_by_key}
 use Rattle.dbtg_unit.proofs.Public.{filter_all}
-use Rattle.dbtg_plan.specs.Finding.{is_above, is_below}
+use Rattle.dbtg_plan.specs.Inside.Finding.{is_above, is_below}
 use Rattle.dbtg_plan.proofs.Find.NumberedKeys.{none_kept}
 
 pub last_chosen : (current : Option DbKey) (keys : List DbKey) → final (filter (is_below None) keys) ≡ chosen_by_key Last current keys

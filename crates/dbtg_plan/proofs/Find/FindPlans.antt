@@ -42,7 +42,7 @@ use Rattle.dbtg_unit.specs.Hands.Needs.{cells_to_find, current_owner, find_cells
 use Rattle.dbtg_unit.specs.Hands.Prepared.{IsEffect}
 use Rattle.dbtg_unit.specs.Database.State.Units.{key_of_place, owners_of, place_in, seen, seen_with}
 use Rattle.dbtg_unit.proofs.Public.{In, MayPlan, all_held, found_live, in_left, in_right, live_in_hand, owners_in_hand, prepared_has_all}
-use Rattle.dbtg_plan.specs.Finding.{found_in, next_cell_in, owners_in, plan_of_found}
+use Rattle.dbtg_plan.specs.Inside.Finding.{found_in, next_cell_in, owners_in, plan_of_found}
 use Rattle.dbtg_plan.proofs.Find.FindsTheSame.{found_reads}
 use Rattle.dbtg_plan.proofs.Needs.MissingCells.{missing_append, none_missing}
 use Rattle.dbtg_plan.proofs.Plans.IsEffect.{effect_is_on_cells, refusal_is_effect}

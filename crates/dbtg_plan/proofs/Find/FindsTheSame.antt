@@ -31,13 +31,13 @@ use Rattle.dbtg_unit.specs.Database.State.Cells.{number_of}
 use Rattle.dbtg_unit.specs.Database.Statements.Fits.{form_fits, if_named, is_type}
 use Rattle.dbtg_unit.specs.Database.Statements.Found.{chosen, chosen_by_key, found, found_unless, is_lost, keys_in_area, needs_position, with_calc, with_current}
 use Rattle.dbtg_unit.specs.Hands.Hands.{Hands}
-use Rattle.dbtg_unit.specs.Hands.InHand.{key_of, numbers_in, occurrence_in, values_of_key}
+use Rattle.dbtg_unit.specs.Inside.InHand.{key_of, values_of_key}
+use Rattle.dbtg_unit.specs.Hands.InHand.{numbers_in, occurrence_in}
 use Rattle.dbtg_unit.specs.Hands.Local.{Agrees, holds}
 use Rattle.dbtg_unit.specs.Hands.Needs.{cells_to_find, ring_names, slot_names}
 use Rattle.dbtg_unit.specs.Database.State.Units.{key_of_owner, key_of_place, place_in}
-use Rattle.dbtg_unit.proofs.Public.{In, calc_items_in_hand, entries_in_hand, first_map, in_filter, in_map, keys_behind_in_hand, list_in_hand, live_by_extent}
-use Rattle.dbtg_unit.proofs.Public.{live_in_hand, live_keys_in_hand, none_pass, numbers_in_hand, of_filter, of_map, of_range, with_calc_in_hand}
-use Rattle.dbtg_plan.specs.Finding.{area_keys_in, duplicate_found, found_in, is_wanted, keys_of_type, keys_wanted, member_found, sorted_found, stored_or}
+use Rattle.dbtg_unit.proofs.Public.{In, calc_items_in_hand, entries_in_hand, first_map, in_filter, in_map, keys_behind_in_hand, list_in_hand, live_by_extent, live_in_hand, live_keys_in_hand, none_pass, numbers_in_hand, of_filter, of_map, of_range, with_calc_in_hand}
+use Rattle.dbtg_plan.specs.Inside.Finding.{area_keys_in, duplicate_found, found_in, is_wanted, keys_of_type, keys_wanted, member_found, sorted_found, stored_or}
 
 -- LISTS
 

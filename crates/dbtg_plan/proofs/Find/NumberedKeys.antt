@@ -11,9 +11,9 @@ use Rattle.dbtg_cells.specs.declared.key.DbKey.{DbKey}
 use Rattle.dbtg_cells.specs.Keys.{key_lt}
 use Rattle.dbtg_cells.specs.Numbers.{is_used, last_of, numbers_where}
 use Rattle.dbtg_cells.proofs.Public.{map_reverse}
-use Rattle.dbtg_unit.specs.Hands.InHand.{key_of}
+use Rattle.dbtg_unit.specs.Inside.InHand.{key_of}
 use Rattle.dbtg_unit.proofs.Public.{filter_all, filter_map, first_map}
-use Rattle.dbtg_plan.specs.Finding.{is_below, keys_of_type, number_above, number_below}
+use Rattle.dbtg_plan.specs.Inside.Finding.{is_below, keys_of_type, number_above, number_below}
 
 -- a number with a generation behind another is not 0
 numbered : (g n : ℕ) (numbers : List Number) → nat_lt g (last_of n numbers) ≡ true → 0 < n

@@ -43,10 +43,8 @@ use Rattle.dbtg_unit.specs.Hands.Local.{Agrees, holds}
 use Rattle.dbtg_unit.specs.Hands.Making.{CanMake, HaveNextVersions}
 use Rattle.dbtg_unit.specs.Database.Laws.Placing.{compares}
 use Rattle.dbtg_unit.specs.Database.State.Units.{place_in}
-use Rattle.dbtg_unit.proofs.Public.{EachCanEdit, In, all_at_entry, all_filter, are_distinct, are_of_others, can_make_raised, each_append, each_flat_map}
-use Rattle.dbtg_unit.proofs.Public.{entries_in_hand, items_leave_version, listed_in_hand, member_has_a_list as member_there, member_of_owner}
-use Rattle.dbtg_unit.proofs.Public.{members_in_hand, of_flat_map, owner_in_hand, pairwise_filter, range_distinct}
-use Rattle.dbtg_plan.specs.Modifying.{is_rekeyed}
+use Rattle.dbtg_unit.proofs.Public.{EachCanEdit, In, all_at_entry, all_filter, are_distinct, are_of_others, can_make_raised, each_append, each_flat_map, entries_in_hand, items_leave_version, listed_in_hand, member_has_a_list as member_there, member_of_owner, members_in_hand, of_flat_map, owner_in_hand, pairwise_filter, range_distinct}
+use Rattle.dbtg_plan.specs.Inside.Modifying.{is_rekeyed}
 use Rattle.dbtg_plan.proofs.Modify.TwoTests.{flat_map_if}
 use Rattle.dbtg_plan.proofs.Connect.PlacesDecide.{can_place, members_compare, pairwise_map}
 use Rattle.dbtg_plan.proofs.Plans.ModifyHolds.{rekeyed_clause, rekeyed_number}

@@ -16,7 +16,7 @@ use Rattle.dbtg_unit.specs.Database.Statements.Checks.{modify_checks, own_checks
 use Rattle.dbtg_unit.specs.Database.Statements.Conditions.{calc_taken, changed_items, names_calc, refuses_equal, sort_key_taken}
 use Rattle.dbtg_unit.specs.Hands.Hands.{Hands}
 use Rattle.dbtg_unit.specs.Hands.InHand.{in_hand, items_in}
-use Rattle.dbtg_plan.specs.Modifying.{is_refused, is_rekeyed}
+use Rattle.dbtg_plan.specs.Inside.Modifying.{is_refused, is_rekeyed}
 use Rattle.dbtg_plan.proofs.Store.SetSteps.{first_cause_append, or_second}
 use Rattle.dbtg_plan.proofs.Modify.TwoTests.{any_filter, first_cause_any}
 

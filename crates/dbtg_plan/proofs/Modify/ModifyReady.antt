@@ -30,14 +30,14 @@ use Rattle.dbtg_unit.specs.Hands.Local.{Agrees, holds}
 use Rattle.dbtg_unit.specs.Hands.Making.{CanFinish, CanMake, HaveNextVersions, MayPrepare}
 use Rattle.dbtg_unit.specs.Hands.Prepared.{IsEffect, unit_after}
 use Rattle.dbtg_unit.specs.Database.Statements.View.{whole}
-use Rattle.dbtg_unit.proofs.Public.{HasAll, MayPlan, changed_fit, items_in_hand, live_by_extent, live_in_hand, may_plan}
-use Rattle.dbtg_unit.proofs.Public.{modify_typed, numbers_in_hand, owner_in_hand, passes_check, prepared_has_all}
-use Rattle.dbtg_plan.specs.Modifying.{is_rekeyed}
+use Rattle.dbtg_unit.proofs.Public.{HasAll, MayPlan, changed_fit, items_in_hand, live_by_extent, live_in_hand, may_plan, modify_typed, numbers_in_hand, owner_in_hand, passes_check, prepared_has_all}
+use Rattle.dbtg_plan.specs.Inside.Modifying.{is_rekeyed}
 use Rattle.dbtg_plan.proofs.Plans.EffectIsPlan.{current_plan_is_effect, effect_in_hand, planned_cells}
 use Rattle.dbtg_plan.proofs.Modify.ModifyMaking.{edits_can, edits_held}
 use Rattle.dbtg_plan.proofs.Plans.ModifyHolds.{extent_held, rekeyed_number, rings_held, slot_held}
 use Rattle.dbtg_plan.proofs.Plans.IsEffect.{noted_renoted}
-use Rattle.dbtg_unit.specs.Hands.PlanOf.{modifying, plan_of}
+use Rattle.dbtg_unit.specs.Hands.PlanOf.{modifying}
+use Rattle.dbtg_unit.specs.Inside.PlanOf.{plan_of}
 
 -- the number of a live record is in use
 used : (generation : ℕ) (o : Option Number) → is_some (option_and_then (λ (e : Number). cond (eqb e.last generation) e.calc None) o) ≡ true → some_and is_used o ≡ true

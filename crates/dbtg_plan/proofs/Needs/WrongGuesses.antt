@@ -26,9 +26,8 @@ use Rattle.dbtg_unit.specs.Hands.Hands.{Hands}
 use Rattle.dbtg_unit.specs.Hands.InHand.{owner_in}
 use Rattle.dbtg_unit.specs.Hands.Local.{Agrees, holds}
 use Rattle.dbtg_unit.specs.Hands.Needs.{areas_in_order, cells_of, first_missing, guessed_sets, is_stale, is_wrong_guess, need, need_of_cells, next_of, ring_names, slot_names, stale_owners, wrong_owner}
-use Rattle.dbtg_unit.proofs.Public.{In, all_held, any_element, any_in, has_number, has_number_filter, has_number_passes, has_number_range, in_range}
-use Rattle.dbtg_unit.proofs.Public.{in_right, map_agrees, of_filter, owner_in_hand, unlisted_has_no_owner}
-use Rattle.dbtg_plan.specs.Stale.{need_of_guesses, wrong_owner_in, wrong_owners_in}
+use Rattle.dbtg_unit.proofs.Public.{In, all_held, any_element, any_in, has_number, has_number_filter, has_number_passes, has_number_range, in_range, in_right, map_agrees, of_filter, owner_in_hand, unlisted_has_no_owner}
+use Rattle.dbtg_plan.specs.Inside.Stale.{need_of_guesses, wrong_owner_in, wrong_owners_in}
 use Rattle.dbtg_plan.proofs.Plans.SamePlan.{current_slot}
 
 -- LISTS

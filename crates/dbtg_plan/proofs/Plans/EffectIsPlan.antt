@@ -27,8 +27,10 @@ use Rattle.dbtg_unit.specs.Hands.Guesses.{guesses_after, noted_guesses}
 use Rattle.dbtg_unit.specs.Hands.Hands.{Hands}
 use Rattle.dbtg_unit.specs.Hands.InHand.{in_hand}
 use Rattle.dbtg_unit.specs.Hands.Local.{Agrees, holds}
-use Rattle.dbtg_unit.specs.Hands.PlanOf.{done_plan, done_plan_of, inserting, mode_plan, plan_of, planned_on_current, removing}
-use Rattle.dbtg_unit.specs.Hands.Prepared.{IsEffect, IsPrepared, Plan, guesses_edited, unit_after, unless_refusal}
+use Rattle.dbtg_unit.specs.Hands.PlanOf.{done_plan, done_plan_of, inserting, mode_plan, planned_on_current, removing}
+use Rattle.dbtg_unit.specs.Inside.PlanOf.{plan_of}
+use Rattle.dbtg_unit.specs.Hands.Prepared.{IsEffect, IsPrepared, Plan, guesses_edited, unit_after}
+use Rattle.dbtg_unit.specs.Inside.Prepared.{unless_refusal}
 use Rattle.dbtg_unit.proofs.Public.{MayPlan}
 use Rattle.dbtg_plan.proofs.Plans.IsEffect.{done_is_effect, effect_is_on_cells, noted_renoted, refusal_is_effect}
 use Rattle.dbtg_plan.proofs.Plans.SamePlan.{alike_in_hand, is_planned, plan_agrees}

@@ -15,7 +15,8 @@ use Rattle.dbtg_unit.specs.Hands.Hands.{Hands}
 use Rattle.dbtg_unit.specs.Hands.InHand.{in_hand}
 use Rattle.dbtg_unit.specs.Hands.Local.{Agrees}
 use Rattle.dbtg_unit.specs.Hands.Making.{CanFinish, MayPrepare}
-use Rattle.dbtg_unit.specs.Hands.PlanOf.{done_plan, plan_of, planned_on_current}
+use Rattle.dbtg_unit.specs.Hands.PlanOf.{done_plan, planned_on_current}
+use Rattle.dbtg_unit.specs.Inside.PlanOf.{plan_of}
 use Rattle.dbtg_unit.specs.Hands.Prepared.{IsEffect}
 use Rattle.dbtg_unit.specs.Database.State.Units.{forgotten, noted}
 use Rattle.dbtg_unit.specs.Database.Statements.View.{whole}

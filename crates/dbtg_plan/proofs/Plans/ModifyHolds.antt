@@ -22,9 +22,8 @@ use Rattle.dbtg_unit.specs.Database.Statements.Effect.{names_calc}
 use Rattle.dbtg_unit.specs.Hands.Hands.{Hands}
 use Rattle.dbtg_unit.specs.Hands.Local.{Agrees, holds}
 use Rattle.dbtg_unit.specs.Hands.Needs.{cells_of, is_stale, is_wrong_guess, ring_names, slot_names}
-use Rattle.dbtg_unit.proofs.Public.{In, any_element, any_in, in_filter, in_flat_map, in_left, in_right, member_of_owner, set_has_number}
-use Rattle.dbtg_unit.proofs.Public.{some_and_value}
-use Rattle.dbtg_plan.specs.Modifying.{is_rekeyed}
+use Rattle.dbtg_unit.proofs.Public.{In, any_element, any_in, in_filter, in_flat_map, in_left, in_right, member_of_owner, set_has_number, some_and_value}
+use Rattle.dbtg_plan.specs.Inside.Modifying.{is_rekeyed}
 
 -- the member clause of a set in which a key item is named
 pub rekeyed_clause : (schema : Lists) (changes : List Change) (t s : ℕ) → is_rekeyed schema changes t s ≡ true → is_some (member_clause schema s t) ≡ true

@@ -28,11 +28,13 @@ use Rattle.dbtg_unit.specs.Hands.Hands.{Hands}
 use Rattle.dbtg_unit.specs.Hands.InHand.{in_hand, users_in}
 use Rattle.dbtg_unit.specs.Hands.Local.{Agrees, holds}
 use Rattle.dbtg_unit.specs.Hands.Making.{CanFinish, MayPrepare, ShowsTheSame}
-use Rattle.dbtg_unit.specs.Hands.Prepared.{IsEffect, refusal, unless_refusal}
+use Rattle.dbtg_unit.specs.Hands.Prepared.{IsEffect, refusal}
+use Rattle.dbtg_unit.specs.Inside.Prepared.{unless_refusal}
 use Rattle.dbtg_unit.specs.Hands.Reserving.{CanTakeUser, OfHeld}
 use Rattle.dbtg_unit.proofs.Public.{MayPlan, may_plan, may_prepare_same, prepared_has_all, users_in_hand, users_in_same}
 use Rattle.dbtg_unit.specs.Database.Statements.View.{whole}
-use Rattle.dbtg_unit.specs.Hands.PlanOf.{mode_plan, plan_of}
+use Rattle.dbtg_unit.specs.Hands.PlanOf.{mode_plan}
+use Rattle.dbtg_unit.specs.Inside.PlanOf.{plan_of}
 use Rattle.dbtg_plan.proofs.Plans.EffectIsPlan.{behind_checks, effect_in_hand, tells_effect}
 use Rattle.dbtg_plan.proofs.Plans.IsEffect.{effect_is_on_cells}
 use Rattle.dbtg_plan.proofs.Plans.PartByPart.{no_cells_can_finish}

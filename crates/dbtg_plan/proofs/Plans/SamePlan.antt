@@ -34,13 +34,14 @@ use Rattle.dbtg_unit.specs.Hands.Hands.{Hands}
 use Rattle.dbtg_unit.specs.Hands.InHand.{in_hand}
 use Rattle.dbtg_unit.specs.Hands.Local.{Agrees, holds}
 use Rattle.dbtg_unit.specs.Hands.Needs.{current_owner, ring_names, slot_names}
-use Rattle.dbtg_unit.specs.Hands.PlanOf.{calc_edits, done_answer, done_plan, inserting, joining_edit, mode_plan, modify_edits, modifying, plan_of, planned_on_current, removing, replacing_edits, ring_edits, slot_edit, storing}
-use Rattle.dbtg_unit.specs.Hands.Prepared.{Plan, unless_refusal}
-use Rattle.dbtg_unit.proofs.Public.{HasAll, flat_map_agrees, live_in_hand, modify_checks_agree, modify_typed, of_filter, same_calc_beside}
-use Rattle.dbtg_plan.specs.Modifying.{is_rekeyed}
+use Rattle.dbtg_unit.specs.Hands.PlanOf.{calc_edits, done_answer, done_plan, inserting, joining_edit, mode_plan, modify_edits, modifying, planned_on_current, removing, replacing_edits, ring_edits, slot_edit, storing}
+use Rattle.dbtg_unit.specs.Inside.PlanOf.{plan_of}
+use Rattle.dbtg_unit.specs.Hands.Prepared.{Plan}
+use Rattle.dbtg_unit.specs.Inside.Prepared.{unless_refusal}
+use Rattle.dbtg_unit.proofs.Public.{HasAll, flat_map_agrees, live_in_hand, modify_checks_agree, modify_typed, of_filter, same_calc_beside, In, MayPlan, SameNumbers, SameOccurrence, SameRecord, same_numbers, store_checks_agree, in_left, in_range, in_right, insert_checks_agree, owner_in_hand, passes_without_cells, prepared_has_all, remove_checks_agree, same_occurrence, same_record, some_from_not_none, users_in_hand}
+use Rattle.dbtg_plan.specs.Inside.Modifying.{is_rekeyed}
 use Rattle.dbtg_plan.proofs.Plans.ModifyHolds.{extent_held, rings_held, slot_held}
 use Rattle.dbtg_plan.proofs.Plans.StoreHolds.{extent, joined_held, key_in_hand}
-use Rattle.dbtg_unit.proofs.Public.{In, MayPlan, SameNumbers, SameOccurrence, SameRecord, same_numbers, store_checks_agree, in_left, in_range, in_right, insert_checks_agree, owner_in_hand, passes_without_cells, prepared_has_all, remove_checks_agree, same_occurrence, same_record, some_from_not_none, users_in_hand}
 
 -- the statements that are planned over a view
 abbrev pub is_planned : Statement → Bool

@@ -29,12 +29,10 @@ use Rattle.dbtg_unit.specs.Hands.InHand.{in_hand, numbers_in}
 use Rattle.dbtg_unit.specs.Hands.Local.{Agrees, holds}
 use Rattle.dbtg_unit.specs.Hands.Needs.{cells_of, current_owner, first_missing, ring_names, store_cells, store_rings}
 use Rattle.dbtg_unit.specs.Database.State.Units.{place_in}
-use Rattle.dbtg_unit.proofs.Public.{In, MayPlan, any_in, calc_taken_agrees, free_in_hand, holds_any, in_flat_map, in_left, new_key_in_hand}
-use Rattle.dbtg_unit.proofs.Public.{no_number_passes, numbers_in_hand, of_filter, passes_check, passes_without_cells, prepared_has_all}
-use Rattle.dbtg_unit.proofs.Public.{same_numbers, same_occurrence, some_from_not_none, store_checks_agree}
-use Rattle.dbtg_plan.specs.Calc.{fresh_key}
+use Rattle.dbtg_unit.proofs.Public.{In, MayPlan, any_in, calc_taken_agrees, free_in_hand, holds_any, in_flat_map, in_left, new_key_in_hand, no_number_passes, numbers_in_hand, of_filter, passes_check, passes_without_cells, prepared_has_all, same_numbers, same_occurrence, some_from_not_none, store_checks_agree}
+use Rattle.dbtg_plan.specs.Inside.Calc.{fresh_key}
 use Rattle.dbtg_unit.specs.Database.Statements.Conditions.{joined_place}
-use Rattle.dbtg_plan.specs.Store.{missing_of_store, store_cells_in}
+use Rattle.dbtg_plan.specs.Inside.Store.{missing_of_store, store_cells_in}
 
 -- CELLS
 

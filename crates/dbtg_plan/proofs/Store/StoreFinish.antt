@@ -23,10 +23,12 @@ use Rattle.dbtg_unit.specs.Hands.Hands.{Hands}
 use Rattle.dbtg_unit.specs.Hands.InHand.{in_hand}
 use Rattle.dbtg_unit.specs.Hands.Local.{Agrees, holds}
 use Rattle.dbtg_unit.specs.Hands.Making.{CanFinish, CanMake, MayPrepare, ShowsTheSame}
-use Rattle.dbtg_unit.specs.Hands.PlanOf.{plan_of, storing}
-use Rattle.dbtg_unit.specs.Hands.Prepared.{IsEffect, Plan, refusal, unless_refusal}
+use Rattle.dbtg_unit.specs.Inside.PlanOf.{plan_of}
+use Rattle.dbtg_unit.specs.Hands.PlanOf.{storing}
+use Rattle.dbtg_unit.specs.Hands.Prepared.{IsEffect, Plan, refusal}
+use Rattle.dbtg_unit.specs.Inside.Prepared.{unless_refusal}
 use Rattle.dbtg_unit.proofs.Public.{agrees_same, holds_same, may_plan, same_sym, some_from_not_none}
-use Rattle.dbtg_plan.specs.Store.{HasRoom}
+use Rattle.dbtg_plan.specs.Inside.Store.{HasRoom}
 use Rattle.dbtg_plan.proofs.Plans.StoreHolds.{checks_in_hand, has_places, key_in_hand, number, passed_held}
 use Rattle.dbtg_plan.proofs.Store.StoreIsEffect.{plan_is_effect}
 use Rattle.dbtg_plan.proofs.Store.StoreMaking.{edits_held, store_can_make}

@@ -21,7 +21,8 @@ use Rattle.dbtg_unit.specs.Hands.EditsOf.{first_owners}
 use Rattle.dbtg_unit.specs.Hands.Hands.{Hands}
 use Rattle.dbtg_unit.specs.Hands.InHand.{in_hand}
 use Rattle.dbtg_unit.specs.Hands.Local.{Agrees}
-use Rattle.dbtg_unit.specs.Hands.PlanOf.{plan_of, storing}
+use Rattle.dbtg_unit.specs.Inside.PlanOf.{plan_of}
+use Rattle.dbtg_unit.specs.Hands.PlanOf.{storing}
 use Rattle.dbtg_unit.specs.Hands.Prepared.{IsEffect}
 use Rattle.dbtg_unit.proofs.Public.{MayPlan, legal_after, owners_first, store_found}
 use Rattle.dbtg_plan.proofs.Plans.EffectIsPlan.{behind_checks, effect_in_hand, tells_effect}

@@ -44,13 +44,10 @@ use Rattle.dbtg_unit.specs.Hands.Local.{Agrees, holds}
 use Rattle.dbtg_unit.specs.Hands.Making.{CanMake}
 use Rattle.dbtg_unit.specs.Hands.Needs.{current_owner, ring_names, store_rings, store_rings_of}
 use Rattle.dbtg_unit.specs.Database.State.Units.{place_in}
-use Rattle.dbtg_unit.proofs.Public.{EachCanEdit, In, StoreFound, all_at, all_in, any_in, are_distinct, can_make_distinct, distinct, each_append}
-use Rattle.dbtg_unit.proofs.Public.{free_in_hand, held_cell_agrees, holds_there, in_flat_map, in_left, in_right, members_in_hand, new_is_fresh, not_member}
-use Rattle.dbtg_unit.proofs.Public.{numbers_in_hand, of_append, of_filter, of_flat_map, own_ring_before, owner_not_k, pairwise_filter, passes_check}
-use Rattle.dbtg_unit.proofs.Public.{passes_each, range_distinct, ring_in, some_and_value, some_from_not_none, store_found}
+use Rattle.dbtg_unit.proofs.Public.{EachCanEdit, In, StoreFound, all_at, all_in, any_in, are_distinct, can_make_distinct, distinct, each_append, free_in_hand, held_cell_agrees, holds_there, in_flat_map, in_left, in_right, members_in_hand, new_is_fresh, not_member, numbers_in_hand, of_append, of_filter, of_flat_map, own_ring_before, owner_not_k, pairwise_filter, passes_check, passes_each, range_distinct, ring_in, some_and_value, some_from_not_none, store_found}
 use Rattle.dbtg_unit.specs.Database.Statements.Conditions.{joined_place}
-use Rattle.dbtg_plan.specs.Joining.{joined_occurrence}
-use Rattle.dbtg_plan.specs.Store.{HasRoom}
+use Rattle.dbtg_plan.specs.Inside.Joining.{joined_occurrence}
+use Rattle.dbtg_plan.specs.Inside.Store.{HasRoom}
 use Rattle.dbtg_plan.proofs.Connect.PlacesDecide.{can_join_in_hand, place_checks_in_hand}
 use Rattle.dbtg_plan.proofs.Store.NumberSteps.{free_entry}
 use Rattle.dbtg_plan.proofs.Plans.RingEdits.{ring_is}

@@ -28,7 +28,7 @@ use Rattle.dbtg_unit.specs.Hands.Needs.{current_owner, first_missing, is_missing
 use Rattle.dbtg_unit.specs.Hands.Reserving.{CanTakeMember, KeepsOthers, OfHeld}
 use Rattle.dbtg_unit.proofs.Public.{has_number_filter, has_number_passes, has_number_range, map_same}
 use Rattle.dbtg_unit.specs.Database.Statements.Conditions.{joined_place}
-use Rattle.dbtg_plan.specs.Store.{HasRoom, opening_edit}
+use Rattle.dbtg_plan.specs.Inside.Store.{HasRoom, opening_edit}
 use Rattle.dbtg_plan.proofs.Store.SetSteps.{first_cause_append, flat_step, or_first, or_second}
 
 -- SETS IN WHICH STORE CONNECTS

@@ -9,7 +9,7 @@ ghost use Rattle.dbtg_unit.specs.Database.Statements.Found.{chosen_by_key, found
 ghost use Rattle.dbtg_unit.specs.declared.statement.Which.TheVariants.{Next, Prior};
 ghost use Rattle.dbtg_unit.specs.declared.unit.Cause.TheVariants.{End};
 ghost use Rattle.dbtg_unit.specs.Hands.Needs.{first_missing};
-ghost use Rattle.dbtg_plan.specs.Finding.{area_keys_in, is_above, is_below, is_wanted, keys_of_type, keys_wanted};
+ghost use Rattle.dbtg_plan.specs.Inside.Finding.{area_keys_in, is_above, is_below, is_wanted, keys_of_type, keys_wanted};
 
 use crate::finding::current::of_area;
 use crate::finding::numbered;

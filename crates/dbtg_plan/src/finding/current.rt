@@ -4,7 +4,7 @@ ghost use Rattle.dbtg_schema.specs.Lookups.{at};
 ghost use Rattle.dbtg_unit.specs.Database.Statements.Found.{with_current};
 ghost use Rattle.dbtg_unit.specs.Database.State.Units.{key_of_owner, place_in};
 ghost use Rattle.dbtg_unit.specs.declared.unit.Cause.TheVariants.{Deleted};
-ghost use Rattle.dbtg_plan.specs.Finding.{stored_or};
+ghost use Rattle.dbtg_plan.specs.Inside.Finding.{stored_or};
 
 use crate::joining::current_owner;
 use dbtg_cells::{DbKey, Owner};

@@ -3,8 +3,9 @@ ghost use Rattle.std.specs.Prelude.{◌≡◌};
 ghost use Rattle.std.specs.Option.{option_copied};
 ghost use Rattle.dbtg_schema.specs.Lookups.{at};
 ghost use Rattle.dbtg_unit.specs.Database.Statements.Found.{with_current};
-ghost use Rattle.dbtg_unit.specs.Hands.InHand.{numbers_in, values_of_key};
-ghost use Rattle.dbtg_plan.specs.Finding.{calc_found, duplicate_found};
+ghost use Rattle.dbtg_unit.specs.Hands.InHand.{numbers_in};
+ghost use Rattle.dbtg_unit.specs.Inside.InHand.{values_of_key};
+ghost use Rattle.dbtg_plan.specs.Inside.Finding.{calc_found, duplicate_found};
 
 use crate::finding::current::of_type;
 use crate::finding::numbered::key_of;

@@ -2,8 +2,8 @@
 ghost use Rattle.std.specs.Prelude.{◌≡◌, ◌<◌, ◌+◌, ◌^◌, filter, option_map, slice_get, IfSome};
 ghost use Rattle.dbtg_schema.specs.Lookups.{final, first};
 ghost use Rattle.dbtg_cells.specs.Keys.{key_lt};
-ghost use Rattle.dbtg_unit.specs.Hands.InHand.{key_of};
-ghost use Rattle.dbtg_plan.specs.Finding.{is_above, is_below, keys_of_type, number_above, number_below};
+ghost use Rattle.dbtg_unit.specs.Inside.InHand.{key_of};
+ghost use Rattle.dbtg_plan.specs.Inside.Finding.{is_above, is_below, keys_of_type, number_above, number_below};
 
 use dbtg_cells::{DbKey, Extent};
 use dbtg_schema::RecordNo;

@@ -6,7 +6,7 @@ ghost use Rattle.dbtg_unit.specs.Database.Statements.Found.{chosen, has_type, is
 ghost use Rattle.dbtg_unit.specs.Hands.InHand.{occurrence_in};
 ghost use Rattle.dbtg_unit.specs.Database.State.Units.{place_in};
 ghost use Rattle.dbtg_unit.specs.declared.statement.Which.TheVariants.{Next, Prior};
-ghost use Rattle.dbtg_plan.specs.Finding.{member_found, sorted_found};
+ghost use Rattle.dbtg_plan.specs.Inside.Finding.{member_found, sorted_found};
 
 use crate::joining::is_position_lost;
 use dbtg_cells::{DbKey, Ring, Value};

@@ -24,8 +24,9 @@ use Rattle.dbtg_step.proofs.Public.{in_reverse, network_names_cells, versions_ne
 use Rattle.dbtg_run.specs.declared.view.About.{About}
 use Rattle.dbtg_run.specs.declared.view.Member.{Member}
 use Rattle.dbtg_run.specs.declared.view.View.{View}
-use Rattle.dbtg_run.specs.Views.{lone, total_below}
-use Rattle.dbtg_run.specs.Kept.{net, cell_word, progress_of, hands_of, database_after, IsReal, Kept, TellsReal, CellFreeAlone}
+use Rattle.dbtg_run.specs.Views.{lone}
+use Rattle.dbtg_run.specs.Inside.Views.{total_below}
+use Rattle.dbtg_run.specs.Inside.Kept.{net, cell_word, progress_of, hands_of, database_after, IsReal, Kept, TellsReal, CellFreeAlone}
 use Rattle.dbtg_run.proofs.TheRule.Base.{below_le}
 use Rattle.dbtg_run.proofs.TheRule.Facts.{database_now, database_is, agrees_now, once_now}
 use Rattle.dbtg_run.proofs.TheRule.Moves.{sits, is_known, mine}

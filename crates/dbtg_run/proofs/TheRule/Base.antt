@@ -8,7 +8,8 @@ use Rattle.atomic_table.proofs.Lists.{at_set}
 use Rattle.dbtg_run.specs.declared.view.About.{About}
 use Rattle.dbtg_run.specs.declared.view.Member.{Member}
 use Rattle.dbtg_run.specs.declared.view.View.{View}
-use Rattle.dbtg_run.specs.Views.{Has, total, total_below, put, one_if, Sits, Seated, lone, times_place}
+use Rattle.dbtg_run.specs.Views.{Has, lone}
+use Rattle.dbtg_run.specs.Inside.Views.{total, total_below, put, one_if, Sits, Seated, times_place}
 
 module _ {A : Type 0} where
   pub put_here : (f : ℕ → A) (k : ℕ) (x : A) → put f k x k ≡ x

@@ -23,15 +23,17 @@ use Rattle.dbtg_unit.specs.Database.State.Base.{Database}
 use Rattle.dbtg_unit.specs.Database.Statements.Fits.{fits}
 use Rattle.dbtg_unit.specs.Hands.Local.{Agrees}
 use Rattle.dbtg_unit.specs.Hands.Needs.{need}
-use Rattle.dbtg_step.specs.Machine.SequentialDatabase.{IsSequentialDatabase, In}
+use Rattle.dbtg_step.specs.Inside.SequentialDatabase.{IsSequentialDatabase}
+use Rattle.dbtg_step.specs.Machine.SequentialDatabase.{In}
 use Rattle.dbtg_step.specs.Machine.Machine.{Location, Home, HeldBy, Progress, relocated, held_cells}
 use Rattle.dbtg_step.specs.Core.Parts.{held_cells_of, held_of}
 use Rattle.dbtg_step.proofs.Public.{SafeUpdate, back_is_safe, held_behind, relocated_at, relocated_elsewhere, take_is_safe}
 use Rattle.dbtg_run.specs.declared.view.About.{About}
 use Rattle.dbtg_run.specs.declared.view.Member.{Member}
 use Rattle.dbtg_run.specs.declared.view.View.{View}
-use Rattle.dbtg_run.specs.Views.{put, lone, latched, with_cell, less_cell, bare, init}
-use Rattle.dbtg_run.specs.Kept.{net, opens, area_count, cells_of_table, area_word, cell_word, slot_name, progress_of, hands_of, Sat, AtHome, AreaOk, Kept, TakesAt, TakesCell, PutsCell}
+use Rattle.dbtg_run.specs.Inside.Views.{put, latched, with_cell, less_cell, bare, init}
+use Rattle.dbtg_run.specs.Views.{lone}
+use Rattle.dbtg_run.specs.Inside.Kept.{net, opens, area_count, cells_of_table, area_word, cell_word, slot_name, progress_of, hands_of, Sat, AtHome, AreaOk, Kept, TakesAt, TakesCell, PutsCell}
 use Rattle.dbtg_run.proofs.TheRule.Base.{each_put}
 use Rattle.dbtg_run.proofs.TheRule.Areas.{ok_same}
 use Rattle.dbtg_run.proofs.TheRule.Facts.{init_more, shown_bare, area_of_cell_held}

@@ -21,7 +21,8 @@ use Rattle.dbtg_unit.specs.Hands.Local.{Agrees, AllAgree}
 use Rattle.dbtg_unit.specs.Hands.Needs.{need}
 use Rattle.dbtg_unit.specs.Hands.Prepared.{values_of}
 use Rattle.dbtg_unit.specs.Database.Laws.Replay.{opening_state, State as DatabaseState, replay as replay_entries}
-use Rattle.dbtg_step.specs.Machine.SequentialDatabase.{In, IsSequentialDatabase, MayMake, unit_at}
+use Rattle.dbtg_step.specs.Machine.SequentialDatabase.{In, MayMake, unit_at}
+use Rattle.dbtg_step.specs.Inside.SequentialDatabase.{IsSequentialDatabase}
 use Rattle.dbtg_step.specs.Machine.Machine.{State as Machine, replay, held_cells}
 use Rattle.dbtg_step.specs.Machine.Lawful.{Lawful, AreDistinct}
 use Rattle.dbtg_step.specs.Machine.Network.{next_need_of}
@@ -30,8 +31,8 @@ use Rattle.dbtg_step.specs.Core.Parts.{held_of, note_of}
 use Rattle.dbtg_step.proofs.Public.{entries_again, in_mapped, in_reverse, need_of_holding, once_of_distinct, replays_same, unit_found}
 use Rattle.dbtg_run.specs.declared.view.About.{About}
 use Rattle.dbtg_run.specs.declared.view.Member.{Member}
-use Rattle.dbtg_run.specs.Views.{bare, bared, init, rest_of}
-use Rattle.dbtg_run.specs.Kept.{net, opens, database_after, progress_of, hands_of, Shows}
+use Rattle.dbtg_run.specs.Inside.Views.{bare, bared, init, rest_of}
+use Rattle.dbtg_run.specs.Inside.Kept.{net, opens, database_after, progress_of, hands_of, Shows}
 
 -- LISTS BY THEIR ENDS
 

@@ -2,7 +2,8 @@
 use Rattle.std.proofs.Common.{◌≡◌, ◌≢◌, ◌⊎◌, ℕ, zero, suc, Bool, true, false, ◌||◌, eqb, eq-eqb, List, [], ◌∷◌, Some, slice_get, inl, inr, refl, sym, ◌∙◌, subst}
 use Rattle.std.specs.List.{list_any}
 use Rattle.std.proofs.lemmas.Bool.{or_parts}
-use Rattle.dbtg_step.specs.Machine.SequentialDatabase.{SequentialDatabase, IsSequentialDatabase, In, unit_at}
+use Rattle.dbtg_step.specs.Machine.SequentialDatabase.{SequentialDatabase, In, unit_at}
+use Rattle.dbtg_step.specs.Inside.SequentialDatabase.{IsSequentialDatabase}
 use Rattle.dbtg_step.specs.Machine.Machine.{Progress, UnitState, State, SequentialState, held_cells, held_areas, holds_exclusively, ticket_of}
 use Rattle.dbtg_step.specs.Machine.Step.{any_but, any_other, conflicts}
 use Rattle.dbtg_step.specs.Machine.Lawful.{Holding, AreasShared, HoldsCell, Lawful}

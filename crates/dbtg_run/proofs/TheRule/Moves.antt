@@ -17,15 +17,17 @@ use Rattle.dbtg_cells.specs.declared.name.CellName.{CellName}
 use Rattle.dbtg_cells.specs.Shown.{CellValue}
 use Rattle.dbtg_unit.specs.declared.unit.Entry.{Entry}
 use Rattle.dbtg_unit.specs.Database.Laws.Replay.{entries_of}
-use Rattle.dbtg_step.specs.Machine.SequentialDatabase.{IsSequentialDatabase, unit_at, with_unit_at}
+use Rattle.dbtg_step.specs.Inside.SequentialDatabase.{IsSequentialDatabase}
+use Rattle.dbtg_step.specs.Machine.SequentialDatabase.{unit_at, with_unit_at}
 use Rattle.dbtg_step.specs.Machine.Machine.{Location, HeldBy, UnitState, State as Machine, held_areas, holds_exclusively}
 use Rattle.dbtg_step.specs.Machine.Step.{any_other, conflicts, updated}
 use Rattle.dbtg_step.proofs.Public.{SafeUpdate, any_reverse, network_is_sequential, safe_update_keeps, set_at, set_elsewhere}
 use Rattle.dbtg_run.specs.declared.view.About.{About}
 use Rattle.dbtg_run.specs.declared.view.Member.{Member}
 use Rattle.dbtg_run.specs.declared.view.View.{View}
-use Rattle.dbtg_run.specs.Views.{put, Sits, lone, latched, times, one_if}
-use Rattle.dbtg_run.specs.Kept.{net, opens, area_count, area_word, cell_word, slot_name, progress_of, Shows, AreaOk, AtHome, Worded, Kept, FreeAlone}
+use Rattle.dbtg_run.specs.Inside.Views.{put, Sits, latched, times, one_if}
+use Rattle.dbtg_run.specs.Views.{lone}
+use Rattle.dbtg_run.specs.Inside.Kept.{net, opens, area_count, area_word, cell_word, slot_name, progress_of, Shows, AreaOk, AtHome, Worded, Kept, FreeAlone}
 use Rattle.dbtg_run.proofs.TheRule.Base.{each_put, below_same, seats_changed}
 use Rattle.dbtg_run.proofs.TheRule.Areas.{had, ok_same, free_word}
 use Rattle.dbtg_run.proofs.TheRule.Machines.{others_none}

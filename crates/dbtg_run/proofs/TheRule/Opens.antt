@@ -25,8 +25,9 @@ use Rattle.dbtg_step.proofs.Public.{machine_is_opening, network_is_sequential, o
 use Rattle.dbtg_run.specs.declared.view.About.{About}
 use Rattle.dbtg_run.specs.declared.view.Member.{Member}
 use Rattle.dbtg_run.specs.declared.view.View.{View}
-use Rattle.dbtg_run.specs.Views.{Has, Seated, total_below, latched, once_below, times_place}
-use Rattle.dbtg_run.specs.Kept.{net, opens as opening_units, area_count, cells_of_table, area_word, cell_word, slot_name, AreaOk, progress_of, Worded, Kept, numbered, first_view}
+use Rattle.dbtg_run.specs.Views.{Has}
+use Rattle.dbtg_run.specs.Inside.Views.{Seated, total_below, latched, once_below, times_place}
+use Rattle.dbtg_run.specs.Inside.Kept.{net, opens as opening_units, area_count, cells_of_table, area_word, cell_word, slot_name, AreaOk, progress_of, Worded, Kept, numbered, first_view}
 use Rattle.dbtg_run.proofs.TheRule.Rested.{rested, rested_keeps}
 
 abbrev pub newcomer : About → ℕ → Member

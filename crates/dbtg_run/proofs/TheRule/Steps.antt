@@ -15,8 +15,9 @@ use Rattle.dbtg_step.proofs.Public.{SafeUpdate, leave_is_safe}
 use Rattle.dbtg_run.specs.declared.view.About.{About}
 use Rattle.dbtg_run.specs.declared.view.Member.{Member}
 use Rattle.dbtg_run.specs.declared.view.View.{View}
-use Rattle.dbtg_run.specs.Views.{lone, latched, times, one_if, with_area, less_area, init}
-use Rattle.dbtg_run.specs.Kept.{net, opens, area_count, area_word, progress_of, Sat, AreaOk, Kept, FreeAlone, LooksAtArea, TakesArea, LeavesArea}
+use Rattle.dbtg_run.specs.Views.{lone}
+use Rattle.dbtg_run.specs.Inside.Views.{latched, times, one_if, with_area, less_area, init}
+use Rattle.dbtg_run.specs.Inside.Kept.{net, opens, area_count, area_word, progress_of, Sat, AreaOk, Kept, FreeAlone, LooksAtArea, TakesArea, LeavesArea}
 use Rattle.dbtg_run.proofs.TheRule.Areas.{had, clear, takes_shared, takes_alone, leaves_shared, leaves_alone}
 use Rattle.dbtg_run.proofs.TheRule.Facts.{init_more}
 use Rattle.dbtg_run.proofs.TheRule.Machines.{latches_is_safe}

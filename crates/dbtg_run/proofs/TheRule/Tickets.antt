@@ -30,8 +30,10 @@ use Rattle.dbtg_step.proofs.Public.{Drawn, draws as draws_anew, fits_more, held_
 use Rattle.dbtg_run.specs.declared.view.About.{About}
 use Rattle.dbtg_run.specs.declared.view.Member.{Member}
 use Rattle.dbtg_run.specs.declared.view.View.{View}
-use Rattle.dbtg_run.specs.Views.{put, lone, latched, drawn, total_below}
-use Rattle.dbtg_run.specs.Kept.{net, opens, area_word, cell_word, progress_of, hands_of, entry, AtHome, AreaOk, Shows, Worded, Kept, Recorded, Draws}
+use Rattle.dbtg_run.specs.Inside.Views.{put, latched, drawn, total_below}
+use Rattle.dbtg_run.specs.Views.{lone}
+use Rattle.dbtg_run.specs.Inside.Kept.{net, opens, area_word, cell_word, progress_of, hands_of, AtHome, AreaOk, Shows, Worded, Kept, Recorded, Draws}
+use Rattle.dbtg_run.specs.Kept.{entry}
 use Rattle.dbtg_run.proofs.TheRule.Base.{put_here, put_else, each_put, below_put, below_same, seats_changed}
 use Rattle.dbtg_run.proofs.TheRule.Alone.{few_entries, tells_real}
 use Rattle.dbtg_run.proofs.TheRule.Areas.{ok_same}

@@ -10,7 +10,7 @@ use Rattle.dbtg_step.specs.Core.Audit.{IsAudited, LeadsTo}
 use Rattle.dbtg_run.specs.declared.view.About.{About}
 use Rattle.dbtg_run.specs.Views.{Has}
 use Rattle.dbtg_run.specs.UnitView.{UnitView}
-use Rattle.dbtg_run.specs.Settling.{AreAll, all_entries, by_ticket}
+use Rattle.dbtg_run.specs.Inside.Settling.{AreAll, all_entries, by_ticket}
 use Rattle.dbtg_run.proofs.Together.Merged.{merged_is_history}
 
 at_number : (state : State) (n : ℕ) → 0 < n → unit_of state n ≡ slice_get state.units (n - 1)

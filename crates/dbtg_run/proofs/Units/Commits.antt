@@ -35,10 +35,14 @@ use Rattle.dbtg_step.proofs.Public.{guesses_length}
 use Rattle.dbtg_run.specs.declared.view.About.{About}
 use Rattle.dbtg_run.specs.declared.view.Member.{Member}
 use Rattle.dbtg_run.specs.declared.view.View.{View}
-use Rattle.dbtg_run.specs.Views.{Has, lone, bare, bared, changed, drawn}
-use Rattle.dbtg_run.specs.Kept.{Sat, Kept, Draws, IsReal, Recorded, TellsReal, area_count, entry, hands_of}
-use Rattle.dbtg_run.specs.Posed.{AreInside, IsOurs, posed, member_of, empty_slot, empty_slots, number_or_0}
-use Rattle.dbtg_run.specs.Drawn.{IsDone, cells_after}
+use Rattle.dbtg_run.specs.Views.{Has, lone}
+use Rattle.dbtg_run.specs.Inside.Views.{bare, bared, changed, drawn}
+use Rattle.dbtg_run.specs.Inside.Kept.{Sat, Kept, Draws, IsReal, Recorded, TellsReal, area_count, hands_of}
+use Rattle.dbtg_run.specs.Kept.{entry}
+use Rattle.dbtg_run.specs.Inside.Posed.{AreInside, posed, member_of, empty_slot, empty_slots, number_or_0}
+use Rattle.dbtg_run.specs.Posed.{IsOurs}
+use Rattle.dbtg_run.specs.Drawn.{IsDone}
+use Rattle.dbtg_run.specs.Inside.Drawn.{cells_after}
 use Rattle.dbtg_run.proofs.TheRule.Facts.{shown_bare, values_bared}
 use Rattle.dbtg_run.proofs.TheRule.Tickets.{Comes, draws}
 use Rattle.dbtg_run.proofs.Units.Uses.{need_bared, real_bared}

@@ -8,7 +8,8 @@ use Rattle.dbtg_unit.specs.declared.statement.Statement.{Statement}
 use Rattle.dbtg_unit.specs.declared.unit.Unit.{Unit}
 use Rattle.dbtg_unit.specs.Hands.Hands.{Hands}
 use Rattle.dbtg_step.specs.declared.course.Course.{Course}
-use Rattle.dbtg_step.specs.Core.Courses.{HasMore, IsCourseKept}
+use Rattle.dbtg_step.specs.Inside.Courses.{HasMore}
+use Rattle.dbtg_step.specs.Core.Courses.{IsCourseKept}
 use Rattle.dbtg_step.proofs.Public.{course_stays, more_by_area, more_by_cell}
 
 -- of the same unit, with more in hand

@@ -27,8 +27,9 @@ use Rattle.dbtg_run.specs.declared.view.About.{About}
 use Rattle.dbtg_run.specs.declared.view.Member.{Member}
 use Rattle.dbtg_run.specs.declared.view.View.{View}
 use Rattle.dbtg_run.specs.Views.{lone}
-use Rattle.dbtg_run.specs.Kept.{Sat, IsReal, Kept, first_view, numbered, one_of, others_of}
-use Rattle.dbtg_run.specs.Posed.{IsOurs, posed}
+use Rattle.dbtg_run.specs.Inside.Kept.{Sat, IsReal, Kept, first_view, numbered, one_of, others_of}
+use Rattle.dbtg_run.specs.Posed.{IsOurs}
+use Rattle.dbtg_run.specs.Inside.Posed.{posed}
 use Rattle.dbtg_run.specs.UnitView.{BelongsTo, UnitView, opening_view, opening_views}
 use Rattle.dbtg_run.specs.declared.database.Database.{Database}
 use Rattle.dbtg_run.proofs.TheRule.Opens.{newcomer, opens}

@@ -9,7 +9,7 @@ use Rattle.dbtg_schema.specs.Texts.Words.{Word}
 use Rattle.dbtg_schema.specs.Texts.Forms.{starts, may_end, labelled, start_with, by_start, labels, Derives}
 use Rattle.dbtg_schema.specs.Texts.SchemaGrammar.{Form, Start, Labelled, fits}
 use Rattle.dbtg_schema.specs.Texts.SchemaFaults.{at_word, at_other, places, fault, record_end, open_record, unknown_vias}
-use Rattle.dbtg_schema.specs.Texts.Reading.{verdict}
+use Rattle.dbtg_schema.specs.Inside.Reading.{verdict}
 use Rattle.dbtg_schema.proofs.Forms.Derived.{derives_nothing, starts_derive, start_found}
 
 pub none_rest : (xs ys : List Fault) → first (xs ++ ys) ≡ None → first ys ≡ None

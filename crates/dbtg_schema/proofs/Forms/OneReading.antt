@@ -15,7 +15,7 @@ use Rattle.dbtg_schema.specs.Texts.Forms.{starts, labelled, start_with, by_start
 use Rattle.dbtg_schema.specs.Lookups.{first}
 use Rattle.dbtg_schema.specs.Texts.SchemaGrammar.{Kind, key, name, picture, Form, Start, Labelled, fits, schema}
 use Rattle.dbtg_schema.specs.Texts.SchemaFaults.{at_word, at_other, places, too_long, refusal}
-use Rattle.dbtg_schema.specs.Texts.Reading.{verdict}
+use Rattle.dbtg_schema.specs.Inside.Reading.{verdict}
 use Rattle.dbtg_schema.specs.Laws.{Derivation, AcceptedIsDerivedOnce}
 use Rattle.dbtg_schema.proofs.Forms.Accepted.{none_rest, never, derived}
 use Rattle.dbtg_schema.proofs.Forms.OneWay.{is_told, words_of}

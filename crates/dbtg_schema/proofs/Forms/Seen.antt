@@ -5,11 +5,11 @@ use Rattle.std.proofs.lemmas.Bool.{le-ltb}
 use Rattle.std.proofs.lemmas.List.{append-nil}
 use Rattle.dbtg_schema.specs.declared.fault.Fault.{Fault}
 use Rattle.dbtg_schema.specs.Lookups.{first}
-use Rattle.dbtg_schema.specs.Texts.Words.{is_noise, last_line, text_words}
+use Rattle.dbtg_schema.specs.Texts.Words.{is_noise, last_line, text_words, Word, words}
 use Rattle.dbtg_schema.specs.Texts.SchemaGrammar.{Form, Labelled, schema}
 use Rattle.dbtg_schema.specs.Texts.SchemaFaults.{at_end, refusal}
-use Rattle.dbtg_schema.specs.Texts.Reading.{faults_at, verdict}
-use Rattle.dbtg_schema.specs.Texts.Words.{Word, words}
+use Rattle.dbtg_schema.specs.Texts.Reading.{faults_at}
+use Rattle.dbtg_schema.specs.Inside.Reading.{verdict}
 
 abbrev pub seen : ℕ → List ℕ → List Word
 seen line rest = filter (λ w. not (is_noise w)) (words line rest)

@@ -6,7 +6,7 @@ use Rattle.dbtg_schema.specs.Texts.SchemaGrammar.{fits, Form, Start, Labelled}
 use Rattle.dbtg_schema.specs.Texts.SchemaFaults.{at_other, at_word}
 use Rattle.dbtg_schema.specs.declared.fault.Fault.{Fault}
 use Rattle.dbtg_schema.specs.Texts.Words.{Word}
-use Rattle.dbtg_schema.specs.Texts.Reading.{verdict}
+use Rattle.dbtg_schema.specs.Inside.Reading.{verdict}
 use Rattle.dbtg_schema.proofs.Forms.Firsts.{first_then, first_else}
 
 -- a word that the grammar wants, with no fault

@@ -11,7 +11,7 @@ use Rattle.dbtg_schema.specs.Texts.Forms.{starts, labelled, start_with, by_start
 use Rattle.dbtg_schema.specs.Texts.SchemaGrammar.{Form, Start, Labelled, fits}
 use Rattle.dbtg_schema.specs.Texts.Labels.{is, since, until, entries}
 use Rattle.dbtg_schema.specs.Texts.SchemaFaults.{at_word, at_other, places}
-use Rattle.dbtg_schema.specs.Texts.Reading.{verdict}
+use Rattle.dbtg_schema.specs.Inside.Reading.{verdict}
 use Rattle.dbtg_schema.proofs.Forms.Accepted.{none_rest, never}
 
 -- behind the words ws none of these words has a fault

@@ -9,7 +9,7 @@ use Rattle.dbtg_schema.specs.Lists.{Lists}
 use Rattle.dbtg_schema.specs.Lookups.{some_and}
 use Rattle.dbtg_schema.specs.Structure.{is_automatic}
 use Rattle.dbtg_schema.specs.Erasing.{marked}
-use Rattle.dbtg_schema.specs.Connecting.{connects_in, AreConnecting}
+use Rattle.dbtg_schema.specs.Inside.Connecting.{connects_in, AreConnecting}
 
 -- STORE connects no record in a set that is not there
 none_there : (schema : Lists) (s t : ℕ) → length schema.sets ≤ s → connects_in schema s t ≡ false

@@ -12,7 +12,8 @@ use Rattle.dbtg_schema.specs.Closure.{grown, reached_in}
 use Rattle.dbtg_schema.specs.Structure.{owns, member_clause, set_numbers, home, area_of, areas_with_homes, erase_areas, reachable_types}
 use Rattle.dbtg_schema.specs.declared.shape.RecordType.{RecordType}
 use Rattle.dbtg_schema.specs.WellFormed.{IsRecordType, IsSchema}
-use Rattle.dbtg_schema.specs.Erasing.{leads_to, is_home_of, touches, marked, marked_in, is_given, is_next, is_touched, AreWays}
+use Rattle.dbtg_schema.specs.Inside.Erasing.{leads_to, is_home_of, touches, marked_in, is_given, is_next, is_touched, AreWays}
+use Rattle.dbtg_schema.specs.Erasing.{marked}
 
 any_filter : (q p : ℕ → Bool) (xs : List ℕ) → list_any q (filter p xs) ≡ list_any (λ x. p x && q x) xs
 any_filter q p [] = refl

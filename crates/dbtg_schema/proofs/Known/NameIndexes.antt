@@ -8,7 +8,7 @@ use Rattle.std.proofs.lemmas.List.{length-map, length-take-le, map_more, take_mo
 use Rattle.indexmap.proofs.SetLemmas.{AllZip-push}
 use Rattle.dbtg_schema.proofs.Known.Positions.{position_more}
 use Rattle.dbtg_schema.specs.Structure.{place_of}
-use Rattle.dbtg_schema.specs.NameIndexes.{leads_to, AreItemIndexes, IsIndexOf, NamesAreIndexed, IsSchemaIndex}
+use Rattle.dbtg_schema.specs.Inside.NameIndexes.{leads_to, AreItemIndexes, IsIndexOf, NamesAreIndexed, IsSchemaIndex}
 use Rattle.dbtg_schema.specs.declared.index.NameIndex.{NameIndex}
 use Rattle.dbtg_schema.specs.declared.shape.Item.{Item}
 use Rattle.dbtg_schema.specs.declared.shape.RecordType.{RecordType}

@@ -5,10 +5,10 @@ use Rattle.std.specs.List.{range_with_len, find, All}
 use Rattle.std.proofs.lemmas.Bool.{ne_eqb}
 use Rattle.std.proofs.lemmas.List.Elements.{filter-append, All-tail}
 use Rattle.std.proofs.lemmas.Option.{get_or_from_slice_get, slice_get_cases, slice_get_within}
-use Rattle.dbtg_schema.specs.Connecting.{connects_in}
+use Rattle.dbtg_schema.specs.Inside.Connecting.{connects_in}
 use Rattle.dbtg_schema.specs.Lists.{Lists}
 use Rattle.dbtg_schema.specs.Lookups.{some_and}
-use Rattle.dbtg_schema.specs.SetsOfTypes.{sets_alone, owned_sets, AreSetsOf, AreSetsOfEach}
+use Rattle.dbtg_schema.specs.Inside.SetsOfTypes.{sets_alone, owned_sets, AreSetsOf, AreSetsOfEach}
 use Rattle.dbtg_schema.specs.Structure.{automatic_sets, is_automatic, owns, set_numbers}
 use Rattle.dbtg_schema.specs.WellFormed.{IsSchema, IsSetType}
 use Rattle.dbtg_schema.specs.declared.shape.Member.{Member}

@@ -13,7 +13,7 @@ use Rattle.dbtg_schema.specs.Texts.Forms.{starts, may_end, labelled, start_with,
 use Rattle.dbtg_schema.specs.Texts.SchemaGrammar.{Form, Start, Labelled, fits}
 use Rattle.dbtg_schema.specs.Texts.Labels.{is, until, entries}
 use Rattle.dbtg_schema.specs.Texts.SchemaFaults.{at_word, at_other, ended, fault, places, record_end, open_record, unknown_vias}
-use Rattle.dbtg_schema.specs.Texts.Reading.{verdict}
+use Rattle.dbtg_schema.specs.Inside.Reading.{verdict}
 use Rattle.dbtg_schema.proofs.Forms.Accepted.{none_rest, never}
 use Rattle.dbtg_schema.proofs.Forms.Roles.{role_is}
 use Rattle.dbtg_schema.proofs.Forms.Walks.{EachClean, since_last, any_snoc, none_here}

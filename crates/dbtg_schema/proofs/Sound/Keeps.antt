@@ -23,7 +23,7 @@ use Rattle.dbtg_schema.specs.Texts.Labels.{is, count_of, named, until, entries, 
 use Rattle.dbtg_schema.specs.Texts.SchemaFaults.{when, fault, calc_faults}
 use Rattle.dbtg_schema.specs.Texts.SchemaLists.{has, number_of, area_from, areas_from, item_from, items_from, calc_items_from, calc_from, record_type_from, types_from, items_at, key_from, type_named, member_from, owner_from, set_from, schema_of}
 use Rattle.dbtg_schema.specs.Texts.Words.{Word}
-use Rattle.dbtg_schema.specs.Texts.Reading.{WithinLimits, verdict}
+use Rattle.dbtg_schema.specs.Inside.Reading.{WithinLimits, verdict}
 use Rattle.dbtg_schema.proofs.Forms.Accepted.{derived}
 use Rattle.dbtg_schema.proofs.Forms.Walks.{clean}
 use Rattle.dbtg_schema.specs.WellFormed.{IsPicture, IsCalc, IsRecordType, IsSetType, IsSchema}

@@ -9,7 +9,7 @@ use Rattle.dbtg_schema.specs.declared.role.Role.{Role}
 use Rattle.dbtg_schema.specs.declared.role.Role.TheVariants as role
 use Rattle.dbtg_schema.specs.Texts.SchemaGrammar.{Labelled}
 use Rattle.dbtg_schema.specs.Texts.Labels.{is, count_of, since, until, entries}
-use Rattle.dbtg_schema.specs.Texts.Reading.{WithinLimits}
+use Rattle.dbtg_schema.specs.Inside.Reading.{WithinLimits}
 use Rattle.dbtg_schema.specs.Texts.SchemaFaults.{at_word, ended, said, when, fault, is_surplus}
 use Rattle.dbtg_schema.proofs.Forms.Roles.{role_is}
 use Rattle.dbtg_schema.proofs.Forms.Walks.{EachClean, keeps, each_entry}

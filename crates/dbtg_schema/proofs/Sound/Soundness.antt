@@ -28,7 +28,7 @@ use Rattle.dbtg_schema.specs.Sound.{IsSound, IsSoundSet, IsSoundType}
 use Rattle.dbtg_schema.specs.Texts.Spelling.{among}
 use Rattle.dbtg_schema.specs.WellFormed.{distinct, is_sorted, key_picture_of, same_number}
 use Rattle.dbtg_schema.specs.Texts.Words.{Word}
-use Rattle.dbtg_schema.specs.Texts.Reading.{verdict}
+use Rattle.dbtg_schema.specs.Inside.Reading.{verdict}
 use Rattle.dbtg_schema.proofs.Forms.Accepted.{derived}
 use Rattle.dbtg_schema.proofs.Sound.Closings.{Closed, each_ends as each_type_ends, ends_well}
 use Rattle.dbtg_schema.proofs.Sound.Distinct.{all_among, bytes_same, distinct_numbers, one_name, same_bytes, name_among_append, second_of_two}

@@ -67,11 +67,6 @@ abbrev pub until : Role → List Labelled → List Labelled
 until r [] = []
 until r (w ∷ ws) = if is r w then [] else w ∷ until r ws
 
--- the words up to the next one with this role, the first apart
-abbrev pub front_entry : Role → List Labelled → List Labelled
-front_entry r [] = []
-front_entry r (w ∷ ws) = w ∷ until r ws
-
 -- the entries that begin with this role, each up to the next
 abbrev pub entries : Role → List Labelled → List (List Labelled)
 entries r [] = []

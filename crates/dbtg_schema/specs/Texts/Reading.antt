@@ -1,6 +1,5 @@
 -- The refusal, as it is reached from left to right.
-use Rattle.std.specs.Prelude.{◌≡◌, ℕ, ◌≤◌, List, [], ◌∷◌, Option, Some}
-use Rattle.std.specs.List.{flat_map, AllByRecursion}
+use Rattle.std.specs.Prelude.{◌≡◌, ℕ, List, [], ◌∷◌, Option, Some}
 use Rattle.dbtg_schema.specs.declared.fault.Fault.{Fault}
 use Rattle.dbtg_schema.specs.declared.fault.SchemaFault.{SchemaFault}
 use Rattle.dbtg_schema.specs.declared.fault.SchemaFault.TheVariants.{Refused, Memory}
@@ -9,12 +8,7 @@ use Rattle.dbtg_schema.specs.Lookups.{first}
 use Rattle.dbtg_schema.specs.Texts.Words.{Word, text_words}
 use Rattle.dbtg_schema.specs.Texts.Forms.{by_start, labelled, start_with, starts}
 use Rattle.dbtg_schema.specs.Texts.SchemaGrammar.{Form, Labelled, fits, schema}
-use Rattle.dbtg_schema.specs.Texts.Labels.{count_of, until, entries}
-use Rattle.dbtg_schema.specs.Texts.SchemaFaults.{at_other, at_word, places}
-
--- the first fault from here on
-unfoldable pub verdict : ℕ → List Labelled → Form → List Word → Option Fault
-verdict end ws wanted left = first (flat_map (λ here. here) (places end ws wanted left))
+use Rattle.dbtg_schema.specs.Texts.SchemaFaults.{at_other, at_word}
 
 -- the text is refused with this fault, unless memory ran out
 abbrev pub Refuses : SchemaFault → Option Fault → Type 0
@@ -28,12 +22,3 @@ faults_at ws wanted w = by_start (start_with fits w (starts wanted)) (λ s. at_w
 -- this is told of a text whose first word is at fault
 abbrev pub RefusedAtOnce : List ℕ → Type 0 → Type 0
 RefusedAtOnce text Told = (w : Word) (ws : List Word) (fault : Fault) → text_words text ≡ w ∷ ws → first (faults_at [] schema w) ≡ Some fault → Told
-
--- there are no more entries in these words than numbers for them
-pub record WithinLimits (ws : List Labelled) : Type 0 where
-  pub areas : count_of role.AreaEntry ws ≤ 8
-  pub types : count_of role.RecordEntry (until role.SetEntry ws) ≤ 16
-  pub sets : count_of role.SetEntry ws ≤ 16
-  pub items : AllByRecursion (λ e. count_of role.ItemEntry e ≤ 16) (entries role.RecordEntry (until role.SetEntry ws))
-  pub calc : AllByRecursion (λ e. count_of role.CalcItem e ≤ 4) (entries role.RecordEntry (until role.SetEntry ws))
-  pub members : AllByRecursion (λ e. count_of role.MemberEntry e ≤ 4) (entries role.SetEntry ws)

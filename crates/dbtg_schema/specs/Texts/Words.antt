@@ -1,16 +1,11 @@
 -- The words of a text, each with its line.
 use Rattle.std.specs.Prelude.{ℕ, ◌+◌, Bool, not, ◌&&◌, ◌||◌, List, [], ◌∷◌, ◌==◌, if◌then◌else◌, codes, filter}
 use Rattle.std.specs.Str.{bytes_eq}
-use Rattle.dbtg_schema.specs.declared.scanner.Word as code
 
 -- a word with the line on which it begins
 pub record Word : Type 0 where
   pub text : List ℕ
   pub line : ℕ
-
--- a word without where it lies in memory
-abbrev pub view : code.Word → Word
-view w = record { text = w.text.now; line = w.line }
 
 -- space, tab, carriage return, line feed, comma and semicolon separate words
 abbrev pub is_gap : ℕ → Bool

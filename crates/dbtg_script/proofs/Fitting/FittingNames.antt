@@ -18,7 +18,8 @@ use Rattle.dbtg_script.specs.declared.role.Role.TheVariants as role
 use Rattle.dbtg_script.specs.Labels.{has, named, text_of}
 use Rattle.dbtg_script.specs.Lookups.{area_no, set_no, set_named, type_no}
 use Rattle.dbtg_script.specs.StatementFaults.{at_other, end_faults, faults_from, said, set_in, when}
-use Rattle.dbtg_script.specs.StatementGrammar.{Form, Start, Labelled, fits}
+use Rattle.dbtg_script.specs.StatementGrammar.{Form, Labelled, fits}
+use Rattle.dbtg_script.specs.Inside.StatementGrammar.{Start}
 use Rattle.dbtg_script.specs.Tokens.{Token}
 use Rattle.dbtg_script.proofs.Reading.Accepted.{none_rest}
 use Rattle.dbtg_script.proofs.Fitting.Derivations.{named_last}

@@ -15,7 +15,8 @@ use Rattle.dbtg_script.specs.Labels.{is, given, first_word, text_of}
 use Rattle.dbtg_script.specs.declared.role.Role.{Role}
 use Rattle.dbtg_script.specs.declared.role.Role.TheVariants as role
 use Rattle.dbtg_script.specs.Lines.{is_allowed}
-use Rattle.dbtg_script.specs.StatementGrammar.{Form, Labelled, Start, fits}
+use Rattle.dbtg_script.specs.StatementGrammar.{Form, Labelled, fits}
+use Rattle.dbtg_script.specs.Inside.StatementGrammar.{Start}
 use Rattle.dbtg_schema.specs.Texts.Forms.{starts, labelled, start_with, by_start, labels}
 use Rattle.dbtg_script.specs.Printing.Spelling.{number}
 use Rattle.dbtg_script.specs.Tokens.{Token, plain, equals, literal, tokens, into, onto, is_letter}

@@ -8,7 +8,8 @@ use Rattle.dbtg_script.specs.declared.fault.Cause.{Cause}
 use Rattle.dbtg_script.specs.declared.fault.Cause.TheVariants.{UnexpectedWord}
 use Rattle.dbtg_script.specs.Lines.{ends_in_text}
 use Rattle.dbtg_script.specs.Tokens.{Token, tokens}
-use Rattle.dbtg_script.specs.StatementGrammar.{Form, Start, Labelled, fits, statement}
+use Rattle.dbtg_script.specs.StatementGrammar.{Form, Labelled, fits, statement}
+use Rattle.dbtg_script.specs.Inside.StatementGrammar.{Start}
 use Rattle.dbtg_script.specs.StatementFaults.{at_other, end_faults, faults_from, said, statement_faults, when}
 
 pub none_rest : (xs ys : List Cause) → first (xs ++ ys) ≡ None → first ys ≡ None

@@ -5,7 +5,8 @@ use Rattle.dbtg_schema.proofs.Public.{Among, Ranked, chosen, in_order, no_way_on
 use Rattle.dbtg_script.specs.declared.role.Role.{Role}
 use Rattle.dbtg_script.specs.Derivations.{CanStand, TakesKeywords, is_name}
 use Rattle.dbtg_script.specs.Tokens.{Token}
-use Rattle.dbtg_script.specs.StatementGrammar.{Form, Labelled, Start, fits}
+use Rattle.dbtg_script.specs.StatementGrammar.{Form, Labelled, fits}
+use Rattle.dbtg_script.specs.Inside.StatementGrammar.{Start}
 use Rattle.dbtg_script.proofs.Reading.Kinds.{are_named, before, named_start, some_words, told}
 
 -- of the kinds with which the form can go on, those of keywords come before those of names

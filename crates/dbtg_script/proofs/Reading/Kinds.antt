@@ -9,7 +9,8 @@ use Rattle.dbtg_schema.proofs.Public.{Among, among_append, among_map, bytes_same
 use Rattle.dbtg_script.specs.Derivations.{is_name}
 use Rattle.dbtg_script.specs.Printing.Spelling.{is_signed}
 use Rattle.dbtg_script.specs.Tokens.{Token, plain, equals, literal}
-use Rattle.dbtg_script.specs.StatementGrammar.{Form, Kind, Labelled, Start, key, other_than, name, equals_sign, signed, keyed, value, fits, statement}
+use Rattle.dbtg_script.specs.StatementGrammar.{Form, Kind, Labelled, key, other_than, name, equals_sign, signed, keyed, value, fits, statement}
+use Rattle.dbtg_script.specs.Inside.StatementGrammar.{Start}
 
 -- any word fits, or any but one
 abbrev pub is_any : Kind → Bool

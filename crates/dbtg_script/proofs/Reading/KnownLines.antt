@@ -14,7 +14,7 @@ use Rattle.dbtg_script.specs.declared.known.Seen.{Seen}
 use Rattle.dbtg_script.specs.Lines.{is_allowed, is_statement}
 use Rattle.dbtg_script.specs.StatementFaults.{statement_faults, when}
 use Rattle.dbtg_script.specs.Statements.{line_statement, prepend}
-use Rattle.dbtg_script.specs.Known.{IsKnown, IsRead, IsReadAt, Says}
+use Rattle.dbtg_script.specs.Inside.Known.{IsKnown, IsRead, IsReadAt, Says}
 
 -- KEPT AND FOUND
 

@@ -14,7 +14,7 @@ use Rattle.dbtg_script.specs.declared.fault.Cause.TheVariants.{LineNotAllowed, T
 use Rattle.dbtg_script.specs.declared.fault.Fault.{Fault}
 use Rattle.dbtg_script.specs.Laws.{LineBehindScriptIsRead}
 use Rattle.dbtg_script.specs.Lines.{closes, ends_with, is_allowed, is_statement, lines, trimmed, without_last}
-use Rattle.dbtg_script.specs.Reading.{lines_verdict}
+use Rattle.dbtg_script.specs.Inside.Reading.{lines_verdict}
 use Rattle.dbtg_script.specs.Printing.Spelling.{has_byte}
 use Rattle.dbtg_script.specs.StatementFaults.{count_after, line_faults, lines_faults, refusal, statement_faults, when}
 use Rattle.dbtg_script.specs.Statements.{line_statement, prepend, script, statements_of}

@@ -20,7 +20,8 @@ use Rattle.dbtg_script.specs.Laws.{DerivedLineIsRead, DerivedScriptHasNoFaultOfG
 use Rattle.dbtg_script.specs.Lines.{ends_in_text, is_allowed, is_statement, lines, trimmed}
 use Rattle.dbtg_script.specs.Lookups.{area_named, item_named, item_picture, set_named, sort_picture, type_named}
 use Rattle.dbtg_script.specs.Printing.Spelling.{number, key_name, key_number, generation}
-use Rattle.dbtg_script.specs.StatementGrammar.{Form, Labelled, Start, fits, statement}
+use Rattle.dbtg_script.specs.StatementGrammar.{Form, Labelled, fits, statement}
+use Rattle.dbtg_script.specs.Inside.StatementGrammar.{Start}
 use Rattle.dbtg_script.specs.StatementFaults.{at_other, count_after, end_faults, faults_from, is_misused, is_outside, item_faults, key_faults, line_faults, lines_faults, said, set_in, sorted_faults, statement_faults, too_long, type_in, value_faults, when, without_minus}
 use Rattle.dbtg_script.specs.Statements.{statement_of}
 use Rattle.dbtg_script.specs.Tokens.{Token, tokens}

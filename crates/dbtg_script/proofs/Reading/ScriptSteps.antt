@@ -15,7 +15,8 @@ use Rattle.dbtg_script.specs.Tokens.{tokens}
 use Rattle.dbtg_script.specs.StatementGrammar.{fits, statement}
 use Rattle.dbtg_script.specs.StatementFaults.{count_after, line_faults, refusal, statement_faults}
 use Rattle.dbtg_script.specs.Statements.{line_statement, prepend, statement_of}
-use Rattle.dbtg_script.specs.Reading.{verdict, lines_verdict, Refuses, RefusesScript, at_line}
+use Rattle.dbtg_script.specs.Reading.{verdict, Refuses, RefusesScript}
+use Rattle.dbtg_script.specs.Inside.Reading.{lines_verdict, at_line}
 use Rattle.dbtg_script.proofs.Reading.Firsts.{first_then, first_else}
 
 -- a line whose quotes are closed

@@ -5,7 +5,8 @@ use Rattle.dbtg_schema.specs.Lookups.{first}
 use Rattle.dbtg_schema.specs.Texts.Forms.{labelled, labels, start_with, starts}
 use Rattle.dbtg_script.specs.declared.fault.Cause.{Cause}
 use Rattle.dbtg_script.specs.Tokens.{Token}
-use Rattle.dbtg_script.specs.StatementGrammar.{fits, Form, Start, Labelled, statement}
+use Rattle.dbtg_script.specs.StatementGrammar.{fits, Form, Labelled, statement}
+use Rattle.dbtg_script.specs.Inside.StatementGrammar.{Start}
 use Rattle.dbtg_script.specs.StatementFaults.{at_other, said}
 use Rattle.dbtg_script.specs.Reading.{faults_at, first_word_faults, verdict}
 use Rattle.dbtg_script.proofs.Reading.Firsts.{first_then, first_else}

@@ -19,8 +19,8 @@ use Rattle.dbtg_unit.specs.declared.statement.Which.TheVariants as which
 use Rattle.dbtg_script.specs.declared.automaton.State.TheVariants as state
 use Rattle.dbtg_script.specs.declared.fault.Cause.TheVariants as cause
 use Rattle.dbtg_script.specs.declared.role.Role.TheVariants as role
-use Rattle.dbtg_script.specs.Automaton.{rest_of}
-use Rattle.dbtg_script.specs.Known.{Says}
+use Rattle.dbtg_script.specs.Inside.Automaton.{rest_of}
+use Rattle.dbtg_script.specs.Inside.Known.{Says}
 use Rattle.dbtg_script.specs.Lines.{ends_in_text, is_allowed, is_statement}
 use Rattle.dbtg_script.specs.Lookups.{set_named, sort_picture}
 use Rattle.dbtg_script.specs.Printing.Spelling.{is_key, is_signed, number}
@@ -30,7 +30,7 @@ use Rattle.dbtg_script.specs.StatementGrammar.{fits}
 use Rattle.dbtg_script.specs.StatementGrammar as grammar
 use Rattle.dbtg_script.specs.Statements.{key_of, signed, statement_of}
 use Rattle.dbtg_script.specs.Tokens.{Token, plain, tokens}
-use Rattle.dbtg_script.specs.Usual.{AreSaid, IsOfSet, nothing}
+use Rattle.dbtg_script.specs.Inside.Usual.{AreSaid, IsOfSet, nothing}
 use Rattle.dbtg_script.specs.Values.{spelled, up_to}
 use Rattle.dbtg_script.proofs.Reading.ScriptSteps.{closed_line}
 use Rattle.dbtg_script.proofs.Reading.Suppressed.{none_suppressed}

@@ -20,7 +20,7 @@ use Rattle.dbtg_unit.specs.declared.statement.Statement.TheVariants as statement
 use Rattle.dbtg_script.specs.declared.automaton.State.TheVariants as state
 use Rattle.dbtg_script.specs.declared.role.Role.{Role}
 use Rattle.dbtg_script.specs.declared.role.Role.TheVariants as role
-use Rattle.dbtg_script.specs.Automaton.{rest_of}
+use Rattle.dbtg_script.specs.Inside.Automaton.{rest_of}
 use Rattle.dbtg_script.specs.Labels.{first_word, given, has, last_text, named, number, texts}
 use Rattle.dbtg_script.specs.Lookups.{item_named, item_picture, type_named, type_no}
 use Rattle.dbtg_script.specs.Reading.{verdict}
@@ -29,7 +29,7 @@ use Rattle.dbtg_script.specs.StatementGrammar.{fits, value, Form, Kind, Labelled
 use Rattle.dbtg_script.specs.StatementGrammar as grammar
 use Rattle.dbtg_script.specs.Statements.{statement_of, values_of}
 use Rattle.dbtg_script.specs.Tokens.{Token, plain, equals, literal}
-use Rattle.dbtg_script.specs.Usual.{AreAssigned, AreSaid, IsAssigned, IsGiven, nothing}
+use Rattle.dbtg_script.specs.Inside.Usual.{AreAssigned, AreSaid, IsAssigned, IsGiven, nothing}
 use Rattle.dbtg_script.specs.Values.{blank, spelled, value_for}
 use Rattle.dbtg_script.proofs.Reading.Steps.{goes_on}
 use Rattle.dbtg_script.proofs.Reading.Suppressed.{none_suppressed}

@@ -11,7 +11,7 @@ use Rattle.dbtg_script.specs.Labels.{first_word, has, is, last_text, named, numb
 use Rattle.dbtg_script.specs.Lookups.{item_picture, type_named}
 use Rattle.dbtg_script.specs.StatementFaults.{type_in, type_text}
 use Rattle.dbtg_script.specs.StatementGrammar.{Labelled}
-use Rattle.dbtg_script.specs.Words.{AreNoted, LineWords}
+use Rattle.dbtg_script.specs.Inside.Words.{AreNoted, LineWords}
 use Rattle.dbtg_schema.specs.declared.shape.Picture.{Picture}
 use Rattle.dbtg_script.proofs.Reading.Roles.{role_is}
 

@@ -1,8 +1,10 @@
 -- The law: each event keeps what is lawful.
 use Rattle.std.proofs.Common.{ℕ, ◌≡◌, Bool, true, false, ltb, List, [], ◌∷◌, length, Option, Some, None, refl, subst, ap}
-use Rattle.dbtg_step.specs.Machine.SequentialDatabase.{HeldCell, SequentialDatabase, IsSequentialDatabase, NextNeed, NeedsArea, NeedsCell, StaleGuesses, NeedsNothing, In, unit_at}
+use Rattle.dbtg_step.specs.Machine.SequentialDatabase.{HeldCell, SequentialDatabase, NextNeed, NeedsArea, NeedsCell, StaleGuesses, NeedsNothing, In, unit_at}
+use Rattle.dbtg_step.specs.Inside.SequentialDatabase.{IsSequentialDatabase}
 use Rattle.dbtg_step.specs.Machine.Machine.{Location, Home, HeldBy, Progress, UnitState, State, SequentialState, replay, unless_over}
-use Rattle.dbtg_step.specs.Machine.Step.{next_need, conflicts, any_other, Transition, MovedTo, IsBlocked, IsIdle, after_ticket, takes_area, takes_cell, follows_need, before_ticket, in_statement, step_of_unit, step_if_unit, step, quit_unless_ticket, quit_of_unit, quit_if_unit, quit, IfMoved, transition, state_after, run}
+use Rattle.dbtg_step.specs.Machine.Step.{next_need, conflicts, any_other, Transition, MovedTo, IsBlocked, IsIdle, after_ticket, takes_area, takes_cell, follows_need, before_ticket, in_statement, step_of_unit, step_if_unit, step, quit_unless_ticket, quit_of_unit, quit_if_unit, quit, transition, state_after, run}
+use Rattle.dbtg_step.specs.Inside.Step.{IfMoved}
 use Rattle.dbtg_unit.specs.declared.moves.Move.{Move}
 use Rattle.dbtg_unit.specs.declared.moves.Move.TheVariants.{Step, Quit}
 use Rattle.dbtg_step.specs.Machine.Lawful.{Lawful}

@@ -7,7 +7,8 @@ use Rattle.dbtg_cells.specs.Shown.{CellValue}
 use Rattle.dbtg_unit.specs.declared.statement.Statement.{Statement}
 use Rattle.dbtg_unit.specs.declared.unit.Unit.{Unit}
 use Rattle.dbtg_unit.specs.Database.State.Base.{Database}
-use Rattle.dbtg_step.specs.Machine.SequentialDatabase.{HeldCell, NeedsNothing, Agrees, IsLocal, MayMake}
+use Rattle.dbtg_step.specs.Machine.SequentialDatabase.{HeldCell, NeedsNothing, Agrees, MayMake}
+use Rattle.dbtg_step.specs.Inside.SequentialDatabase.{IsLocal}
 use Rattle.dbtg_step.specs.Machine.Network.{network}
 
 -- a statement that needs nothing more leaves a database with all its units legal, and changes no cell but those that it holds

@@ -1,7 +1,8 @@
 -- A ticket keeps a state lawful.
 use Rattle.std.proofs.Common.{ℕ, suc, ◌≡◌, ◌≢◌, false, List, [], ◌∷◌, ◌++◌, length, Some, inl, inr, refl, sym, ap, ◌∙◌, subst, arith, length-append, append_assoc}
 use Rattle.std.proofs.lemmas.Bool.Decides.{eqb_tells}
-use Rattle.dbtg_step.specs.Machine.SequentialDatabase.{SequentialDatabase, IsSequentialDatabase, In, NotAmong, NeedsNothing, unit_at, with_unit_at}
+use Rattle.dbtg_step.specs.Machine.SequentialDatabase.{SequentialDatabase, In, NotAmong, NeedsNothing, unit_at, with_unit_at}
+use Rattle.dbtg_step.specs.Inside.SequentialDatabase.{IsSequentialDatabase}
 use Rattle.dbtg_step.specs.Machine.Machine.{HeldBy, Progress, UnitState, HistoryEntry, State, SequentialState, replay, statements_of, held_cells, held_areas, holds_exclusively, ticket_of, unless_over}
 use Rattle.dbtg_step.specs.Machine.Step.{with_ticket, due_cells, next_need}
 use Rattle.dbtg_step.specs.Machine.Lawful.{Holding, UnitLawful, AreasShared, HoldsCell, IsHolder, Lawful}

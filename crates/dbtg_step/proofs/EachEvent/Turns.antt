@@ -2,8 +2,10 @@
 use Rattle.std.proofs.Common.{ℕ, ◌≡◌, Bool, true, false, List, [], ◌∷◌, Option, Some, None, inl, inr, refl, sym, ap, ◌∙◌, subst}
 use Rattle.dbtg_step.specs.Machine.SequentialDatabase.{HeldCell, NextNeed, NeedsArea, NeedsCell, StaleGuesses, NeedsNothing, SequentialDatabase, Agrees, unit_at, with_unit_at}
 use Rattle.dbtg_step.specs.Machine.Machine.{Location, Home, HeldBy, Progress, UnitState, State, SequentialState, replay, held_cells, begun, unless_over}
-use Rattle.dbtg_step.specs.Machine.Step.{next_need, with_progress, updated, conflicts, any_other, is_nonempty, with_ticket, after_ticket, takes_area, takes_cell, follows_need, before_ticket, in_statement, step_of_unit, step_if_unit, step, quit_unless_ticket, quit_of_unit, quit_if_unit, quit, IfMoved}
-use Rattle.dbtg_step.specs.Machine.NeverStuck.{MayGoOn, TakenInTurn, NoneYet, AreaNext, CellNext, NeedsInOrder, InTurn, AllInTurn}
+use Rattle.dbtg_step.specs.Machine.Step.{next_need, with_progress, updated, conflicts, any_other, is_nonempty, with_ticket, after_ticket, takes_area, takes_cell, follows_need, before_ticket, in_statement, step_of_unit, step_if_unit, step, quit_unless_ticket, quit_of_unit, quit_if_unit, quit}
+use Rattle.dbtg_step.specs.Inside.Step.{IfMoved}
+use Rattle.dbtg_step.specs.Machine.NeverStuck.{MayGoOn, TakenInTurn, NoneYet, AreaNext, CellNext, NeedsInOrder}
+use Rattle.dbtg_step.specs.Inside.NeverStuck.{InTurn, AllInTurn}
 use Rattle.dbtg_step.specs.Machine.Lawful.{Lawful}
 use Rattle.dbtg_step.proofs.EachEvent.UnitFacts.{may_make}
 use Rattle.dbtg_step.proofs.EachEvent.UnitLists.{set_found}

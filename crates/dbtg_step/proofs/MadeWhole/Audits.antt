@@ -16,7 +16,8 @@ use Rattle.dbtg_unit.specs.Database.State.Image.{image_of}
 use Rattle.dbtg_unit.specs.Database.Laws.Replay.{State, AnswersHold, IsHistoryOf, answer_to, opening_state, outcome_of, replay}
 use Rattle.dbtg_unit.proofs.Public.{answers_behind, slice_get_range}
 use Rattle.dbtg_step.specs.declared.results.Run.{Run}
-use Rattle.dbtg_step.specs.Core.Audit.{GoesOn, HasJoined, LeadsTo}
+use Rattle.dbtg_step.specs.Inside.Audit.{GoesOn, HasJoined}
+use Rattle.dbtg_step.specs.Core.Audit.{LeadsTo}
 use Rattle.dbtg_step.specs.Core.Whole.{HasMade, IsMadeRun, Making, state_now}
 
 -- LISTS

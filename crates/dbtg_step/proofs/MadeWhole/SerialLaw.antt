@@ -18,7 +18,7 @@ use Rattle.dbtg_unit.proofs.Public.{opening_is_legal, statements_determine}
 use Rattle.dbtg_step.specs.Machine.SequentialDatabase.{unit_at}
 use Rattle.dbtg_step.specs.Machine.Machine.{HistoryEntry, Location, SequentialState, State, UnitState, replay}
 use Rattle.dbtg_step.specs.Machine.Lawful.{IsOpening}
-use Rattle.dbtg_step.specs.Machine.NeverStuck.{AllInTurn}
+use Rattle.dbtg_step.specs.Inside.NeverStuck.{AllInTurn}
 use Rattle.dbtg_step.specs.Machine.Network.{network}
 use Rattle.dbtg_step.specs.Machine.Headline.{IsSequential, entry_of, machine_after, machine_of, opening_of, units_from}
 use Rattle.dbtg_step.specs.Laws.{SerialRunComesTo, scripts_fit}

@@ -13,7 +13,8 @@ use Rattle.dbtg_unit.specs.Database.Laws.Replaying.{statements_of}
 use Rattle.dbtg_step.specs.declared.results.Run.{Run}
 use Rattle.dbtg_step.specs.Machine.SequentialDatabase.{unit_at}
 use Rattle.dbtg_step.specs.Core.Serial.{SerialRunIs, in_turn_from}
-use Rattle.dbtg_step.specs.Core.Whole.{HasMade, HasMadeAll, IsMadeRun, Making}
+use Rattle.dbtg_step.specs.Core.Whole.{HasMade, IsMadeRun, Making}
+use Rattle.dbtg_step.specs.Inside.Whole.{HasMadeAll}
 use Rattle.dbtg_step.proofs.MadeWhole.Wholes.{making}
 
 -- ONE STATEMENT MORE, ONE SCRIPT MORE

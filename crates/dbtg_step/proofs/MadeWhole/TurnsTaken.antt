@@ -19,14 +19,17 @@ use Rattle.dbtg_step.specs.declared.results.Run.{Run}
 use Rattle.dbtg_step.specs.declared.taking_turns.Noted.{Noted}
 use Rattle.dbtg_step.specs.Machine.SequentialDatabase.{SequentialDatabase, unit_at, with_unit_at}
 use Rattle.dbtg_step.specs.Machine.Machine.{HistoryEntry, SequentialState, State, UnitState}
-use Rattle.dbtg_step.specs.Machine.Step.{IfMoved, MovedTo, run, state_after, step, transition}
+use Rattle.dbtg_step.specs.Inside.Step.{IfMoved}
+use Rattle.dbtg_step.specs.Machine.Step.{MovedTo, run, state_after, step, transition}
 use Rattle.dbtg_step.specs.Machine.Network.{network}
 use Rattle.dbtg_step.specs.Machine.Headline.{entry_of, machine_after, machine_of, opening_of, units_from}
 use Rattle.dbtg_step.specs.Laws.{scripts_fit}
-use Rattle.dbtg_step.specs.Core.Parts.{CoreParts, CoreState, core_of, machine, state_from, state_of, unit_state_of}
-use Rattle.dbtg_step.specs.Core.Events.{IsStepped, IsWell, opening_for}
+use Rattle.dbtg_step.specs.Core.Parts.{CoreParts, CoreState, machine, state_from, unit_state_of}
+use Rattle.dbtg_step.specs.Inside.Parts.{core_of, state_of}
+use Rattle.dbtg_step.specs.Inside.Events.{IsStepped, IsWell, opening_for}
 use Rattle.dbtg_step.specs.Core.Runs.{IsHandedOut}
-use Rattle.dbtg_step.specs.Core.Turns.{AllBetween, AreEvents, AreTurns, HaveTurned, IsBefore, IsDone, IsNoted, IsRunByTurns, IsTurnOf, NotesMore, left_of, lefts_of, made_turns, turns_ahead}
+use Rattle.dbtg_step.specs.Core.Turns.{AllBetween, AreEvents, AreTurns, HaveTurned, IsBefore, IsNoted, IsRunByTurns, IsTurnOf, NotesMore, left_of, lefts_of, made_turns, turns_ahead}
+use Rattle.dbtg_step.specs.Inside.Turns.{IsDone}
 use Rattle.dbtg_step.proofs.TheCore.Alone.{OneStep, StepsAlone, Unticketed, one_step}
 use Rattle.dbtg_step.proofs.TheCore.EventsShown.{found}
 use Rattle.dbtg_step.proofs.Runs.Headlines.{machine_is_opening, run_is_sequential}

@@ -43,10 +43,10 @@ use Rattle.dbtg_unit.specs.Hands.Making.{HaveNextVersions, ShowsTheSame}
 use Rattle.dbtg_unit.specs.Hands.Needs.{areas_in_order, cells_of, guessed_sets, is_stale, is_wrong_guess, need, need_of_cells, next_of, stale_owners}
 use Rattle.dbtg_unit.specs.Hands.Prepared.{values_of}
 use Rattle.dbtg_unit.specs.Database.Laws.Replay.{State, AnswersHold, IsHistoryOf, after, after_outcome, opening_state, outcome_of, replay}
-use Rattle.dbtg_unit.proofs.Public.{In, all_agree_same, all_at, any_in, any_mapped, find_element, of_filter, opening_is_legal, replay_keeps_legal, replays_one_more}
-use Rattle.dbtg_unit.proofs.Public.{versions_are_bounded}
-use Rattle.dbtg_step.specs.Core.Imaging.{image_from}
-use Rattle.dbtg_step.specs.Core.Whole.{HasMade, HoldsAll, IsEffect, IsGuessed, IsWhole, Making, goes_by_guesses}
+use Rattle.dbtg_unit.proofs.Public.{In, all_agree_same, all_at, any_in, any_mapped, find_element, of_filter, opening_is_legal, replay_keeps_legal, replays_one_more, versions_are_bounded}
+use Rattle.dbtg_step.specs.Inside.Imaging.{image_from}
+use Rattle.dbtg_step.specs.Core.Whole.{HasMade, Making}
+use Rattle.dbtg_step.specs.Inside.Whole.{HoldsAll, IsEffect, IsGuessed, IsWhole, goes_by_guesses}
 use Rattle.dbtg_step.proofs.MadeWhole.Audits.{fits_more}
 use Rattle.dbtg_step.proofs.Network.CellsExist.{cells_exist, has_ring}
 use Rattle.dbtg_step.proofs.TheCore.DrawnShown.{versions_next}

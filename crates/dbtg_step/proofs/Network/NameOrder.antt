@@ -3,7 +3,7 @@ use Rattle.std.proofs.Common.{ℕ}
 use Rattle.std.proofs.lemmas.Bool.{false_from_ne_true}
 use Rattle.dbtg_schema.specs.Lists.{Lists}
 use Rattle.dbtg_cells.specs.Names.{name_lt}
-use Rattle.dbtg_step.specs.Machine.NeverStuck.{IsStrictOrder}
+use Rattle.dbtg_step.specs.Inside.NeverStuck.{IsStrictOrder}
 use Rattle.dbtg_step.specs.Machine.Network.{network}
 pub use Rattle.dbtg_unit.proofs.Public.{name_chain, name_never, name_total, number_chain, number_never, number_total}
 

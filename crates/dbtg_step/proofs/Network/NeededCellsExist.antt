@@ -30,7 +30,7 @@ use Rattle.dbtg_step.specs.Machine.Step.{next_need}
 use Rattle.dbtg_step.specs.Machine.Headline.{machine_after, machine_of, opening_of, units_from}
 use Rattle.dbtg_step.specs.Laws.{NeededCellsExist}
 use Rattle.dbtg_step.specs.Machine.Lawful.{Lawful}
-use Rattle.dbtg_step.specs.Core.Events.{HaveRings}
+use Rattle.dbtg_step.specs.Inside.Events.{HaveRings}
 use Rattle.dbtg_step.specs.Machine.Network.{network}
 use Rattle.dbtg_step.proofs.Network.CellsExist.{cells_exist, has_ring, owner_exists}
 use Rattle.dbtg_step.proofs.Runs.GuessesKept.{AllGuesses, KeepsGuesses, run_keeps_guesses}

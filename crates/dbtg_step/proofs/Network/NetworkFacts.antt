@@ -3,7 +3,7 @@ use Rattle.std.proofs.Common.{ℕ}
 use Rattle.dbtg_schema.specs.Lists.{Lists}
 use Rattle.dbtg_schema.specs.Sound.{IsSound}
 use Rattle.dbtg_cells.specs.Names.{name_lt}
-use Rattle.dbtg_step.specs.Machine.SequentialDatabase.{IsSequentialDatabase}
+use Rattle.dbtg_step.specs.Inside.SequentialDatabase.{IsSequentialDatabase}
 use Rattle.dbtg_step.specs.Laws.{NeedsAreInOrder}
 use Rattle.dbtg_step.specs.Machine.NeverStuck.{NeedsInOrder}
 use Rattle.dbtg_step.specs.Machine.Network.{network}

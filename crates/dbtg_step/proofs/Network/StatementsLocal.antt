@@ -23,7 +23,8 @@ use Rattle.dbtg_unit.specs.Hands.Hands.{Hands}
 use Rattle.dbtg_unit.specs.Hands.Local.{Agrees as AgreesInHand, AllAgree, holds}
 use Rattle.dbtg_unit.specs.Hands.Needs.{areas_in_order, cells_of, is_stale, need, next_of, stale_owners}
 use Rattle.dbtg_unit.proofs.Public.{changes_only_its_cells, effect_keeps_legal}
-use Rattle.dbtg_step.specs.Machine.SequentialDatabase.{HeldCell, Agrees, IsLocal, MayMake, NeedsNothing, NotAmong, unit_at, with_unit_at}
+use Rattle.dbtg_step.specs.Machine.SequentialDatabase.{HeldCell, Agrees, MayMake, NeedsNothing, NotAmong, unit_at, with_unit_at}
+use Rattle.dbtg_step.specs.Inside.SequentialDatabase.{IsLocal}
 use Rattle.dbtg_step.specs.Machine.Network.{network, holding, next_need_of}
 use Rattle.dbtg_step.proofs.EachEvent.Premises.{StatementsAreLocal}
 

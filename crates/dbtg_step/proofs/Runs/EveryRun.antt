@@ -1,12 +1,15 @@
 -- In every state that is reached from the start by steps and quits, where a unit is in mid-statement some unit's next step is an event.
 use Rattle.std.proofs.Common.{ℕ, ◌≡◌, Bool, List, [], ◌∷◌, Some}
-use Rattle.dbtg_step.specs.Machine.SequentialDatabase.{SequentialDatabase, IsSequentialDatabase, unit_at}
+use Rattle.dbtg_step.specs.Machine.SequentialDatabase.{SequentialDatabase, unit_at}
+use Rattle.dbtg_step.specs.Inside.SequentialDatabase.{IsSequentialDatabase}
 use Rattle.dbtg_step.specs.Machine.Machine.{Progress, UnitState, State, SequentialState}
-use Rattle.dbtg_step.specs.Machine.Step.{Transition, MovedTo, IsBlocked, IsIdle, IfMoved, transition, state_after, run}
+use Rattle.dbtg_step.specs.Machine.Step.{Transition, MovedTo, IsBlocked, IsIdle, transition, state_after, run}
+use Rattle.dbtg_step.specs.Inside.Step.{IfMoved}
 use Rattle.dbtg_unit.specs.declared.moves.Move.{Move}
 use Rattle.dbtg_unit.specs.declared.moves.Move.TheVariants.{Step, Quit}
 use Rattle.dbtg_step.specs.Machine.Lawful.{Lawful, IsOpening}
-use Rattle.dbtg_step.specs.Machine.NeverStuck.{SomeUnitMoves, NeedsInOrder, AllInTurn, IsStrictOrder}
+use Rattle.dbtg_step.specs.Machine.NeverStuck.{SomeUnitMoves, NeedsInOrder}
+use Rattle.dbtg_step.specs.Inside.NeverStuck.{AllInTurn, IsStrictOrder}
 use Rattle.dbtg_step.proofs.EachEvent.Keeps.{move_keeps, run_keeps}
 use Rattle.dbtg_step.proofs.Runs.Opening.{opening_is_lawful}
 use Rattle.dbtg_step.proofs.EachEvent.Turns.{step_in_turn, quit_in_turn}

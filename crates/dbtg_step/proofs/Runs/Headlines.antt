@@ -16,7 +16,8 @@ use Rattle.dbtg_unit.specs.Database.State.Image.{image_of}
 use Rattle.dbtg_unit.specs.Database.State.LegalWith.{LegalWith}
 use Rattle.dbtg_unit.specs.Database.State.Units.{opening_unit}
 use Rattle.dbtg_unit.specs.Database.Laws.Replay.{State as DatabaseState, after_entry as after_one, entries_of, replay as replay_entries, AnswersHold as AnswersAre, TicketsInOrder, outcome_of, after_outcome}
-use Rattle.dbtg_step.specs.Machine.SequentialDatabase.{In, IsSequentialDatabase, unit_at, with_unit_at}
+use Rattle.dbtg_step.specs.Machine.SequentialDatabase.{In, unit_at, with_unit_at}
+use Rattle.dbtg_step.specs.Inside.SequentialDatabase.{IsSequentialDatabase}
 use Rattle.dbtg_step.specs.Machine.Machine.{UnitState, HistoryEntry, State, SequentialState, with_effect, after_entry, replay, AnswersHold, statements_of}
 use Rattle.dbtg_step.specs.Machine.Lawful.{Lawful, IsOpening}
 use Rattle.dbtg_step.specs.Machine.Network.{network}

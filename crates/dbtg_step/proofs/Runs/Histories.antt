@@ -5,7 +5,8 @@ use Rattle.dbtg_unit.specs.declared.moves.Move.TheVariants.{Step, Quit}
 use Rattle.dbtg_step.specs.Machine.SequentialDatabase.{HeldCell, NextNeed, NeedsArea, NeedsCell, StaleGuesses, NeedsNothing, SequentialDatabase, unit_at}
 use Rattle.dbtg_step.specs.Machine.Machine.{Location, Home, HeldBy, Progress, UnitState, HistoryEntry, State, SequentialState}
 use Rattle.dbtg_step.proofs.EachEvent.UnitLists.{map_set_same}
-use Rattle.dbtg_step.specs.Machine.Step.{updated, with_ticket, after_ticket, takes_area, takes_cell, follows_need, before_ticket, in_statement, step_of_unit, step_if_unit, step, quit_unless_ticket, quit_of_unit, quit_if_unit, quit, Transition, MovedTo, IsBlocked, IsIdle, transition, IfMoved, state_after, run, any_other, conflicts}
+use Rattle.dbtg_step.specs.Machine.Step.{updated, with_ticket, after_ticket, takes_area, takes_cell, follows_need, before_ticket, in_statement, step_of_unit, step_if_unit, step, quit_unless_ticket, quit_of_unit, quit_if_unit, quit, Transition, MovedTo, IsBlocked, IsIdle, transition, state_after, run, any_other, conflicts}
+use Rattle.dbtg_step.specs.Inside.Step.{IfMoved}
 
 module _ (D : SequentialDatabase) (opening : SequentialState D) (s : State D) where
   -- t has the entries of s, and then perhaps others, and the same scripts

@@ -1,6 +1,7 @@
 -- The opening state is lawful.
 use Rattle.std.proofs.Common.{ℕ, ◌≡◌, List, [], Option, Some, None, refl, sym, subst}
-use Rattle.dbtg_step.specs.Machine.SequentialDatabase.{SequentialDatabase, IsSequentialDatabase, unit_at}
+use Rattle.dbtg_step.specs.Machine.SequentialDatabase.{SequentialDatabase, unit_at}
+use Rattle.dbtg_step.specs.Inside.SequentialDatabase.{IsSequentialDatabase}
 use Rattle.dbtg_step.specs.Machine.Machine.{Location, Progress, UnitState, State, SequentialState, replay, AnswersHold, statements_of, held_areas}
 use Rattle.dbtg_step.specs.Machine.Lawful.{Holding, UnitLawful, AreasShared, Lawful, IsOpening}
 use Rattle.dbtg_step.proofs.EachEvent.Events.{holds_nothing}

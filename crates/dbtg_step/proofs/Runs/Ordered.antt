@@ -1,11 +1,13 @@
 -- Where all that is held was taken in turn, what is wanted is above it.
 use Rattle.std.proofs.Common.{ℕ, ◌≡◌, Bool, true, false, List, [], ◌∷◌, Option, Some, None, ◌⊎◌, inl, inr, refl, sym, ap, ◌∙◌, subst}
-use Rattle.dbtg_step.specs.Machine.SequentialDatabase.{HeldCell, NextNeed, NeedsArea, NeedsCell, StaleGuesses, NeedsNothing, SequentialDatabase, IsSequentialDatabase, In, Agrees, unit_at}
+use Rattle.dbtg_step.specs.Machine.SequentialDatabase.{HeldCell, NextNeed, NeedsArea, NeedsCell, StaleGuesses, NeedsNothing, SequentialDatabase, In, Agrees, unit_at}
+use Rattle.dbtg_step.specs.Inside.SequentialDatabase.{IsSequentialDatabase}
 use Rattle.dbtg_step.specs.Machine.Machine.{Progress, UnitState, State, SequentialState, replay, held_cells}
 use Rattle.dbtg_step.specs.Machine.Step.{next_need}
 use Rattle.dbtg_step.specs.Machine.Lawful.{Lawful}
 use Rattle.dbtg_step.proofs.EachEvent.UnitFacts.{may_make}
-use Rattle.dbtg_step.specs.Machine.NeverStuck.{MayGoOn, Wanted, AnArea, ACell, wanted_by_need, wanted_unless_turning, wanted_before_ticket, wanted_in_progress, wanted, UnitInOrder, UnitsInOrder, TakenInTurn, NeedsInOrder, InTurn, AllInTurn}
+use Rattle.dbtg_step.specs.Machine.NeverStuck.{MayGoOn, TakenInTurn, NeedsInOrder}
+use Rattle.dbtg_step.specs.Inside.NeverStuck.{Wanted, AnArea, ACell, wanted_by_need, wanted_unless_turning, wanted_before_ticket, wanted_in_progress, wanted, UnitInOrder, UnitsInOrder, InTurn, AllInTurn}
 
 module _ (D : SequentialDatabase) (laws : IsSequentialDatabase D) (below : D.Cell → D.Cell → Bool) (order : NeedsInOrder D below) (opening : SequentialState D) (s : State D) (l : Lawful D opening s) where
   wanted_area : (n : NextNeed D.Cell D.Guesses) (a : ℕ) → wanted_by_need D below n ≡ Some (AnArea a) → n ≡ NeedsArea a

@@ -11,9 +11,10 @@ use Rattle.dbtg_unit.specs.declared.moves.Move.TheVariants.{Step}
 use Rattle.dbtg_unit.specs.declared.statement.Statement.{Statement}
 use Rattle.dbtg_step.specs.Machine.SequentialDatabase.{SequentialDatabase, unit_at}
 use Rattle.dbtg_step.specs.Machine.Machine.{HistoryEntry, Progress, SequentialState, State, UnitState}
-use Rattle.dbtg_step.specs.Machine.Step.{IfMoved, IsIdle, MovedTo, run, state_after, step, step_if_unit, step_of_unit, transition}
+use Rattle.dbtg_step.specs.Inside.Step.{IfMoved}
+use Rattle.dbtg_step.specs.Machine.Step.{IsIdle, MovedTo, run, state_after, step, step_if_unit, step_of_unit, transition}
 use Rattle.dbtg_step.specs.Machine.Lawful.{Lawful}
-use Rattle.dbtg_step.specs.Machine.NeverStuck.{AllInTurn}
+use Rattle.dbtg_step.specs.Inside.NeverStuck.{AllInTurn}
 use Rattle.dbtg_step.specs.Machine.Network.{network}
 use Rattle.dbtg_step.specs.Core.Serial.{AreSteppedOut, IsSteppedOut, AtRest, Onward, in_turn_from}
 use Rattle.dbtg_step.proofs.TheCore.Alone.{StepsAlone, step_alone}

@@ -3,11 +3,13 @@ use Rattle.std.proofs.Common.{ℕ, zero, suc, ◌≡◌, ◌≢◌, Bool, true, 
 use Rattle.std.specs.List.{list_any}
 use Rattle.std.proofs.lemmas.Bool.Decides.{eqb_tells}
 use Rattle.std.proofs.lemmas.Bool.{and_parts, or_cases}
-use Rattle.dbtg_step.specs.Machine.SequentialDatabase.{HeldCell, NextNeed, NeedsArea, NeedsCell, StaleGuesses, NeedsNothing, SequentialDatabase, IsSequentialDatabase, In, unit_at}
+use Rattle.dbtg_step.specs.Machine.SequentialDatabase.{HeldCell, NextNeed, NeedsArea, NeedsCell, StaleGuesses, NeedsNothing, SequentialDatabase, In, unit_at}
+use Rattle.dbtg_step.specs.Inside.SequentialDatabase.{IsSequentialDatabase}
 use Rattle.dbtg_step.specs.Machine.Machine.{Location, Home, HeldBy, Progress, UnitState, State, SequentialState, held_cells, held_areas, holds_exclusively}
 use Rattle.dbtg_step.specs.Machine.Step.{MovedTo, next_need, conflicts, any_but, any_other, takes_area, takes_cell, follows_need, step}
 use Rattle.dbtg_step.specs.Machine.Lawful.{AreasShared, HoldsCell, Lawful}
-use Rattle.dbtg_step.specs.Machine.NeverStuck.{SomeUnitMoves, Wanted, AnArea, ACell, is_below, wanted_by_need, wanted_unless_turning, wanted_before_ticket, wanted_in_progress, wanted, UnitsInOrder, IsStrictOrder}
+use Rattle.dbtg_step.specs.Machine.NeverStuck.{SomeUnitMoves}
+use Rattle.dbtg_step.specs.Inside.NeverStuck.{Wanted, AnArea, ACell, is_below, wanted_by_need, wanted_unless_turning, wanted_before_ticket, wanted_in_progress, wanted, UnitsInOrder, IsStrictOrder}
 use Rattle.dbtg_step.proofs.EachEvent.UnitLists.{map_found}
 use Rattle.dbtg_step.proofs.EachEvent.UnitFacts.{holder_has_cell}
 use Rattle.dbtg_step.proofs.EachEvent.StepCases.{step_after_ticket, step_turns_back, step_follows, follows_area, follows_cell}

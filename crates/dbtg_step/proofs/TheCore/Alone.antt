@@ -3,7 +3,8 @@ use Rattle.std.proofs.Common.{ℕ, suc, ◌≡◌, Bool, true, false, List, [], 
 use Rattle.std.proofs.lemmas.Option.{same_Some}
 use Rattle.dbtg_step.specs.Machine.SequentialDatabase.{HeldCell, NextNeed, NeedsArea, NeedsCell, StaleGuesses, NeedsNothing, SequentialDatabase, unit_at, with_unit_at}
 use Rattle.dbtg_step.specs.Machine.Machine.{Location, Home, HeldBy, Progress, UnitState, HistoryEntry, State, SequentialState, unless_over}
-use Rattle.dbtg_step.specs.Machine.Step.{updated, with_progress, with_ticket, after_ticket, takes_area, takes_cell, follows_need, before_ticket, in_statement, step_of_unit, step_if_unit, step, Transition, MovedTo, IsBlocked, IsIdle, IfMoved, any_other, conflicts}
+use Rattle.dbtg_step.specs.Machine.Step.{updated, with_progress, with_ticket, after_ticket, takes_area, takes_cell, follows_need, before_ticket, in_statement, step_of_unit, step_if_unit, step, Transition, MovedTo, IsBlocked, IsIdle, any_other, conflicts}
+use Rattle.dbtg_step.specs.Inside.Step.{IfMoved}
 
 -- in mid-statement without a ticket
 abbrev pub Unticketed : (D : SequentialDatabase) → Option (Progress D) → Type 0

@@ -15,8 +15,7 @@ use Rattle.dbtg_unit.specs.Hands.Hands.{cell_of}
 use Rattle.dbtg_unit.specs.Database.State.Image.{image_of}
 use Rattle.dbtg_unit.specs.Hands.Local.{holds}
 use Rattle.dbtg_unit.specs.Database.Laws.Replay.{opening_state, replay as replay_entries, State as DatabaseState}
-use Rattle.dbtg_unit.proofs.Public.{In as AmongKeys, held_cell_agrees, held_is_there}
-use Rattle.dbtg_unit.proofs.Public.{of_reverse}
+use Rattle.dbtg_unit.proofs.Public.{In as AmongKeys, held_cell_agrees, held_is_there, of_reverse}
 use Rattle.dbtg_step.specs.declared.parts.Parts.{Parts}
 use Rattle.dbtg_step.specs.declared.parts.Place.{Place}
 use Rattle.dbtg_step.specs.declared.parts.Place.TheVariants.{Home as AtHome, HeldBy as WithUnit}
@@ -28,8 +27,8 @@ use Rattle.dbtg_step.specs.Machine.Lawful.{HoldsCell}
 use Rattle.dbtg_step.specs.Machine.Network.{network}
 use Rattle.dbtg_step.specs.Machine.Headline.{entry_of}
 use Rattle.dbtg_step.specs.Core.Parts.{held_of, note_of, progress_of, state_from, unit_state_of}
-use Rattle.dbtg_step.specs.Core.Events.{IsWell, database_of, opening_for}
-use Rattle.dbtg_step.specs.Core.Imaging.{cell_in, found_cell, image_from}
+use Rattle.dbtg_step.specs.Inside.Events.{IsWell, database_of, opening_for}
+use Rattle.dbtg_step.specs.Inside.Imaging.{cell_in, found_cell, image_from}
 use Rattle.dbtg_step.proofs.Runs.Headlines.{replays_same}
 use Rattle.dbtg_step.proofs.TheCore.ImagesRead.{ShowsCell, read_is_image}
 use Rattle.dbtg_step.proofs.TheCore.NeedsShown.{agrees_now}

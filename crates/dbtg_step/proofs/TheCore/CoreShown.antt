@@ -21,8 +21,9 @@ use Rattle.dbtg_step.specs.Machine.SequentialDatabase.{HeldCell, In, unit_at}
 use Rattle.dbtg_step.specs.Machine.Machine.{UnitState, held_areas, held_cells, holds_exclusively, replay}
 use Rattle.dbtg_step.specs.Machine.Lawful.{HoldsCell, UnitLawful}
 use Rattle.dbtg_step.specs.Machine.Network.{network}
-use Rattle.dbtg_step.specs.Core.Parts.{CoreParts, held_of, note_of, progress_of, state_from, state_of, unit_state_of}
-use Rattle.dbtg_step.specs.Core.Events.{IsWell, opening_for}
+use Rattle.dbtg_step.specs.Core.Parts.{CoreParts, held_of, note_of, progress_of, state_from, unit_state_of}
+use Rattle.dbtg_step.specs.Inside.Parts.{state_of}
+use Rattle.dbtg_step.specs.Inside.Events.{IsWell, opening_for}
 use Rattle.dbtg_step.specs.Core.Core.{AreasShared, EveryCoreIsSequential, HandsFit, HasNow, IsAt, IsCore, IsInHandsOf, IsRunner, is_alone, state_now}
 use Rattle.dbtg_step.proofs.TheCore.CellsFound.{entries_again, in_reversed, numbered}
 use Rattle.dbtg_step.proofs.TheCore.EventsShown.{found}

@@ -19,9 +19,10 @@ use Rattle.dbtg_step.specs.Machine.Headline.{opening_of}
 use Rattle.dbtg_step.specs.Machine.Network.{network}
 use Rattle.dbtg_step.specs.Machine.NeedOrder.{HasItsAreas}
 use Rattle.dbtg_step.specs.Core.Courses.{IsCourseKept}
-use Rattle.dbtg_step.specs.Core.Parts.{location_at, note_of, state_from, state_of, unit_state_of}
-use Rattle.dbtg_step.specs.Core.Stands.{StandsNeeding}
-use Rattle.dbtg_step.specs.Core.Events.{ChangesCourseAlone, IsStepped, IsWell, NeedsNext, RunnersFit, Tells, opening_for}
+use Rattle.dbtg_step.specs.Core.Parts.{location_at, note_of, state_from, unit_state_of}
+use Rattle.dbtg_step.specs.Inside.Parts.{state_of}
+use Rattle.dbtg_step.specs.Inside.Stands.{StandsNeeding}
+use Rattle.dbtg_step.specs.Inside.Events.{ChangesCourseAlone, IsStepped, IsWell, NeedsNext, RunnersFit, Tells, opening_for}
 use Rattle.dbtg_step.proofs.TheCore.EventsShown.{unit_there, unit_written, written_fit}
 use Rattle.dbtg_step.proofs.TheCore.NeedsShown.{needs_next}
 use Rattle.dbtg_step.proofs.TheCore.QuitShown.{stayed}

@@ -21,7 +21,8 @@ use Rattle.dbtg_erase.specs.declared.course.Course.{Course as CellCourse}
 use Rattle.dbtg_erase.proofs.Public.{kept_stays, nothing_kept, one_more_cell, same_cells}
 use Rattle.dbtg_step.specs.declared.course.Course.{Course}
 use Rattle.dbtg_step.specs.declared.course.Course.TheVariants.{Refused, Wants, HasAreas}
-use Rattle.dbtg_step.specs.Core.Courses.{AreCellsKept, HasMore, IsCourseKept}
+use Rattle.dbtg_step.specs.Core.Courses.{AreCellsKept, IsCourseKept}
+use Rattle.dbtg_step.specs.Inside.Courses.{HasMore}
 
 -- WHAT HAS MORE THAN WHAT
 

@@ -41,10 +41,11 @@ use Rattle.dbtg_step.specs.Machine.SequentialDatabase.{HeldCell, NeedsNothing, w
 use Rattle.dbtg_step.specs.Machine.Machine.{unless_over}
 use Rattle.dbtg_step.specs.Machine.Step.{MovedTo, due_cells, follows_need, with_ticket}
 use Rattle.dbtg_step.specs.Machine.Network.{network}
-use Rattle.dbtg_step.specs.Core.Parts.{held_cells_of, held_of, location_at, note_of, progress_of, stage_while_held, state_from, unit_state_of}
-use Rattle.dbtg_step.specs.Core.Stands.{StandsNeeding}
-use Rattle.dbtg_step.specs.Core.Leaves.{IsDrawn, IsUnmade}
-use Rattle.dbtg_step.specs.Core.Events.{IsStepped, IsWell, NeedsNext, RunnerFits, RunnersFit, opening_for}
+use Rattle.dbtg_step.specs.Core.Parts.{held_cells_of, held_of, location_at, note_of, progress_of, state_from, unit_state_of}
+use Rattle.dbtg_step.specs.Inside.Parts.{stage_while_held}
+use Rattle.dbtg_step.specs.Inside.Stands.{StandsNeeding}
+use Rattle.dbtg_step.specs.Inside.Leaves.{IsDrawn, IsUnmade}
+use Rattle.dbtg_step.specs.Inside.Events.{IsStepped, IsWell, NeedsNext, RunnerFits, RunnersFit, opening_for}
 use Rattle.dbtg_step.proofs.TheCore.CoursesKept.{no_course}
 use Rattle.dbtg_step.proofs.TheCore.EventsShown.{over_is_empty, unit_written, while_held_is, written_fit}
 use Rattle.dbtg_step.proofs.TheCore.FollowsShown.{follows, refused_is, statement, wants}

@@ -23,10 +23,11 @@ use Rattle.dbtg_step.specs.Machine.Machine.{Location, Home, HeldBy, Progress, Un
 use Rattle.dbtg_step.specs.Machine.Step.{IsIdle, MovedTo, after_ticket, is_nonempty, step, updated, with_progress}
 use Rattle.dbtg_step.specs.Machine.Network.{is_delete, network}
 use Rattle.dbtg_step.specs.Core.Courses.{IsCourseKept}
-use Rattle.dbtg_step.specs.Core.Parts.{held_cells_of, held_of, location_at, progress_of, stage_of, stage_while_held, state_from, state_of, unit_state_of}
-use Rattle.dbtg_step.specs.Core.Stands.{HasStatement, StandsBetween, StandsOver, StandsTicketed, StandsTurning}
-use Rattle.dbtg_step.specs.Core.Leaves.{IsCellGiven}
-use Rattle.dbtg_step.specs.Core.Events.{IsStepped, IsWell, RunnerFits, RunnersFit, opening_for}
+use Rattle.dbtg_step.specs.Core.Parts.{held_cells_of, held_of, location_at, progress_of, stage_of, state_from, unit_state_of}
+use Rattle.dbtg_step.specs.Inside.Parts.{stage_while_held, state_of}
+use Rattle.dbtg_step.specs.Inside.Stands.{HasStatement, StandsBetween, StandsOver, StandsTicketed, StandsTurning}
+use Rattle.dbtg_step.specs.Inside.Leaves.{IsCellGiven}
+use Rattle.dbtg_step.specs.Inside.Events.{IsStepped, IsWell, RunnerFits, RunnersFit, opening_for}
 use Rattle.dbtg_step.proofs.TheCore.CoursesKept.{no_course}
 use Rattle.dbtg_step.proofs.TheCore.PlacesOfCells.{held_behind, length_home, updated_is, written_home_is}
 use Rattle.dbtg_step.proofs.EachEvent.StepCases.{step_after_ticket, step_begins, step_no_unit, step_over, step_turns_back}

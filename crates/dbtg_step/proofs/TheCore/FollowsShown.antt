@@ -26,11 +26,14 @@ use Rattle.dbtg_step.specs.Machine.SequentialDatabase.{NextNeed, NeedsArea, Need
 use Rattle.dbtg_step.specs.Machine.Machine.{HeldBy, State, held_areas, holds_exclusively, relocated}
 use Rattle.dbtg_step.specs.Machine.Step.{any_but, any_other, conflicts, follows_need, is_nonempty, next_need, step, takes_area, takes_cell, IsBlocked, MovedTo}
 use Rattle.dbtg_step.specs.Machine.Network.{network, next_need_of}
-use Rattle.dbtg_step.specs.Core.Courses.{HasMore, IsCourseKept}
-use Rattle.dbtg_step.specs.Core.Parts.{held_cells_of, held_of, location_at, location_of, note_of, progress_of, stage_of, state_from, state_of, unit_state_of}
-use Rattle.dbtg_step.specs.Core.Stands.{holds_against, StandsNeeding, stage_holds_against}
-use Rattle.dbtg_step.specs.Core.Leaves.{IsTaken}
-use Rattle.dbtg_step.specs.Core.Events.{IsStepped, IsWell, NeedsNext, RunnerFits, RunnersFit, WantsMemory, opening_for}
+use Rattle.dbtg_step.specs.Inside.Courses.{HasMore}
+use Rattle.dbtg_step.specs.Core.Courses.{IsCourseKept}
+use Rattle.dbtg_step.specs.Core.Parts.{held_cells_of, held_of, location_at, location_of, note_of, progress_of, stage_of, state_from, unit_state_of}
+use Rattle.dbtg_step.specs.Inside.Parts.{state_of}
+use Rattle.dbtg_step.specs.Inside.Stands.{holds_against, StandsNeeding, stage_holds_against}
+use Rattle.dbtg_step.specs.Inside.Leaves.{IsTaken}
+use Rattle.dbtg_step.specs.Inside.Events.{IsStepped, IsWell, NeedsNext, RunnerFits, RunnersFit, opening_for}
+use Rattle.dbtg_step.specs.Core.Events.{WantsMemory}
 use Rattle.dbtg_step.proofs.TheCore.CoursesKept.{course_stays, more_by_area, more_by_cell, no_course}
 use Rattle.dbtg_step.proofs.TheCore.EventsShown.{drop_found, found, length_held, moved_is, nonempty_length, staged_fits, unit_there, unit_written, written_fit}
 use Rattle.dbtg_step.proofs.TheCore.NeedsShown.{any_reverse}

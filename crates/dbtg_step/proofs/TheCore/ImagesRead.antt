@@ -36,7 +36,7 @@ use Rattle.dbtg_unit.specs.Database.State.Image.{image_of}
 use Rattle.dbtg_unit.specs.Hands.InHand.{numbers_of, users_of}
 use Rattle.dbtg_unit.specs.Database.State.Legal.{Legal}
 use Rattle.dbtg_unit.proofs.Public.{extent_in, firsts_pairs, free_in_hand, last_in_hand, ring_in, slot_in, usage_in}
-use Rattle.dbtg_step.specs.Core.Imaging.{generations_in, image_from, list_of, lists_of, next_in, occurrence_at, record_of, records_of, stored_at, version_of, versions_of}
+use Rattle.dbtg_step.specs.Inside.Imaging.{generations_in, image_from, list_of, lists_of, next_in, occurrence_at, record_of, records_of, stored_at, version_of, versions_of}
 
 -- a cell is found, and shows what the database has
 pub record ShowsCell (schema : Lists) (capacity : ℕ) (db : Database) (found : CellName → Option Cell) (c : CellName) : Type 0 where

@@ -28,12 +28,13 @@ use Rattle.dbtg_step.specs.declared.parts.Runner.{Runner}
 use Rattle.dbtg_step.specs.declared.parts.Stage.{Stage}
 use Rattle.dbtg_step.specs.Machine.SequentialDatabase.{NeedsArea, StaleGuesses}
 use Rattle.dbtg_step.specs.Machine.Step.{next_need}
-use Rattle.dbtg_step.specs.Machine.NeverStuck.{InTurn}
+use Rattle.dbtg_step.specs.Inside.NeverStuck.{InTurn}
 use Rattle.dbtg_step.specs.Machine.Network.{is_delete, network, next_need_of}
-use Rattle.dbtg_step.specs.Core.Parts.{held_cells_of, progress_of, stage_of, state_of, unit_state_of}
+use Rattle.dbtg_step.specs.Core.Parts.{held_cells_of, progress_of, stage_of, unit_state_of}
+use Rattle.dbtg_step.specs.Inside.Parts.{state_of}
 use Rattle.dbtg_step.specs.Machine.NeedOrder.{HasItsAreas}
-use Rattle.dbtg_step.specs.Core.Stands.{StandsNeeding}
-use Rattle.dbtg_step.specs.Core.Events.{IsStepped, IsWell, NeedsNext, opening_for}
+use Rattle.dbtg_step.specs.Inside.Stands.{StandsNeeding}
+use Rattle.dbtg_step.specs.Inside.Events.{IsStepped, IsWell, NeedsNext, opening_for}
 use Rattle.dbtg_step.proofs.TheCore.EventsShown.{drop_found, found}
 use Rattle.dbtg_step.proofs.TheCore.FollowsShown.{refused_is, statement, wants}
 use Rattle.dbtg_step.proofs.Network.NameOrder.{names_are_ordered}

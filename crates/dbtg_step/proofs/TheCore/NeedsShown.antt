@@ -42,9 +42,10 @@ use Rattle.dbtg_step.specs.Machine.SequentialDatabase.{HeldCell, In, unit_at}
 use Rattle.dbtg_step.specs.Machine.Machine.{held_cells, replay}
 use Rattle.dbtg_step.specs.Machine.Step.{next_need}
 use Rattle.dbtg_step.specs.Machine.Network.{holding, network, next_need_of}
-use Rattle.dbtg_step.specs.Core.Parts.{held_cells_of, held_of, progress_of, state_from, state_of, unit_state_of}
-use Rattle.dbtg_step.specs.Core.Stands.{HasPlace, HavePlaces}
-use Rattle.dbtg_step.specs.Core.Events.{IsNext, IsWell, NeedsNext, owners_fit, opening_for}
+use Rattle.dbtg_step.specs.Core.Parts.{held_cells_of, held_of, progress_of, state_from, unit_state_of}
+use Rattle.dbtg_step.specs.Inside.Parts.{state_of}
+use Rattle.dbtg_step.specs.Inside.Stands.{HasPlace, HavePlaces}
+use Rattle.dbtg_step.specs.Inside.Events.{IsNext, IsWell, NeedsNext, owners_fit, opening_for}
 use Rattle.dbtg_step.proofs.TheCore.EventsShown.{found, slice_get_in}
 use Rattle.dbtg_step.proofs.TheCore.PlacesOfCells.{held_is_placed}
 use Rattle.dbtg_step.proofs.EachEvent.UnitFacts.{unit_found}

@@ -1,9 +1,8 @@
 -- The core before its first step is the machine before its scripts.
 use Rattle.std.proofs.Common.{ℕ, zero, suc, ◌≡◌, ◌+◌, ◌<◌, ◌||◌, Bool, true, false, ◌&&◌, List, [], ◌∷◌, ◌++◌, Option, Some, None, map, length, replicate, slice_get, refl, sym, ap, ◌∙◌, subst, arith, append_assoc}
 use Rattle.std.specs.Prelude.{is_some, option_map, if◌then◌else◌}
-use Rattle.std.specs.List.{range_with_len}
+use Rattle.std.specs.List.{range_with_len, list_any}
 use Rattle.std.proofs.lemmas.List.{length-map, length-replicate}
-use Rattle.std.specs.List.{list_any}
 use Rattle.std.proofs.lemmas.Option.{same_Some, slice_get-map}
 use Rattle.dbtg_schema.specs.Lists.{Lists}
 use Rattle.dbtg_schema.specs.Sound.{IsSound}
@@ -30,10 +29,12 @@ use Rattle.dbtg_step.specs.Machine.Network.{network}
 use Rattle.dbtg_step.specs.Machine.Headline.{machine_of, opening_of, units_from}
 use Rattle.dbtg_step.specs.Laws.{scripts_fit}
 use Rattle.dbtg_step.specs.Machine.Lawful.{Lawful}
-use Rattle.dbtg_step.specs.Machine.NeverStuck.{AllInTurn}
-use Rattle.dbtg_step.specs.Core.Parts.{core_of, found_location, location_at, location_in, location_of, note_of, state_from, state_of, unit_state_of}
-use Rattle.dbtg_step.specs.Core.Events.{HaveRings, IsWell, RunnerFits, RunnersFit}
-use Rattle.dbtg_step.specs.Core.Openings.{homes_of, locations_of, opening_runner, runners_from}
+use Rattle.dbtg_step.specs.Inside.NeverStuck.{AllInTurn}
+use Rattle.dbtg_step.specs.Inside.Parts.{core_of, state_of}
+use Rattle.dbtg_step.specs.Core.Parts.{found_location, location_at, location_in, location_of, note_of, state_from, unit_state_of}
+use Rattle.dbtg_step.specs.Inside.Events.{HaveRings, IsWell, RunnerFits, RunnersFit}
+use Rattle.dbtg_step.specs.Core.Openings.{homes_of}
+use Rattle.dbtg_step.specs.Inside.Openings.{locations_of, opening_runner, runners_from}
 use Rattle.dbtg_step.proofs.Runs.Headlines.{machine_is_opening}
 use Rattle.dbtg_step.proofs.Runs.EveryRun.{start_in_turn}
 use Rattle.dbtg_step.proofs.Runs.GuessesKept.{AllGuesses}

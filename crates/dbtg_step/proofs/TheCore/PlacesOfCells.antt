@@ -18,7 +18,8 @@ use Rattle.dbtg_step.specs.Machine.SequentialDatabase.{with_unit_at}
 use Rattle.dbtg_step.specs.Machine.Machine.{Location, Home, HeldBy, Progress, relocated}
 use Rattle.dbtg_step.specs.Machine.Step.{updated, with_progress}
 use Rattle.dbtg_step.specs.Machine.Network.{network}
-use Rattle.dbtg_step.specs.Core.Parts.{found_location, held_cells_of, held_of, home_at, location_at, location_in, location_of, note_of, state_from, unit_state_of, written_home}
+use Rattle.dbtg_step.specs.Core.Parts.{found_location, held_cells_of, held_of, location_at, location_in, location_of, note_of, state_from, unit_state_of}
+use Rattle.dbtg_step.specs.Inside.Parts.{home_at, written_home}
 use Rattle.dbtg_step.proofs.EachEvent.UnitLists.{map_set}
 
 module _ (schema : Lists) (capacity : ℕ) where

@@ -18,14 +18,16 @@ use Rattle.dbtg_unit.specs.declared.moves.Stepped.{Stepped}
 use Rattle.dbtg_unit.specs.declared.moves.Stepped.TheVariants.{Moved, Blocked, Idle, NoMemory}
 use Rattle.dbtg_step.specs.Machine.SequentialDatabase.{HeldCell, In, unit_at}
 use Rattle.dbtg_step.specs.Machine.Machine.{Location, Home, HeldBy, UnitState, all_home, held_cells}
-use Rattle.dbtg_step.specs.Machine.Step.{IfMoved, IsIdle, MovedTo, quit, quit_if_unit, quit_of_unit, quit_unless_ticket}
+use Rattle.dbtg_step.specs.Inside.Step.{IfMoved}
+use Rattle.dbtg_step.specs.Machine.Step.{IsIdle, MovedTo, quit, quit_if_unit, quit_of_unit, quit_unless_ticket}
 use Rattle.dbtg_step.specs.Machine.Lawful.{AreDistinct, Lawful}
-use Rattle.dbtg_step.specs.Machine.NeverStuck.{AllInTurn}
+use Rattle.dbtg_step.specs.Inside.NeverStuck.{AllInTurn}
 use Rattle.dbtg_step.specs.Machine.Network.{network}
 use Rattle.dbtg_step.specs.Machine.Headline.{opening_of}
-use Rattle.dbtg_step.specs.Core.Parts.{core_of, held_cells_of, held_of, location_at, progress_of, stage_of, state_from, state_of, unit_state_of, with_state, written_home, written_homes}
-use Rattle.dbtg_step.specs.Core.Stands.{HavePlaces, StandsUnticketed}
-use Rattle.dbtg_step.specs.Core.Events.{HaveRings, IsQuit, IsStepped, IsWell, RunnerFits, RunnersFit, opening_for}
+use Rattle.dbtg_step.specs.Inside.Parts.{core_of, state_of, written_home, written_homes}
+use Rattle.dbtg_step.specs.Core.Parts.{held_cells_of, held_of, location_at, progress_of, stage_of, state_from, unit_state_of, with_state}
+use Rattle.dbtg_step.specs.Inside.Stands.{HavePlaces, StandsUnticketed}
+use Rattle.dbtg_step.specs.Inside.Events.{HaveRings, IsQuit, IsStepped, IsWell, RunnerFits, RunnersFit, opening_for}
 use Rattle.dbtg_step.specs.Core.CoreSteps.{IsNeverStuck, IsQuitStep, IsStep}
 use Rattle.dbtg_step.proofs.TheCore.EventsShown.{found, no_unit, unit_written, written_fit}
 use Rattle.dbtg_step.proofs.EachEvent.Keeps.{quit_keeps, step_keeps}

@@ -23,7 +23,8 @@ use Rattle.dbtg_step.specs.Machine.Network.{network}
 use Rattle.dbtg_step.specs.Machine.Headline.{IsSequential, RunIs, entry_of, machine_after, machine_of, machine_results, opening_of}
 use Rattle.dbtg_step.specs.Core.Parts.{CoreParts, CoreState, machine, note_of, state_from, unit_state_of, with_state}
 use Rattle.dbtg_step.specs.Core.CoreSteps.{IsQuitStep, IsStep, after_move, result_of_move, transition_of}
-use Rattle.dbtg_step.specs.Core.Runs.{IsHandedOut, after_moves, results_of_moves}
+use Rattle.dbtg_step.specs.Core.Runs.{IsHandedOut}
+use Rattle.dbtg_step.specs.Inside.Runs.{after_moves, results_of_moves}
 use Rattle.dbtg_step.specs.Laws.{scripts_fit}
 use Rattle.dbtg_step.proofs.Runs.Headlines.{run_is_sequential}
 use Rattle.dbtg_step.proofs.Network.NetworkFacts.{network_is_sequential}

@@ -18,15 +18,17 @@ use Rattle.dbtg_step.specs.declared.parts.Parts.{Parts}
 use Rattle.dbtg_step.specs.declared.parts.Runner.{Runner}
 use Rattle.dbtg_step.specs.Machine.SequentialDatabase.{HeldCell, NextNeed, NeedsArea, NeedsCell, StaleGuesses, NeedsNothing, In, unit_at}
 use Rattle.dbtg_step.specs.Machine.Machine.{Location, Home, HeldBy, Progress, UnitState, State, SequentialState, begun, held_areas, held_cells, replay, unless_over}
-use Rattle.dbtg_step.specs.Machine.Step.{MovedTo, IfMoved, after_ticket, any_other, conflicts, due_cells, follows_need, is_nonempty, next_need, step, takes_area, takes_cell, updated, with_progress, with_ticket}
+use Rattle.dbtg_step.specs.Machine.Step.{MovedTo, after_ticket, any_other, conflicts, due_cells, follows_need, is_nonempty, next_need, step, takes_area, takes_cell, updated, with_progress, with_ticket}
+use Rattle.dbtg_step.specs.Inside.Step.{IfMoved}
 use Rattle.dbtg_step.specs.Machine.Lawful.{Lawful}
-use Rattle.dbtg_step.specs.Core.Events.{IsStepped, IsWell, opening_for}
+use Rattle.dbtg_step.specs.Inside.Events.{IsStepped, IsWell, opening_for}
 use Rattle.dbtg_step.specs.Machine.Headline.{opening_of}
-use Rattle.dbtg_step.specs.Machine.NeverStuck.{AllInTurn}
+use Rattle.dbtg_step.specs.Inside.NeverStuck.{AllInTurn}
 use Rattle.dbtg_step.specs.Machine.Network.{network}
-use Rattle.dbtg_step.specs.Core.Parts.{state_of, unit_state_of}
+use Rattle.dbtg_step.specs.Inside.Parts.{state_of}
+use Rattle.dbtg_step.specs.Core.Parts.{unit_state_of}
 use Rattle.dbtg_step.specs.Machine.TurningBack.{needs_left}
-use Rattle.dbtg_step.specs.Core.Turns.{IsDone}
+use Rattle.dbtg_step.specs.Inside.Turns.{IsDone}
 use Rattle.dbtg_step.proofs.TheCore.Alone.{OneStep, StepsAlone, Unticketed, one_step, step_alone}
 use Rattle.dbtg_step.proofs.TheCore.EventsShown.{found}
 use Rattle.dbtg_step.proofs.Network.NetworkFacts.{needs_in_order}

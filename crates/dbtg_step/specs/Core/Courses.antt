@@ -8,7 +8,7 @@ use Rattle.dbtg_unit.specs.declared.unit.Unit.{Unit}
 use Rattle.dbtg_unit.specs.Database.Statements.Checks.{refused_at_once}
 use Rattle.dbtg_unit.specs.Hands.Hands.{Hands}
 use Rattle.dbtg_unit.specs.Hands.Needs.{areas_in_order}
-use Rattle.dbtg_erase.specs.Course.{HasAllOf, IsKept}
+use Rattle.dbtg_erase.specs.Course.{IsKept}
 use Rattle.dbtg_erase.specs.declared.course.Course.{Course as CellCourse}
 use Rattle.dbtg_step.specs.declared.course.Course.{Course}
 use Rattle.dbtg_step.specs.declared.course.Course.TheVariants.{Refused, Wants, HasAreas}
@@ -34,14 +34,3 @@ IsCourseKept schema capacity hands unit x None = ⊤
 IsCourseKept schema capacity hands unit x (Some Refused) = is_some (refused_at_once schema capacity unit x) ≡ true
 IsCourseKept schema capacity hands unit x (Some (Wants a)) = IsWanted schema capacity hands unit x a
 IsCourseKept schema capacity hands unit x (Some (HasAreas course)) = IsAtCells schema capacity hands unit x × AreCellsKept schema capacity hands unit x course
-
--- nothing is left to be settled but cells
-abbrev pub IsBehindAreas : Option Course → Type 0
-IsBehindAreas (Some Refused) = ⊤
-IsBehindAreas (Some (HasAreas course)) = ⊤
-IsBehindAreas _ = ⊥
-
--- each area of the first hands is in the second, and each cell, as it is
-pub record HasMore (hands hands' : Hands) : Type 0 where
-  pub areas : (a : ℕ) → list_any (λ b. b == a) hands.areas ≡ true → list_any (λ b. b == a) hands'.areas ≡ true
-  pub cells : HasAllOf hands hands'

@@ -1,5 +1,5 @@
 -- What the parts of the core show of the machine.
-use Rattle.std.specs.Prelude.{ℕ, List, [], ◌∷◌, Option, Some, None, drop, map, length, reverse, slice_get, slice_set}
+use Rattle.std.specs.Prelude.{ℕ, List, Option, Some, None, drop, map, length, reverse, slice_get}
 use Rattle.dbtg_schema.specs.Lists.{Lists}
 use Rattle.dbtg_cells.specs.declared.cell.Cell.{Cell}
 use Rattle.dbtg_cells.specs.declared.name.CellName.{CellName}
@@ -10,7 +10,6 @@ use Rattle.dbtg_unit.specs.declared.unit.Entry.{Entry}
 use Rattle.dbtg_unit.specs.Database.State.Base.{opening}
 use Rattle.dbtg_unit.specs.Database.State.Cells.{cell}
 use Rattle.dbtg_unit.specs.Hands.Hands.{Hands}
-use Rattle.dbtg_step.specs.declared.parts.Parts.{Parts}
 use Rattle.dbtg_step.specs.declared.parts.Place.{Place}
 use Rattle.dbtg_step.specs.declared.parts.Place.TheVariants.{Home as AtHome, HeldBy as WithUnit}
 use Rattle.dbtg_step.specs.declared.parts.Runner.{Runner}
@@ -21,20 +20,6 @@ use Rattle.dbtg_step.specs.Machine.Headline.{opening_of}
 use Rattle.dbtg_step.specs.Machine.Network.{network}
 
 -- THE TABLE
-
--- the table with a cell at home; as it was where the schema has no such cell
-abbrev pub home_at : Cell → List Place → Option ℕ → List Place
-home_at x table None = table
-home_at x table (Some n) = slice_set table n (AtHome x)
-
--- the same by the name of the cell
-abbrev pub written_home : Lists → ℕ → CellName → Cell → List Place → List Place
-written_home schema capacity c x table = home_at x table (cell_number schema capacity c)
-
--- the table with these cells at home
-abbrev pub written_homes : Lists → ℕ → List (CellName × Cell) → List Place → List Place
-written_homes schema capacity [] table = table
-written_homes schema capacity (e ∷ es) table = written_homes schema capacity es (written_home schema capacity e.0 e.1 table)
 
 -- the machine's location of a cell at this place
 abbrev pub location_of : Place → Location CellValue
@@ -91,11 +76,6 @@ unit_state_of schema capacity r = record {
   progress = progress_of schema capacity r.held r.stage;
 }
 
--- a statement is over when nothing is held any more
-abbrev pub stage_while_held : List ℕ → List (CellName × Cell) → Option Stage → Option Stage
-stage_while_held [] [] stage = None
-stage_while_held areas cells stage = stage
-
 -- THE STATE
 
 -- an entry as the machine has it
@@ -111,10 +91,6 @@ state_from schema capacity table history runners = record {
   units = map (unit_state_of schema capacity) runners;
 }
 
--- the parts as a state of the machine
-abbrev pub state_of : (schema : Lists) (capacity : ℕ) → Parts → State (network schema capacity)
-state_of schema capacity parts = state_from schema capacity parts.table.items parts.history.items parts.runners.items
-
 -- WHAT THE CORE SHOWS
 
 -- the machine that the core is: its schema and capacity, the opening state of its database, and its state
@@ -127,10 +103,6 @@ pub record CoreState : Type 0 where
 -- the same core in another state
 abbrev pub with_state : (c : CoreState) → State (network c.schema c.capacity) → CoreState
 with_state c s = record { schema = c.schema; capacity = c.capacity; opening = c.opening; state = s }
-
--- the core that the parts are
-abbrev pub core_of : Lists → ℕ → Parts → CoreState
-core_of schema capacity parts = record { schema = schema; capacity = capacity; opening = opening_of schema capacity (length parts.runners.items); state = state_of schema capacity parts }
 
 -- what a core has: where each cell is, by its number, the statements that drew a ticket, and the units
 pub record CoreParts : Type 0 where

@@ -1,21 +1,11 @@
--- What a list of moves makes of the core.
+-- What a core hands out at its end.
 use Rattle.std.specs.Prelude.{◌≡◌, List, map, length}
 use Rattle.dbtg_unit.specs.Database.State.Image.{image_of}
 use Rattle.dbtg_unit.specs.Database.Laws.Replay.{opening_state, replay}
 use Rattle.dbtg_step.specs.declared.results.Run.{Run}
-use Rattle.dbtg_unit.specs.declared.moves.Move.{Move}
 use Rattle.dbtg_unit.specs.declared.moves.Stepped.{Stepped}
-use Rattle.dbtg_step.specs.Machine.Network.{network}
-use Rattle.dbtg_step.specs.Machine.Step.{results, run}
-use Rattle.dbtg_step.specs.Core.Parts.{CoreParts, CoreState, with_state}
-
--- the machine after these moves
-abbrev pub after_moves : CoreState → List Move → CoreState
-after_moves c moves = with_state c (run (network c.schema c.capacity) c.opening c.state moves)
-
--- what each of them comes to
-abbrev pub results_of_moves : CoreState → List Move → List Stepped
-results_of_moves c moves = results (network c.schema c.capacity) c.opening c.state moves
+use Rattle.dbtg_step.specs.Machine.Step.{results}
+use Rattle.dbtg_step.specs.Core.Parts.{CoreParts}
 
 -- what a core hands out with these results: the image of the database to which its history leads, its history and its units
 pub record IsHandedOut (core : CoreParts) (results : List Stepped) (given : Run) : Type 0 where

@@ -84,10 +84,6 @@ pub record TurnedIs (schema : Lists) (capacity : ℕ) (scripts : List (List Stat
 -- HOW A TURN GOES
 
 module _ (D : SequentialDatabase) where
-  -- between statements, with so many left at most
-  pub record IsDone (n : ℕ) (state : UnitState D) : Type 0 where
-    pub between : state.progress ≡ None
-    pub few : length state.remaining ≤ n
 
   -- how many statements each unit has left
   abbrev pub lefts_of : State D → List ℕ

@@ -1,23 +1,11 @@
 -- A database in memory on which each statement is made whole.
-use Rattle.std.specs.Prelude.{ℕ, ◌≡◌, ◌++◌, Bool, true, false, List, [], ◌∷◌, Some, length}
-use Rattle.std.specs.List.{range_with_len}
+use Rattle.std.specs.Prelude.{ℕ, ◌≡◌, ◌++◌, List, [], ◌∷◌, Some, length}
 use Rattle.dbtg_schema.specs.Lists.{Lists}
-use Rattle.dbtg_schema.specs.Sound.{IsSound}
-use Rattle.dbtg_cells.specs.CellNumbers.{cells_in_order}
-use Rattle.dbtg_cells.specs.declared.name.CellName.{CellName}
 use Rattle.dbtg_unit.specs.declared.statement.Statement.{Statement}
-use Rattle.dbtg_unit.specs.declared.statement.Statement.TheVariants.{Modify, Remove}
-use Rattle.dbtg_unit.specs.declared.unit.Answer.{Answer}
 use Rattle.dbtg_unit.specs.declared.unit.Entry.{Entry}
-use Rattle.dbtg_unit.specs.declared.unit.Unit.{Unit}
-use Rattle.dbtg_unit.specs.Database.State.Base.{Database, opening}
-use Rattle.dbtg_unit.specs.Database.Statements.Effect.{Outcome, effect}
-use Rattle.dbtg_unit.specs.Hands.Hands.{Hands}
+use Rattle.dbtg_unit.specs.Database.Statements.Effect.{Outcome}
 use Rattle.dbtg_unit.specs.Database.State.Image.{image_of}
-use Rattle.dbtg_unit.specs.Hands.Local.{AllAgree, names_of}
-use Rattle.dbtg_unit.specs.Hands.Making.{IsReady}
 use Rattle.dbtg_unit.specs.Database.Laws.Replay.{IsHistoryOf, State, after, opening_state, outcome_of, replay}
-use Rattle.dbtg_unit.specs.Database.Laws.Replaying.{statements_of}
 use Rattle.dbtg_step.specs.declared.results.Run.{Run}
 
 -- WHAT A CALLER SEES
@@ -40,11 +28,6 @@ pub record HasMade (old : Making) (u : ℕ) (x : Statement) (new : Making) : Typ
   pub new_is : new ≡ record old { history = old.history ++ record { ticket = length old.history; unit = u; statement = x; answer = outcome.answer } ∷ [] }
   pub state_is : state_now new ≡ after (state_now old) u outcome
 
--- just these statements are made, in their order, each by its unit
-pub record HasMadeAll (old : Making) (statements : List (ℕ × Statement)) (new : Making) : Type 0 where
-  pub new_is : new ≡ record old { history = new.history }
-  pub statements_are : statements_of new.history ≡ statements_of old.history ++ statements
-
 -- what it hands out when it is taken apart: a history of the sequential database, and the image and the units to which this history leads
 pub record IsMadeRun (m : Making) (given : Run) : Type 0 where
   pub results_are : given.results ≡ []
@@ -52,41 +35,3 @@ pub record IsMadeRun (m : Making) (given : Run) : Type 0 where
   pub history_of : IsHistoryOf m.schema m.capacity m.units m.history
   pub image_is : given.image ≡ image_of m.schema m.capacity (state_now m).database
   pub units_are : given.units ≡ (state_now m).units
-
--- WHAT IT HAS IN HAND
-
--- every area and every cell of the schema
-pub record HoldsAll (schema : Lists) (capacity : ℕ) (hands : Hands) : Type 0 where
-  pub areas : hands.areas ≡ range_with_len 0 (length schema.areas)
-  pub names : names_of hands.cells ≡ cells_in_order schema capacity
-
--- every area and every cell, as the database of the history has it; and the units of the history
-pub record IsWhole (schema : Lists) (capacity : ℕ) (hands : Hands) (units : List Unit) (history : List Entry) : Type 0 where
-  pub sound : IsSound schema
-  pub history_of : IsHistoryOf schema capacity (length units) history
-  pub units_are : units ≡ (replay schema capacity (opening_state schema (length units)) history).units
-  pub all : HoldsAll schema capacity hands
-  pub cells : AllAgree schema capacity (replay schema capacity (opening_state schema (length units)) history).database hands.cells
-
--- cells of these names are taken in hand, behind the others, as the opening database has them
-pub record HasTaken (schema : Lists) (capacity : ℕ) (names : List CellName) (old new : Hands) : Type 0 where
-  pub areas : new.areas ≡ old.areas
-  pub names_are : names_of new.cells ≡ names_of old.cells ++ names
-  pub agree : AllAgree schema capacity (opening schema) old.cells → AllAgree schema capacity (opening schema) new.cells
-
--- the statement goes by owners that a unit guesses; all others find theirs among the currents
-abbrev pub goes_by_guesses : Statement → Bool
-goes_by_guesses (Remove s) = true
-goes_by_guesses (Modify t changes) = true
-goes_by_guesses _ = false
-
--- the guesses in hand are such that the statement needs nothing more; the rest is as it was
-pub record IsGuessed (schema : Lists) (capacity : ℕ) (unit : Unit) (x : Statement) (old new : Hands) : Type 0 where
-  pub rest : new ≡ record old { guesses = new.guesses }
-  pub ready : IsReady schema capacity unit new x
-
--- the statement's effect on the database: its answer, its unit, and the cells in hand
-pub record IsEffect (schema : Lists) (capacity : ℕ) (db : Database) (x : Statement) (unit unit' : Unit) (new : Hands) (answer : Answer) : Type 0 where
-  pub answer_is : answer ≡ (effect schema capacity db unit x).answer
-  pub unit_is : unit' ≡ (effect schema capacity db unit x).unit
-  pub cells : AllAgree schema capacity (effect schema capacity db unit x).database new.cells

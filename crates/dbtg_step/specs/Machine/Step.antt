@@ -149,12 +149,6 @@ module _ (D : SequentialDatabase) where
   transition opening s (Step u) = step opening s u
   transition opening s (Quit u) = quit s u
 
-  -- P holds of the state after the event, if there is one
-  unfoldable pub IfMoved : Transition → (State D → Type 0) → Type 0
-  IfMoved (MovedTo s) P = P s
-  IfMoved IsBlocked P = Unit {0}
-  IfMoved IsIdle P = Unit {0}
-
   -- a move that is blocked or idle changes nothing
   unfoldable pub state_after : State D → Transition → State D
   state_after s (MovedTo t) = t

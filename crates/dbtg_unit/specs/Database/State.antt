@@ -9,6 +9,5 @@ pub mod Image
 pub mod Kept
 pub mod Legal
 pub mod LegalWith
-pub mod Seen
 pub mod Units
 pub mod Versions

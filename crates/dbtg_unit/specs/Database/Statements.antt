@@ -3,7 +3,6 @@
 -- May use: the state.
 -- Promises: every check of every statement stands in `Checks`, every status in `Codes`, all that a statement changes in
 -- `Effect`.
-pub mod Areas
 pub mod Checks
 pub mod Codes
 pub mod Conditions

@@ -38,10 +38,6 @@ abbrev pub brought : (DbKey → List DbKey) → ℕ → ℕ → List DbKey → L
 brought taken zero i order = order
 brought taken (suc n) i order = brought taken n (suc i) (brought_from taken order (slice_get order i))
 
--- the list after its key d, by what the option takes
-abbrev pub spread_from : Lists → ℕ → Database → Erase → List DbKey → Option DbKey → List DbKey
-spread_from schema capacity db option order d = brought_from (taken_with schema capacity db option) order d
-
 -- each key in turn brings those that the option takes along
 abbrev pub spread : Lists → ℕ → Database → Erase → ℕ → ℕ → List DbKey → List DbKey
 spread schema capacity db option n i order = brought (taken_with schema capacity db option) n i order

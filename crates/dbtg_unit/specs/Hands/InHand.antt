@@ -16,7 +16,7 @@ use Rattle.dbtg_cells.specs.declared.key.Value.{Value}
 use Rattle.dbtg_cells.specs.Keys.{owner_eq}
 use Rattle.dbtg_cells.specs.Members.{has_sort_key, keys_in, members_in}
 use Rattle.dbtg_cells.specs.Shown.{ExtentView, UsageView}
-use Rattle.dbtg_cells.specs.Numbers.{entry_of, has_values, is_free, is_number_left_out, last_of, numbers_where}
+use Rattle.dbtg_cells.specs.Numbers.{has_values, is_free, is_number_left_out, last_of, numbers_where}
 use Rattle.dbtg_unit.specs.Database.State.CellNames.{place_of, slot_name}
 use Rattle.dbtg_unit.specs.Hands.Hands.{Hands, cell_of}
 use Rattle.dbtg_unit.specs.Database.Statements.View.{View}
@@ -92,17 +92,9 @@ version_in hands k = unwrap_or (option_map (λ r. r.version) (stored_in hands k)
 abbrev pub owner_in : Hands → ℕ → DbKey → Option Owner
 owner_in hands s k = option_and_then (λ r. at r.owners s) (stored_in hands k)
 
--- the latest key of number n of record type t
-abbrev pub key_of : List Number → ℕ → ℕ → DbKey
-key_of numbers t n = record { rtype = t; number = n; generation = last_of n numbers }
-
 -- the next one
 abbrev pub next_key_of : List Number → ℕ → ℕ → DbKey
 next_key_of numbers t n = record { rtype = t; number = n; generation = last_of n numbers + 1 }
-
--- the CALC values of the record k in an extent's numbers
-abbrev pub values_of_key : List Number → DbKey → Option (List Value)
-values_of_key numbers k = option_and_then (λ e. if e.last == k.generation then e.calc else None) (entry_of k.number numbers)
 
 -- what the cells in hand answer
 abbrev pub in_hand : Hands → View

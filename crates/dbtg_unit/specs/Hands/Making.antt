@@ -18,7 +18,7 @@ use Rattle.dbtg_unit.specs.Hands.CanEdit.{CanEdit}
 use Rattle.dbtg_unit.specs.Hands.Edits.{edited}
 use Rattle.dbtg_unit.specs.Database.Statements.Fits.{fits}
 use Rattle.dbtg_unit.specs.Hands.Hands.{Hands, cell_of}
-use Rattle.dbtg_unit.specs.Hands.Lends.{holding, with_cell}
+use Rattle.dbtg_unit.specs.Hands.Lends.{with_cell}
 use Rattle.dbtg_unit.specs.Hands.Local.{Agrees}
 use Rattle.dbtg_unit.specs.Hands.Needs.{need}
 use Rattle.dbtg_unit.specs.Hands.Prepared.{Plan, IsPrepared, values_of}
@@ -35,10 +35,6 @@ ShowsEdited e cells y = (x : Cell) → cell_of e.name cells ≡ Some x → shown
 abbrev pub CanMake : List CellEdit → List (CellName × Cell) → Type 0
 CanMake [] cells = ⊤
 CanMake (e ∷ es) cells = CanEditHeld e cells × ((y : Cell) → ShowsEdited e cells y → CanMake es (with_cell e.name y cells))
-
--- the hands after an edit of the held cell of its name
-abbrev pub IsMade : CellEdit → Hands → Hands → Type 0
-IsMade e old new = (y : Cell) × ShowsEdited e old.cells y × (new ≡ holding e.name old y)
 
 -- the statement needs nothing more on any database that agrees with what is held
 abbrev pub IsReady : Lists → ℕ → Unit → Hands → Statement → Type 0

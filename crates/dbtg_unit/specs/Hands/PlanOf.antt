@@ -5,7 +5,6 @@
 use Rattle.std.specs.Prelude.{ℕ, ◌+◌, ◌==◌, true, false, List, [], ◌∷◌, ◌++◌, Option, Some, None, filter, map, option_and_then, option_map, unwrap_or, if◌then◌else◌}
 use Rattle.std.specs.List.{flat_map, list_any}
 use Rattle.dbtg_schema.specs.Lists.{Lists}
-use Rattle.dbtg_schema.specs.Lookups.{first_cause}
 use Rattle.dbtg_schema.specs.Structure.{automatic_sets, order_of, owns, rekeyed_sets, set_numbers}
 use Rattle.dbtg_cells.specs.declared.key.DbKey.{DbKey}
 use Rattle.dbtg_cells.specs.declared.key.Owner.{Owner}
@@ -30,10 +29,9 @@ use Rattle.dbtg_unit.specs.declared.unit.Unit.{Unit}
 use Rattle.dbtg_unit.specs.Database.State.Base.{calc_items, key_item}
 use Rattle.dbtg_unit.specs.Database.State.CellNames.{slot_name, place_of}
 use Rattle.dbtg_unit.specs.Database.State.Units.{noted, place_in}
-use Rattle.dbtg_unit.specs.Database.Statements.Checks.{checks_on_cells}
 use Rattle.dbtg_unit.specs.Database.Statements.Conditions.{changed_items, joined_place, names_calc}
 use Rattle.dbtg_unit.specs.Database.Statements.View.{View}
-use Rattle.dbtg_unit.specs.Hands.Prepared.{Plan, refusal, unless_refusal}
+use Rattle.dbtg_unit.specs.Hands.Prepared.{Plan, refusal}
 
 -- these edits of the ring of an owner, where there is one
 abbrev pub ring_edits : ℕ → Option Owner → List Edit → List CellEdit
@@ -155,7 +153,3 @@ done_plan_of schema view unit Keep = planned_on_current unit.currency.run_unit (
 done_plan_of schema view unit (Free true) = done_plan ForgetAll None None
 done_plan_of schema view unit (Free false) = planned_on_current unit.currency.run_unit (λ k. done_plan (Forget k) None None)
 done_plan_of schema view unit _ = done_plan Same None None
-
--- the plan of a statement that no check without cells refuses
-abbrev pub plan_of : Lists → View → Unit → Statement → Plan
-plan_of schema view unit statement = unless_refusal (first_cause (checks_on_cells schema view unit statement)) (done_plan_of schema view unit statement)

@@ -40,11 +40,6 @@ pub record Plan : Type 0 where
 abbrev pub refusal : Cause → Plan
 refusal cause = record { answer = record { status = Refused cause; key = None; items = None }; cells = []; versions = []; unit = Same }
 
--- refused for the first cause, if there is one, and else this plan
-abbrev pub unless_refusal : Option Cause → Plan → Plan
-unless_refusal (Some cause) plan = refusal cause
-unless_refusal None plan = plan
-
 -- each of these keys, where it is kept, at its new version
 abbrev pub renoted_at : List (DbKey × ℕ) → List (DbKey × ℕ) → List (DbKey × ℕ)
 renoted_at [] kept = kept

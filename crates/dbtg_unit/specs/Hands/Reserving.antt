@@ -20,11 +20,6 @@ abbrev pub CanTakeUser : Cell → Type 0
 CanTakeUser (UsageCell usage) = 0 < usage.room
 CanTakeUser _ = ⊤
 
--- what could be taken before can be taken still
-pub record KeepsRoom (old new : Cell) : Type 0 where
-  pub members : (k : DbKey) → CanTakeMember k old → CanTakeMember k new
-  pub users : CanTakeUser old → CanTakeUser new
-
 -- so it is with the held cell of this name, where one is held
 abbrev pub OfHeld : CellName → List (CellName × Cell) → (Cell → Type 0) → Type 0
 OfHeld c cells holds = (x : Cell) → cell_of c cells ≡ Some x → holds x

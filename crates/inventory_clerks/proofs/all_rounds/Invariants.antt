@@ -1,5 +1,5 @@
 use Rattle.std.proofs.Common.{◌≡◌}
-use Rattle.inventory_clerks.specs.Orders.{rounds_of}
+use Rattle.inventory_clerks.specs.Inside.Orders.{rounds_of}
 use Rattle.inventory_clerks.proofs.all_rounds.Given as goal
 
 abbrev pub invariant-rounds : goal.invariant-rounds

@@ -3,7 +3,7 @@ use Rattle.std.specs.Prelude.{MatchOption}
 use Rattle.dbtg_unit.specs.Database.Laws.Replay.{IsHistoryOf}
 use Rattle.dbtg_unit.specs.declared.unit.Entry.{Entry}
 use Rattle.inventory_clerks.specs.declared.TheConstants.{CAPACITY, UNITS}
-use Rattle.inventory_clerks.specs.Auditing.{IsTextOf, text_of}
+use Rattle.inventory_clerks.specs.Inside.Auditing.{IsTextOf, text_of}
 use Rattle.inventory_clerks.proofs.Audited.{found_is_left}
 use Rattle.inventory_clerks.proofs.is_equal.Goals as goal
 

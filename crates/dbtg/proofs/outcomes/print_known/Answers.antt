@@ -1,6 +1,7 @@
 use Rattle.std.proofs.lemmas.Result.{IfErr-weaker, IfOk-weaker}
 use Rattle.dbtg_outcomes.specs.Results.{Meeting}
-use Rattle.dbtg.specs.Listing.{AreTold, IsListing, IsOver, IsUntold}
+use Rattle.dbtg.specs.Listing.{AreTold, IsListing, IsOver}
+use Rattle.dbtg.specs.Inside.Listing.{IsUntold}
 use Rattle.dbtg.proofs.Listings.{all_short, untold}
 use Rattle.dbtg.proofs.outcomes.print_known.Goals as goal
 

@@ -3,7 +3,8 @@ use Rattle.std.proofs.lemmas.Result.{IfErr-weaker, IfOk-weaker}
 use Rattle.dbtg_command.specs.declared.order.Order.TheVariants.{Serial}
 use Rattle.dbtg_command.specs.Checking.{ChecksHeld, IsCheck}
 use Rattle.dbtg_command.specs.Refusals.{RefusesTexts}
-use Rattle.dbtg_command.specs.Sources.{StandsIn, ToldOfTexts}
+use Rattle.dbtg_command.specs.Inside.Sources.{StandsIn}
+use Rattle.dbtg_command.specs.Sources.{ToldOfTexts}
 use Rattle.dbtg_command.proofs.BytesAtHand.{OnlyMemory, at_hand_check, texts_told}
 use Rattle.dbtg_command.proofs.check.check_bytes.Goals as goal
 

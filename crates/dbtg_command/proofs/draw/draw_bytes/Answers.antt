@@ -4,7 +4,8 @@ use Rattle.dbtg_schema.specs.Texts.SchemaFaults.{refusal as schema_refusal}
 use Rattle.dbtg_command.specs.declared.order.Order.TheVariants.{Serial}
 use Rattle.dbtg_command.specs.Drawing.{DrawsHeld, IsDrawing}
 use Rattle.dbtg_command.specs.Refusals.{RefusesSchema}
-use Rattle.dbtg_command.specs.Sources.{StandsIn, ToldOfSchema}
+use Rattle.dbtg_command.specs.Inside.Sources.{StandsIn}
+use Rattle.dbtg_command.specs.Sources.{ToldOfSchema}
 use Rattle.dbtg_command.proofs.BytesAtHand.{OnlyMemory, schema_told}
 use Rattle.dbtg_command.proofs.draw.draw_bytes.Goals as goal
 

@@ -3,7 +3,7 @@ use Rattle.std.specs.Prelude.{filter, map}
 use Rattle.dbtg_schema.specs.Lookups.{some_and}
 use Rattle.dbtg_unit.specs.Database.Statements.Effect.{is_gone}
 use Rattle.dbtg_unit.specs.Hands.InHand.{owner_in}
-use Rattle.dbtg_erase.specs.ErasePlan.{lose_owner}
+use Rattle.dbtg_erase.specs.Inside.ErasePlan.{lose_owner}
 use Rattle.dbtg_erase.proofs.EditLists.{edits_of_end, edits_of_next}
 use Rattle.dbtg_erase.proofs.edits.lose_owners.Goals as goal
 

@@ -5,7 +5,7 @@ use Rattle.dbtg_schema.specs.Structure.{set_numbers}
 use Rattle.dbtg_unit.specs.Hands.EditsOf.{lost_sets}
 use Rattle.dbtg_unit.specs.Database.Statements.Effect.{is_gone}
 use Rattle.dbtg_unit.specs.Hands.InHand.{owner_in}
-use Rattle.dbtg_erase.specs.ErasePlan.{lose_owner}
+use Rattle.dbtg_erase.specs.Inside.ErasePlan.{lose_owner}
 use Rattle.dbtg_erase.proofs.edits.lose_owners.Given as goal
 
 abbrev pub invariant-loop-s : goal.invariant-loop-s

@@ -1,5 +1,5 @@
 use Rattle.std.proofs.Common.{◌∙◌, ap}
-use Rattle.dbtg_erase.specs.NextCell.{need_of}
+use Rattle.dbtg_erase.specs.Inside.NextCell.{need_of}
 use Rattle.dbtg_erase.proofs.NextNeed.{cell_wanted}
 use Rattle.dbtg_erase.proofs.next.need_with_areas.Goals as goal
 

@@ -2,7 +2,7 @@ use Rattle.std.proofs.Common.{refl, sym, ◌∙◌, ap}
 use Rattle.dbtg_unit.specs.declared.held.Need.TheVariants.{Area, Ready}
 use Rattle.dbtg_unit.specs.declared.statement.Statement.TheVariants.{Delete}
 use Rattle.dbtg_unit.proofs.Public.{above_hands, in_held_area}
-use Rattle.dbtg_erase.specs.NextCell.{need_of}
+use Rattle.dbtg_erase.specs.Inside.NextCell.{need_of}
 use Rattle.dbtg_erase.proofs.NextNeed.{area_wanted, cell_wanted, ready_refused}
 use Rattle.dbtg_erase.proofs.next.next_need.Goals as goal
 

@@ -1,7 +1,8 @@
 use Rattle.std.proofs.Common.{refl, sym, ◌∙◌, subst, ◌<◌, ◌≤◌, arith, length}
 use Rattle.std.specs.Prelude.{filter, map}
 use Rattle.dbtg_schema.specs.Structure.{owns}
-use Rattle.dbtg_erase.specs.NextCell.{is_missing, ring_of}
+use Rattle.dbtg_erase.specs.NextCell.{is_missing}
+use Rattle.dbtg_erase.specs.Inside.NextCell.{ring_of}
 use Rattle.dbtg_erase.proofs.FirstNames.{first_end, first_found, first_further, splits_map}
 use Rattle.dbtg_erase.proofs.records.first_ring.Goals as goal
 

@@ -2,7 +2,8 @@ use Rattle.std.proofs.Common.{◌≡◌, drop}
 use Rattle.std.specs.Prelude.{filter, map}
 use Rattle.dbtg_schema.specs.Structure.{owns, set_numbers}
 use Rattle.dbtg_unit.specs.Hands.Erasing.{own_rings}
-use Rattle.dbtg_erase.specs.NextCell.{first_missing, ring_of}
+use Rattle.dbtg_erase.specs.NextCell.{first_missing}
+use Rattle.dbtg_erase.specs.Inside.NextCell.{ring_of}
 use Rattle.dbtg_erase.proofs.records.first_ring.Given as goal
 
 abbrev pub invariant-loop-s : goal.invariant-loop-s

@@ -1,5 +1,5 @@
 use Rattle.std.proofs.Common.{◌≡◌, ℕ, subst, arith}
-use Rattle.dbtg_outcomes.specs.Statuses.{AreAnswered}
+use Rattle.dbtg_outcomes.specs.Inside.Statuses.{AreAnswered}
 use Rattle.dbtg_outcomes.proofs.States.Entered.{next_answered, none_answered}
 use Rattle.dbtg_outcomes.proofs.answered.answer_script.Goals as goal
 

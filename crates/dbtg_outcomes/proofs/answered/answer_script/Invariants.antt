@@ -1,4 +1,4 @@
-use Rattle.dbtg_outcomes.specs.Statuses.{AreAnswered}
+use Rattle.dbtg_outcomes.specs.Inside.Statuses.{AreAnswered}
 use Rattle.dbtg_outcomes.proofs.answered.answer_script.Given as goal
 
 abbrev pub invariant-loop-before : goal.invariant-loop-before

@@ -2,7 +2,7 @@ use Rattle.std.proofs.Common.{◌≡◌, ◌+◌, sym, subst, take, List, [], ar
 use Rattle.std.proofs.lemmas.List.{take_all}
 use Rattle.dbtg_unit.specs.declared.statement.Statement.{Statement}
 use Rattle.dbtg_outcomes.specs.declared.answered.Answered.{Answered}
-use Rattle.dbtg_outcomes.specs.Statuses.{AreAllAnswered}
+use Rattle.dbtg_outcomes.specs.Inside.Statuses.{AreAllAnswered}
 use Rattle.dbtg_outcomes.proofs.States.Entered.{next_script, no_script}
 use Rattle.dbtg_outcomes.proofs.answered.answered_by.Goals as goal
 

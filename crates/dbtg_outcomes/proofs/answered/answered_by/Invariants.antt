@@ -1,5 +1,5 @@
 use Rattle.std.proofs.Common.{◌≡◌, take}
-use Rattle.dbtg_outcomes.specs.Statuses.{AreAllAnswered}
+use Rattle.dbtg_outcomes.specs.Inside.Statuses.{AreAllAnswered}
 use Rattle.dbtg_outcomes.proofs.answered.answered_by.Given as goal
 
 abbrev pub invariant-loop-script : goal.invariant-loop-script

@@ -1,7 +1,7 @@
 use Rattle.std.proofs.Common.{◌≡◌, sym, subst, take, ℕ, List, [], arith}
 use Rattle.std.proofs.lemmas.List.{take_all}
 use Rattle.dbtg_outcomes.specs.declared.notes.Note.{Note}
-use Rattle.dbtg_outcomes.specs.Statuses.{AreOfNotes}
+use Rattle.dbtg_outcomes.specs.Inside.Statuses.{AreOfNotes}
 use Rattle.dbtg_outcomes.proofs.States.Entered.{next_noted, none_noted}
 use Rattle.dbtg_outcomes.proofs.answered.statuses_of.Goals as goal
 

@@ -1,5 +1,5 @@
 use Rattle.std.proofs.Common.{take}
-use Rattle.dbtg_outcomes.specs.Statuses.{AreOfNotes}
+use Rattle.dbtg_outcomes.specs.Inside.Statuses.{AreOfNotes}
 use Rattle.dbtg_outcomes.proofs.answered.statuses_of.Given as goal
 
 abbrev pub invariant-loop-note : goal.invariant-loop-note

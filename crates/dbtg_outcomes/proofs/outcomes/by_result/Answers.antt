@@ -2,7 +2,7 @@ use Rattle.std.proofs.Common.{◌≡◌, ℕ, sym, subst, List, [], take, arith}
 use Rattle.std.proofs.lemmas.List.{take_all}
 use Rattle.std.proofs.lemmas.Result.{IfOk-weaker}
 use Rattle.dbtg_outcomes.specs.declared.groups.Group.{Group}
-use Rattle.dbtg_outcomes.specs.Steps.{HasHistory, HoldAll}
+use Rattle.dbtg_outcomes.specs.Inside.Steps.{HasHistory, HoldAll}
 use Rattle.dbtg_outcomes.proofs.States.Results.{grouped_by_result, holds_next, holds_nothing}
 use Rattle.dbtg_outcomes.proofs.outcomes.by_result.Goals as goal
 

@@ -1,5 +1,5 @@
 use Rattle.std.proofs.Common.{take}
-use Rattle.dbtg_outcomes.specs.Steps.{HoldAll}
+use Rattle.dbtg_outcomes.specs.Inside.Steps.{HoldAll}
 use Rattle.dbtg_outcomes.proofs.outcomes.by_result.Given as goal
 
 abbrev pub invariant-loop-group : goal.invariant-loop-group

@@ -1,5 +1,5 @@
 use Rattle.std.proofs.Common.{◌≡◌, drop, Some}
-use Rattle.dbtg_outcomes.specs.Given.{all_orders}
+use Rattle.dbtg_outcomes.specs.Inside.Given.{all_orders}
 use Rattle.dbtg_outcomes.proofs.outcomes.orders_of.Given as goal
 
 abbrev pub invariant-loop-group : goal.invariant-loop-group

@@ -3,11 +3,11 @@ use Rattle.std.specs.List.{AllByRecursion}
 use Rattle.std.proofs.lemmas.List.Elements.{All-from_recursion}
 use Rattle.dbtg_unit.specs.declared.statement.Statement.{Statement}
 use Rattle.dbtg_outcomes.specs.declared.groups.Group.{Group}
-use Rattle.dbtg_outcomes.specs.Given.{all_orders, one_result}
+use Rattle.dbtg_outcomes.specs.Inside.Given.{all_orders, one_result}
 use Rattle.dbtg_outcomes.specs.Orders.{count_statements}
-use Rattle.dbtg_outcomes.specs.Search.{layer}
-use Rattle.dbtg_outcomes.specs.Statuses.{AreAllAnswered}
-use Rattle.dbtg_outcomes.specs.Steps.{HasHistory}
+use Rattle.dbtg_outcomes.specs.Inside.Search.{layer}
+use Rattle.dbtg_outcomes.specs.Inside.Statuses.{AreAllAnswered}
+use Rattle.dbtg_outcomes.specs.Inside.Steps.{HasHistory}
 use Rattle.dbtg_outcomes.proofs.States.Results.{are_outcomes}
 use Rattle.dbtg_outcomes.proofs.States.Searched.{held_histories}
 use Rattle.dbtg_outcomes.proofs.outcomes.outcomes_of.Goals as goal

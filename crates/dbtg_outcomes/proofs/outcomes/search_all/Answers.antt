@@ -1,7 +1,7 @@
 use Rattle.std.proofs.Common.{◌≡◌, ◌+◌, ◌∙◌, ℕ, ap, subst, arith}
 use Rattle.std.proofs.lemmas.Result.{err_from_is_err_and}
 use Rattle.dbtg_outcomes.specs.Orders.{count_statements}
-use Rattle.dbtg_outcomes.specs.Search.{IsAt}
+use Rattle.dbtg_outcomes.specs.Inside.Search.{IsAt}
 use Rattle.dbtg_outcomes.proofs.States.Searched.{over_all, over_first}
 use Rattle.dbtg_outcomes.proofs.outcomes.search_all.Goals as goal
 

@@ -1,5 +1,5 @@
 use Rattle.std.proofs.Common.{◌∙◌, sym, ap}
-use Rattle.dbtg_plan.specs.Finding.{found_in}
+use Rattle.dbtg_plan.specs.Inside.Finding.{found_in}
 use Rattle.dbtg_plan.proofs.finding.find_key.Goals as goal
 
 pub returns-in-InSet : goal.returns-in-InSet

@@ -4,7 +4,7 @@ use Rattle.dbtg_unit.specs.declared.statement.Statement.TheVariants.{Find}
 use Rattle.dbtg_unit.specs.Hands.Making.{CanFinish}
 use Rattle.dbtg_unit.specs.Hands.Prepared.{Plan}
 use Rattle.dbtg_unit.proofs.Public.{may_plan}
-use Rattle.dbtg_plan.specs.Finding.{plan_of_found}
+use Rattle.dbtg_plan.specs.Inside.Finding.{plan_of_found}
 use Rattle.dbtg_plan.proofs.Find.FindPlans.{find_can_finish}
 use Rattle.dbtg_plan.proofs.finding.prepare_find.Goals as goal
 

@@ -6,8 +6,10 @@ use Rattle.dbtg_unit.specs.Database.Statements.Checks.{about, insert_checks}
 use Rattle.dbtg_unit.specs.declared.statement.Statement.TheVariants.{Insert}
 use Rattle.dbtg_unit.specs.declared.unit.Cause.{Cause}
 use Rattle.dbtg_unit.specs.Hands.Making.{CanFinish}
-use Rattle.dbtg_unit.specs.Hands.Prepared.{refusal, unless_refusal}
-use Rattle.dbtg_unit.specs.Hands.PlanOf.{plan_of, planned_on_current, inserting}
+use Rattle.dbtg_unit.specs.Hands.Prepared.{refusal}
+use Rattle.dbtg_unit.specs.Inside.Prepared.{unless_refusal}
+use Rattle.dbtg_unit.specs.Inside.PlanOf.{plan_of}
+use Rattle.dbtg_unit.specs.Hands.PlanOf.{planned_on_current, inserting}
 use Rattle.dbtg_plan.proofs.Connect.InsertIsEffect.{insert_can_finish, refused_insert_can_finish}
 use Rattle.dbtg_plan.proofs.inserting.prepare_insert.Goals as goal
 

@@ -1,6 +1,6 @@
 use Rattle.std.proofs.Common.{◌≡◌, ◌∙◌, sym, ap, ℕ, ◌+◌, Bool, ◌||◌, drop, length, arith}
 use Rattle.std.specs.List.{list_any, range_with_len}
-use Rattle.dbtg_plan.specs.Modifying.{is_refused}
+use Rattle.dbtg_plan.specs.Inside.Modifying.{is_refused}
 use Rattle.dbtg_plan.proofs.Store.SetSteps.{any_end, any_step}
 use Rattle.dbtg_plan.proofs.modifying.is_any_key_taken.Goals as goal
 

@@ -2,7 +2,7 @@ use Rattle.std.proofs.Common.{◌≡◌, ◌∙◌, sym, ap, ℕ, Bool, List, co
 use Rattle.dbtg_schema.specs.Lookups.{at}
 use Rattle.dbtg_cells.specs.declared.name.CellName.{CellName}
 use Rattle.dbtg_unit.specs.Hands.Needs.{first_missing, is_missing, ring_names}
-use Rattle.dbtg_plan.specs.Modifying.{is_rekeyed}
+use Rattle.dbtg_plan.specs.Inside.Modifying.{is_rekeyed}
 use Rattle.dbtg_plan.proofs.Store.SetSteps.{found_here, found_later, found_nowhere}
 use Rattle.dbtg_plan.proofs.modifying.missing_rings.Goals as goal
 

@@ -4,7 +4,7 @@ use Rattle.std.specs.List.{flat_map}
 use Rattle.dbtg_schema.specs.Lookups.{at}
 use Rattle.dbtg_schema.specs.Structure.{rekeyed_sets, set_numbers}
 use Rattle.dbtg_unit.specs.Hands.Needs.{first_missing, ring_names}
-use Rattle.dbtg_plan.specs.Modifying.{is_rekeyed}
+use Rattle.dbtg_plan.specs.Inside.Modifying.{is_rekeyed}
 use Rattle.dbtg_plan.proofs.modifying.missing_rings.Given as goal
 
 abbrev pub invariant-loop-s : goal.invariant-loop-s

@@ -4,7 +4,7 @@ use Rattle.std.specs.List.{flat_map, range_with_len}
 use Rattle.dbtg_unit.specs.declared.edit.CellEdit.{CellEdit}
 use Rattle.dbtg_unit.specs.Hands.InHand.{in_hand}
 use Rattle.dbtg_unit.specs.Hands.PlanOf.{replacing_edits}
-use Rattle.dbtg_plan.specs.Modifying.{is_rekeyed}
+use Rattle.dbtg_plan.specs.Inside.Modifying.{is_rekeyed}
 use Rattle.dbtg_plan.proofs.Store.SetSteps.{kept_end, kept_step}
 use Rattle.dbtg_plan.proofs.modifying.push_replacing.Goals as goal
 

@@ -4,7 +4,7 @@ use Rattle.std.specs.List.{flat_map}
 use Rattle.dbtg_schema.specs.Structure.{rekeyed_sets, set_numbers}
 use Rattle.dbtg_unit.specs.Hands.InHand.{in_hand}
 use Rattle.dbtg_unit.specs.Hands.PlanOf.{replacing_edits}
-use Rattle.dbtg_plan.specs.Modifying.{is_rekeyed}
+use Rattle.dbtg_plan.specs.Inside.Modifying.{is_rekeyed}
 use Rattle.dbtg_plan.proofs.modifying.push_replacing.Given as goal
 
 abbrev pub invariant-loop-s : goal.invariant-loop-s

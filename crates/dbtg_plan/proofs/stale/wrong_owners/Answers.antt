@@ -5,7 +5,7 @@ use Rattle.std.proofs.lemmas.Option.{slice_get-get_or}
 use Rattle.dbtg_cells.specs.declared.key.Owner.{Owner}
 use Rattle.dbtg_unit.specs.Hands.Needs.{guessed_sets}
 use Rattle.dbtg_unit.proofs.Public.{rewritten, rewritten_all, rewritten_next}
-use Rattle.dbtg_plan.specs.Stale.{wrong_owner_in}
+use Rattle.dbtg_plan.specs.Inside.Stale.{wrong_owner_in}
 use Rattle.dbtg_plan.proofs.Store.StoreSteps.{owners_before}
 use Rattle.dbtg_plan.proofs.stale.wrong_owners.Goals as goal
 

@@ -2,7 +2,7 @@ use Rattle.std.proofs.Common.{◌≡◌, ℕ, Option, length}
 use Rattle.dbtg_cells.specs.declared.key.Owner.{Owner}
 use Rattle.dbtg_unit.specs.Hands.Needs.{guessed_sets}
 use Rattle.dbtg_unit.proofs.Public.{rewritten}
-use Rattle.dbtg_plan.specs.Stale.{wrong_owner_in, wrong_owners_in}
+use Rattle.dbtg_plan.specs.Inside.Stale.{wrong_owner_in, wrong_owners_in}
 use Rattle.dbtg_plan.proofs.stale.wrong_owners.Given as goal
 
 -- the owners that are found stand by their sets, and the others come

@@ -1,5 +1,5 @@
 use Rattle.std.proofs.Common.{◌∙◌, ap}
-use Rattle.dbtg_plan.specs.Store.{missing_of_store}
+use Rattle.dbtg_plan.specs.Inside.Store.{missing_of_store}
 use Rattle.dbtg_plan.proofs.Plans.StoreHolds.{missing_in_hand}
 use Rattle.dbtg_plan.proofs.storing.next_cell_of_store.Goals as goal
 

@@ -5,11 +5,11 @@ use Rattle.dbtg_schema.specs.Sound.{IsSound}
 use Rattle.dbtg_cells.specs.declared.key.Owner.{Owner}
 use Rattle.dbtg_unit.specs.Hands.Hands.{Hands}
 use Rattle.dbtg_unit.specs.Database.State.Units.{opening_unit}
-use Rattle.dbtg_step.specs.Core.Events.{HaveRings}
+use Rattle.dbtg_step.specs.Inside.Events.{HaveRings}
 use Rattle.dbtg_step.proofs.Public.{none_guessed}
 use Rattle.dbtg_run.specs.declared.view.About.{About}
 use Rattle.dbtg_run.specs.Posed.{IsOurs}
-use Rattle.dbtg_run.specs.Kept.{IsReal}
+use Rattle.dbtg_run.specs.Inside.Kept.{IsReal}
 use Rattle.dbtg_run.proofs.Units.Made.{at_work_as}
 use Rattle.dbtg_run.proofs.making.newcomer.Goals as goal
 

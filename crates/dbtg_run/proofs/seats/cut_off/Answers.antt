@@ -1,7 +1,7 @@
 use Rattle.std.proofs.Common.{sym, subst}
 use Rattle.atomic_table.specs.Table.{Splits}
 use Rattle.dbtg_run.specs.declared.view.View.{View}
-use Rattle.dbtg_run.specs.Kept.{Kept, one_of, others_of}
+use Rattle.dbtg_run.specs.Inside.Kept.{Kept, one_of, others_of}
 use Rattle.dbtg_run.proofs.TheRule.Ends.{splits}
 use Rattle.dbtg_run.proofs.seats.cut_off.Goals as goal
 

@@ -1,7 +1,7 @@
 use Rattle.std.proofs.Common.{sym, ap, subst}
 use Rattle.atomic_table.specs.Table.{Joins}
 use Rattle.dbtg_run.specs.declared.view.View.{View}
-use Rattle.dbtg_run.specs.Kept.{Kept, Sat, gathered, spent}
+use Rattle.dbtg_run.specs.Inside.Kept.{Kept, Sat, gathered, spent}
 use Rattle.dbtg_run.proofs.TheRule.Ends.{joins}
 use Rattle.dbtg_run.proofs.seats.join_to.Goals as goal
 

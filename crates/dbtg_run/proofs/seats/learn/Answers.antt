@@ -1,7 +1,7 @@
 use Rattle.std.proofs.Common.{sym, subst}
 use mathlib.Core.Option.{none}
 use Rattle.atomic_table.specs.Table.{Allows, step}
-use Rattle.dbtg_run.specs.Kept.{Kept, Learns, Sat}
+use Rattle.dbtg_run.specs.Inside.Kept.{Kept, Learns, Sat}
 use Rattle.dbtg_run.proofs.TheRule.Ends.{learns}
 use Rattle.dbtg_run.proofs.seats.learn.Goals as goal
 

@@ -1,6 +1,6 @@
 use Rattle.std.proofs.Common.{◌≡◌, List, ◌++◌, All, vec_len}
 use Rattle.dbtg_run.specs.UnitView.{BelongsTo, UnitView}
-use Rattle.dbtg_run.specs.Settling.{HaveJoined}
+use Rattle.dbtg_run.specs.Inside.Settling.{HaveJoined}
 use Rattle.dbtg_run.proofs.settlement.join_all.Given as goal
 
 abbrev pub invariant-units : goal.invariant-units

@@ -2,7 +2,7 @@ use Rattle.std.proofs.Common.{List, refl, sym, ap, ◌∙◌, subst}
 use Rattle.dbtg_unit.specs.declared.unit.Entry.{Entry}
 use Rattle.dbtg_step.specs.Core.Audit.{IsAudited}
 use Rattle.dbtg_run.specs.UnitView.{UnitView}
-use Rattle.dbtg_run.specs.Settling.{all_entries, by_ticket}
+use Rattle.dbtg_run.specs.Inside.Settling.{all_entries, by_ticket}
 use Rattle.dbtg_run.proofs.Together.Closed.{audited, journal_is, not_refused, unit_is}
 use Rattle.dbtg_run.proofs.settlement.settle.Goals as goal
 

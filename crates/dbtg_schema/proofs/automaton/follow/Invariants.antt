@@ -1,8 +1,8 @@
 use Rattle.std.proofs.Common.{◌≡◌, map, drop}
 use Rattle.dbtg_schema.specs.Texts.Forms.{start_with, starts}
-use Rattle.dbtg_schema.specs.Texts.Words.{view}
+use Rattle.dbtg_schema.specs.Inside.Words.{view}
 use Rattle.dbtg_schema.specs.Texts.SchemaGrammar.{fits}
-use Rattle.dbtg_schema.specs.Texts.Automaton.{rest_of, view_start}
+use Rattle.dbtg_schema.specs.Inside.Automaton.{rest_of, view_start}
 use Rattle.dbtg_schema.proofs.automaton.follow.Given as goal
 
 abbrev pub invariant-loop-start : goal.invariant-loop-start

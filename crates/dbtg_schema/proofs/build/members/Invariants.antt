@@ -2,7 +2,7 @@ use Rattle.std.proofs.Common.{◌≡◌, ◌++◌, drop, map}
 use Rattle.dbtg_schema.specs.declared.role.Role.TheVariants as role
 use Rattle.dbtg_schema.specs.Texts.Labels.{entries}
 use Rattle.dbtg_schema.specs.Texts.SchemaLists.{member_from}
-use Rattle.dbtg_schema.specs.Texts.Views.{views}
+use Rattle.dbtg_schema.specs.Inside.Views.{views}
 use Rattle.dbtg_schema.proofs.build.members.Given as goal
 
 abbrev pub invariant-loop-i : goal.invariant-loop-i

@@ -1,6 +1,6 @@
 use Rattle.std.proofs.Common.{◌≡◌, ◌++◌, drop}
 use Rattle.dbtg_schema.specs.Texts.SchemaLists.{sets_from}
-use Rattle.dbtg_schema.specs.Texts.Views.{views}
+use Rattle.dbtg_schema.specs.Inside.Views.{views}
 use Rattle.dbtg_schema.proofs.build.sets.Given as goal
 
 abbrev pub invariant-loop-i : goal.invariant-loop-i

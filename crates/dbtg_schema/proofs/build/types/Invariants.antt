@@ -3,7 +3,7 @@ use Rattle.std.specs.List.{AllByRecursion}
 use Rattle.dbtg_schema.specs.declared.role.Role.TheVariants as role
 use Rattle.dbtg_schema.specs.Texts.Labels.{count_of, entries}
 use Rattle.dbtg_schema.specs.Texts.SchemaLists.{record_type_from}
-use Rattle.dbtg_schema.specs.Texts.Views.{views}
+use Rattle.dbtg_schema.specs.Inside.Views.{views}
 use Rattle.dbtg_schema.proofs.build.types.Given as goal
 
 abbrev pub invariant-loop-i : goal.invariant-loop-i

@@ -4,7 +4,7 @@ use Rattle.dbtg_schema.specs.Lookups.{first}
 use Rattle.dbtg_schema.specs.Texts.Labels.{is, named}
 use Rattle.dbtg_schema.specs.Texts.SchemaFaults.{calc_faults}
 use Rattle.dbtg_schema.specs.declared.role.Role.TheVariants as role
-use Rattle.dbtg_schema.specs.Texts.Views.{views}
+use Rattle.dbtg_schema.specs.Inside.Views.{views}
 use Rattle.dbtg_schema.proofs.checks.calc_fault.Given as goal
 
 abbrev pub invariant-loop-i : goal.invariant-loop-i

@@ -1,6 +1,6 @@
 use Rattle.std.proofs.Common.{◌≡◌, drop}
 use Rattle.dbtg_schema.specs.Texts.SchemaFaults.{wants_name}
-use Rattle.dbtg_schema.specs.Texts.Automaton.{view_starts}
+use Rattle.dbtg_schema.specs.Inside.Automaton.{view_starts}
 use Rattle.dbtg_schema.proofs.checks.wants_name.Given as goal
 
 abbrev pub invariant-loop-start : goal.invariant-loop-start

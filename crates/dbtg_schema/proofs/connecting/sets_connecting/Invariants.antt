@@ -1,5 +1,5 @@
 use Rattle.std.proofs.Common.{◌≡◌, ℕ, ◌<◌, length}
-use Rattle.dbtg_schema.specs.Connecting.{connects_in}
+use Rattle.dbtg_schema.specs.Inside.Connecting.{connects_in}
 use Rattle.dbtg_schema.specs.Erasing.{marked}
 use Rattle.dbtg_schema.proofs.connecting.sets_connecting.Given as goal
 

@@ -2,7 +2,7 @@ use Rattle.std.proofs.Common.{◌≡◌, drop}
 use Rattle.dbtg_schema.specs.Texts.Labels.{entries}
 use Rattle.dbtg_schema.specs.Texts.SchemaFaults.{record_named}
 use Rattle.dbtg_schema.specs.declared.role.Role.TheVariants as role
-use Rattle.dbtg_schema.specs.Texts.Views.{views}
+use Rattle.dbtg_schema.specs.Inside.Views.{views}
 use Rattle.dbtg_schema.proofs.entries.record_named.Given as goal
 
 abbrev pub invariant-loop-i : goal.invariant-loop-i

@@ -1,6 +1,6 @@
 use Rattle.std.proofs.Common.{◌≡◌, ◌++◌, drop, take}
 use Rattle.dbtg_schema.specs.Texts.Labels.{until}
-use Rattle.dbtg_schema.specs.Texts.Views.{views}
+use Rattle.dbtg_schema.specs.Inside.Views.{views}
 use Rattle.dbtg_schema.proofs.entries.until.Given as goal
 
 abbrev pub invariant-loop-i : goal.invariant-loop-i

@@ -1,5 +1,5 @@
 use Rattle.std.proofs.Common.{◌≡◌, length}
-use Rattle.dbtg_schema.specs.Erasing.{AreErasedOfEach}
+use Rattle.dbtg_schema.specs.Inside.Erasing.{AreErasedOfEach}
 use Rattle.dbtg_schema.proofs.erasing.areas_of_each.Given as goal
 
 abbrev pub invariant-loop-t : goal.invariant-loop-t

@@ -1,5 +1,6 @@
 use Rattle.std.proofs.Common.{◌≡◌, ℕ, ◌<◌, length}
-use Rattle.dbtg_schema.specs.Erasing.{marked, is_given}
+use Rattle.dbtg_schema.specs.Erasing.{marked}
+use Rattle.dbtg_schema.specs.Inside.Erasing.{is_given}
 use Rattle.dbtg_schema.proofs.erasing.areas_reached.Given as goal
 
 abbrev pub invariant-loop-a : goal.invariant-loop-a

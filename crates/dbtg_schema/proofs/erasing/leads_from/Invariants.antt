@@ -1,5 +1,6 @@
 use Rattle.std.proofs.Common.{◌≡◌, ℕ, ◌<◌, length}
-use Rattle.dbtg_schema.specs.Erasing.{marked, leads_to}
+use Rattle.dbtg_schema.specs.Erasing.{marked}
+use Rattle.dbtg_schema.specs.Inside.Erasing.{leads_to}
 use Rattle.dbtg_schema.proofs.erasing.leads_from.Given as goal
 
 abbrev pub invariant-loop-y : goal.invariant-loop-y

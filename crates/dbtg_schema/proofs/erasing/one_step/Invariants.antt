@@ -1,5 +1,6 @@
 use Rattle.std.proofs.Common.{◌≡◌, ℕ, ◌<◌, ◌||◌, ◌==◌, length}
-use Rattle.dbtg_schema.specs.Erasing.{marked, is_given}
+use Rattle.dbtg_schema.specs.Erasing.{marked}
+use Rattle.dbtg_schema.specs.Inside.Erasing.{is_given}
 use Rattle.dbtg_schema.proofs.erasing.one_step.Given as goal
 
 abbrev pub invariant-loop-y : goal.invariant-loop-y

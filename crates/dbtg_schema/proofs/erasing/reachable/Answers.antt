@@ -1,7 +1,8 @@
 use Rattle.std.proofs.Common.{◌≡◌, ℕ, ◌<◌, Bool, false, List, [], ◌∷◌, ◌||◌, ◌==◌, ◌∙◌, refl, sym, ap, length, arith, add-one}
 use Rattle.std.specs.Cmp.{booleans_Decides}
 use Rattle.std.proofs.lemmas.Slice.Eq.{slice_eq-Decides}
-use Rattle.dbtg_schema.specs.Erasing.{marked, is_given}
+use Rattle.dbtg_schema.specs.Erasing.{marked}
+use Rattle.dbtg_schema.specs.Inside.Erasing.{is_given}
 use Rattle.dbtg_schema.proofs.Known.Erasings.{next_round, none_marked, off, all_rounds, given_is_next, settled}
 use Rattle.dbtg_schema.proofs.erasing.reachable.Goals as goal
 

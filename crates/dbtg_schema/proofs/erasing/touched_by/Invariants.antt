@@ -1,5 +1,6 @@
 use Rattle.std.proofs.Common.{◌≡◌, ℕ, ◌<◌, length}
-use Rattle.dbtg_schema.specs.Erasing.{marked, touches}
+use Rattle.dbtg_schema.specs.Erasing.{marked}
+use Rattle.dbtg_schema.specs.Inside.Erasing.{touches}
 use Rattle.dbtg_schema.proofs.erasing.touched_by.Given as goal
 
 abbrev pub invariant-loop-a : goal.invariant-loop-a

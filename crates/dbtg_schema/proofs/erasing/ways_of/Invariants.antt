@@ -1,5 +1,5 @@
 use Rattle.std.proofs.Common.{◌≡◌, ℕ, ◌<◌, length}
-use Rattle.dbtg_schema.specs.Erasing.{marked_in, leads_to, touches}
+use Rattle.dbtg_schema.specs.Inside.Erasing.{marked_in, leads_to, touches}
 use Rattle.dbtg_schema.proofs.erasing.ways_of.Given as goal
 
 abbrev pub invariant-loop-t : goal.invariant-loop-t

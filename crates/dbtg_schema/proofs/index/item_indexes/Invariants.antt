@@ -1,5 +1,5 @@
 use Rattle.std.proofs.Common.{take}
-use Rattle.dbtg_schema.specs.NameIndexes.{AreItemIndexes}
+use Rattle.dbtg_schema.specs.Inside.NameIndexes.{AreItemIndexes}
 use Rattle.dbtg_schema.proofs.index.item_indexes.Given as goal
 
 abbrev pub invariant-loop-rtype : goal.invariant-loop-rtype

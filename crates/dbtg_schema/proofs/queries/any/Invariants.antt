@@ -1,7 +1,7 @@
 use Rattle.std.proofs.Common.{◌≡◌, drop}
 use Rattle.std.specs.List.{list_any}
 use Rattle.dbtg_schema.specs.Texts.Labels.{is}
-use Rattle.dbtg_schema.specs.Texts.Views.{views}
+use Rattle.dbtg_schema.specs.Inside.Views.{views}
 use Rattle.dbtg_schema.proofs.queries.any.Given as goal
 
 abbrev pub invariant-loop-word : goal.invariant-loop-word

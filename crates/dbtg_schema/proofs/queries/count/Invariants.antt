@@ -1,6 +1,6 @@
 use Rattle.std.proofs.Common.{◌≡◌, ◌+◌, ◌≤◌, drop}
 use Rattle.dbtg_schema.specs.Texts.Labels.{count_of}
-use Rattle.dbtg_schema.specs.Texts.Views.{views}
+use Rattle.dbtg_schema.specs.Inside.Views.{views}
 use Rattle.dbtg_schema.proofs.queries.count.Given as goal
 
 abbrev pub invariant-loop-word : goal.invariant-loop-word

@@ -5,7 +5,7 @@ use Rattle.std.specs.List.{list_any}
 use Rattle.dbtg_schema.specs.declared.role.Role.{Role}
 use Rattle.dbtg_schema.specs.Texts.SchemaGrammar.{Labelled}
 use Rattle.dbtg_schema.specs.Texts.Labels.{is, since}
-use Rattle.dbtg_schema.specs.Texts.Views.{view_labelled, views}
+use Rattle.dbtg_schema.specs.Inside.Views.{view_labelled, views}
 use Rattle.dbtg_schema.specs.declared.queries.Labelled as code
 use Rattle.dbtg_schema.proofs.queries.since.Goals as goal
 

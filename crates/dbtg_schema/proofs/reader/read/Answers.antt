@@ -1,21 +1,19 @@
 use Rattle.std.proofs.Common.{rules, ◌≡◌, List, [], ◌++◌, sym, ap, subst, ◌∙◌, arith}
 use Rattle.std.proofs.lemmas.Result.{err_from_is_err_and}
 use Rattle.std.specs.Prelude.{None}
-use Rattle.dbtg_schema.specs.Texts.Words.{last_line, text_words}
-use Rattle.dbtg_schema.specs.Texts.SchemaGrammar.{schema}
-use Rattle.dbtg_schema.specs.Texts.Words.{view}
-use Rattle.dbtg_schema.specs.Texts.Automaton.{rest_of}
-use Rattle.dbtg_schema.specs.Texts.Views.{views}
+use Rattle.dbtg_schema.specs.Texts.Words.{last_line, text_words, Word}
+use Rattle.dbtg_schema.specs.Texts.SchemaGrammar.{schema, fits, Labelled}
+use Rattle.dbtg_schema.specs.Inside.Words.{view}
+use Rattle.dbtg_schema.specs.Inside.Automaton.{rest_of}
+use Rattle.dbtg_schema.specs.Inside.Views.{views}
 use Rattle.std.proofs.lemmas.List.{append-nil}
 use Rattle.dbtg_schema.specs.Texts.Forms.{labels, Derives}
-use Rattle.dbtg_schema.specs.Texts.Words.{Word}
-use Rattle.dbtg_schema.specs.Texts.SchemaGrammar.{fits, Labelled}
 use Rattle.dbtg_schema.specs.Texts.SchemaLists.{schema_of}
 use Rattle.dbtg_schema.specs.WellFormed.{IsSchema}
 use Rattle.dbtg_schema.specs.Sound.{IsSound}
 use Rattle.dbtg_schema.proofs.Sound.Soundness.{accepted_is_sound}
 use Rattle.dbtg_schema.proofs.Sound.Keeps.{accepted_is_schema}
-use Rattle.dbtg_schema.specs.Texts.Reading.{verdict, WithinLimits}
+use Rattle.dbtg_schema.specs.Inside.Reading.{verdict, WithinLimits}
 use Rattle.dbtg_schema.proofs.Forms.Walks.{clean}
 use Rattle.dbtg_schema.proofs.Sound.Limits.{within_limits}
 use Rattle.dbtg_schema.proofs.Forms.Accepted.{derived}

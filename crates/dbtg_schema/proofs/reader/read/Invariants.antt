@@ -2,9 +2,10 @@ use Rattle.std.proofs.Common.{◌≡◌, ◌++◌, [], length}
 use Rattle.dbtg_schema.specs.Texts.Words.{last_line, text_words}
 use Rattle.dbtg_schema.specs.Texts.Forms.{labels}
 use Rattle.dbtg_schema.specs.Texts.SchemaGrammar.{fits, schema}
-use Rattle.dbtg_schema.specs.Texts.Automaton.{rest_of}
-use Rattle.dbtg_schema.specs.Texts.Views.{views}
-use Rattle.dbtg_schema.specs.Texts.Reading.{verdict, RefusedAtOnce}
+use Rattle.dbtg_schema.specs.Inside.Automaton.{rest_of}
+use Rattle.dbtg_schema.specs.Inside.Views.{views}
+use Rattle.dbtg_schema.specs.Inside.Reading.{verdict}
+use Rattle.dbtg_schema.specs.Texts.Reading.{RefusedAtOnce}
 use Rattle.dbtg_schema.proofs.Forms.Seen.{seen}
 use Rattle.dbtg_schema.proofs.reader.read.Given as goal
 

@@ -1,8 +1,8 @@
 use Rattle.std.proofs.Common.{sym}
 use Rattle.std.proofs.lemmas.List.{map_push}
-use Rattle.dbtg_schema.specs.Texts.Words.{view}
-use Rattle.dbtg_schema.specs.Texts.Automaton.{rest_of, view_start}
-use Rattle.dbtg_schema.specs.Texts.Views.{views}
+use Rattle.dbtg_schema.specs.Inside.Words.{view}
+use Rattle.dbtg_schema.specs.Inside.Automaton.{rest_of, view_start}
+use Rattle.dbtg_schema.specs.Inside.Views.{views}
 use Rattle.dbtg_schema.proofs.Forms.Steps.{goes_on, stops_at, stops_other, labels_go_on}
 use Rattle.dbtg_schema.proofs.reader.take.Goals as goal
 

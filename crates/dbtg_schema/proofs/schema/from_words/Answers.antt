@@ -7,7 +7,7 @@ use Rattle.dbtg_schema.specs.Texts.Labels.{until, entries}
 use Rattle.dbtg_schema.specs.Texts.SchemaLists.{area_from, record_type_from, schema_of}
 use Rattle.dbtg_schema.specs.Lists.{Lists}
 use Rattle.dbtg_schema.specs.WellFormed.{IsSchema}
-use Rattle.dbtg_schema.specs.Texts.Views.{views}
+use Rattle.dbtg_schema.specs.Inside.Views.{views}
 use Rattle.dbtg_schema.proofs.Known.Places.{length_mapped}
 use Rattle.dbtg_schema.proofs.Sound.Fit.{items_fit}
 use Rattle.dbtg_schema.proofs.schema.from_words.Goals as goal

@@ -1,9 +1,9 @@
 use Rattle.std.proofs.Common.{Bool, List, length, ◌∙◌, subst, sym}
-use Rattle.dbtg_schema.specs.Connecting.{AreConnecting, AreConnectingOfEach}
-use Rattle.dbtg_schema.specs.Erasing.{AreErased, AreErasedOfEach}
+use Rattle.dbtg_schema.specs.Inside.Connecting.{AreConnecting, AreConnectingOfEach}
+use Rattle.dbtg_schema.specs.Inside.Erasing.{AreErased, AreErasedOfEach}
 use Rattle.dbtg_schema.specs.Lists.{Lists}
-use Rattle.dbtg_schema.specs.SetsOfTypes.{AreSetsOfEach}
-use Rattle.dbtg_schema.specs.NameIndexes.{IsSchemaIndex}
+use Rattle.dbtg_schema.specs.Inside.SetsOfTypes.{AreSetsOfEach}
+use Rattle.dbtg_schema.specs.Inside.NameIndexes.{IsSchemaIndex}
 use Rattle.dbtg_schema.specs.declared.shape.Area.{Area}
 use Rattle.dbtg_schema.specs.declared.shape.RecordType.{RecordType}
 use Rattle.dbtg_schema.specs.declared.shape.SetType.{SetType}

@@ -1,6 +1,6 @@
 use Rattle.std.proofs.Common.{◌∷◌, ◌∙◌, [], ap, sym, subst, length, length-append, arith, ℕ}
-use Rattle.dbtg_schema.specs.Lookups.{EachAt}
-use Rattle.dbtg_schema.specs.SetsOfTypes.{sets_alone, AreSetsOf}
+use Rattle.dbtg_schema.specs.Inside.Lookups.{EachAt}
+use Rattle.dbtg_schema.specs.Inside.SetsOfTypes.{sets_alone, AreSetsOf}
 use Rattle.dbtg_schema.proofs.Known.EachAt.{none_at, one_more_at}
 use Rattle.dbtg_schema.proofs.sets_of_type.sets_of_each.Goals as goal
 

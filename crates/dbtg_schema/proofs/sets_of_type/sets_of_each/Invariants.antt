@@ -1,4 +1,4 @@
-use Rattle.dbtg_schema.specs.SetsOfTypes.{AreSetsOfEach}
+use Rattle.dbtg_schema.specs.Inside.SetsOfTypes.{AreSetsOfEach}
 use Rattle.dbtg_schema.proofs.sets_of_type.sets_of_each.Given as goal
 
 abbrev pub invariant-loop-t : goal.invariant-loop-t

@@ -2,9 +2,9 @@ use Rattle.std.proofs.Common.{◌==◌, ◌∙◌, ℕ, ap, refl, sym}
 use Rattle.std.specs.Prelude.{option_and_then}
 use Rattle.std.specs.List.{find}
 use Rattle.std.proofs.lemmas.Option.{slice_get_read}
-use Rattle.dbtg_schema.specs.Connecting.{connects_in}
+use Rattle.dbtg_schema.specs.Inside.Connecting.{connects_in}
 use Rattle.dbtg_schema.specs.Lookups.{some_and}
-use Rattle.dbtg_schema.specs.SetsOfTypes.{sets_alone}
+use Rattle.dbtg_schema.specs.Inside.SetsOfTypes.{sets_alone}
 use Rattle.dbtg_schema.specs.Structure.{is_automatic, owns}
 use Rattle.dbtg_schema.proofs.Known.SetsOfTypes.{one_more_tested}
 use Rattle.dbtg_schema.proofs.sets_of_type.sets_of_type.Goals as goal

@@ -1,8 +1,8 @@
 use Rattle.std.proofs.Common.{◌≡◌}
 use Rattle.std.specs.Prelude.{filter}
 use Rattle.std.specs.List.{range_with_len}
-use Rattle.dbtg_schema.specs.Connecting.{connects_in}
-use Rattle.dbtg_schema.specs.SetsOfTypes.{sets_alone}
+use Rattle.dbtg_schema.specs.Inside.Connecting.{connects_in}
+use Rattle.dbtg_schema.specs.Inside.SetsOfTypes.{sets_alone}
 use Rattle.dbtg_schema.specs.Structure.{owns}
 use Rattle.dbtg_schema.proofs.sets_of_type.sets_of_type.Given as goal
 

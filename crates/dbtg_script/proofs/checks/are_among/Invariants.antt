@@ -2,7 +2,7 @@ use Rattle.std.proofs.Common.{◌≡◌, ◌==◌, map, drop}
 use Rattle.std.specs.List.{list_all, list_any}
 use Rattle.dbtg_script.specs.Labels.{texts}
 use Rattle.dbtg_script.specs.Lookups.{item_no}
-use Rattle.dbtg_script.specs.Views.{views}
+use Rattle.dbtg_script.specs.Inside.Views.{views}
 use Rattle.dbtg_script.specs.declared.role.Role.TheVariants as role
 use Rattle.dbtg_script.proofs.checks.are_among.Given as goal
 

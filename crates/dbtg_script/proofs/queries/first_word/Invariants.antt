@@ -1,6 +1,6 @@
 use Rattle.std.proofs.Common.{◌≡◌, drop}
 use Rattle.dbtg_script.specs.Labels.{first_word}
-use Rattle.dbtg_script.specs.Views.{views}
+use Rattle.dbtg_script.specs.Inside.Views.{views}
 use Rattle.dbtg_script.proofs.queries.first_word.Given as goal
 
 abbrev pub invariant-loop-word : goal.invariant-loop-word

@@ -5,7 +5,8 @@ use Rattle.dbtg_unit.specs.Database.Statements.Fits.{fits as statement_fits}
 use Rattle.dbtg_unit.specs.declared.statement.Statement.{Statement}
 use Rattle.dbtg_script.specs.declared.fault.Fault.{Fault}
 use Rattle.dbtg_script.specs.Lines.{lines, trimmed}
-use Rattle.dbtg_script.specs.Reading.{lines_verdict, RefusesScript, at_line}
+use Rattle.dbtg_script.specs.Inside.Reading.{lines_verdict, at_line}
+use Rattle.dbtg_script.specs.Reading.{RefusesScript}
 use Rattle.dbtg_script.specs.Statements.{line_statement, script, statements_of}
 use Rattle.dbtg_script.proofs.Fitting.FittingStatements.{script_fits}
 use Rattle.dbtg_script.proofs.Reading.ScriptSteps.{line_passes, line_refused, counted, one_more, short_script, no_lines}

@@ -1,7 +1,7 @@
 use Rattle.std.proofs.Common.{◌≡◌, ◌+◌, ◌++◌, ◌≤◌, length}
 use Rattle.dbtg_script.specs.Lines.{lines}
-use Rattle.dbtg_script.specs.Known.{IsKnown}
-use Rattle.dbtg_script.specs.Reading.{lines_verdict}
+use Rattle.dbtg_script.specs.Inside.Known.{IsKnown}
+use Rattle.dbtg_script.specs.Inside.Reading.{lines_verdict}
 use Rattle.dbtg_script.specs.Statements.{script, statements_of}
 use Rattle.dbtg_script.proofs.reader.read_script.Given as goal
 

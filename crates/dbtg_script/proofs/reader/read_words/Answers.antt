@@ -1,6 +1,6 @@
 use Rattle.std.proofs.Common.{rules, false}
 use Rattle.std.proofs.lemmas.Result.{err_from_is_err_and}
-use Rattle.dbtg_script.specs.Automaton.{rest_of}
+use Rattle.dbtg_script.specs.Inside.Automaton.{rest_of}
 use Rattle.dbtg_script.specs.Tokens.{tokens, view}
 use Rattle.dbtg_script.proofs.Reading.Steps.{first_word, not_at_end}
 use Rattle.dbtg_script.proofs.reader.read_words.Goals as goal

@@ -2,7 +2,7 @@ use Rattle.std.proofs.Common.{◌≡◌, ◌++◌, [], Some, false, length}
 use Rattle.dbtg_schema.specs.Texts.Forms.{labels}
 use Rattle.dbtg_script.specs.StatementGrammar.{fits, statement}
 use Rattle.dbtg_script.specs.Tokens.{tokens}
-use Rattle.dbtg_script.specs.Automaton.{rest_of}
+use Rattle.dbtg_script.specs.Inside.Automaton.{rest_of}
 use Rattle.dbtg_schema.specs.Lookups.{first}
 use Rattle.dbtg_script.specs.declared.fault.Cause.{Cause}
 use Rattle.dbtg_script.specs.Reading.{first_word_faults, verdict}

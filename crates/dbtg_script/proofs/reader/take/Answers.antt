@@ -1,6 +1,6 @@
 use Rattle.std.proofs.Common.{sym}
 use Rattle.dbtg_script.specs.Tokens.{view}
-use Rattle.dbtg_script.specs.Automaton.{rest_of, view_start}
+use Rattle.dbtg_script.specs.Inside.Automaton.{rest_of, view_start}
 use Rattle.dbtg_script.proofs.Reading.Steps.{goes_on, stops_at, stops_other, labels_go_on}
 use Rattle.dbtg_script.proofs.reader.take.Goals as goal
 

@@ -2,7 +2,7 @@ use Rattle.std.proofs.Common.{◌≡◌, ◌++◌, [], drop, map}
 use Rattle.dbtg_schema.specs.Texts.Forms.{labels}
 use Rattle.dbtg_script.specs.StatementGrammar.{fits, statement}
 use Rattle.dbtg_script.specs.Tokens.{view}
-use Rattle.dbtg_script.specs.Automaton.{rest_of}
+use Rattle.dbtg_script.specs.Inside.Automaton.{rest_of}
 use Rattle.dbtg_script.specs.Reading.{verdict}
 use Rattle.dbtg_script.proofs.said_words.take_each.Given as goal
 

@@ -1,6 +1,6 @@
 use Rattle.std.proofs.Common.{◌≡◌, map, take}
 use Rattle.dbtg_script.specs.Statements.{calc_value}
-use Rattle.dbtg_script.specs.Views.{views}
+use Rattle.dbtg_script.specs.Inside.Views.{views}
 use Rattle.dbtg_script.proofs.statement.calc_values.Given as goal
 
 abbrev pub invariant-loop-item : goal.invariant-loop-item

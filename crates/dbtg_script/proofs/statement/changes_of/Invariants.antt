@@ -1,7 +1,7 @@
 use Rattle.std.proofs.Common.{◌≡◌, ◌++◌, map, drop}
 use Rattle.dbtg_script.specs.Labels.{texts}
 use Rattle.dbtg_script.specs.Statements.{change_of, changes_of}
-use Rattle.dbtg_script.specs.Views.{views}
+use Rattle.dbtg_script.specs.Inside.Views.{views}
 use Rattle.dbtg_script.specs.declared.role.Role.TheVariants as role
 use Rattle.dbtg_script.proofs.statement.changes_of.Given as goal
 

@@ -4,7 +4,7 @@ use Rattle.dbtg_unit.specs.declared.statement.Form.TheVariants as form
 use Rattle.dbtg_script.specs.Printing.Spelling.{is_key}
 use Rattle.dbtg_script.specs.Statements.{key_of}
 use Rattle.dbtg_script.specs.Tokens.{plain, tokens}
-use Rattle.dbtg_script.specs.Usual.{nothing}
+use Rattle.dbtg_script.specs.Inside.Usual.{nothing}
 use Rattle.dbtg_script.proofs.Reading.UsualLines.{key_said}
 use Rattle.dbtg_script.proofs.usual.by_key.Goals as goal
 

@@ -5,7 +5,7 @@ use Rattle.dbtg_unit.specs.declared.statement.Which.TheVariants as which
 use Rattle.dbtg_script.specs.Printing.Spelling.{is_signed, number}
 use Rattle.dbtg_script.specs.StatementFaults.{without_minus}
 use Rattle.dbtg_script.specs.Statements.{signed}
-use Rattle.dbtg_script.specs.Usual.{nothing}
+use Rattle.dbtg_script.specs.Inside.Usual.{nothing}
 use Rattle.dbtg_script.specs.Values.{up_to}
 use Rattle.dbtg_script.proofs.Reading.UsualLines.{capped, nth_said}
 use Rattle.dbtg_script.proofs.usual.nth.Goals as goal

@@ -2,7 +2,7 @@ use Rattle.std.proofs.Common.{rules, ◌≡◌, ◌∙◌, [], false, drop, refl
 use Rattle.std.proofs.lemmas.List.{append-nil, drop_all}
 use Rattle.dbtg_script.specs.Lookups.{item_named}
 use Rattle.dbtg_script.specs.Tokens.{tokens}
-use Rattle.dbtg_script.specs.Usual.{AreAssigned}
+use Rattle.dbtg_script.specs.Inside.Usual.{AreAssigned}
 use Rattle.dbtg_script.proofs.Reading.UsualStores.{one_value_more}
 use Rattle.dbtg_script.proofs.usual.usual_values.Goals as goal
 

@@ -2,7 +2,7 @@ use Rattle.std.proofs.Common.{◌≡◌, false, List, ◌++◌, drop}
 use Rattle.dbtg_schema.specs.Structure.{item_list}
 use Rattle.dbtg_cells.specs.declared.key.Value.{Value}
 use Rattle.dbtg_script.specs.Tokens.{tokens}
-use Rattle.dbtg_script.specs.Usual.{AreAssigned}
+use Rattle.dbtg_script.specs.Inside.Usual.{AreAssigned}
 use Rattle.dbtg_script.proofs.usual.usual_values.Given as goal
 
 -- what the words that are left give to the items that are left, they all give to all

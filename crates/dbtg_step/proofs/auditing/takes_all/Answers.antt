@@ -1,7 +1,7 @@
 use Rattle.std.proofs.Common.{◌≡◌, ◌<◌, ◌≤◌, ◌+◌, ◌∙◌, sym, ap, subst, take, drop, List, [], ◌++◌, ◌∷◌, length, suc, arith, drop-cons}
 use Rattle.std.proofs.lemmas.List.{take-append-drop, take_all, take_more}
 use Rattle.dbtg_unit.specs.declared.unit.Entry.{Entry}
-use Rattle.dbtg_step.specs.Core.Audit.{GoesOn}
+use Rattle.dbtg_step.specs.Inside.Audit.{GoesOn}
 use Rattle.dbtg_step.specs.Core.Whole.{Making}
 use Rattle.dbtg_step.proofs.MadeWhole.Audits.{joins, not_led, refused_at, stands, match_true}
 use Rattle.dbtg_step.proofs.auditing.takes_all.Goals as goal

@@ -1,7 +1,7 @@
 use Rattle.std.proofs.Common.{◌≡◌, ◌++◌, ◌∙◌, Some, false, subst, sym}
 use Rattle.std.specs.Prelude.{OnOk}
 use Rattle.dbtg_schema.specs.Structure.{is_system, owner_type}
-use Rattle.dbtg_step.specs.Core.Imaging.{found_in}
+use Rattle.dbtg_step.specs.Inside.Imaging.{found_in}
 use Rattle.dbtg_step.proofs.TheCore.ImagesRead.{owned_lists}
 use Rattle.dbtg_step.proofs.imaging.add_lists.Goals as goal
 

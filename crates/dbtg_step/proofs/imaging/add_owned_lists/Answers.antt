@@ -1,6 +1,6 @@
 use Rattle.std.proofs.Common.{◌+◌, ◌++◌, ◌∙◌, ap, arith, Some}
 use Rattle.dbtg_cells.specs.declared.name.CellName.TheVariants.{Ring}
-use Rattle.dbtg_step.specs.Core.Imaging.{found_in, list_of, occurrence_at}
+use Rattle.dbtg_step.specs.Inside.Imaging.{found_in, list_of, occurrence_at}
 use Rattle.dbtg_step.proofs.TheCore.RangePushes.{flat_pushed}
 use Rattle.dbtg_step.proofs.imaging.add_owned_lists.Goals as goal
 

@@ -1,6 +1,6 @@
 use Rattle.std.proofs.Common.{◌+◌, ◌++◌, ◌∙◌, ap, arith}
 use Rattle.dbtg_cells.specs.declared.name.CellName.TheVariants.{Slot}
-use Rattle.dbtg_step.specs.Core.Imaging.{found_in, record_of, stored_at}
+use Rattle.dbtg_step.specs.Inside.Imaging.{found_in, record_of, stored_at}
 use Rattle.dbtg_step.proofs.TheCore.RangePushes.{flat_pushed}
 use Rattle.dbtg_step.proofs.imaging.add_records.Goals as goal
 

@@ -1,7 +1,7 @@
 use Rattle.std.proofs.Common.{◌≡◌, ◌++◌}
 use Rattle.std.specs.List.{flat_map, range_with_len}
 use Rattle.dbtg_cells.specs.declared.name.CellName.TheVariants.{Slot}
-use Rattle.dbtg_step.specs.Core.Imaging.{found_in, stored_at, version_of}
+use Rattle.dbtg_step.specs.Inside.Imaging.{found_in, stored_at, version_of}
 use Rattle.dbtg_step.proofs.imaging.add_versions.Given as goal
 
 abbrev pub invariant-loop-turn : goal.invariant-loop-turn

@@ -1,7 +1,7 @@
 use Rattle.std.proofs.Common.{◌∙◌, ap, arith}
 use Rattle.dbtg_cells.specs.declared.name.CellName.TheVariants.{Extent}
 use Rattle.dbtg_unit.specs.Hands.InHand.{numbers_of}
-use Rattle.dbtg_step.specs.Core.Imaging.{found_in, generations_in}
+use Rattle.dbtg_step.specs.Inside.Imaging.{found_in, generations_in}
 use Rattle.dbtg_step.proofs.TheCore.RangePushes.{map_pushed}
 use Rattle.dbtg_step.proofs.imaging.all_generations.Goals as goal
 

@@ -1,5 +1,5 @@
 use Rattle.std.proofs.Common.{◌++◌, ◌∙◌, ap, arith}
-use Rattle.dbtg_step.specs.Core.Imaging.{found_in, lists_of}
+use Rattle.dbtg_step.specs.Inside.Imaging.{found_in, lists_of}
 use Rattle.dbtg_step.proofs.TheCore.RangePushes.{map_pushed}
 use Rattle.dbtg_step.proofs.imaging.all_lists.Goals as goal
 

@@ -1,6 +1,6 @@
 use Rattle.std.proofs.Common.{◌≡◌, map}
 use Rattle.std.specs.List.{range_with_len}
-use Rattle.dbtg_step.specs.Core.Imaging.{found_in, lists_of}
+use Rattle.dbtg_step.specs.Inside.Imaging.{found_in, lists_of}
 use Rattle.dbtg_step.proofs.imaging.all_lists.Given as goal
 
 abbrev pub invariant-loop-set : goal.invariant-loop-set

@@ -1,5 +1,5 @@
 use Rattle.std.proofs.Common.{[], ◌++◌, ◌∙◌, ap, arith}
-use Rattle.dbtg_step.specs.Core.Imaging.{found_in, records_of}
+use Rattle.dbtg_step.specs.Inside.Imaging.{found_in, records_of}
 use Rattle.dbtg_step.proofs.TheCore.RangePushes.{flat_pushed}
 use Rattle.dbtg_step.proofs.imaging.all_records.Goals as goal
 

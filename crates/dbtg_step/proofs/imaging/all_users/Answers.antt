@@ -1,7 +1,7 @@
 use Rattle.std.proofs.Common.{◌∙◌, ap, arith}
 use Rattle.dbtg_cells.specs.declared.name.CellName.TheVariants.{Usage}
 use Rattle.dbtg_unit.specs.Hands.InHand.{users_of}
-use Rattle.dbtg_step.specs.Core.Imaging.{found_in}
+use Rattle.dbtg_step.specs.Inside.Imaging.{found_in}
 use Rattle.dbtg_step.proofs.TheCore.RangePushes.{map_pushed}
 use Rattle.dbtg_step.proofs.imaging.all_users.Goals as goal
 

@@ -1,6 +1,6 @@
 use Rattle.std.proofs.Common.{◌≡◌}
 use Rattle.std.specs.List.{flat_map, range_with_len}
-use Rattle.dbtg_step.specs.Core.Imaging.{found_in, versions_of}
+use Rattle.dbtg_step.specs.Inside.Imaging.{found_in, versions_of}
 use Rattle.dbtg_step.proofs.imaging.all_versions.Given as goal
 
 abbrev pub invariant-loop-rtype : goal.invariant-loop-rtype

@@ -2,7 +2,7 @@ use Rattle.std.proofs.Common.{◌≡◌, ◌||◌, true, false, Some, slice_get,
 use Rattle.std.specs.List.{list_any}
 use Rattle.std.proofs.lemmas.Option.{slice_get_read}
 use Rattle.dbtg_cells.proofs.Public.{there_is}
-use Rattle.dbtg_step.specs.Core.Stands.{holds_against}
+use Rattle.dbtg_step.specs.Inside.Stands.{holds_against}
 use Rattle.dbtg_step.proofs.TheCore.FollowsShown.{area_blocked, area_refused, area_taken}
 use Rattle.dbtg_step.proofs.needing.takes_area.Goals as goal
 

@@ -1,6 +1,6 @@
 use Rattle.std.proofs.Common.{◌≡◌, ◌++◌, ◌+◌, length}
 use Rattle.std.specs.Vec.Iter.{into_iter_items, into_iter_len}
-use Rattle.dbtg_step.specs.Core.Openings.{runners_from}
+use Rattle.dbtg_step.specs.Inside.Openings.{runners_from}
 use Rattle.dbtg_step.proofs.opening_parts.opening_runners.Given as goal
 
 -- the units that are made and those of the scripts that are left are all units

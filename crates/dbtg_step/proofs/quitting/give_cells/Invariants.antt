@@ -1,6 +1,6 @@
 use Rattle.std.proofs.Common.{◌≡◌, length, reverse}
-use Rattle.dbtg_step.specs.Core.Parts.{written_homes}
-use Rattle.dbtg_step.specs.Core.Stands.{HavePlaces}
+use Rattle.dbtg_step.specs.Inside.Parts.{written_homes}
+use Rattle.dbtg_step.specs.Inside.Stands.{HavePlaces}
 use Rattle.dbtg_step.proofs.quitting.give_cells.Given as goal
 
 abbrev pub invariant-loop-name : goal.invariant-loop-name

@@ -2,7 +2,7 @@ use Rattle.std.proofs.Common.{◌≡◌, Some, slice_get, length, refl, sym, sub
 use Rattle.std.proofs.lemmas.Option.{same_Some, slice_get_read}
 use Rattle.dbtg_schema.proofs.Public.{none_is, some_is}
 use Rattle.dbtg_step.specs.declared.parts.Runner.{Runner}
-use Rattle.dbtg_step.specs.Core.Stands.{StandsUnticketed}
+use Rattle.dbtg_step.specs.Inside.Stands.{StandsUnticketed}
 use Rattle.dbtg_step.proofs.TheCore.QuitShown.{between_quits, no_unit_quits, ticketed_quits}
 use Rattle.dbtg_step.proofs.quitting.quit.Goals as goal
 use Rattle.dbtg_step.proofs.quitting.quit.Goals.{then-unit-eq0-via-then-unit-eq0, then-unit-eq0-via-else-unit-eq0+then-len-unit}

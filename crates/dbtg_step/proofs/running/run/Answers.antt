@@ -1,7 +1,7 @@
 use Rattle.std.proofs.Common.{refl}
 use Rattle.std.proofs.lemmas.Result.{IfOk-weaker}
 use Rattle.dbtg_step.specs.Core.Parts.{machine}
-use Rattle.dbtg_step.specs.Core.Runs.{results_of_moves}
+use Rattle.dbtg_step.specs.Inside.Runs.{results_of_moves}
 use Rattle.dbtg_step.proofs.TheCore.RunsShown.{run_handed}
 use Rattle.dbtg_step.proofs.running.run.Goals as goal
 

@@ -1,7 +1,8 @@
 use Rattle.std.proofs.Common.{◌∙◌, [], ap, subst}
 use Rattle.std.proofs.lemmas.Result.{IfOk-weaker}
 use Rattle.dbtg_step.specs.Core.Serial.{in_turn_from}
-use Rattle.dbtg_step.specs.Core.Whole.{HasMadeAll, Making}
+use Rattle.dbtg_step.specs.Inside.Whole.{HasMadeAll}
+use Rattle.dbtg_step.specs.Core.Whole.{Making}
 use Rattle.dbtg_step.proofs.MadeWhole.SerialShown.{serial_made}
 use Rattle.dbtg_step.proofs.MadeWhole.Wholes.{making}
 use Rattle.dbtg_step.proofs.running.run_serial.Goals as goal

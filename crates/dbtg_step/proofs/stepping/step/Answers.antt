@@ -1,7 +1,7 @@
 use Rattle.std.proofs.Common.{◌≡◌, Some, slice_get, length, refl, sym, subst, inl, inr, ◌∙◌, ◌-◌, arith}
 use Rattle.std.proofs.lemmas.Option.{same_Some, slice_get_read}
 use Rattle.dbtg_step.specs.declared.parts.Runner.{Runner}
-use Rattle.dbtg_step.specs.Core.Stands.{StandsBetween, StandsNeeding, StandsTicketed, StandsTurning}
+use Rattle.dbtg_step.specs.Inside.Stands.{StandsBetween, StandsNeeding, StandsTicketed, StandsTurning}
 use Rattle.dbtg_step.proofs.TheCore.EventsShown.{has_statement, no_unit_idle, over_idle}
 use Rattle.dbtg_step.proofs.stepping.step.Goals as goal
 use Rattle.dbtg_step.proofs.stepping.step.Goals.{then-unit-eq0-via-then-unit-eq0, then-unit-eq0-via-else-unit-eq0+then-len-unit}

@@ -3,7 +3,7 @@ use Rattle.std.proofs.lemmas.Bool.{false≢true}
 use Rattle.std.proofs.lemmas.Option.{slice_get_read}
 use Rattle.dbtg_unit.specs.declared.moves.Stepped.TheVariants.{Moved, NoMemory}
 use Rattle.dbtg_step.specs.Machine.SequentialDatabase.{unit_at}
-use Rattle.dbtg_step.specs.Core.Events.{IsStepped}
+use Rattle.dbtg_step.specs.Inside.Events.{IsStepped}
 use Rattle.dbtg_step.proofs.TheCore.EventsShown.{no_unit}
 use Rattle.dbtg_step.proofs.TheCore.QuitShown.{stepped_well}
 use Rattle.dbtg_step.proofs.MadeWhole.TurnsTaken.{arrives, at_its_end, goes_on, not_there, sets_out, stays}

@@ -1,5 +1,5 @@
 use Rattle.std.proofs.Common.{take, arith}
-use Rattle.dbtg_step.specs.Core.Parts.{core_of}
+use Rattle.dbtg_step.specs.Inside.Parts.{core_of}
 use Rattle.dbtg_step.proofs.MadeWhole.TurnsTaken.{before_turns, between_after, turned_next}
 use Rattle.dbtg_step.proofs.taking_turns.take_turns.Goals as goal
 

@@ -3,7 +3,7 @@ use Rattle.dbtg_unit.specs.Database.State.Base.{Database}
 use Rattle.dbtg_unit.specs.Hands.Hands.{Hands}
 use Rattle.dbtg_unit.specs.Hands.Local.{Agrees}
 use Rattle.dbtg_unit.specs.Hands.Needs.{need}
-use Rattle.dbtg_step.specs.Core.Whole.{IsGuessed}
+use Rattle.dbtg_step.specs.Inside.Whole.{IsGuessed}
 use Rattle.dbtg_step.proofs.MadeWhole.Wholes.{guessed_nothing, guessed_owners, guessed_without}
 use Rattle.dbtg_step.proofs.whole.guess_owners.Goals as goal
 

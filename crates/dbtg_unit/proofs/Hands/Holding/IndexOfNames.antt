@@ -12,7 +12,7 @@ use Rattle.dbtg_cells.specs.declared.name.CellName.TheVariants.{Usage, Extent, R
 use Rattle.dbtg_cells.specs.Names.{name_eq}
 use Rattle.dbtg_cells.proofs.Public.{name_eq_refl, same_name}
 use Rattle.dbtg_unit.specs.declared.names.NameKey.{NameKey}
-use Rattle.dbtg_unit.specs.Hands.HeldNames.{key_eq, name_key, past_in_place, IsIndexOf, entered, left}
+use Rattle.dbtg_unit.specs.Inside.HeldNames.{key_eq, name_key, past_in_place, IsIndexOf, entered, left}
 
 -- what is said of a value that is there
 pub when_ok : {T E : Type 0} {P : Type 0} (r : Result T E) → is_err r ≡ false → OnOk r P → P

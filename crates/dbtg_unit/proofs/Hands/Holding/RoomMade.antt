@@ -11,7 +11,8 @@ use Rattle.dbtg_unit.specs.Hands.Hands.{Hands, cell_of}
 use Rattle.dbtg_unit.specs.Hands.Lends.{holding, with_cell}
 use Rattle.dbtg_unit.specs.Hands.Making.{ShowsTheSame}
 use Rattle.dbtg_unit.specs.Hands.Prepared.{values_of}
-use Rattle.dbtg_unit.specs.Hands.Reserving.{CanTakeMember, CanTakeUser, KeepRoom, KeepsOthers, KeepsRoom, OfHeld}
+use Rattle.dbtg_unit.specs.Hands.Reserving.{CanTakeMember, CanTakeUser, KeepRoom, KeepsOthers, OfHeld}
+use Rattle.dbtg_unit.specs.Inside.Reserving.{KeepsRoom}
 use Rattle.dbtg_unit.proofs.Hands.Holding.WhileEditing.{Held, cell_of_further, cell_of_here, cell_of_other, with_cell_further, with_cell_here, written_over}
 
 values_same : (c : CellName) (x y : Cell) (cells : Held) → cell_of c cells ≡ Some x → shown y ≡ shown x → values_of (with_cell c y cells) ≡ values_of cells

@@ -22,7 +22,8 @@ use Rattle.dbtg_unit.specs.Hands.Edits.{edited, with_owner, with_stored_items}
 use Rattle.dbtg_unit.specs.Hands.Hands.{Hands, cell_of}
 use Rattle.dbtg_unit.specs.Database.State.Legal.{pairwise}
 use Rattle.dbtg_unit.specs.Hands.Lends.{with_cell}
-use Rattle.dbtg_unit.specs.Hands.Making.{CanEditHeld, CanMake, HaveNextVersions, IsMade, ShowsEdited}
+use Rattle.dbtg_unit.specs.Hands.Making.{CanEditHeld, CanMake, HaveNextVersions, ShowsEdited}
+use Rattle.dbtg_unit.specs.Inside.Making.{IsMade}
 use Rattle.dbtg_unit.specs.Hands.Prepared.{edited_values, value_edited, values_of}
 
 abbrev pub Held : Type 0

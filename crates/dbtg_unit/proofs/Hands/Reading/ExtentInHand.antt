@@ -21,7 +21,8 @@ use Rattle.dbtg_unit.specs.Database.State.Cells.{cell, number_of}
 use Rattle.dbtg_unit.specs.Database.Statements.Effect.{free_number, new_key}
 use Rattle.dbtg_unit.specs.Hands.Hands.{Hands}
 use Rattle.dbtg_unit.specs.Database.Statements.Found.{with_calc}
-use Rattle.dbtg_unit.specs.Hands.InHand.{in_hand, key_of, next_key_of, numbers_in, values_of_key}
+use Rattle.dbtg_unit.specs.Hands.InHand.{in_hand, next_key_of, numbers_in}
+use Rattle.dbtg_unit.specs.Inside.InHand.{key_of, values_of_key}
 use Rattle.dbtg_unit.specs.Database.State.Legal.{Legal}
 use Rattle.dbtg_unit.specs.Hands.Local.{Agrees, holds}
 use Rattle.dbtg_unit.specs.Database.Statements.View.{whole}

@@ -15,7 +15,8 @@ use Rattle.dbtg_cells.proofs.Public.{key_eq_refl, same_key}
 use Rattle.dbtg_unit.specs.declared.statement.Erase.{Erase}
 use Rattle.dbtg_unit.specs.Database.State.Base.{Database, is_live, members_of, is_member}
 use Rattle.dbtg_unit.specs.Database.Statements.Doomed.{all_keys, doomed, drags, takes}
-use Rattle.dbtg_unit.specs.Hands.Erasing.{with_those, taken_with, spread_from, spread, doomed_in_turn}
+use Rattle.dbtg_unit.specs.Hands.Erasing.{with_those, taken_with, spread, doomed_in_turn}
+use Rattle.dbtg_unit.specs.Inside.Erasing.{spread_from}
 use Rattle.dbtg_unit.specs.Database.State.Legal.{Legal, pairwise, differ}
 use Rattle.dbtg_unit.proofs.Lists.Listing.{pairwise_push}
 use Rattle.dbtg_unit.proofs.Database.Legal.ListsChanged.{differ_swap, keeps_member}

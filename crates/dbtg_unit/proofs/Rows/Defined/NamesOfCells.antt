@@ -6,7 +6,7 @@ use Rattle.dbtg_cells.specs.declared.name.CellName.TheVariants.{Usage, Extent, R
 use Rattle.dbtg_cells.specs.Names.{name_lt}
 use Rattle.dbtg_unit.specs.Database.State.CellNames.{area_of_cell}
 use Rattle.dbtg_cells.specs.CellNumbers.{is_cell}
-use Rattle.dbtg_unit.specs.Database.State.Belongs.{is_name_of}
+use Rattle.dbtg_unit.specs.Inside.Belongs.{is_name_of}
 use Rattle.dbtg_unit.specs.Database.State.Legal.{pairwise}
 use Rattle.dbtg_unit.proofs.Rows.Defined.Schemas.{shop, main, side, customers, orders, items, has, lines, watch}
 

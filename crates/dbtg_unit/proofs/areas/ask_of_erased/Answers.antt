@@ -1,5 +1,5 @@
 use Rattle.std.proofs.Common.{◌∙◌}
-use Rattle.dbtg_unit.specs.Database.Statements.Areas.{asks}
+use Rattle.dbtg_unit.specs.Inside.Areas.{asks}
 use Rattle.dbtg_schema.specs.Structure.{erase_areas}
 use Rattle.dbtg_unit.proofs.Lists.QuestionsJoined.{asked_by_mark}
 use Rattle.dbtg_unit.proofs.areas.ask_of_erased.Goals as goal

@@ -2,7 +2,7 @@ use Rattle.std.proofs.Common.{◌≡◌, drop, length}
 use Rattle.std.specs.Prelude.{map, filter, is_some}
 use Rattle.std.specs.List.{list_any, range_with_len}
 use Rattle.dbtg_schema.specs.Structure.{area_of, member_clause, set_member_types}
-use Rattle.dbtg_unit.specs.Database.Statements.Areas.{asks}
+use Rattle.dbtg_unit.specs.Inside.Areas.{asks}
 use Rattle.dbtg_unit.proofs.areas.ask_of_members.Given as goal
 
 abbrev pub invariant-loop-t : goal.invariant-loop-t

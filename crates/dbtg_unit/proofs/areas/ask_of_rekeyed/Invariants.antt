@@ -3,7 +3,7 @@ use Rattle.std.specs.Prelude.{map, filter}
 use Rattle.std.specs.List.{list_any}
 use Rattle.dbtg_schema.specs.Lookups.{some_and}
 use Rattle.dbtg_schema.specs.Structure.{home, member_clause, rekeyed_sets, set_numbers}
-use Rattle.dbtg_unit.specs.Database.Statements.Areas.{asks}
+use Rattle.dbtg_unit.specs.Inside.Areas.{asks}
 use Rattle.dbtg_unit.proofs.areas.ask_of_rekeyed.Given as goal
 
 abbrev pub invariant-loop-s : goal.invariant-loop-s

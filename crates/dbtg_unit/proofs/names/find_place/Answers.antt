@@ -2,7 +2,7 @@ use Rattle.std.proofs.Common.{◌≡◌, ◌∙◌, ap, sym, None}
 use Rattle.std.specs.List.{position_from}
 use Rattle.indexmap.specs.IndexMap.{get}
 use Rattle.dbtg_cells.specs.Names.{name_eq}
-use Rattle.dbtg_unit.specs.Hands.HeldNames.{key_eq, past_in_place}
+use Rattle.dbtg_unit.specs.Inside.HeldNames.{key_eq, past_in_place}
 use Rattle.dbtg_unit.proofs.Hands.Holding.IndexOfNames.{found_in_place}
 use Rattle.dbtg_unit.proofs.names.find_place.Goals as goal
 

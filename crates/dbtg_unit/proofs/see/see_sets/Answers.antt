@@ -2,7 +2,7 @@ use Rattle.std.proofs.Common.{◌≡◌, None, sym, ◌∙◌, ap, ◌+◌, ◌<
 use Rattle.std.proofs.lemmas.List.{length-set}
 use Rattle.std.proofs.lemmas.Option.{slice_get-get_or}
 use Rattle.dbtg_schema.specs.Lookups.{at}
-use Rattle.dbtg_unit.specs.Database.State.Seen.{seen_in_set}
+use Rattle.dbtg_unit.specs.Inside.Seen.{seen_in_set}
 use Rattle.dbtg_unit.proofs.Lists.Numbered.{rewritten, rewritten_all, rewritten_next}
 use Rattle.dbtg_unit.proofs.see.see_sets.Goals as goal
 

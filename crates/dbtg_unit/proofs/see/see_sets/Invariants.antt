@@ -1,5 +1,5 @@
 use Rattle.std.proofs.Common.{◌≡◌, length}
-use Rattle.dbtg_unit.specs.Database.State.Seen.{seen_in_set, seen_in_sets}
+use Rattle.dbtg_unit.specs.Inside.Seen.{seen_in_set, seen_in_sets}
 use Rattle.dbtg_unit.proofs.Lists.Numbered.{rewritten}
 use Rattle.dbtg_unit.proofs.see.see_sets.Given as goal
 

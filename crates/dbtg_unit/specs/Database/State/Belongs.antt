@@ -1,6 +1,6 @@
 -- What it is to be a unit of a schema, and the name of a cell that a schema has.
 -- k is a key, s a set, o an owner, t a record type, a an area, n a number, c a cell.
-use Rattle.std.specs.Prelude.{◌≡◌, ℕ, Bool, true, ◌&&◌, ◌==◌, nat_lt, nat_le, Some, None, length}
+use Rattle.std.specs.Prelude.{◌≡◌, ℕ, Bool, true, ◌&&◌, ◌==◌, nat_lt, nat_le, length}
 use Rattle.std.specs.List.{list_all}
 use Rattle.dbtg_schema.specs.Lists.{Lists}
 use Rattle.dbtg_schema.specs.Lookups.{at}
@@ -8,12 +8,10 @@ use Rattle.dbtg_schema.specs.Structure.{is_system, owns}
 use Rattle.dbtg_cells.specs.declared.key.DbKey.{DbKey}
 use Rattle.dbtg_cells.specs.declared.key.Owner.{Owner}
 use Rattle.dbtg_cells.specs.declared.key.Owner.TheVariants.{System, Rec}
-use Rattle.dbtg_cells.specs.declared.name.CellName.{CellName}
-use Rattle.dbtg_cells.specs.declared.name.CellName.TheVariants.{Usage, Extent, Ring, Slot}
 use Rattle.dbtg_cells.specs.Keys.{key_lt}
 use Rattle.dbtg_unit.specs.declared.unit.Place.{Place}
 use Rattle.dbtg_unit.specs.declared.unit.Unit.{Unit}
-use Rattle.dbtg_unit.specs.Database.Statements.Fits.{if_named, is_area, is_type}
+use Rattle.dbtg_unit.specs.Database.Statements.Fits.{if_named, is_type}
 use Rattle.dbtg_unit.specs.Database.State.Legal.{pairwise}
 
 -- a key of a record type of the schema
@@ -60,11 +58,3 @@ pub record IsWithin (capacity : ℕ) (unit : Unit) : Type 0 where
   pub areas : (a : ℕ) → if_named (λ k. is_number capacity k.number) (at unit.currency.areas a) ≡ true
   pub sets : (s : ℕ) → if_named (λ place. owner_within capacity place.owner && if_named (λ k. is_number capacity k.number) place.at) (at unit.currency.sets s) ≡ true
   pub kept : list_all (λ e. is_number capacity e.0.number) unit.kept ≡ true
-
--- the name of a cell that the schema has, whatever the capacity
-abbrev pub is_name_of : Lists → CellName → Bool
-is_name_of schema (Usage a) = is_area schema a
-is_name_of schema (Extent t) = is_type schema t
-is_name_of schema (Ring s None) = is_system schema s
-is_name_of schema (Ring s (Some p)) = owns schema s p.0
-is_name_of schema (Slot t n) = is_type schema t

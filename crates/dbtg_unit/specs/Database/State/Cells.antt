@@ -1,6 +1,6 @@
 -- What each cell shows of a database.
 -- k is a key, t a record type, n a number, s a set, o an owner or its name in a ring, r a record, db a database.
-use Rattle.std.specs.Prelude.{◌≡◌, ℕ, List, Option, Some, None, map, option_map}
+use Rattle.std.specs.Prelude.{ℕ, List, Option, Some, None, map, option_map}
 use Rattle.std.specs.List.{range_with_len}
 use Rattle.dbtg_schema.specs.Lists.{Lists}
 use Rattle.dbtg_cells.specs.declared.key.DbKey.{DbKey}
@@ -40,7 +40,3 @@ cell schema capacity db (Usage a) = UsageValue (db.usage a)
 cell schema capacity db (Extent t) = ExtentValue (map (number_of schema db t) (range_with_len 1 capacity))
 cell schema capacity db (Ring s o) = RingValue (option_map (ring_of schema db s (owner_at db o)) (db.lists s (owner_at db o)))
 cell schema capacity db (Slot t n) = SlotValue (option_map (slot_of schema capacity db (key_at db t n)) (db.records (key_at db t n)))
-
--- the cells show the database
-abbrev pub Shows : Lists → ℕ → (CellName → CellValue) → Database → Type 0
-Shows schema capacity cells db = (c : CellName) → cells c ≡ cell schema capacity db c

@@ -1,7 +1,7 @@
 use Rattle.std.proofs.Common.{◌∙◌, ap, subst, sym, ℕ, List, inr}
 use Rattle.std.specs.Option.{option_copied_mut}
 use Rattle.indexmap.specs.Layout.{set_value_at}
-use Rattle.dbtg_outcomes.specs.Grouped.{IsAdded, IsAt}
+use Rattle.dbtg_outcomes.specs.Inside.Grouped.{IsAdded, IsAt}
 use Rattle.dbtg_outcomes.specs.declared.groups.Group.{Group}
 use Rattle.dbtg_outcomes.proofs.Lists.Entries.{added_more, some_at, viewed}
 use Rattle.dbtg_outcomes.proofs.groups.Groups.add.Goals as goal

@@ -1,7 +1,7 @@
 use Rattle.std.proofs.Common.{◌≡◌, ◌++◌, ◌∷◌, [], ◌∙◌, ap, subst, sym, ℕ, List, false}
 use Rattle.std.specs.Str.{bytes_eq}
 use Rattle.indexmap.proofs.CallerLemmas.{insert_entry-new}
-use Rattle.dbtg_outcomes.specs.Grouped.{keys_of}
+use Rattle.dbtg_outcomes.specs.Inside.Grouped.{keys_of}
 use Rattle.dbtg_outcomes.specs.Groups.{among}
 use Rattle.dbtg_outcomes.specs.declared.groups.Group.{Group}
 use Rattle.dbtg_outcomes.proofs.Lists.Entries.{absent_lookup, viewed, viewed_append}

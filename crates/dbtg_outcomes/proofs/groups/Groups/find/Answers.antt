@@ -1,6 +1,6 @@
 use Rattle.std.proofs.Common.{◌≡◌, subst, ℕ, List, false}
 use Rattle.std.specs.Prelude.{IfSome, IfNone}
-use Rattle.dbtg_outcomes.specs.Grouped.{IsAt, keys_of}
+use Rattle.dbtg_outcomes.specs.Inside.Grouped.{IsAt, keys_of}
 use Rattle.dbtg_outcomes.specs.Groups.{among}
 use Rattle.dbtg_outcomes.specs.declared.groups.Group.{Group}
 use Rattle.dbtg_outcomes.proofs.Lists.Entries.{absent_by, found_by}

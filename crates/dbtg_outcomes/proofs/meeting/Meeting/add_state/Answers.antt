@@ -1,7 +1,7 @@
 use Rattle.std.proofs.Common.{subst, ℕ, List}
 use Rattle.std.specs.Result.{OnOk}
 use Rattle.dbtg_unit.specs.declared.unit.Entry.{Entry}
-use Rattle.dbtg_outcomes.specs.Grouped.{IsAdded}
+use Rattle.dbtg_outcomes.specs.Inside.Grouped.{IsAdded}
 use Rattle.dbtg_outcomes.proofs.meeting.Meeting.add_state.Goals as goal
 
 pub returns : goal.returns

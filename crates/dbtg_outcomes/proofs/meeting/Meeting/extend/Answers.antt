@@ -1,6 +1,6 @@
 use Rattle.std.proofs.Common.{◌≡◌, ℕ, subst, length, arith}
 use Rattle.std.specs.List.{range_with_len}
-use Rattle.dbtg_outcomes.specs.Steps.{Extends}
+use Rattle.dbtg_outcomes.specs.Inside.Steps.{Extends}
 use Rattle.dbtg_outcomes.proofs.Orders.Extending.{extends_next, extends_none}
 use Rattle.dbtg_outcomes.proofs.meeting.Meeting.extend.Goals as goal
 

@@ -1,5 +1,5 @@
 use Rattle.std.specs.List.{range_with_len}
-use Rattle.dbtg_outcomes.specs.Steps.{Extends}
+use Rattle.dbtg_outcomes.specs.Inside.Steps.{Extends}
 use Rattle.dbtg_outcomes.proofs.meeting.Meeting.extend.Given as goal
 
 abbrev pub invariant-loop-before : goal.invariant-loop-before

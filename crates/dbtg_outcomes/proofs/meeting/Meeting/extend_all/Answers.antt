@@ -2,7 +2,7 @@ use Rattle.std.proofs.Common.{◌≡◌, ◌≤◌, ℕ, sym, subst, List, [], l
 use Rattle.std.proofs.lemmas.List.{take_all}
 use Rattle.std.proofs.lemmas.Result.{err_from_is_err_and}
 use Rattle.dbtg_outcomes.specs.declared.groups.Group.{Group}
-use Rattle.dbtg_outcomes.specs.Steps.{ExtendsAll, HasHistory}
+use Rattle.dbtg_outcomes.specs.Inside.Steps.{ExtendsAll, HasHistory}
 use Rattle.dbtg_outcomes.proofs.Orders.Extending.{extends_group, extends_nothing, lead_to_more}
 use Rattle.dbtg_outcomes.proofs.meeting.Meeting.extend_all.Goals as goal
 

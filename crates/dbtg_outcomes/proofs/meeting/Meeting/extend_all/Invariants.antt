@@ -1,5 +1,5 @@
 use Rattle.std.proofs.Common.{◌≤◌, length, take}
-use Rattle.dbtg_outcomes.specs.Steps.{ExtendsAll}
+use Rattle.dbtg_outcomes.specs.Inside.Steps.{ExtendsAll}
 use Rattle.dbtg_outcomes.proofs.meeting.Meeting.extend_all.Given as goal
 
 abbrev pub invariant-loop-group : goal.invariant-loop-group

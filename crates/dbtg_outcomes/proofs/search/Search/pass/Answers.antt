@@ -3,7 +3,7 @@ use Rattle.std.proofs.lemmas.List.{take_all}
 use Rattle.std.proofs.lemmas.Result.{err_from_is_err_and}
 use Rattle.dbtg_unit.specs.declared.statement.Statement.{Statement}
 use Rattle.dbtg_outcomes.specs.Orders.{count_statements}
-use Rattle.dbtg_outcomes.specs.Steps.{Advances}
+use Rattle.dbtg_outcomes.specs.Inside.Steps.{Advances}
 use Rattle.dbtg_outcomes.proofs.Orders.Counts.{count_next, count_some}
 use Rattle.dbtg_outcomes.proofs.States.Searched.{advances_more, advances_none, over_later, under_way}
 use Rattle.dbtg_outcomes.proofs.search.Search.pass.Goals as goal

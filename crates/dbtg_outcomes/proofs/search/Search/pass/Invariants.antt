@@ -1,6 +1,6 @@
 use Rattle.std.proofs.Common.{take}
 use Rattle.dbtg_outcomes.specs.Orders.{count_statements}
-use Rattle.dbtg_outcomes.specs.Steps.{Advances}
+use Rattle.dbtg_outcomes.specs.Inside.Steps.{Advances}
 use Rattle.dbtg_outcomes.proofs.search.Search.pass.Given as goal
 
 abbrev pub invariant-loop-script : goal.invariant-loop-script

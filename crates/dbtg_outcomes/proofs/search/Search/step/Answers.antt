@@ -3,8 +3,8 @@ use Rattle.std.specs.List.{AllByRecursion}
 use Rattle.std.proofs.lemmas.List.Elements.{All-from_recursion}
 use Rattle.std.proofs.lemmas.Result.{err_from_is_err_and}
 use Rattle.dbtg_outcomes.specs.declared.groups.Group.{Group}
-use Rattle.dbtg_outcomes.specs.Search.{layer}
-use Rattle.dbtg_outcomes.specs.Steps.{HasHistory}
+use Rattle.dbtg_outcomes.specs.Inside.Search.{layer}
+use Rattle.dbtg_outcomes.specs.Inside.Steps.{HasHistory}
 use Rattle.dbtg_outcomes.proofs.States.Searched.{advances_one, held_histories, over_one}
 use Rattle.dbtg_outcomes.proofs.search.Search.step.Goals as goal
 

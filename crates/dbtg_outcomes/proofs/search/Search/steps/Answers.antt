@@ -1,6 +1,6 @@
 use Rattle.std.proofs.Common.{◌≡◌, ℕ, subst, arith}
 use Rattle.std.proofs.lemmas.Result.{err_from_is_err_and}
-use Rattle.dbtg_outcomes.specs.Steps.{Advances}
+use Rattle.dbtg_outcomes.specs.Inside.Steps.{Advances}
 use Rattle.dbtg_outcomes.proofs.States.Searched.{advances_more, advances_none, over_later, under_way}
 use Rattle.dbtg_outcomes.proofs.search.Search.steps.Goals as goal
 

@@ -1,4 +1,4 @@
-use Rattle.dbtg_outcomes.specs.Steps.{Advances}
+use Rattle.dbtg_outcomes.specs.Inside.Steps.{Advances}
 use Rattle.dbtg_outcomes.proofs.search.Search.steps.Given as goal
 
 abbrev pub invariant-loop-turn : goal.invariant-loop-turn

@@ -1,5 +1,5 @@
 use Rattle.std.proofs.Common.{◌≡◌, ◌∙◌, ap, ◌<◌, length, arith}
-use Rattle.dbtg_plan.specs.Finding.{keys_wanted}
+use Rattle.dbtg_plan.specs.Inside.Finding.{keys_wanted}
 use Rattle.dbtg_plan.proofs.Find.KeysInTurn.{count_step, lists_end}
 use Rattle.dbtg_plan.proofs.finding.area.count_keys.Goals as goal
 

@@ -1,5 +1,5 @@
 use Rattle.std.proofs.Common.{◌≡◌, ◌+◌, ◌*◌, ◌≤◌, length}
-use Rattle.dbtg_plan.specs.Finding.{area_keys_in, keys_wanted}
+use Rattle.dbtg_plan.specs.Inside.Finding.{area_keys_in, keys_wanted}
 use Rattle.dbtg_plan.proofs.Find.KeysInTurn.{lists_from}
 use Rattle.dbtg_plan.proofs.finding.area.count_keys.Given as goal
 

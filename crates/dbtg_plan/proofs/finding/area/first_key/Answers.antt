@@ -1,7 +1,7 @@
 use Rattle.std.proofs.Common.{◌<◌, ◌+◌, ◌∙◌, sym, ap, filter, length, arith}
 use Rattle.std.specs.Option.{option_or}
 use Rattle.dbtg_schema.specs.Lookups.{first}
-use Rattle.dbtg_plan.specs.Finding.{is_above, keys_wanted}
+use Rattle.dbtg_plan.specs.Inside.Finding.{is_above, keys_wanted}
 use Rattle.dbtg_plan.proofs.Find.KeysInTurn.{first_step, lists_end, lists_from, or_skip, or_some}
 use Rattle.dbtg_plan.proofs.finding.area.first_key.Goals as goal
 

@@ -1,6 +1,6 @@
 use Rattle.std.proofs.Common.{◌≡◌, filter, length}
 use Rattle.dbtg_schema.specs.Lookups.{first}
-use Rattle.dbtg_plan.specs.Finding.{area_keys_in, is_above, keys_wanted}
+use Rattle.dbtg_plan.specs.Inside.Finding.{area_keys_in, is_above, keys_wanted}
 use Rattle.dbtg_plan.proofs.Find.KeysInTurn.{lists_from}
 use Rattle.dbtg_plan.proofs.finding.area.first_key.Given as goal
 

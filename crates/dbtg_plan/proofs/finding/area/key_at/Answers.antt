@@ -1,6 +1,6 @@
 use Rattle.std.proofs.Common.{◌≡◌, ◌<◌, ◌≤◌, ◌+◌, ◌-◌, ◌∙◌, sym, ap, length, arith}
 use Rattle.std.specs.Prelude.{slice_get}
-use Rattle.dbtg_plan.specs.Finding.{keys_wanted}
+use Rattle.dbtg_plan.specs.Inside.Finding.{keys_wanted}
 use Rattle.dbtg_plan.proofs.Find.KeysInTurn.{lists_end, lists_from, place_behind, place_here}
 use Rattle.dbtg_plan.proofs.finding.area.key_at.Goals as goal
 

@@ -1,7 +1,7 @@
 use Rattle.std.proofs.Common.{◌<◌, ◌+◌, ◌∙◌, sym, ap, filter, length, arith}
 use Rattle.std.specs.Option.{option_or}
 use Rattle.dbtg_schema.specs.Lookups.{final}
-use Rattle.dbtg_plan.specs.Finding.{is_below, keys_wanted}
+use Rattle.dbtg_plan.specs.Inside.Finding.{is_below, keys_wanted}
 use Rattle.dbtg_plan.proofs.Find.KeysInTurn.{last_step, lists_end, lists_from, or_or}
 use Rattle.dbtg_plan.proofs.finding.area.last_key.Goals as goal
 

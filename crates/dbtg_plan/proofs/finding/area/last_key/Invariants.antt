@@ -1,7 +1,7 @@
 use Rattle.std.proofs.Common.{◌≡◌, filter, length}
 use Rattle.std.specs.Option.{option_or}
 use Rattle.dbtg_schema.specs.Lookups.{final}
-use Rattle.dbtg_plan.specs.Finding.{area_keys_in, is_below, keys_wanted}
+use Rattle.dbtg_plan.specs.Inside.Finding.{area_keys_in, is_below, keys_wanted}
 use Rattle.dbtg_plan.proofs.Find.KeysInTurn.{lists_from}
 use Rattle.dbtg_plan.proofs.finding.area.last_key.Given as goal
 

@@ -3,7 +3,7 @@ use Rattle.std.specs.Prelude.{option_map}
 use Rattle.std.proofs.lemmas.Int.{to_z_pos}
 use Rattle.dbtg_schema.specs.Lookups.{nth}
 use Rattle.dbtg_cells.specs.Numbers.{is_used, numbers_where}
-use Rattle.dbtg_unit.specs.Hands.InHand.{key_of}
+use Rattle.dbtg_unit.specs.Inside.InHand.{key_of}
 use Rattle.dbtg_plan.proofs.Find.NumberedKeys.{key_at_place}
 use Rattle.dbtg_plan.proofs.finding.numbered.key_at.Goals as goal
 

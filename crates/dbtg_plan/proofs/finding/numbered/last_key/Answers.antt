@@ -1,8 +1,8 @@
 use Rattle.std.proofs.Common.{◌∙◌, sym, ap}
 use Rattle.std.specs.Prelude.{filter, option_map}
 use Rattle.dbtg_schema.specs.Lookups.{final}
-use Rattle.dbtg_unit.specs.Hands.InHand.{key_of}
-use Rattle.dbtg_plan.specs.Finding.{is_below, keys_of_type}
+use Rattle.dbtg_unit.specs.Inside.InHand.{key_of}
+use Rattle.dbtg_plan.specs.Inside.Finding.{is_below, keys_of_type}
 use Rattle.dbtg_plan.proofs.Find.NumberedKeys.{last_of_all}
 use Rattle.dbtg_plan.proofs.finding.numbered.last_key.Goals as goal
 

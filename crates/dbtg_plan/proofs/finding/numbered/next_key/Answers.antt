@@ -2,7 +2,7 @@ use Rattle.std.proofs.Common.{◌≡◌, ◌∙◌, ap, arith}
 use Rattle.std.specs.Prelude.{filter, nat_lt, option_map}
 use Rattle.dbtg_schema.specs.Lookups.{first}
 use Rattle.dbtg_cells.specs.Numbers.{is_used, numbers_where}
-use Rattle.dbtg_unit.specs.Hands.InHand.{key_of}
+use Rattle.dbtg_unit.specs.Inside.InHand.{key_of}
 use Rattle.dbtg_plan.proofs.Find.NumberedKeys.{none_above, next_own}
 use Rattle.dbtg_plan.proofs.finding.numbered.next_key.Goals as goal
 

@@ -2,7 +2,7 @@ use Rattle.std.proofs.Common.{◌≡◌, ◌∙◌, ap, arith}
 use Rattle.std.specs.Prelude.{filter, nat_lt, option_map}
 use Rattle.dbtg_schema.specs.Lookups.{final}
 use Rattle.dbtg_cells.specs.Numbers.{is_used, numbers_where}
-use Rattle.dbtg_unit.specs.Hands.InHand.{key_of}
+use Rattle.dbtg_unit.specs.Inside.InHand.{key_of}
 use Rattle.dbtg_plan.proofs.Find.NumberedKeys.{all_below, none_below, prior_own}
 use Rattle.dbtg_plan.proofs.finding.numbered.prior_key.Goals as goal
 

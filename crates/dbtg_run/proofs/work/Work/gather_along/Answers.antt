@@ -9,11 +9,11 @@ use Rattle.dbtg_unit.specs.Hands.Making.{IsReady}
 use Rattle.dbtg_unit.specs.Hands.Needs.{is_stale, need}
 use Rattle.dbtg_run.specs.declared.view.About.{About}
 use Rattle.dbtg_run.specs.declared.work.Work.{Work}
-use Rattle.dbtg_run.specs.Kept.{database_after}
-use Rattle.dbtg_run.specs.Posed.{turns_left}
-use Rattle.dbtg_run.specs.Tries.{Suffice}
+use Rattle.dbtg_run.specs.Inside.Kept.{database_after}
+use Rattle.dbtg_run.specs.Inside.Posed.{turns_left}
+use Rattle.dbtg_run.specs.Inside.Tries.{Suffice}
 use Rattle.dbtg_run.specs.declared.tries.Tries.{Tries}
-use Rattle.dbtg_run.specs.Works.{IsAtWork, KnowsBetter}
+use Rattle.dbtg_run.specs.Inside.Works.{IsAtWork, KnowsBetter}
 use Rattle.dbtg_step.specs.Core.Courses.{IsCourseKept}
 use Rattle.dbtg_step.proofs.Public.{no_course}
 use Rattle.dbtg_run.proofs.Units.Courses.{course_goes_on}

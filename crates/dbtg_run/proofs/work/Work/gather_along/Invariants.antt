@@ -2,10 +2,10 @@ use Rattle.std.proofs.Common.{◌≡◌, ◌⊎◌, ◌-◌, ◌<◌, false}
 use Rattle.dbtg_unit.specs.Hands.Making.{IsReady}
 use Rattle.dbtg_unit.specs.Hands.Needs.{is_stale}
 use Rattle.dbtg_step.specs.Core.Courses.{IsCourseKept}
-use Rattle.dbtg_run.specs.Kept.{database_after}
-use Rattle.dbtg_run.specs.Posed.{HoldsSo, turns_left}
-use Rattle.dbtg_run.specs.Tries.{Suffice}
-use Rattle.dbtg_run.specs.Works.{Belongs, IsAtWork, IsSameUnit}
+use Rattle.dbtg_run.specs.Inside.Kept.{database_after}
+use Rattle.dbtg_run.specs.Inside.Posed.{HoldsSo, turns_left}
+use Rattle.dbtg_run.specs.Inside.Tries.{Suffice}
+use Rattle.dbtg_run.specs.Inside.Works.{Belongs, IsAtWork, IsSameUnit}
 use Rattle.dbtg_run.proofs.work.Work.gather_along.Given as goal
 
 -- in a database of one unit, whose database does not change, one turn back is enough

@@ -1,5 +1,5 @@
 use Rattle.std.proofs.Common.{◌≡◌, [], length}
-use Rattle.dbtg_run.specs.Works.{Belongs, IsAtWork, IsSameUnit}
+use Rattle.dbtg_run.specs.Inside.Works.{Belongs, IsAtWork, IsSameUnit}
 use Rattle.dbtg_run.proofs.work.Work.give_back.Given as goal
 
 abbrev pub invariant-areas : goal.invariant-areas

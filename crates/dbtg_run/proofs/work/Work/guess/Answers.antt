@@ -1,7 +1,7 @@
 use Rattle.std.proofs.Common.{◌≡◌, List, Option, length, sym, ap, ◌∙◌, subst}
 use Rattle.dbtg_cells.specs.declared.key.Owner.{Owner}
 use Rattle.dbtg_unit.specs.Hands.Hands.{Hands}
-use Rattle.dbtg_run.specs.Posed.{posed, AreInside}
+use Rattle.dbtg_run.specs.Inside.Posed.{posed, AreInside}
 use Rattle.dbtg_run.proofs.Units.Needing.{owners_length}
 use Rattle.dbtg_run.proofs.work.Work.guess.Goals as goal
 

@@ -1,5 +1,5 @@
 use Rattle.dbtg_unit.specs.Hands.Prepared.{unit_after}
-use Rattle.dbtg_run.specs.Drawn.{cells_after}
+use Rattle.dbtg_run.specs.Inside.Drawn.{cells_after}
 use Rattle.dbtg_run.proofs.work.Work.make_in_hand.Given as goal
 
 abbrev pub ghosts-commit : goal.ghosts-commit

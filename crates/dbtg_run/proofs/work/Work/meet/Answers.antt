@@ -9,10 +9,10 @@ use Rattle.dbtg_unit.specs.Hands.Guesses.{with_owners}
 use Rattle.dbtg_unit.specs.Hands.Hands.{Hands}
 use Rattle.dbtg_unit.specs.Hands.Needs.{is_stale}
 use Rattle.dbtg_step.proofs.Public.{match_true, need_owners_fit, needed_not_in_hand, ok_also}
-use Rattle.dbtg_step.specs.Core.Events.{HaveRings}
+use Rattle.dbtg_step.specs.Inside.Events.{HaveRings}
 use Rattle.dbtg_run.specs.declared.view.About.{About}
-use Rattle.dbtg_run.specs.Posed.{turns_left}
-use Rattle.dbtg_run.specs.Tries.{IsVain}
+use Rattle.dbtg_run.specs.Inside.Posed.{turns_left}
+use Rattle.dbtg_run.specs.Inside.Tries.{IsVain}
 use Rattle.dbtg_run.proofs.Units.Courses.{all_with_area, all_with_cell, same_without_area, same_without_cell}
 use Rattle.dbtg_run.proofs.Units.Needing.{area_needed, stale_needed, not_stale_then, area_nearer, cell_nearer, no_times}
 use Rattle.dbtg_run.proofs.Units.Rings.{needed_has_number, rings_turned}

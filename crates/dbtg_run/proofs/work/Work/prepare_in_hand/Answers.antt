@@ -2,7 +2,7 @@ use Rattle.std.proofs.Common.{◌≡◌, ◌⊎◌, ℕ, List, [], IfOk, sym, ap
 use Rattle.dbtg_schema.specs.Lists.{Lists}
 use Rattle.dbtg_unit.specs.Hands.EditsOf.{is_delete}
 use Rattle.dbtg_unit.specs.Hands.Making.{CanFinish, MayPrepare}
-use Rattle.dbtg_step.specs.Core.Events.{HaveRings}
+use Rattle.dbtg_step.specs.Inside.Events.{HaveRings}
 use Rattle.dbtg_run.specs.declared.view.About.{About}
 use Rattle.dbtg_run.proofs.Units.Prepares.{inside_same, posed_same, ready_same, real_same}
 use Rattle.dbtg_run.proofs.work.Work.prepare_in_hand.Goals as goal

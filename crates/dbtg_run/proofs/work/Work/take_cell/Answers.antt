@@ -10,14 +10,15 @@ use Rattle.dbtg_unit.specs.Database.Statements.Fits.{fits}
 use Rattle.dbtg_unit.specs.Hands.Hands.{Hands}
 use Rattle.dbtg_unit.specs.Hands.Local.{Agrees}
 use Rattle.dbtg_unit.specs.Hands.Needs.{need}
-use Rattle.dbtg_step.specs.Core.Events.{HaveRings}
+use Rattle.dbtg_step.specs.Inside.Events.{HaveRings}
 use Rattle.dbtg_step.proofs.Public.{needed_not_in_hand, number_within}
 use Rattle.dbtg_run.specs.declared.view.About.{About}
 use Rattle.dbtg_cells.specs.Cells.{shown}
 use Rattle.dbtg_cells.proofs.Public.{stands_at}
-use Rattle.dbtg_run.specs.Views.{bare, bared, lone, with_cell}
-use Rattle.dbtg_run.specs.Kept.{area_count, cells_of_table, slot_name}
-use Rattle.dbtg_run.specs.Posed.{AreInside, empty_slots, member_of, posed}
+use Rattle.dbtg_run.specs.Inside.Views.{bare, bared, with_cell}
+use Rattle.dbtg_run.specs.Views.{lone}
+use Rattle.dbtg_run.specs.Inside.Kept.{area_count, cells_of_table, slot_name}
+use Rattle.dbtg_run.specs.Inside.Posed.{AreInside, empty_slots, member_of, posed}
 use Rattle.dbtg_run.proofs.TheRule.Facts.{bared_more}
 use Rattle.dbtg_run.proofs.Units.Uses.{again_as, all_more, cell_free_as, puts_as, real_taken, slot_asks, taken_as, takes_as, took_as, took_it}
 use Rattle.dbtg_run.proofs.work.Work.take_cell.Goals as goal

@@ -1,7 +1,7 @@
 use Rattle.std.proofs.Common.{ℕ, List, Some, None, cond, ap, ◌∙◌}
 use Rattle.std.specs.Option.{option_or}
 use Rattle.std.specs.Str.{bytes_eq}
-use Rattle.dbtg_schema.specs.NameIndexes.{leads_to}
+use Rattle.dbtg_schema.specs.Inside.NameIndexes.{leads_to}
 use Rattle.dbtg_schema.proofs.Known.NameIndexes.{entered_name}
 use Rattle.dbtg_schema.proofs.index.NameIndex.of.Goals as goal
 

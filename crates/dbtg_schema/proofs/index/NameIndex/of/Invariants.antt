@@ -1,5 +1,5 @@
 use Rattle.std.proofs.Common.{map, take}
-use Rattle.dbtg_schema.specs.NameIndexes.{IsIndexOf}
+use Rattle.dbtg_schema.specs.Inside.NameIndexes.{IsIndexOf}
 use Rattle.dbtg_schema.proofs.index.NameIndex.of.Given as goal
 
 abbrev pub invariant-loop-i : goal.invariant-loop-i

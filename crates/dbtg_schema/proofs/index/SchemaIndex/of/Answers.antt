@@ -1,5 +1,5 @@
 use Rattle.std.proofs.Common.{List, subst, sym}
-use Rattle.dbtg_schema.specs.NameIndexes.{AreItemIndexes}
+use Rattle.dbtg_schema.specs.Inside.NameIndexes.{AreItemIndexes}
 use Rattle.dbtg_schema.specs.declared.index.NameIndex.{NameIndex}
 use Rattle.dbtg_schema.proofs.Known.NameIndexes.{indexed}
 use Rattle.dbtg_schema.proofs.index.SchemaIndex.of.Goals as goal

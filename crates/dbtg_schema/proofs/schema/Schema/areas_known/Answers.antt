@@ -1,6 +1,6 @@
 use Rattle.std.proofs.Common.{◌≡◌, ℕ, Some, slice_get, subst, sym}
 use Rattle.dbtg_schema.specs.Lists.{Lists}
-use Rattle.dbtg_schema.specs.Erasing.{AreErased}
+use Rattle.dbtg_schema.specs.Inside.Erasing.{AreErased}
 use Rattle.dbtg_schema.proofs.Known.EachAt.{one_at}
 use Rattle.dbtg_schema.proofs.schema.Schema.areas_known.Goals as goal
 

@@ -1,6 +1,6 @@
 use Rattle.std.proofs.Common.{◌≡◌, ℕ, Some, slice_get, subst, sym}
 use Rattle.dbtg_schema.specs.Lists.{Lists}
-use Rattle.dbtg_schema.specs.Connecting.{AreConnecting}
+use Rattle.dbtg_schema.specs.Inside.Connecting.{AreConnecting}
 use Rattle.dbtg_schema.proofs.Known.EachAt.{one_at}
 use Rattle.dbtg_schema.proofs.schema.Schema.connecting_known.Goals as goal
 

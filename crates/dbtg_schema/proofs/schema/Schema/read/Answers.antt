@@ -3,7 +3,7 @@ use Rattle.dbtg_schema.specs.declared.queries.Labelled as code
 use Rattle.dbtg_schema.specs.Texts.Forms.{Derives}
 use Rattle.dbtg_schema.specs.Texts.SchemaGrammar.{fits, schema}
 use Rattle.dbtg_schema.specs.Texts.SchemaLists.{schema_of}
-use Rattle.dbtg_schema.specs.Texts.Views.{views}
+use Rattle.dbtg_schema.specs.Inside.Views.{views}
 use Rattle.dbtg_schema.specs.Named.{IsNamed}
 use Rattle.dbtg_schema.proofs.Sound.NamesSpelled.{has_names}
 use Rattle.dbtg_schema.proofs.schema.Schema.read.Goals as goal

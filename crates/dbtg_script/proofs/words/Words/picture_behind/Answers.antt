@@ -6,8 +6,8 @@ use Rattle.dbtg_schema.specs.Structure.{picture_of}
 use Rattle.dbtg_script.specs.Labels.{is, named, text_of}
 use Rattle.dbtg_script.specs.Lookups.{item_picture, type_no}
 use Rattle.dbtg_script.specs.StatementFaults.{type_in}
-use Rattle.dbtg_script.specs.Views.{view_labelled}
-use Rattle.dbtg_script.specs.Words.{LineWords}
+use Rattle.dbtg_script.specs.Inside.Views.{view_labelled}
+use Rattle.dbtg_script.specs.Inside.Words.{LineWords}
 use Rattle.dbtg_script.specs.declared.role.Role.TheVariants as role
 use Rattle.dbtg_script.proofs.Reading.WordSteps.{named_kept, named_there, no_record, no_type, type_kept}
 use Rattle.dbtg_script.proofs.words.Words.picture_behind.Goals as goal

@@ -4,8 +4,8 @@ use Rattle.std.proofs.lemmas.List.{map_push}
 use Rattle.dbtg_script.specs.Labels.{named}
 use Rattle.dbtg_script.specs.Lookups.{item_picture, type_named}
 use Rattle.dbtg_script.specs.StatementFaults.{type_in, type_text}
-use Rattle.dbtg_script.specs.Views.{view_labelled, views}
-use Rattle.dbtg_script.specs.Words.{LineWords}
+use Rattle.dbtg_script.specs.Inside.Views.{view_labelled, views}
+use Rattle.dbtg_script.specs.Inside.Words.{LineWords}
 use Rattle.dbtg_script.specs.declared.role.Role.TheVariants as role
 use Rattle.dbtg_script.proofs.Reading.WordSteps.{noted_behind}
 use Rattle.dbtg_script.proofs.words.Words.push.Goals as goal

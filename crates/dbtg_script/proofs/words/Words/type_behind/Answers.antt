@@ -3,8 +3,8 @@ use Rattle.std.specs.Prelude.{IfSome}
 use Rattle.dbtg_script.specs.Labels.{has, is}
 use Rattle.dbtg_script.specs.Lookups.{type_named}
 use Rattle.dbtg_script.specs.StatementFaults.{type_text}
-use Rattle.dbtg_script.specs.Views.{view_labelled}
-use Rattle.dbtg_script.specs.Words.{LineWords}
+use Rattle.dbtg_script.specs.Inside.Views.{view_labelled}
+use Rattle.dbtg_script.specs.Inside.Words.{LineWords}
 use Rattle.dbtg_script.specs.declared.role.Role.TheVariants as role
 use Rattle.dbtg_script.proofs.Reading.WordSteps.{record_there, type_kept, type_there}
 use Rattle.dbtg_script.proofs.words.Words.type_behind.Goals as goal

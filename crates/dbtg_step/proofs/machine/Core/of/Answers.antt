@@ -1,7 +1,7 @@
 use Rattle.std.proofs.Common.{ap, sym, subst}
 use Rattle.dbtg_schema.specs.Lists.{Lists}
-use Rattle.dbtg_step.specs.Core.Events.{IsWell}
-use Rattle.dbtg_step.specs.Core.Parts.{core_of}
+use Rattle.dbtg_step.specs.Inside.Events.{IsWell}
+use Rattle.dbtg_step.specs.Inside.Parts.{core_of}
 use Rattle.dbtg_step.proofs.machine.Core.of.Goals as goal
 
 pub invariant_of-result : goal.invariant_of-result

@@ -1,6 +1,7 @@
 use Rattle.std.proofs.Common.{subst}
 use Rattle.dbtg_step.specs.Core.CoreSteps.{IsQuitStep}
-use Rattle.dbtg_step.specs.Core.Parts.{CoreParts, core_of, machine}
+use Rattle.dbtg_step.specs.Core.Parts.{CoreParts, machine}
+use Rattle.dbtg_step.specs.Inside.Parts.{core_of}
 use Rattle.dbtg_step.proofs.TheCore.QuitShown.{core_quit, never_stuck_well, quit_well}
 use Rattle.dbtg_step.proofs.machine.Core.quit.Goals as goal
 

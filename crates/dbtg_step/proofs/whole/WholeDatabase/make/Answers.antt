@@ -2,7 +2,8 @@ use Rattle.std.proofs.Common.{◌≡◌, ◌∙◌, ◌-◌, ◌++◌, ◌∷◌
 use Rattle.std.proofs.lemmas.Option.{slice_get_read}
 use Rattle.dbtg_unit.specs.declared.unit.Entry.{Entry}
 use Rattle.dbtg_unit.specs.Database.Statements.Fits.{fits}
-use Rattle.dbtg_step.specs.Core.Whole.{HasMade, IsWhole, Making}
+use Rattle.dbtg_step.specs.Core.Whole.{HasMade, Making}
+use Rattle.dbtg_step.specs.Inside.Whole.{IsWhole}
 use Rattle.dbtg_step.proofs.MadeWhole.Wholes.{made_then, maker, maker_agrees, making, may_go_on, now, unmade_at, whole_then}
 use Rattle.dbtg_step.proofs.whole.WholeDatabase.make.Goals as goal
 

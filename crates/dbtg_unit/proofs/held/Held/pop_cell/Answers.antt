@@ -2,7 +2,7 @@ use Rattle.std.proofs.Common.{◌∙◌, sym, ap, subst, ◌++◌, ◌∷◌, []
 use Rattle.std.proofs.lemmas.List.{length-append}
 use Rattle.indexmap.specs.IndexMap.{get}
 use Rattle.dbtg_unit.specs.declared.names.NameKey.{NameKey}
-use Rattle.dbtg_unit.specs.Hands.HeldNames.{IsIndexOf, key_eq, left, name_key}
+use Rattle.dbtg_unit.specs.Inside.HeldNames.{IsIndexOf, key_eq, left, name_key}
 use Rattle.dbtg_unit.proofs.Hands.Holding.NamesAndCells.{popped}
 use Rattle.dbtg_unit.proofs.Hands.Holding.IndexOfNames.{popped_index}
 use Rattle.dbtg_unit.proofs.held.Held.pop_cell.Goals as goal

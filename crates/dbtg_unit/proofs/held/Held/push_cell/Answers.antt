@@ -4,7 +4,7 @@ use Rattle.std.specs.List.{list_any}
 use Rattle.indexmap.specs.IndexMap.{get}
 use Rattle.dbtg_unit.specs.declared.names.NameKey.{NameKey}
 use Rattle.dbtg_cells.specs.Names.{name_eq}
-use Rattle.dbtg_unit.specs.Hands.HeldNames.{IsIndexOf, entered, key_eq, name_key, past_in_place}
+use Rattle.dbtg_unit.specs.Inside.HeldNames.{IsIndexOf, entered, key_eq, name_key, past_in_place}
 use Rattle.dbtg_unit.proofs.Hands.Holding.NamesAndCells.{pushed}
 use Rattle.dbtg_unit.proofs.Hands.Holding.IndexOfNames.{pushed_index, stands_nowhere, when_ok}
 use Rattle.dbtg_unit.proofs.held.Held.push_cell.Goals as goal

@@ -1,5 +1,5 @@
 use Rattle.std.proofs.lemmas.Result.{err_from_is_err_and}
-use Rattle.dbtg.specs.Sessions.{IsAsBefore}
+use Rattle.dbtg.specs.Inside.Sessions.{IsAsBefore}
 use Rattle.dbtg.proofs.shell.session.Script.enter.Goals as goal
 
 pub returns-clause-entered : goal.returns-clause-entered

@@ -5,7 +5,8 @@ use Rattle.dbtg_schema.specs.Lists.{Lists}
 use Rattle.dbtg_unit.specs.declared.unit.Entry.{Entry}
 use Rattle.dbtg_script.specs.Printing.WordTexts.{turns_text}
 use Rattle.dbtg.proofs.SessionTurns.{are_turns}
-use Rattle.dbtg.specs.Sessions.{AreTurnsOf, IsSession, Typed}
+use Rattle.dbtg.specs.Sessions.{AreTurnsOf, Typed}
+use Rattle.dbtg.specs.Inside.Sessions.{IsSession}
 use Rattle.dbtg.proofs.shell.session.Session.turns.Goals as goal
 
 pub returns : goal.returns

@@ -1,0 +1,14 @@
+-- Groups as they are given out.
+use Rattle.std.specs.Prelude.{ℕ, List, [], ◌∷◌, Option, map}
+use Rattle.dbtg_outcomes.specs.declared.groups.Group.{Group}
+use Rattle.dbtg_outcomes.specs.declared.outcomes.OneResult.{OneResult}
+use Rattle.dbtg_outcomes.specs.Inside.Grouped.{sum_of}
+
+-- a group as a result
+abbrev pub one_result : Group → OneResult
+one_result g = record { turns = map (λ e. e.unit) g.history; orders = g.orders }
+
+-- so many orders, and those of groups
+abbrev pub all_orders : Option ℕ → List Group → Option ℕ
+all_orders n [] = n
+all_orders n (g ∷ gs) = all_orders (sum_of n g.orders) gs

@@ -1,0 +1,9 @@
+-- What no contract of an exported function reaches: how the code keeps its parts, and words that lemmas use. Nobody has to believe it.
+-- May use: the definitions beside this folder, which name nothing of it.
+pub mod Drawn
+pub mod Kept
+pub mod Posed
+pub mod Settling
+pub mod Tries
+pub mod Views
+pub mod Works

@@ -1,0 +1,7 @@
+-- A word beside `Words` that private functions and lemmas use.
+use Rattle.dbtg_schema.specs.declared.scanner.Word as code
+use Rattle.dbtg_schema.specs.Texts.Words.{Word}
+
+-- a word without where it lies in memory
+abbrev pub view : code.Word → Word
+view w = record { text = w.text.now; line = w.line }

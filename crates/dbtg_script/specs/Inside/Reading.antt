@@ -1,0 +1,20 @@
+-- Words beside `Reading` that private functions and lemmas use.
+use Rattle.std.specs.Prelude.{ℕ, List, Option}
+use Rattle.dbtg_schema.specs.Lists.{Lists}
+use Rattle.dbtg_schema.specs.Lookups.{first}
+use Rattle.dbtg_script.specs.declared.fault.Cause.TheVariants as cause
+use Rattle.dbtg_script.specs.declared.fault.Fault.{Fault}
+use Rattle.dbtg_script.specs.declared.fault.LineFault.{LineFault}
+use Rattle.dbtg_script.specs.declared.fault.LineFault.TheVariants as line
+use Rattle.dbtg_script.specs.declared.fault.ScriptFault.{ScriptFault}
+use Rattle.dbtg_script.specs.declared.fault.ScriptFault.TheVariants as script
+use Rattle.dbtg_script.specs.StatementFaults.{lines_faults}
+
+-- the first fault of lines, of which the first has this number, behind so many statements
+unfoldable pub lines_verdict : Lists → ℕ → ℕ → List (List ℕ) → Option Fault
+lines_verdict schema count number ls = first (lines_faults schema count number ls)
+
+-- the fault of a line, with the number of the line
+abbrev pub at_line : ℕ → LineFault → ScriptFault
+at_line number line.Memory = script.Memory
+at_line number (line.Refused cause) = script.Refused number cause

@@ -1,0 +1,16 @@
+-- How an audit goes: one entry after another, each made whole by its unit.
+use Rattle.std.specs.Prelude.{◌≡◌, true, [], ◌∷◌, ◌++◌, Some, length}
+use Rattle.dbtg_unit.specs.declared.unit.Entry.{Entry}
+use Rattle.dbtg_unit.specs.Database.Statements.Fits.{fits}
+use Rattle.dbtg_unit.specs.Database.Laws.Replay.{answer_to}
+use Rattle.dbtg_step.specs.Core.Whole.{Making, state_now}
+
+-- the entry is the database's next one
+pub record GoesOn (m : Making) (entry : Entry) : Type 0 where
+  pub ticket : entry.ticket ≡ length m.history
+  pub fitting : fits m.schema entry.statement ≡ true
+  pub answer : answer_to m.schema m.capacity (state_now m) entry ≡ Some entry.answer
+
+-- just this entry has joined the history
+abbrev pub HasJoined : Entry → Making → Making → Type 0
+HasJoined entry old new = new ≡ record old { history = old.history ++ entry ∷ [] }
