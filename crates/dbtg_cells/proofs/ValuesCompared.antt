@@ -2,16 +2,16 @@
 use Rattle.std.proofs.Common.{◌≡◌, ◌≢◌, ℕ, zero, suc, ◌<◌, ◌≤◌, Bool, true, false, List, [], ◌∷◌, length, drop, length-drop, refl, sym, ap, arith, true≢false}
 use Rattle.std.proofs.lemmas.Bool.{and_parts}
 use Rattle.dbtg_cells.specs.declared.key.Value.{Value}
-use Rattle.dbtg_cells.specs.Keys.{bytes_lt, value_eq, values_eq}
+use Rattle.dbtg_cells.specs.Keys.{bytes_below, value_eq, values_eq}
 
 -- the first list has ended, and the second has not
-pub bytes_lt_ended : (i : ℕ) (a b : List ℕ) → length a ≤ i → i < length b → bytes_lt (drop i a) (drop i b) ≡ true
+pub bytes_lt_ended : (i : ℕ) (a b : List ℕ) → length a ≤ i → i < length b → bytes_below (drop i a) (drop i b) ≡ true
 bytes_lt_ended i a [] ended within = absurd (omega arith)
 bytes_lt_ended zero [] (y ∷ ys) ended within = refl
 bytes_lt_ended zero (x ∷ xs) (y ∷ ys) ended within = absurd (omega arith)
 bytes_lt_ended (suc i) [] (y ∷ ys) ended within = bytes_lt_rest (drop i ys) (omega (arith, length-drop i ys))
   where
-    bytes_lt_rest : (zs : List ℕ) → 0 < length zs → bytes_lt [] zs ≡ true
+    bytes_lt_rest : (zs : List ℕ) → 0 < length zs → bytes_below [] zs ≡ true
     bytes_lt_rest [] h = absurd (omega arith)
     bytes_lt_rest (z ∷ zs) h = refl
 bytes_lt_ended (suc i) (x ∷ xs) (y ∷ ys) ended within = bytes_lt_ended i xs ys (omega arith) (omega arith)

@@ -25,15 +25,15 @@ place_lt (Some p) (Some q) = nat_lt p.0 q.0 || (p.0 == q.0 && nat_lt p.1 q.1)
 place_lt _ None = false
 
 -- usage, extents, rings by set and owner, slots by record type and number
-abbrev pub name_lt : CellName → CellName → Bool
-name_lt (Usage a) (Usage b) = nat_lt a b
-name_lt (Usage a) _ = true
-name_lt (Extent t) (Usage b) = false
-name_lt (Extent t) (Extent u) = nat_lt t u
-name_lt (Extent t) _ = true
-name_lt (Ring s o) (Usage b) = false
-name_lt (Ring s o) (Extent u) = false
-name_lt (Ring s o) (Ring t p) = nat_lt s t || (s == t && place_lt o p)
-name_lt (Ring s o) (Slot u m) = true
-name_lt (Slot t n) (Slot u m) = nat_lt t u || (t == u && nat_lt n m)
-name_lt (Slot t n) _ = false
+abbrev pub name_below : CellName → CellName → Bool
+name_below (Usage a) (Usage b) = nat_lt a b
+name_below (Usage a) _ = true
+name_below (Extent t) (Usage b) = false
+name_below (Extent t) (Extent u) = nat_lt t u
+name_below (Extent t) _ = true
+name_below (Ring s o) (Usage b) = false
+name_below (Ring s o) (Extent u) = false
+name_below (Ring s o) (Ring t p) = nat_lt s t || (s == t && place_lt o p)
+name_below (Ring s o) (Slot u m) = true
+name_below (Slot t n) (Slot u m) = nat_lt t u || (t == u && nat_lt n m)
+name_below (Slot t n) _ = false

@@ -1,6 +1,6 @@
 //! The names of cells.
 ghost use Rattle.std.specs.Prelude.{◌≡◌};
-ghost use Rattle.dbtg_cells.specs.Names.{name_eq, name_lt};
+ghost use Rattle.dbtg_cells.specs.Names.{name_eq, name_below};
 
 use dbtg_schema::{AreaNo, RecordNo, SetNo};
 
@@ -33,7 +33,7 @@ pub fn same_name(a: CellName, b: CellName) -> bool
 
 /// Whether one name comes before another.
 pub fn name_below(a: CellName, b: CellName) -> bool
-    ensures { result ≡ name_lt a b }
+    ensures { result ≡ name_below a b }
 {
     a < b
 }

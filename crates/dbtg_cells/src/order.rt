@@ -47,7 +47,7 @@ fn label_of(labels: &[u64], node: usize) -> u64
     }
 }
 
-fn is_label_below(labels: &[u64], node: usize, other: usize) -> bool
+fn label_below(labels: &[u64], node: usize, other: usize) -> bool
     ensures { result ≡ label_below labels.now node other }
 {
     label_of(labels, node) < label_of(labels, other)
@@ -59,7 +59,7 @@ fn place_among(nodes: &[u32], labels: &[u64], node: usize) -> usize
     requires listed { list_any (λ n. n == node) nodes.now ≡ true }
     ensures { slice_get nodes.now result ≡ Some node }
 {
-    nodes.partition_point(|other| is_label_below(labels, *other as usize, node))
+    nodes.partition_point(|other| label_below(labels, *other as usize, node))
 }
 
 fn node_at(nodes: &[u32], place: usize) -> Option<usize>

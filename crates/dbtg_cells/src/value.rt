@@ -1,7 +1,7 @@
 //! Values of items: copies, and comparisons.
 ghost use Rattle.std.specs.Prelude.{◌≡◌, List, IfOk, Option};
-ghost use Rattle.dbtg_cells.specs.Keys.{bytes_same, bytes_lt, value_eq, value_lt, values_eq, option_value_eq};
-ghost use Rattle.dbtg_cells.specs.Orders.{key_below, comes_before};
+ghost use Rattle.dbtg_cells.specs.Keys.{bytes_same, bytes_below, value_eq, value_below, values_eq, option_value_eq};
+ghost use Rattle.dbtg_cells.specs.Orders.{sort_key_below, comes_before};
 
 use crate::key::Value;
 use dbtg_schema::{Duplicates, Row};
@@ -26,7 +26,7 @@ fn same_bytes(a: &[u8], b: &[u8]) -> bool
 }
 
 fn bytes_below(a: &[u8], b: &[u8]) -> bool
-    ensures { result ≡ bytes_lt a.now b.now }
+    ensures { result ≡ bytes_below a.now b.now }
 {
     for (i, y) in b.iter().enumerate() {
         match a.get(i) {
@@ -54,7 +54,7 @@ pub fn same_value(a: &Value, b: &Value) -> bool
 
 /// Whether one value comes before another of its kind.
 pub fn value_below(a: &Value, b: &Value) -> bool
-    ensures { result ≡ value_lt a.now b.now }
+    ensures { result ≡ value_below a.now b.now }
 {
     match (a, b) {
         (Value::Num(m), Value::Num(n)) => *m < *n,
@@ -90,7 +90,7 @@ pub fn same_sort_key(a: &Option<Value>, b: &Option<Value>) -> bool
 
 /// Whether one sort key comes strictly before another, in the direction of the set.
 pub fn sort_key_below(ascending: bool, a: &Option<Value>, b: &Option<Value>) -> bool
-    ensures { result ≡ key_below ascending a.now b.now }
+    ensures { result ≡ sort_key_below ascending a.now b.now }
 {
     match (a, b) {
         (Some(x), Some(y)) => {

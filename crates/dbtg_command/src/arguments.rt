@@ -99,8 +99,7 @@ fn explain_option<'a>(alloc: Global) -> Arg<'a> {
 }
 
 fn limit_option<'a>(alloc: Global) -> Arg<'a> {
-    let help =
-        "States to allow, 1 to 1000000000; a million can take 7 GB";
+    let help = "States to allow, 1 to 1000000000; a million can take 7 GB";
     number_option(alloc, "limit", "1000000", help)
 }
 

@@ -65,7 +65,7 @@ pub enum Topic {
 }
 
 /// The number that digits say, up to a greatest one.
-fn number_up_to(digits: &[u8], most: u16) -> Option<u16>
+fn number_in(digits: &[u8], most: u16) -> Option<u16>
     ensures { result ≡ number_in most digits.now }
 {
     if !is_number(digits) {
@@ -133,8 +133,8 @@ pub fn topic_of(words: &[&str]) -> Option<Topic>
 {
     match words {
         [] => Some(Topic::All),
-        [code] if code.len() == 4 => status_topic(number_up_to(code.as_bytes(), 9999)?),
-        [kind, number] => fault_topic(kind_of(kind)?, number_up_to(number.as_bytes(), 99)?),
+        [code] if code.len() == 4 => status_topic(number_in(code.as_bytes(), 9999)?),
+        [kind, number] => fault_topic(kind_of(kind)?, number_in(number.as_bytes(), 99)?),
         _ => None,
     }
 }
@@ -242,7 +242,7 @@ fn push_entry(out: &mut Vec<u8>, name: &[u8], code: &[u8], meaning: &[u8]) -> Re
 fn cause_of(status: &[u8]) -> Option<&'static [u8]>
     ensures { option_map (λ cause. cause.now) result ≡ cause_of status.now }
 {
-    let code = number_up_to(field(status, 0), 9999)?;
+    let code = number_in(field(status, 0), 9999)?;
     row_with(CAUSES, code % 100)
 }
 

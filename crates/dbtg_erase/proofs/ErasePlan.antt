@@ -35,7 +35,7 @@ use Rattle.dbtg_unit.specs.Database.Statements.Effect.{is_gone, version_of}
 use Rattle.dbtg_unit.specs.Hands.Erasing.{cells_of_doomed, delete_cells, doomed_in_turn, members_of_all, names_once, outer_cells, own_rings, rings_to_member, with_those}
 use Rattle.dbtg_unit.specs.Hands.Hands.{Hands}
 use Rattle.dbtg_unit.specs.Hands.InHand.{owner_in, version_in, in_hand}
-use Rattle.dbtg_unit.specs.Database.State.Kept.{entry_again, noted_again}
+use Rattle.dbtg_unit.specs.Database.State.Kept.{renoted_entry, noted_again}
 use Rattle.dbtg_unit.specs.Hands.Local.{Agrees, holds}
 use Rattle.dbtg_unit.specs.Hands.Prepared.{Plan, renoted_at}
 use Rattle.dbtg_erase.specs.Inside.ErasePlan.{erasing_plan, raised_versions}
@@ -91,8 +91,8 @@ key_eq_swap x y =
 noted_each : (version : DbKey → ℕ) (ys : List DbKey) (kept : List (DbKey × ℕ)) → renoted_at (map (λ x. (x, version x)) ys) kept ≡ map (entry_at version ys) kept
 noted_each version [] kept = map_id kept
 noted_each version (y ∷ ys) kept =
-    noted_each version ys (noted_again y (version y) kept) ∙ map_twice (entry_at version ys) (entry_again y (version y)) kept ∙ map_same _ _ kept one where
-      one : (e : DbKey × ℕ) → entry_at version ys (entry_again y (version y) e) ≡ entry_at version (y ∷ ys) e
+    noted_each version ys (noted_again y (version y) kept) ∙ map_twice (entry_at version ys) (renoted_entry y (version y)) kept ∙ map_same _ _ kept one where
+      one : (e : DbKey × ℕ) → entry_at version ys (renoted_entry y (version y) e) ≡ entry_at version (y ∷ ys) e
       one e =
           elim (cases_Bool (key_eq e.0 y)) [
             | inl same ↦

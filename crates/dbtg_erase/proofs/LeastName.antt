@@ -5,7 +5,7 @@ use Rattle.std.specs.List.{find}
 use Rattle.std.proofs.lemmas.Bool.{and_parts, cases_Bool, false≢true, false_from_ne_true}
 use Rattle.std.proofs.lemmas.Option.{none-some, same_Some}
 use Rattle.dbtg_cells.specs.declared.name.CellName.{CellName}
-use Rattle.dbtg_cells.specs.Names.{name_lt}
+use Rattle.dbtg_cells.specs.Names.{name_below}
 use Rattle.dbtg_cells.proofs.Public.{either_way}
 use Rattle.dbtg_unit.specs.Database.State.Legal.{pairwise}
 use Rattle.dbtg_unit.proofs.Public.{In, all_at, in_filter, name_chain, name_never, of_filter}
@@ -13,10 +13,10 @@ use Rattle.dbtg_erase.specs.NextCell.{least_name, nearer}
 
 -- c, or a name behind it
 abbrev pub AtOrBehind : CellName → CellName → Type 0
-AtOrBehind c d = (d ≡ c) ⊎ (name_lt c d ≡ true)
+AtOrBehind c d = (d ≡ c) ⊎ (name_below c d ≡ true)
 
-not_before : (c d : CellName) → AtOrBehind c d → name_lt d c ≡ false
-not_before c d (inl e) = false_from_ne_true _ (λ h. name_never c (subst (λ (x : CellName). name_lt x c ≡ true) e h))
+not_before : (c d : CellName) → AtOrBehind c d → name_below d c ≡ false
+not_before c d (inl e) = false_from_ne_true _ (λ h. name_never c (subst (λ (x : CellName). name_below x c ≡ true) e h))
 not_before c d (inr b) = false_from_ne_true _ (λ h. name_never c (name_chain c d c b h))
 
 -- once it is the best it stays
@@ -31,13 +31,13 @@ becomes_best c best (x ∷ xs) behind (inl e) h = ap (λ (b : CellName). least_n
   now : (best : Option CellName) → ((b : CellName) → best ≡ Some b → AtOrBehind c b) → nearer best x ≡ c
   now None behind = e
   now (Some b) behind = by (behind b refl) where
-    by : AtOrBehind c b → cond (name_lt x b) x b ≡ c
-    by (inl same) = ap (λ (y : CellName). cond (name_lt y b) y b) e ∙ ap (λ (y : CellName). cond (name_lt c y) c y) same ∙ either_way (name_lt c c) c
-    by (inr later) = ap (λ (y : CellName). cond (name_lt y b) y b) e ∙ ap (λ t. cond t c b) later
+    by : AtOrBehind c b → cond (name_below x b) x b ≡ c
+    by (inl same) = ap (λ (y : CellName). cond (name_below y b) y b) e ∙ ap (λ (y : CellName). cond (name_below c y) c y) same ∙ either_way (name_below c c) c
+    by (inr later) = ap (λ (y : CellName). cond (name_below y b) y b) e ∙ ap (λ t. cond t c b) later
 becomes_best c best (x ∷ xs) behind (inr i) h = becomes_best c (Some (nearer best x)) xs (λ b e. subst (AtOrBehind c) (same_Some (nearer best x) b e) (one best behind)) i (λ d j. h d (inr j)) where
   one : (best : Option CellName) → ((b : CellName) → best ≡ Some b → AtOrBehind c b) → AtOrBehind c (nearer best x)
   one None behind = h x (inl refl)
-  one (Some b) behind = elim (name_lt x b) as (λ t. AtOrBehind c (cond t x b)) [ true ↦ h x (inl refl) | false ↦ behind b refl ]
+  one (Some b) behind = elim (name_below x b) as (λ t. AtOrBehind c (cond t x b)) [ true ↦ h x (inl refl) | false ↦ behind b refl ]
 
 nothing_passes : (p : CellName → Bool) (ys : List CellName) → ((y : CellName) → In y ys → p y ≡ false) → filter p ys ≡ []
 nothing_passes p [] h = refl
@@ -48,9 +48,9 @@ abbrev pub Ascends : List CellName → Type 0
 Ascends [] = ⊤
 Ascends (c ∷ cs) = ((d : CellName) → In d cs → AtOrBehind c d) × Ascends cs
 
-pub ascends_of : (cs : List CellName) → pairwise name_lt cs ≡ true → Ascends cs
+pub ascends_of : (cs : List CellName) → pairwise name_below cs ≡ true → Ascends cs
 ascends_of [] h = tt
-ascends_of (c ∷ cs) h = let parts = and_parts _ _ h in (λ d i. inr (all_at (name_lt c) d cs parts.0 i), ascends_of cs parts.1)
+ascends_of (c ∷ cs) h = let parts = and_parts _ _ h in (λ d i. inr (all_at (name_below c) d cs parts.0 i), ascends_of cs parts.1)
 
 -- the first of an ascending list that passes, as the least of the same names in any order
 pub first_is_least : (p : CellName → Bool) (xs ys : List CellName) → Ascends xs → ((c : CellName) → In c xs → In c ys) → ((c : CellName) → In c ys → In c xs) → find p xs ≡ least_name None (filter p ys)

@@ -11,7 +11,7 @@ use Rattle.dbtg_cells.specs.declared.key.Owner.TheVariants.{System, Rec}
 use Rattle.dbtg_cells.specs.declared.name.CellName.{CellName}
 use Rattle.dbtg_cells.specs.declared.name.CellName.TheVariants.{Extent, Ring}
 use Rattle.dbtg_cells.specs.Keys.{is_member}
-use Rattle.dbtg_cells.specs.Names.{name_lt}
+use Rattle.dbtg_cells.specs.Names.{name_below}
 use Rattle.dbtg_unit.specs.Database.State.Base.{Database, is_live, key_at, live_keys, members_of, owner_of, owners}
 use Rattle.dbtg_unit.specs.Database.State.CellNames.{place_of}
 use Rattle.dbtg_unit.specs.Hands.Erasing.{outer_cells}
@@ -35,12 +35,12 @@ pairwise_map f r q (x ∷ xs) h g = let gs = and_parts _ _ g in and_from _ _ (al
 
 -- rings set by set
 rings_ascend : (f : ℕ → List CellName) (sets : List ℕ) → pairwise nat_lt sets ≡ true
-    → ((s t : ℕ) (c d : CellName) → In c (f s) → In d (f t) → nat_lt s t ≡ true → name_lt c d ≡ true) → ((s : ℕ) → pairwise name_lt (f s) ≡ true) → pairwise name_lt (flat_map f sets) ≡ true
+    → ((s t : ℕ) (c d : CellName) → In c (f s) → In d (f t) → nat_lt s t ≡ true → name_below c d ≡ true) → ((s : ℕ) → pairwise name_below (f s) ≡ true) → pairwise name_below (flat_map f sets) ≡ true
 rings_ascend f [] h between each = refl
 rings_ascend f (s ∷ sets) h between each =
     let hs = and_parts _ _ h in
-    ascending_join name_lt (f s) (flat_map f sets) (each s) (rings_ascend f sets hs.1 between each)
-    (λ c i. all_in (name_lt c) (flat_map f sets) (λ d j. let t = of_flat_map f d sets j in between s t.0 c d i t.2 (all_at (nat_lt s) t.0 sets hs.0 t.1)))
+    ascending_join name_below (f s) (flat_map f sets) (each s) (rings_ascend f sets hs.1 between each)
+    (λ c i. all_in (name_below c) (flat_map f sets) (λ d j. let t = of_flat_map f d sets j in between s t.0 c d i t.2 (all_at (nat_lt s) t.0 sets hs.0 t.1)))
 
 module _ (schema : Lists) (capacity : ℕ) (db : Database) (gone : List DbKey) where
   abbrev has_type_gone : ℕ → Bool
@@ -58,14 +58,14 @@ module _ (schema : Lists) (capacity : ℕ) (db : Database) (gone : List DbKey) w
   abbrev rings : List CellName
   rings = flat_map rings_of (set_numbers schema)
 
-  extents_ascend : pairwise name_lt extents ≡ true
+  extents_ascend : pairwise name_below extents ≡ true
   extents_ascend =
-      pairwise_map Extent name_lt nat_lt (filter has_type_gone (range_with_len 0 (length schema.types))) (λ t u h. h)
+      pairwise_map Extent name_below nat_lt (filter has_type_gone (range_with_len 0 (length schema.types))) (λ t u h. h)
       (pairwise_filter nat_lt has_type_gone (range_with_len 0 (length schema.types)) (ascending_range 0 (length schema.types)))
 
   -- the owners of a set, by their rings
   abbrev before : ℕ → Owner → Owner → Bool
-  before s o p = name_lt (Ring s (place_of o)) (Ring s (place_of p))
+  before s o p = name_below (Ring s (place_of o)) (Ring s (place_of p))
 
   keys_ascend : (s t : ℕ) → pairwise (before s) (map Rec (live_keys capacity db t)) ≡ true
   keys_ascend s t =
@@ -81,20 +81,20 @@ module _ (schema : Lists) (capacity : ℕ) (db : Database) (gone : List DbKey) w
     by false None = refl
     by false (Some t) = keys_ascend s t
 
-  pub outer_ascend : pairwise name_lt (outer_cells schema capacity db gone) ≡ true
+  pub outer_ascend : pairwise name_below (outer_cells schema capacity db gone) ≡ true
   outer_ascend =
-      ascending_join name_lt extents rings extents_ascend
+      ascending_join name_below extents rings extents_ascend
       (rings_ascend rings_of (set_numbers schema) (ascending_range 0 (length schema.sets))
       (λ s t c d i j h.
       let o = of_map (λ o. Ring s (place_of o)) c _ i in
       let p = of_map (λ o. Ring t (place_of o)) d _ j in
-      subst (λ (x : CellName). name_lt x d ≡ true) o.2 (subst (λ (y : CellName). name_lt (Ring s (place_of o.0)) y ≡ true) p.2 (or_left _ _ h)))
-      (λ s. pairwise_map (λ o. Ring s (place_of o)) name_lt (before s) (filter (has_gone s) (owners schema capacity db s)) (λ o p h. h) (pairwise_filter (before s) (has_gone s) (owners schema capacity db s) (owners_ascend s))))
-      (λ c i. all_in (name_lt c) rings (λ d j.
+      subst (λ (x : CellName). name_below x d ≡ true) o.2 (subst (λ (y : CellName). name_below (Ring s (place_of o.0)) y ≡ true) p.2 (or_left _ _ h)))
+      (λ s. pairwise_map (λ o. Ring s (place_of o)) name_below (before s) (filter (has_gone s) (owners schema capacity db s)) (λ o p h. h) (pairwise_filter (before s) (has_gone s) (owners schema capacity db s) (owners_ascend s))))
+      (λ c i. all_in (name_below c) rings (λ d j.
       let t = of_map Extent c _ i in
       let s = of_flat_map rings_of d (set_numbers schema) j in
       let o = of_map (λ o. Ring s.0 (place_of o)) d _ s.2 in
-      subst (λ (x : CellName). name_lt x d ≡ true) t.2 (subst (λ (y : CellName). name_lt (Extent t.0) y ≡ true) o.2 refl)))
+      subst (λ (x : CellName). name_below x d ≡ true) t.2 (subst (λ (y : CellName). name_below (Extent t.0) y ≡ true) o.2 refl)))
 
   -- THE SAME NAMES
 

@@ -8,28 +8,28 @@ use Rattle.std.specs.List.Sorted.{IsPermutation, IsSortedBy}
 use Rattle.std.proofs.lemmas.Bool.{false≢true, false_from_ne_true}
 use Rattle.std.proofs.lemmas.List.Sorted.{All-permutation, IsPermutation-sym, sorted_far}
 use Rattle.dbtg_cells.specs.declared.name.CellName.{CellName}
-use Rattle.dbtg_cells.specs.Names.{name_lt}
+use Rattle.dbtg_cells.specs.Names.{name_below}
 use Rattle.dbtg_unit.proofs.Public.{In, name_chain, name_never, name_total}
 use Rattle.dbtg_erase.specs.NextCell.{least_name}
 use Rattle.dbtg_erase.proofs.LeastName.{Ascends, AtOrBehind, first_is_least}
 
 -- a name that does not come before another is it or comes behind it
-behind_of : (c d : CellName) → name_lt d c ≡ false → AtOrBehind c d
+behind_of : (c d : CellName) → name_below d c ≡ false → AtOrBehind c d
 behind_of c d h = elim (name_total c d) [
   | inl less ↦ inr less
   | inr (inl same) ↦ inl (sym same)
   | inr (inr more) ↦ absurd (false≢true (sym h ∙ more))
 ]
 
-pub names_rank : IsStrictWeakOrder name_lt
+pub names_rank : IsStrictWeakOrder name_below
 names_rank = record {
   one_way = λ c d h. false_from_ne_true _ (λ g. name_never c (name_chain c d c h g));
   chain = λ c d e h g. by c d e (behind_of d c h) (behind_of e d g);
 } where
-  by : (c d e : CellName) → AtOrBehind d c → AtOrBehind e d → name_lt c e ≡ false
-  by c d e (inl same) (inl alike) = subst (λ (x : CellName). name_lt x e ≡ false) (sym (same ∙ alike)) (false_from_ne_true _ (name_never e))
-  by c d e (inl same) (inr more) = subst (λ (x : CellName). name_lt x e ≡ false) (sym same) (false_from_ne_true _ (λ g. name_never d (name_chain d e d g more)))
-  by c d e (inr more) (inl alike) = subst (λ (x : CellName). name_lt c x ≡ false) alike (false_from_ne_true _ (λ g. name_never c (name_chain c d c g more)))
+  by : (c d e : CellName) → AtOrBehind d c → AtOrBehind e d → name_below c e ≡ false
+  by c d e (inl same) (inl alike) = subst (λ (x : CellName). name_below x e ≡ false) (sym (same ∙ alike)) (false_from_ne_true _ (name_never e))
+  by c d e (inl same) (inr more) = subst (λ (x : CellName). name_below x e ≡ false) (sym same) (false_from_ne_true _ (λ g. name_never d (name_chain d e d g more)))
+  by c d e (inr more) (inl alike) = subst (λ (x : CellName). name_below c x ≡ false) alike (false_from_ne_true _ (λ g. name_never c (name_chain c d c g more)))
   by c d e (inr more) (inr rest) = false_from_ne_true _ (λ g. name_never c (name_chain c e c g (name_chain e d c rest more)))
 
 -- where an element stands
@@ -53,13 +53,13 @@ all_in P xs h k d below = h (get_or xs k d) (element xs k below) where
 same_elements : (xs ys : List CellName) → IsPermutation xs ys → (c : CellName) → In c ys → In c xs
 same_elements xs ys moved = in_each (λ c. In c xs) ys (All-permutation (λ c. In c xs) xs ys moved (all_in (λ c. In c xs) xs (λ x i. i)))
 
-ascends_far : (xs : List CellName) → ((i j : ℕ) (d : CellName) → i ≤ j → j < length xs → name_lt (get_or xs j d) (get_or xs i d) ≡ false) → Ascends xs
+ascends_far : (xs : List CellName) → ((i j : ℕ) (d : CellName) → i ≤ j → j < length xs → name_below (get_or xs j d) (get_or xs i d) ≡ false) → Ascends xs
 ascends_far [] far = tt
 ascends_far (x ∷ xs) far = (λ d i. first d (place_of d xs i), ascends_far xs (λ i j d le below. far (suc i) (suc j) d (omega arith) (omega arith))) where
   first : (d : CellName) → (j : ℕ) × (j < length xs) × ((e : CellName) → get_or xs j e ≡ d) → AtOrBehind x d
-  first d j = behind_of x d (subst (λ (y : CellName). name_lt y x ≡ false) (j.2 d) (far 0 (suc j.0) d (omega arith) (omega arith)))
+  first d j = behind_of x d (subst (λ (y : CellName). name_below y x ≡ false) (j.2 d) (far 0 (suc j.0) d (omega arith) (omega arith)))
 
 -- of sorted names the first that passes is the least of them in whatever order
-pub sorted_around : (xs ys : List CellName) → IsPermutation xs ys → IsSortedBy name_lt ys → (p : CellName → Bool) → find p ys ≡ least_name None (filter p xs)
+pub sorted_around : (xs ys : List CellName) → IsPermutation xs ys → IsSortedBy name_below ys → (p : CellName → Bool) → find p ys ≡ least_name None (filter p xs)
 sorted_around xs ys moved sorted p =
-    first_is_least p ys xs (ascends_far ys (sorted_far name_lt names_rank ys sorted)) (same_elements xs ys moved) (same_elements ys xs (IsPermutation-sym xs ys moved))
+    first_is_least p ys xs (ascends_far ys (sorted_far name_below names_rank ys sorted)) (same_elements xs ys moved) (same_elements ys xs (IsPermutation-sym xs ys moved))

@@ -7,7 +7,7 @@ use Rattle.dbtg_schema.specs.Structure.{set_numbers}
 use Rattle.dbtg_cells.specs.declared.key.DbKey.{DbKey}
 use Rattle.dbtg_cells.specs.declared.name.CellName.{CellName}
 use Rattle.dbtg_cells.specs.declared.name.CellName.TheVariants.{Extent}
-use Rattle.dbtg_cells.specs.Names.{name_lt}
+use Rattle.dbtg_cells.specs.Names.{name_below}
 use Rattle.dbtg_unit.specs.Hands.Hands.{Hands}
 use Rattle.dbtg_unit.specs.Hands.InHand.{owner_in}
 use Rattle.dbtg_unit.specs.Hands.Local.{holds}
@@ -28,7 +28,7 @@ outer_names schema hands d = Extent d.rtype ∷ flat_map (λ s. ring_names s (ow
 -- a name, or another that is before it
 abbrev pub nearer : Option CellName → CellName → CellName
 nearer None c = c
-nearer (Some b) c = if name_lt c b then c else b
+nearer (Some b) c = if name_below c b then c else b
 
 -- the first of some names in the order of cells
 abbrev pub least_name : Option CellName → List CellName → Option CellName

@@ -3,7 +3,7 @@ ghost use Rattle.std.specs.Prelude.{◌≡◌, ◌++◌, IfOk, OnOk};
 ghost use Rattle.std.specs.List.{flat_map};
 ghost use Rattle.std.specs.Ordering.{is_lt};
 ghost use Rattle.dbtg_schema.specs.Structure.{set_numbers};
-ghost use Rattle.dbtg_cells.specs.Names.{name_lt};
+ghost use Rattle.dbtg_cells.specs.Names.{name_below};
 ghost use Rattle.dbtg_unit.specs.Hands.InHand.{owner_in};
 ghost use Rattle.dbtg_unit.specs.Hands.Needs.{ring_names};
 ghost use Rattle.dbtg_erase.specs.Course.{AreAround};
@@ -76,7 +76,7 @@ fn outer_of_all(
 
 // How two names stand to each other in the order of cells.
 fn order_of(name: &CellName, other: &CellName) -> Ordering
-    ensures { is_lt result ≡ name_lt name.now other.now }
+    ensures { is_lt result ≡ name_below name.now other.now }
 {
     if name_below(*name, *other) {
         Ordering::Less

@@ -108,7 +108,7 @@ fn results_of(alloc: Global, groups: &[Group]) -> Result<Vec<OneResult>, AllocEr
 }
 
 // The number of all orders.
-fn orders_of(groups: &[Group]) -> Option<u64>
+fn all_orders(groups: &[Group]) -> Option<u64>
     ensures { result ≡ all_orders (Some 0) groups.now }
 {
     let mut orders = Some(0);
@@ -134,7 +134,7 @@ fn outcomes_of(
     let results = results_of(alloc, groups.as_slice())?;
     let answered = answered_by(alloc, scripts, search.notes.as_slice())?;
     Ok(Outcomes {
-        orders: orders_of(groups.as_slice()),
+        orders: all_orders(groups.as_slice()),
         results,
         answered,
     })

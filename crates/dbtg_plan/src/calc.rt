@@ -39,7 +39,7 @@ fn has_calc(
 
 /// Does a record in hand have the CALC items of these, where their duplicates are not allowed, other than the one that is left
 /// out?
-pub(crate) fn is_calc_taken(
+pub(crate) fn calc_taken(
     schema: &Schema,
     held: &Held,
     rtype: RecordNo,

@@ -16,7 +16,7 @@ ghost use Rattle.dbtg_unit.specs.Hands.Needs.{cells_of, first_missing, ring_name
 ghost use Rattle.dbtg_unit.specs.Database.State.Units.{place_in};
 ghost use Rattle.dbtg_plan.specs.Inside.Modifying.{is_refused, is_rekeyed};
 
-use crate::calc::{copy_calc, is_calc_taken};
+use crate::calc::{calc_taken, copy_calc};
 use crate::members::{copy_sort_key, slot_edit};
 use crate::missing::{missing, missing_ring, missing_slot};
 use dbtg_cells::{CellName, DbKey, Owner, Value, copy_items};
@@ -228,8 +228,7 @@ fn takes_calc(
 ) -> bool
     ensures { result ≡ (names_calc schema.now key.now.rtype changes.now && calc_taken schema.now (in_hand held.now) key.now.rtype items.now (Some key.now)) }
 {
-    names_calc(schema, key.rtype, changes)
-        && is_calc_taken(schema, held, key.rtype, items, Some(*key))
+    names_calc(schema, key.rtype, changes) && calc_taken(schema, held, key.rtype, items, Some(*key))
 }
 
 // Why the record does not get these items, which it has after the changes.

@@ -33,7 +33,7 @@ fn is_guessed(schema: &Schema, unit: &Unit, statement: &Statement, set: SetNo) -
     }
 }
 
-fn is_wrong(truth: &Option<Owner>, guess: &Option<Owner>) -> bool
+fn is_wrong_guess(truth: &Option<Owner>, guess: &Option<Owner>) -> bool
     ensures { result ≡ is_wrong_guess truth.now guess.now }
 {
     match truth {
@@ -60,7 +60,7 @@ fn wrong_owner(
         return None;
     }
     let truth = owner_of(held, set, key);
-    if is_wrong(&truth, &held.guess(set)) {
+    if is_wrong_guess(&truth, &held.guess(set)) {
         truth
     } else {
         None

@@ -17,7 +17,7 @@ ghost use Rattle.dbtg_unit.specs.Inside.Prepared.{unless_refusal};
 ghost use Rattle.dbtg_plan.specs.Inside.Calc.{fresh_key};
 ghost use Rattle.dbtg_plan.specs.Inside.Store.{HasRoom, missing_of_store, opening_edit};
 
-use crate::calc::{copy_calc, fresh_key, is_calc_taken};
+use crate::calc::{calc_taken, copy_calc, fresh_key};
 use crate::joining::{current_owner, joining_edit, make_room, place_refusal};
 use crate::members::{copy_sort_key, slot_edit};
 use crate::missing::{missing, missing_ring, missing_slot};
@@ -129,7 +129,7 @@ fn missing_cell(
     }
     match new_key(held, rtype) {
         Some(key) => {
-            if is_calc_taken(schema, held, rtype, items, None) {
+            if calc_taken(schema, held, rtype, items, None) {
                 None
             } else {
                 missing_of_key(schema, unit, held, &key)
@@ -200,7 +200,7 @@ fn refusal(
     requires { (in_hand held.now).is_full rtype ≡ false }
     ensures { IfOk result (λ cause. cause ≡ first_cause (store_checks schema.now (in_hand held.now) unit.now rtype items.now)) }
 {
-    if is_calc_taken(schema, held, rtype, items, None) {
+    if calc_taken(schema, held, rtype, items, None) {
         return Ok(Some(Cause::DuplicatesNotAllowed));
     }
     refusal_in_sets(alloc, schema, unit, held, rtype, items)

@@ -37,7 +37,7 @@ impl SetMarks {
 }
 
 /// Does the member clause of this type, if the set has one, have STORE connect?
-pub fn connects_by_clause(schema: &Schema, set: SetNo, rtype: RecordNo) -> bool
+pub fn connects_in(schema: &Schema, set: SetNo, rtype: RecordNo) -> bool
     ensures { result ≡ connects_in schema.now set rtype }
 {
     match schema.member_clause(set, rtype) {
@@ -53,7 +53,7 @@ fn sets_connecting(schema: &Schema, rtype: RecordNo) -> SetMarks
     schema.is_well_formed();
     let mut marks = [false; 16];
     for s in 0..16u8 {
-        marks[s as usize] = connects_by_clause(schema, SetNo::new(s), rtype);
+        marks[s as usize] = connects_in(schema, SetNo::new(s), rtype);
     }
     SetMarks { marks }
 }

@@ -72,7 +72,7 @@ fn is_home_by(schema: &Schema, set: SetNo, rtype: RecordNo, area: AreaNo) -> boo
 
 /// Is this the home of a set in which the type is a member?
 #[tactic(auto, unfolding(crate::specs::Inside::Erasing::is_home_of))]
-fn is_home(schema: &Schema, sets: u8, rtype: RecordNo, area: AreaNo) -> bool
+fn is_home_of(schema: &Schema, sets: u8, rtype: RecordNo, area: AreaNo) -> bool
     requires { sets ≡ length schema.now.sets }
     ensures { result ≡ is_home_of schema.now rtype area }
 {
@@ -84,7 +84,7 @@ fn is_area_or_home(schema: &Schema, sets: u8, rtype: RecordNo, area: AreaNo) -> 
     ensures { result ≡ touches schema.now rtype area }
 {
     let is_area = schema.area_of(rtype).index() == area.index();
-    is_area || is_home(schema, sets, rtype, area)
+    is_area || is_home_of(schema, sets, rtype, area)
 }
 
 /// Marks the member types to which this type leads.
@@ -137,7 +137,7 @@ fn ways_of(schema: &Schema) -> Ways
 }
 
 /// Has this row of the table this mark?
-fn is_in_row(table: &[[bool; 16]], row: u8, number: u8) -> bool
+fn marked_in(table: &[[bool; 16]], row: u8, number: u8) -> bool
     ensures { result ≡ marked_in table.now row number }
 {
     match table.get(row as usize) {
@@ -150,7 +150,7 @@ fn is_in_row(table: &[[bool; 16]], row: u8, number: u8) -> bool
 fn is_given_by(table: &[[bool; 16]], marks: &[bool], row: u8, number: u8) -> bool
     ensures { result ≡ (marked marks.now row && marked_in table.now row number) }
 {
-    is_marked(marks, row) && is_in_row(table, row, number)
+    is_marked(marks, row) && marked_in(table, row, number)
 }
 
 /// Has a marked row this mark? There are so many rows.

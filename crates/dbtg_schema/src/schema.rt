@@ -23,7 +23,7 @@ ghost use Rattle.std.specs.List.{find};
 ghost use Rattle.dbtg_schema.specs.Structure.{place_of, owner_type, is_system, owns, member_clause, is_automatic, is_mandatory, area_of, calc_of, home, order_of, item_list, picture_of, automatic_sets, set_numbers};
 
 use crate::build::{areas, sets, text_of, types};
-use crate::connecting::{SetMarks, connects_by_clause, sets_connecting_each};
+use crate::connecting::{SetMarks, connects_in, sets_connecting_each};
 use crate::copies::copy_all;
 use crate::entries::front;
 use crate::erasing::{AreaSet, areas_of_each};
@@ -349,7 +349,7 @@ impl Schema {
     {
         match self.connecting_known(rtype) {
             Some(sets) => sets.contains(set),
-            None => connects_by_clause(self, set, rtype),
+            None => connects_in(self, set, rtype),
         }
     }
 

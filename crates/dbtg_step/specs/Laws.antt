@@ -7,7 +7,7 @@ use Rattle.std.specs.List.{list_all}
 use Rattle.dbtg_schema.specs.Lists.{Lists}
 use Rattle.dbtg_cells.specs.declared.name.CellName.{CellName}
 use Rattle.dbtg_cells.specs.CellNumbers.{is_cell}
-use Rattle.dbtg_cells.specs.Names.{name_lt}
+use Rattle.dbtg_cells.specs.Names.{name_below}
 use Rattle.dbtg_cells.specs.Shown.{CellValue}
 use Rattle.dbtg_unit.specs.declared.statement.Statement.{Statement}
 use Rattle.dbtg_unit.specs.declared.unit.Entry.{Entry}
@@ -105,7 +105,7 @@ module _ (schema : Lists) (capacity : ℕ) where
     pub names : NamesCells D
     pub in_area : (db : Database) (units : List Unit) (u : ℕ) (unit : Unit) (statement : Statement) (guesses : List (Option Owner)) (areas : List ℕ) (cells : List (HeldCell CellName CellValue)) (c : CellName) →
         MayMake D db units u unit statement → D.need db unit statement guesses areas cells ≡ NeedsCell c → In (area_of_cell schema c) areas
-    pub in_order : NeedsInOrder D name_lt
+    pub in_order : NeedsInOrder D name_below
 
   -- each cell that a statement needs in any run, for what its unit holds, is a cell of the schema at this capacity
   abbrev pub NeededCellsExist : Type 0

@@ -330,7 +330,7 @@ fn all_lists(
     Ok(Row::of(all))
 }
 
-fn next_number(extent: Option<&Extent>) -> u32
+fn next_in(extent: Option<&Extent>) -> u32
     ensures { result ≡ next_in (unwrap_or (option_map (λ e. e.numbers) (option_copied extent.entry)) []) }
 {
     match extent {
@@ -351,7 +351,7 @@ fn next_numbers(
     let types = schema.types().len() as u8;
     for rtype in 0..types {
         let rtype = RecordNo::new(rtype);
-        all.push(next_number(find_extent(schema, capacity, source, rtype)))?;
+        all.push(next_in(find_extent(schema, capacity, source, rtype)))?;
     }
     Ok(Row::of(all))
 }

@@ -13,7 +13,7 @@ use crate::statement::{Form, Statement, Which};
 use crate::unit::{Cause, Unit};
 use dbtg_schema::{Class, RecordNo, Schema, SetNo};
 
-fn wants_current(statement: &Statement) -> bool
+fn needs_current(statement: &Statement) -> bool
     ensures { result ≡ needs_current statement.now }
 {
     match statement {
@@ -29,7 +29,7 @@ fn wants_current(statement: &Statement) -> bool
     }
 }
 
-fn is_type_for(schema: &Schema, statement: &Statement, rtype: RecordNo) -> bool
+fn accepts_type(schema: &Schema, statement: &Statement, rtype: RecordNo) -> bool
     ensures { result ≡ accepts_type schema.now statement.now rtype }
 {
     match statement {
@@ -45,12 +45,12 @@ fn is_of_other_type(schema: &Schema, unit: &Unit, statement: &Statement) -> bool
     ensures { result ≡ some_and (λ t. not (accepts_type schema.now statement.now t)) (current_type unit.now) }
 {
     match unit.currency.run_unit {
-        Some(key) => !is_type_for(schema, statement, key.rtype),
+        Some(key) => !accepts_type(schema, statement, key.rtype),
         None => false,
     }
 }
 
-fn class_of_current(schema: &Schema, unit: &Unit, set: SetNo) -> Option<Class>
+fn class_in(schema: &Schema, unit: &Unit, set: SetNo) -> Option<Class>
     ensures { result ≡ class_in schema.now unit.now set }
 {
     match unit.currency.run_unit {
@@ -64,12 +64,12 @@ fn class_of_current(schema: &Schema, unit: &Unit, set: SetNo) -> Option<Class>
     }
 }
 
-fn inserts_mandatory_automatic(schema: &Schema, unit: &Unit, statement: &Statement) -> bool
+fn is_inserting_mandatory_automatic(schema: &Schema, unit: &Unit, statement: &Statement) -> bool
     ensures { result ≡ is_inserting_mandatory_automatic schema.now unit.now statement.now }
 {
     match statement {
         Statement::Insert(set) => {
-            match class_of_current(schema, unit, *set) {
+            match class_in(schema, unit, *set) {
                 Some(class) => class.is_mandatory() & class.is_automatic(),
                 None => false,
             }
@@ -78,12 +78,12 @@ fn inserts_mandatory_automatic(schema: &Schema, unit: &Unit, statement: &Stateme
     }
 }
 
-fn removes_mandatory(schema: &Schema, unit: &Unit, statement: &Statement) -> bool
+fn is_removing_mandatory(schema: &Schema, unit: &Unit, statement: &Statement) -> bool
     ensures { result ≡ is_removing_mandatory schema.now unit.now statement.now }
 {
     match statement {
         Statement::Remove(set) => {
-            match class_of_current(schema, unit, *set) {
+            match class_in(schema, unit, *set) {
                 Some(class) => class.is_mandatory(),
                 None => false,
             }
@@ -92,7 +92,7 @@ fn removes_mandatory(schema: &Schema, unit: &Unit, statement: &Statement) -> boo
     }
 }
 
-fn opens_again(unit: &Unit, statement: &Statement) -> bool
+fn is_opening_again(unit: &Unit, statement: &Statement) -> bool
     ensures { result ≡ is_opening_again unit.now statement.now }
 {
     match statement {
@@ -109,7 +109,7 @@ fn goes_on(which: Which) -> bool
     matches!(which, Which::Next | Which::Prior)
 }
 
-fn find_wants_null(schema: &Schema, unit: &Unit, form: &Form) -> bool
+fn find_lacks_current(schema: &Schema, unit: &Unit, form: &Form) -> bool
     ensures { result ≡ find_lacks_current schema.now unit.now form.now }
 {
     match form {
@@ -149,11 +149,11 @@ fn store_wants_null(schema: &Schema, unit: &Unit, rtype: RecordNo) -> bool
     false
 }
 
-fn wants_null(schema: &Schema, unit: &Unit, statement: &Statement) -> bool
+fn lacks_current(schema: &Schema, unit: &Unit, statement: &Statement) -> bool
     ensures { result ≡ lacks_current schema.now unit.now statement.now }
 {
     match statement {
-        Statement::Find(form, _) => find_wants_null(schema, unit, form),
+        Statement::Find(form, _) => find_lacks_current(schema, unit, form),
         Statement::Store { rtype, .. } => store_wants_null(schema, unit, *rtype),
         Statement::Insert(set) => has_null(schema, unit, *set),
         _ => false,
@@ -166,7 +166,7 @@ fn is_open(statement: &Statement) -> bool
     matches!(statement, Statement::OpenArea { .. })
 }
 
-fn is_update_of_records(statement: &Statement) -> bool
+fn changes_records(statement: &Statement) -> bool
     ensures { result ≡ changes_records statement.now }
 {
     matches!(
@@ -179,7 +179,7 @@ fn is_update_of_records(statement: &Statement) -> bool
     )
 }
 
-fn finds_beyond(capacity: u16, statement: &Statement) -> bool
+fn is_beyond(capacity: u16, statement: &Statement) -> bool
     ensures { result ≡ is_beyond capacity statement.now }
 {
     match statement {
@@ -188,7 +188,7 @@ fn finds_beyond(capacity: u16, statement: &Statement) -> bool
     }
 }
 
-fn frees_unkept(unit: &Unit, statement: &Statement) -> bool
+fn frees_what_is_not_kept(unit: &Unit, statement: &Statement) -> bool
     ensures { result ≡ frees_what_is_not_kept unit.now statement.now }
 {
     match statement {
@@ -211,36 +211,34 @@ pub fn refused_at_once(
 ) -> Option<Cause>
     ensures { result ≡ refused_at_once schema.now capacity unit.now statement.now }
 {
-    if wants_current(statement) & unit.currency.run_unit.is_none() {
+    if needs_current(statement) & unit.currency.run_unit.is_none() {
         return Some(Cause::NoCurrentOfRunUnit);
     }
     if is_of_other_type(schema, unit, statement) {
         return Some(Cause::OtherRecordType);
     }
-    if inserts_mandatory_automatic(schema, unit, statement) {
+    if is_inserting_mandatory_automatic(schema, unit, statement) {
         return Some(Cause::MandatoryAutomatic);
     }
-    if removes_mandatory(schema, unit, statement) {
+    if is_removing_mandatory(schema, unit, statement) {
         return Some(Cause::Mandatory);
     }
-    if opens_again(unit, statement) {
+    if is_opening_again(unit, statement) {
         return Some(Cause::AreaAlreadyOpen);
     }
-    if wants_null(schema, unit, statement) {
+    if lacks_current(schema, unit, statement) {
         return Some(Cause::NoSuchCurrent);
     }
     if !is_open(statement) & ask_of_areas(schema, unit, &Question::NotOpen, statement) {
         return Some(Cause::AreaNotOpen);
     }
-    if is_update_of_records(statement)
-        & ask_of_areas(schema, unit, &Question::NotUpdate, statement)
-    {
+    if changes_records(statement) & ask_of_areas(schema, unit, &Question::NotUpdate, statement) {
         return Some(Cause::UpdateModeNeeded);
     }
-    if finds_beyond(capacity, statement) {
+    if is_beyond(capacity, statement) {
         return Some(Cause::NoneSatisfies);
     }
-    if frees_unkept(unit, statement) {
+    if frees_what_is_not_kept(unit, statement) {
         return Some(Cause::NotKept);
     }
     None

@@ -135,7 +135,7 @@ fn has_area(schema: &Schema, area: AreaNo) -> bool
 }
 
 // Is the value of the picture of this member's key item?
-fn is_of_key(schema: &Schema, member: &Member, value: &Value) -> bool
+fn member_key_fits(schema: &Schema, member: &Member, value: &Value) -> bool
     ensures { result ≡ member_key_fits schema.now value.now member.now }
 {
     match member.key {
@@ -153,7 +153,7 @@ fn is_of_keys(schema: &Schema, members: &[Member], value: &Value) -> bool
     ensures { result ≡ list_all (member_key_fits schema.now value.now) members.now }
 {
     for member in members {
-        if !is_of_key(schema, member, value) {
+        if !member_key_fits(schema, member, value) {
             return false;
         }
     }
@@ -161,7 +161,7 @@ fn is_of_keys(schema: &Schema, members: &[Member], value: &Value) -> bool
 }
 
 // Is the value of the picture of the set's keys?
-fn is_sort_key(schema: &Schema, set: SetNo, value: &Value) -> bool
+fn key_fits(schema: &Schema, set: SetNo, value: &Value) -> bool
     ensures { result ≡ key_fits schema.now set value.now }
 {
     match schema.set_type(set) {
@@ -170,7 +170,7 @@ fn is_sort_key(schema: &Schema, set: SetNo, value: &Value) -> bool
     }
 }
 
-fn is_change_of(schema: &Schema, rtype: RecordNo, change: &Change) -> bool
+fn change_fits(schema: &Schema, rtype: RecordNo, change: &Change) -> bool
     ensures { result ≡ change_fits schema.now rtype change.now }
 {
     match schema.picture_of(rtype, change.item) {
@@ -183,7 +183,7 @@ fn are_changes_of(schema: &Schema, rtype: RecordNo, changes: &[Change]) -> bool
     ensures { result ≡ list_all (change_fits schema.now rtype) changes.now }
 {
     for change in changes {
-        if !is_change_of(schema, rtype, change) {
+        if !change_fits(schema, rtype, change) {
             return false;
         }
     }
@@ -197,7 +197,7 @@ fn is_key_of(schema: &Schema, key: &DbKey) -> bool
 }
 
 // Are these bits of the schema's sets alone?
-fn is_of_sets(schema: &Schema, suppress: &Suppress) -> bool
+fn suppress_fits(schema: &Schema, suppress: &Suppress) -> bool
     ensures { result ≡ suppress_fits schema.now suppress.now }
 {
     let sets = suppress.sets as usize;
@@ -254,7 +254,7 @@ impl Form {
             Form::OwnerOf(set) => has_set(schema, *set) & !schema.is_system(*set),
             Form::Calc { rtype, values } => are_calc_values(schema, *rtype, values.as_slice()),
             Form::NextDuplicate(rtype) => schema.calc_of(*rtype).is_some(),
-            Form::Sorted { value, set } => is_sort_key(schema, *set, value),
+            Form::Sorted { value, set } => key_fits(schema, *set, value),
         }
     }
 }
@@ -267,7 +267,7 @@ impl Statement {
         match self {
             Statement::OpenArea { area, .. } => has_area(schema, *area),
             Statement::CloseArea(area) => has_area(schema, *area),
-            Statement::Find(form, suppress) => form.fits(schema) & is_of_sets(schema, suppress),
+            Statement::Find(form, suppress) => form.fits(schema) & suppress_fits(schema, suppress),
             Statement::Get(rtype) => {
                 match rtype {
                     Some(rtype) => has_type(schema, *rtype),
@@ -281,7 +281,7 @@ impl Statement {
             } => {
                 has_type(schema, *rtype)
                     & are_of_items(items.as_slice(), schema.items(*rtype))
-                    & is_of_sets(schema, suppress)
+                    & suppress_fits(schema, suppress)
             }
             Statement::Insert(set) | Statement::Remove(set) => has_set(schema, *set),
             Statement::Modify { rtype, changes } => {

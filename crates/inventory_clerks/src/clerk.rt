@@ -7,7 +7,7 @@ ghost use Rattle.dbtg_run.specs.Outcomes.{IfDone, IfNotDone};
 ghost use Rattle.dbtg_run.specs.UnitView.{BelongsTo};
 ghost use Rattle.inventory_clerks.specs.Orders.{AreFilled, Begins, HasChanged, HasKept, HasOpened, HasRead, HasWritten, IsFilled};
 
-use crate::order::{Order, Stop, change, find, shown_stock, stock_after};
+use crate::order::{Order, Stop, change, find, stock_after, stock_shown};
 use dbtg_run::{Database, Outcome, RunUnit};
 use dbtg_script::read_script;
 use dbtg_unit::{Answer, Cause, Statement, Status};
@@ -120,7 +120,7 @@ fn read_stock<R: Wait>(
     ensures grown { Begins unit.old.journal unit.new.journal }
 {
     let answer = must(rt, alloc, db, unit, &Statement::Get(None))?;
-    match shown_stock(&answer) {
+    match stock_shown(&answer) {
         Some(stock) => Ok(stock),
         None => Err(Stop::NoStatement),
     }

@@ -79,7 +79,7 @@ pub fn change(alloc: Global, stock: u64) -> Result<Statement, AllocError>
 }
 
 /// The stock that the answer to a GET shows.
-pub fn shown_stock(answer: &Answer) -> Option<u64>
+pub fn stock_shown(answer: &Answer) -> Option<u64>
     ensures { result ≡ stock_shown answer.now }
 {
     let Some(items) = &answer.items else {

@@ -106,7 +106,9 @@ impl<'a> Shell<'a> {
 
     /// Is this the directory in which the session was saved last?
     pub fn has_saved(&self, directory: &str) -> bool {
-        self.saved.as_ref().is_some_and(|saved| saved.as_str() == directory)
+        self.saved
+            .as_ref()
+            .is_some_and(|saved| saved.as_str() == directory)
     }
 
     /// Notes the directory in which the session is saved.

@@ -128,7 +128,9 @@ fn if_there(rt: &HostRuntime, path: &str) -> Result<Option<String>, AllocError> 
     if fs::metadata(rt, path).is_err() {
         return Ok(None);
     }
-    let told = format!(in rt.alloc(); "{path} is there, and this shell has not saved it: name another directory\n")?;
+    let told = format!(in rt.alloc();
+        "{path} is there, and this shell has not saved it: name another directory\n"
+    )?;
     Ok(Some(told))
 }
 

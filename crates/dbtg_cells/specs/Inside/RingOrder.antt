@@ -8,7 +8,7 @@ use Rattle.dbtg_cells.specs.declared.key.Value.{Value}
 use Rattle.dbtg_cells.specs.declared.sorted.SortedBy.{SortedBy}
 use Rattle.dbtg_cells.specs.declared.sorted.Known.{Known}
 use Rattle.dbtg_cells.specs.Keys.{has_type}
-use Rattle.dbtg_cells.specs.Orders.{key_below, comes_before}
+use Rattle.dbtg_cells.specs.Orders.{sort_key_below, comes_before}
 use Rattle.dbtg_cells.specs.Members.{Entry}
 use Rattle.dbtg_cells.specs.Inside.Chain.{Slots, Link, slot}
 use Rattle.dbtg_cells.specs.Inside.SortedMembers.{is_of_kind, is_sorted, KeepsOrder}
@@ -20,14 +20,14 @@ stands_at ascending duplicates m s at = option_map_or (λ n. comes_before ascend
 
 -- the member of a node has a sort key that comes before m
 abbrev pub is_below_at : Bool → Option Value → Slots → ℕ → Bool
-is_below_at ascending m s at = option_map_or (λ n. key_below ascending n.member.1 m) (slot s at) false
+is_below_at ascending m s at = option_map_or (λ n. sort_key_below ascending n.member.1 m) (slot s at) false
 
 -- the place of the first member whose sort key does not come before v, where members are sorted by keys of the kind of v
 pub record IsPlaceFrom (v : Value) (ms : List Entry) (place : ℕ) : Type 0 where
   pub order : SortedBy
   pub sorted : is_sorted order ms ≡ true
   pub kind : is_of_kind order.kind (Some v) ≡ true
-  pub at : place ≡ position_or_len (λ e. not (key_below order.ascending e.1 (Some v))) ms
+  pub at : place ≡ position_or_len (λ e. not (sort_key_below order.ascending e.1 (Some v))) ms
 
 -- what is known of all members holds: how they are sorted, and that they have one record type
 pub record Holds (known : Known) (ms : List Entry) : Type 0 where

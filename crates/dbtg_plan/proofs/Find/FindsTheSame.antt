@@ -14,7 +14,7 @@ use Rattle.dbtg_cells.specs.declared.key.Value.{Value}
 use Rattle.dbtg_cells.specs.declared.name.CellName.{CellName}
 use Rattle.dbtg_cells.specs.declared.name.CellName.TheVariants.{Extent, Ring}
 use Rattle.dbtg_cells.specs.declared.ring.Occurrence.{Occurrence}
-use Rattle.dbtg_cells.specs.Keys.{has_type, key_lt, value_eq}
+use Rattle.dbtg_cells.specs.Keys.{has_type, key_below, value_eq}
 use Rattle.dbtg_cells.specs.Members.{members_in}
 use Rattle.dbtg_cells.specs.Numbers.{has_values, numbers_where}
 use Rattle.dbtg_unit.specs.declared.statement.Form.{Form}
@@ -185,14 +185,14 @@ module _ (schema : Lists) (capacity : ℕ) (db : Database) (hands : Hands) (unit
         ∙ first_map (key_of (numbers_in hands r) r) (numbers_where (has_values values) (numbers_in hands r))
 
     next_reads : (k : DbKey) → k.rtype ≡ r → is_live db k ≡ true → (values : List Value)
-        → first (filter (key_lt k) (with_calc schema capacity db r values)) ≡ option_map (key_of (numbers_in hands r) r) (first (filter (nat_lt k.number) (numbers_where (has_values values) (numbers_in hands r))))
+        → first (filter (key_below k) (with_calc schema capacity db r values)) ≡ option_map (key_of (numbers_in hands r) r) (first (filter (nat_lt k.number) (numbers_where (has_values values) (numbers_in hands r))))
     next_reads k is_r live values =
-        ap (λ ks. first (filter (key_lt k) ks)) (with_calc_in_hand schema capacity db agrees.legal r (numbers_in hands r) are values)
+        ap (λ ks. first (filter (key_below k) ks)) (with_calc_in_hand schema capacity db agrees.legal r (numbers_in hands r) are values)
         ∙ ap first (keys_behind_in_hand schema capacity db agrees.legal r (numbers_in hands r) are k is_r live (numbers_where (has_values values) (numbers_in hands r)))
         ∙ first_map (key_of (numbers_in hands r) r) (filter (nat_lt k.number) (numbers_where (has_values values) (numbers_in hands r)))
 
     abbrev duplicate : DbKey → Result DbKey Cause
-    duplicate k = found_unless (first_cause ((not (is_live db k), Deleted) ∷ [])) (first (filter (key_lt k) (with_calc schema capacity db r (calc_items schema r (items_of db k))))) End
+    duplicate k = found_unless (first_cause ((not (is_live db k), Deleted) ∷ [])) (first (filter (key_below k) (with_calc schema capacity db r (calc_items schema r (items_of db k))))) End
 
     abbrev next_equal : DbKey → Option (List Value) → Result DbKey Cause
     next_equal k o = found_unless (first_cause ((is_none o, Deleted) ∷ [])) (option_map (key_of (numbers_in hands r) r) (first (filter (nat_lt k.number) (numbers_where (has_values (unwrap_or o [])) (numbers_in hands r))))) End
@@ -208,13 +208,13 @@ module _ (schema : Lists) (capacity : ℕ) (db : Database) (hands : Hands) (unit
 
       by_values : (o : Option (List Value)) → values_of_key (numbers_in hands r) k ≡ o → duplicate k ≡ next_equal k (values_of_key (numbers_in hands r) k)
       by_values None e =
-          ap (λ b. found_unless (first_cause ((not b, Deleted) ∷ [])) (first (filter (key_lt k) (with_calc schema capacity db r (calc_items schema r (items_of db k))))) End) (live ∙ ap is_some e)
+          ap (λ b. found_unless (first_cause ((not b, Deleted) ∷ [])) (first (filter (key_below k) (with_calc schema capacity db r (calc_items schema r (items_of db k))))) End) (live ∙ ap is_some e)
           ∙ ap (next_equal k) (sym e)
       by_values (Some values) e =
           let live_now : is_live db k ≡ true = live ∙ ap is_some e in
           let items : calc_items schema r (items_of db k) ≡ values
           = calc_items_in_hand schema capacity db agrees.legal r (numbers_in hands r) are k is_r ∙ ap (λ (o : Option (List Value)). unwrap_or o (calc_items schema r [])) e in
-          (λ i. found_unless (first_cause ((not (live_now i), Deleted) ∷ [])) (first (filter (key_lt k) (with_calc schema capacity db r (items i)))) End)
+          (λ i. found_unless (first_cause ((not (live_now i), Deleted) ∷ [])) (first (filter (key_below k) (with_calc schema capacity db r (items i)))) End)
           ∙ ap (λ o. found_unless None o End) (next_reads k is_r live_now values)
           ∙ ap (next_equal k) (sym e)
 

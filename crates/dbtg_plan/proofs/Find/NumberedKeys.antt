@@ -8,7 +8,7 @@ use Rattle.std.proofs.lemmas.List.Elements.{filter_agree}
 use Rattle.dbtg_schema.specs.Lookups.{final, first, nth}
 use Rattle.dbtg_cells.specs.declared.extent.Number.{Number}
 use Rattle.dbtg_cells.specs.declared.key.DbKey.{DbKey}
-use Rattle.dbtg_cells.specs.Keys.{key_lt}
+use Rattle.dbtg_cells.specs.Keys.{key_below}
 use Rattle.dbtg_cells.specs.Numbers.{is_used, last_of, numbers_where}
 use Rattle.dbtg_cells.proofs.Public.{map_reverse}
 use Rattle.dbtg_unit.specs.Inside.InHand.{key_of}
@@ -39,51 +39,51 @@ module _ (t : ℕ) (numbers : List Number) (k : DbKey) where
   live = numbers_where is_used numbers
 
   -- of the bound's own type
-  pub above_own : k.rtype ≡ t → (n : ℕ) → key_lt k (key_of numbers t n) ≡ nat_lt (number_above numbers k) n
+  pub above_own : k.rtype ≡ t → (n : ℕ) → key_below k (key_of numbers t n) ≡ nat_lt (number_above numbers k) n
   above_own is_t n =
       split is_t n ∙ above_tests k.number n k.generation (last_of k.number numbers) (last_of n numbers) (numbered k.generation k.number numbers) (λ e. ap (λ m. last_of m numbers) e) where
-        split : k.rtype ≡ t → (n : ℕ) → key_lt k (key_of numbers t n) ≡ nat_lt k.number n || (k.number == n && nat_lt k.generation (last_of n numbers))
+        split : k.rtype ≡ t → (n : ℕ) → key_below k (key_of numbers t n) ≡ nat_lt k.number n || (k.number == n && nat_lt k.generation (last_of n numbers))
         split is_t n = grind (arith, nat_tests, is_t)
 
-  pub below_own : k.rtype ≡ t → (n : ℕ) → key_lt (key_of numbers t n) k ≡ nat_lt n (number_below numbers k)
+  pub below_own : k.rtype ≡ t → (n : ℕ) → key_below (key_of numbers t n) k ≡ nat_lt n (number_below numbers k)
   below_own is_t n =
       split is_t n ∙ below_tests k.number n k.generation (last_of k.number numbers) (last_of n numbers) (λ e. ap (λ m. last_of m numbers) e) where
-        split : k.rtype ≡ t → (n : ℕ) → key_lt (key_of numbers t n) k ≡ nat_lt n k.number || (n == k.number && nat_lt (last_of n numbers) k.generation)
+        split : k.rtype ≡ t → (n : ℕ) → key_below (key_of numbers t n) k ≡ nat_lt n k.number || (n == k.number && nat_lt (last_of n numbers) k.generation)
         split is_t n = grind (arith, nat_tests, is_t)
 
-  earlier : t < k.rtype → (n : ℕ) → (key_lt k (key_of numbers t n) ≡ false) × (key_lt (key_of numbers t n) k ≡ true)
+  earlier : t < k.rtype → (n : ℕ) → (key_below k (key_of numbers t n) ≡ false) × (key_below (key_of numbers t n) k ≡ true)
   earlier h n = (grind (arith, nat_tests), grind (arith, nat_tests))
 
-  later : k.rtype < t → (n : ℕ) → (key_lt k (key_of numbers t n) ≡ true) × (key_lt (key_of numbers t n) k ≡ false)
+  later : k.rtype < t → (n : ℕ) → (key_below k (key_of numbers t n) ≡ true) × (key_below (key_of numbers t n) k ≡ false)
   later h n = (grind (arith, nat_tests), grind (arith, nat_tests))
 
   abbrev keys : List DbKey
   keys = keys_of_type t numbers
 
   abbrev before : DbKey → Bool
-  before x = key_lt x k
+  before x = key_below x k
 
   -- the keys of a type before the bound's, of its own, and of one behind it
-  pub none_above : t < k.rtype → None ≡ first (filter (key_lt k) keys)
-  none_above h = ap first (sym (filter_map (key_lt k) (key_of numbers t) live ∙ ap (map (key_of numbers t)) (filter_agree (λ n. key_lt k (key_of numbers t n)) (λ n. false) (λ n. (earlier h n).0) live ∙ none_kept live)))
+  pub none_above : t < k.rtype → None ≡ first (filter (key_below k) keys)
+  none_above h = ap first (sym (filter_map (key_below k) (key_of numbers t) live ∙ ap (map (key_of numbers t)) (filter_agree (λ n. key_below k (key_of numbers t n)) (λ n. false) (λ n. (earlier h n).0) live ∙ none_kept live)))
 
-  pub next_own : k.rtype ≡ t → option_map (key_of numbers t) (first (filter (nat_lt (number_above numbers k)) live)) ≡ first (filter (key_lt k) keys)
+  pub next_own : k.rtype ≡ t → option_map (key_of numbers t) (first (filter (nat_lt (number_above numbers k)) live)) ≡ first (filter (key_below k) keys)
   next_own is_t =
-      sym (ap first (filter_map (key_lt k) (key_of numbers t) live ∙ ap (map (key_of numbers t)) (filter_agree (λ n. key_lt k (key_of numbers t n)) (nat_lt (number_above numbers k)) (above_own is_t) live))
+      sym (ap first (filter_map (key_below k) (key_of numbers t) live ∙ ap (map (key_of numbers t)) (filter_agree (λ n. key_below k (key_of numbers t n)) (nat_lt (number_above numbers k)) (above_own is_t) live))
       ∙ first_map (key_of numbers t) (filter (nat_lt (number_above numbers k)) live))
 
   pub all_below : t < k.rtype → option_map (key_of numbers t) (final live) ≡ final (filter before keys)
   all_below h =
-      sym (ap final (filter_map before (key_of numbers t) live ∙ ap (map (key_of numbers t)) (filter_agree (λ n. key_lt (key_of numbers t n) k) (λ n. true) (λ n. (earlier h n).1) live ∙ filter_all live))
+      sym (ap final (filter_map before (key_of numbers t) live ∙ ap (map (key_of numbers t)) (filter_agree (λ n. key_below (key_of numbers t n) k) (λ n. true) (λ n. (earlier h n).1) live ∙ filter_all live))
       ∙ final_map (key_of numbers t) live)
 
   pub prior_own : k.rtype ≡ t → option_map (key_of numbers t) (final (filter (λ n. nat_lt n (number_below numbers k)) live)) ≡ final (filter before keys)
   prior_own is_t =
-      sym (ap final (filter_map before (key_of numbers t) live ∙ ap (map (key_of numbers t)) (filter_agree (λ n. key_lt (key_of numbers t n) k) (λ n. nat_lt n (number_below numbers k)) (below_own is_t) live))
+      sym (ap final (filter_map before (key_of numbers t) live ∙ ap (map (key_of numbers t)) (filter_agree (λ n. key_below (key_of numbers t n) k) (λ n. nat_lt n (number_below numbers k)) (below_own is_t) live))
       ∙ final_map (key_of numbers t) (filter (λ n. nat_lt n (number_below numbers k)) live))
 
   pub none_below : k.rtype < t → None ≡ final (filter before keys)
-  none_below h = ap final (sym (filter_map before (key_of numbers t) live ∙ ap (map (key_of numbers t)) (filter_agree (λ n. key_lt (key_of numbers t n) k) (λ n. false) (λ n. (later h n).1) live ∙ none_kept live)))
+  none_below h = ap final (sym (filter_map before (key_of numbers t) live ∙ ap (map (key_of numbers t)) (filter_agree (λ n. key_below (key_of numbers t n) k) (λ n. false) (λ n. (later h n).1) live ∙ none_kept live)))
 
 -- the last, where there is no bound
 pub last_of_all : (t : ℕ) (numbers : List Number) → option_map (key_of numbers t) (final (numbers_where is_used numbers)) ≡ final (filter (is_below None) (keys_of_type t numbers))

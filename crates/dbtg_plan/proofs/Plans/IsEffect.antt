@@ -20,7 +20,7 @@ use Rattle.dbtg_unit.specs.Hands.EditsOf.{edits_of, is_delete}
 use Rattle.dbtg_unit.specs.Database.Statements.Effect.{Outcome, effect, effect_on_cells, refused, unless_refused, version_of}
 use Rattle.dbtg_unit.specs.Hands.Guesses.{guesses_after}
 use Rattle.dbtg_unit.specs.Hands.Hands.{Hands}
-use Rattle.dbtg_unit.specs.Database.State.Kept.{entry_again, noted_again}
+use Rattle.dbtg_unit.specs.Database.State.Kept.{renoted_entry, noted_again}
 use Rattle.dbtg_unit.specs.Hands.Local.{Agrees}
 use Rattle.dbtg_unit.specs.Hands.Prepared.{IsEffect, Plan, guesses_edited, unit_after, refusal}
 use Rattle.dbtg_unit.proofs.Public.{MayPlan, effect_is_its_edits, legal_after}
@@ -63,7 +63,7 @@ done_is_effect schema capacity db unit hands statement plan other may agrees is_
 pub noted_renoted : (k : DbKey) (v : ℕ) (db : Database) → version_of db k ≡ v → (kept : List (DbKey × ℕ)) → noted_again k v kept ≡ map (λ e. if key_eq k e.0 then (e.0, version_of db e.0) else e) kept
 noted_renoted k v db is [] = refl
 noted_renoted k v db is (e ∷ es) = λ i. noted e i ∷ noted_renoted k v db is es i where
-  noted : (e : DbKey × ℕ) → entry_again k v e ≡ (if key_eq k e.0 then (e.0, version_of db e.0) else e)
+  noted : (e : DbKey × ℕ) → renoted_entry k v e ≡ (if key_eq k e.0 then (e.0, version_of db e.0) else e)
   noted e =
       elim (cases_Bool (key_eq k e.0)) [
         | inl same ↦ ap (λ n. if key_eq k e.0 then (e.0, n) else e) (sym is ∙ ap (version_of db) (same_key k e.0 same))

@@ -11,7 +11,7 @@ use Rattle.dbtg_cells.specs.declared.key.Owner.{Owner}
 use Rattle.dbtg_cells.specs.declared.key.Value.{Value}
 use Rattle.dbtg_cells.specs.declared.name.CellName.{CellName}
 use Rattle.dbtg_cells.specs.declared.ring.Occurrence.{Occurrence}
-use Rattle.dbtg_cells.specs.Keys.{has_type, key_lt, value_eq}
+use Rattle.dbtg_cells.specs.Keys.{has_type, key_below, value_eq}
 use Rattle.dbtg_cells.specs.Members.{keys_in, members_in}
 use Rattle.dbtg_cells.specs.Numbers.{has_values, is_used, last_of, numbers_where}
 use Rattle.dbtg_unit.specs.declared.edit.UnitEdit.TheVariants.{See}
@@ -91,12 +91,12 @@ area_keys_in schema hands r a = flat_map (keys_wanted schema hands r a) (range_w
 -- k comes behind the bound, where there is one
 abbrev pub is_above : Option DbKey → DbKey → Bool
 is_above None k = true
-is_above (Some bound) k = key_lt bound k
+is_above (Some bound) k = key_below bound k
 
 -- k comes before the bound, where there is one
 abbrev pub is_below : Option DbKey → DbKey → Bool
 is_below None k = true
-is_below (Some bound) k = key_lt k bound
+is_below (Some bound) k = key_below k bound
 
 -- THE STATEMENT
 

@@ -258,7 +258,7 @@ fn prior_key(
 }
 
 // The key by which it is asked for.
-fn choose_key(
+fn chosen_by_key(
     schema: &Schema,
     held: &Held,
     which: Which,
@@ -294,7 +294,7 @@ pub(crate) fn find_in_area(
     ensures { result ≡ found_unless None (chosen_by_key which (at unit.now.currency.areas area) (area_keys_in schema.now held.now named area)) End }
 {
     let current = of_area(unit, area);
-    match choose_key(schema, held, which, &named, area, &current) {
+    match chosen_by_key(schema, held, which, &named, area, &current) {
         Some(key) => Ok(key),
         None => Err(Cause::End),
     }

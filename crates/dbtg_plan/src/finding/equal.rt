@@ -37,7 +37,7 @@ fn values_of<'a>(extent: &'a Extent, key: &DbKey) -> Option<&'a [Value]>
 }
 
 // The next record with the CALC values of another.
-fn next_equal(extent: &Extent, rtype: RecordNo, key: &DbKey) -> Result<DbKey, Cause>
+fn duplicate_found(extent: &Extent, rtype: RecordNo, key: &DbKey) -> Result<DbKey, Cause>
     ensures { result ≡ duplicate_found rtype extent.now.numbers key.now }
 {
     match values_of(extent, key) {
@@ -55,7 +55,7 @@ pub(crate) fn find_duplicate(unit: &Unit, held: &Held, rtype: RecordNo) -> Resul
 {
     match of_type(unit, rtype) {
         Some(key) => match numbers(held, rtype) {
-            Some(extent) => next_equal(extent, rtype, &key),
+            Some(extent) => duplicate_found(extent, rtype, &key),
             None => Err(Cause::Deleted),
         },
         None => Err(Cause::NoSuchCurrent),

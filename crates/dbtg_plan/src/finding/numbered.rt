@@ -1,7 +1,7 @@
 //! The keys of one record type, read off its extent.
 ghost use Rattle.std.specs.Prelude.{◌≡◌, ◌<◌, ◌+◌, ◌^◌, filter, option_map, slice_get, IfSome};
 ghost use Rattle.dbtg_schema.specs.Lookups.{final, first};
-ghost use Rattle.dbtg_cells.specs.Keys.{key_lt};
+ghost use Rattle.dbtg_cells.specs.Keys.{key_below};
 ghost use Rattle.dbtg_unit.specs.Inside.InHand.{key_of};
 ghost use Rattle.dbtg_plan.specs.Inside.Finding.{is_above, is_below, keys_of_type, number_above, number_below};
 
@@ -47,7 +47,7 @@ fn number_below(extent: &Extent, bound: &DbKey) -> u32
 
 // The first key behind the bound.
 fn next_key(extent: &Extent, rtype: RecordNo, bound: &DbKey) -> Option<DbKey>
-    ensures { result ≡ first (filter (key_lt bound.now) (keys_of_type rtype extent.now.numbers)) }
+    ensures { result ≡ first (filter (key_below bound.now) (keys_of_type rtype extent.now.numbers)) }
 {
     if rtype.index() < bound.rtype.index() {
         return None;
@@ -61,7 +61,7 @@ fn next_key(extent: &Extent, rtype: RecordNo, bound: &DbKey) -> Option<DbKey>
 // The last key before the bound.
 fn prior_key(extent: &Extent, rtype: RecordNo, bound: &DbKey) -> Option<DbKey>
     requires { bound.now.number + 1 < 2 ^ 32 }
-    ensures { result ≡ final (filter (λ k. key_lt k bound.now) (keys_of_type rtype extent.now.numbers)) }
+    ensures { result ≡ final (filter (λ k. key_below k bound.now) (keys_of_type rtype extent.now.numbers)) }
 {
     if bound.rtype.index() < rtype.index() {
         return None;

@@ -67,7 +67,7 @@ fn choose(
 }
 
 // The member, or the cause why there is none.
-fn choose_member(
+fn member_found(
     ring: &Ring,
     which: Which,
     rtype: Option<RecordNo>,
@@ -102,7 +102,7 @@ pub(crate) fn find_member(
 {
     match unit.place_in(schema, set) {
         Some(place) => match occurrence(held, set, &place.owner) {
-            Some(ring) => choose_member(ring, which, rtype, place.at),
+            Some(ring) => member_found(ring, which, rtype, place.at),
             None => Err(Cause::Deleted),
         },
         None => Err(Cause::NoSuchCurrent),
@@ -110,7 +110,7 @@ pub(crate) fn find_member(
 }
 
 // The first member with a sort key, or the cause why there is none.
-fn first_with_key(ring: &Ring, value: &Value) -> Result<DbKey, Cause>
+fn sorted_found(ring: &Ring, value: &Value) -> Result<DbKey, Cause>
     ensures { result ≡ sorted_found value.now ring.now.occurrence }
 {
     if !ring.is_present() {
@@ -134,7 +134,7 @@ pub(crate) fn find_by_sort_key(
 {
     match unit.place_in(schema, set) {
         Some(place) => match occurrence(held, set, &place.owner) {
-            Some(ring) => first_with_key(ring, value),
+            Some(ring) => sorted_found(ring, value),
             None => Err(Cause::Deleted),
         },
         None => Err(Cause::NoSuchCurrent),

@@ -6,7 +6,7 @@ use Rattle.std.specs.List.{range_with_len}
 use Rattle.dbtg_schema.specs.Lists.{Lists}
 use Rattle.dbtg_schema.specs.Sound.{IsSound}
 use Rattle.dbtg_cells.specs.declared.name.CellName.{CellName}
-use Rattle.dbtg_cells.specs.Names.{name_lt}
+use Rattle.dbtg_cells.specs.Names.{name_below}
 use Rattle.dbtg_cells.specs.Shown.{CellValue}
 use Rattle.dbtg_unit.specs.declared.statement.Statement.{Statement}
 use Rattle.dbtg_unit.specs.declared.unit.Entry.{Entry}
@@ -96,7 +96,7 @@ module _ (schema : Lists) (capacity : ℕ) (sound : IsSound schema) (scripts : L
   between : AllBetween schema capacity first
   between w other e = (is_opening.idle w other e).0
 
-  order : AllInTurn (network schema capacity) name_lt first
+  order : AllInTurn (network schema capacity) name_below first
   order = record { each = λ w state p e q t. let b = between w state e in absurd (cc (b, q)) }
 
   stand : Stand schema capacity scripts 1 first

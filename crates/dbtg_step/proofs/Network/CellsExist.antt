@@ -16,7 +16,7 @@ use Rattle.dbtg_cells.specs.declared.key.Owner.TheVariants.{System, Rec}
 use Rattle.dbtg_cells.specs.declared.name.CellName.{CellName}
 use Rattle.dbtg_cells.specs.declared.name.CellName.TheVariants.{Extent, Ring}
 use Rattle.dbtg_cells.specs.CellNumbers.{is_cell}
-use Rattle.dbtg_cells.specs.Keys.{key_lt, value_eq}
+use Rattle.dbtg_cells.specs.Keys.{key_below, value_eq}
 use Rattle.dbtg_unit.specs.Database.Statements.View.{whole}
 use Rattle.dbtg_unit.specs.declared.statement.Erase.{Erase}
 use Rattle.dbtg_unit.specs.declared.statement.Form.{Form}
@@ -258,7 +258,7 @@ module _ (schema : Lists) (capacity : ℕ) (sound : IsSound schema) (db : Databa
       and_from _ _ (calc_type schema capacity r f)
       (found_passes (is_cell schema capacity) _ (λ k e.
       let c = current_is (at unit.currency.types r) _ k e in
-      calc_exists schema capacity db legal r _ k (first_of_filter (key_lt c.0) _ k (found_is _ _ _ k c.2)).0))
+      calc_exists schema capacity db legal r _ k (first_of_filter (key_below c.0) _ k (found_is _ _ _ k c.2)).0))
   find_cells_exist (Sorted v s) suppress f b =
       all_join (is_cell schema capacity) (ring_names s (current_owner schema unit s)) _ (current_ring_exists s) (found_passes (is_cell schema capacity) _ (sorted_exists v s))
 

@@ -2,7 +2,7 @@
 use Rattle.std.proofs.Common.{ℕ}
 use Rattle.dbtg_schema.specs.Lists.{Lists}
 use Rattle.dbtg_schema.specs.Sound.{IsSound}
-use Rattle.dbtg_cells.specs.Names.{name_lt}
+use Rattle.dbtg_cells.specs.Names.{name_below}
 use Rattle.dbtg_step.specs.Inside.SequentialDatabase.{IsSequentialDatabase}
 use Rattle.dbtg_step.specs.Laws.{NeedsAreInOrder}
 use Rattle.dbtg_step.specs.Machine.NeverStuck.{NeedsInOrder}
@@ -15,7 +15,7 @@ use Rattle.dbtg_step.proofs.Network.TakingOrder.{network_needs_in_order}
 pub network_is_sequential : (schema : Lists) (capacity : ℕ) → IsSound schema → IsSequentialDatabase (network schema capacity)
 network_is_sequential schema capacity sound = record { names = network_names_cells schema capacity; in_area = needed_in_area schema capacity sound; local = statements_are_local schema capacity sound }
 
-pub needs_in_order : (schema : Lists) (capacity : ℕ) → IsSound schema → NeedsInOrder (network schema capacity) name_lt
+pub needs_in_order : (schema : Lists) (capacity : ℕ) → IsSound schema → NeedsInOrder (network schema capacity) name_below
 needs_in_order schema capacity sound = network_needs_in_order schema capacity sound
 
 pub needs_are_in_order : (schema : Lists) (capacity : ℕ) → IsSound schema → NeedsAreInOrder schema capacity

@@ -11,7 +11,7 @@ use Rattle.dbtg_cells.specs.declared.key.Owner.{Owner}
 use Rattle.dbtg_cells.specs.declared.key.Value.{Value}
 use Rattle.dbtg_cells.specs.declared.name.CellName.{CellName}
 use Rattle.dbtg_cells.specs.declared.name.CellName.TheVariants.{Extent, Ring}
-use Rattle.dbtg_cells.specs.Keys.{key_lt, value_eq}
+use Rattle.dbtg_cells.specs.Keys.{key_below, value_eq}
 use Rattle.dbtg_unit.specs.declared.statement.Form.{Form}
 use Rattle.dbtg_unit.specs.declared.statement.Form.TheVariants.{Key, CurrentOfUnit, CurrentOfType, CurrentOfSet, CurrentOfArea, InSet, InArea, OwnerOf, Calc, NextDuplicate, Sorted}
 use Rattle.dbtg_unit.specs.declared.statement.Which.{Which}
@@ -99,13 +99,13 @@ module _ (schema : Lists) (capacity : ℕ) (db eb : Database) (ldb : Legal schem
       typed = eqb-true _ _ (subst (λ o. if_named (λ x. x.rtype == r) o ≡ true) e (of.of_types r))
 
       next_in : Database → Result DbKey Cause
-      next_in d = found_unless (first_cause ((not (is_live d k), Deleted) ∷ [])) (first (filter (key_lt k) (with_calc schema capacity d r (calc_items schema r (items_of d k))))) End
+      next_in d = found_unless (first_cause ((not (is_live d k), Deleted) ∷ [])) (first (filter (key_below k) (with_calc schema capacity d r (calc_items schema r (items_of d k))))) End
 
       go : (c : cell schema capacity db (Extent r) ≡ cell schema capacity eb (Extent r)) → (is_live db k ≡ true) ⊎ (is_live db k ≡ false) → next_in db ≡ next_in eb
       go c (inl live) =
           let alive = live_same schema capacity db eb ldb leb r c k typed in
           let keys = with_calc_same schema capacity db eb ldb leb r c (calc_items schema r (items_of db k)) ∙ ap (with_calc schema capacity eb r) (items_same schema capacity db eb ldb leb r c k typed live) in
-          λ i. found_unless (first_cause ((not (alive i), Deleted) ∷ [])) (first (filter (key_lt k) (keys i))) End
+          λ i. found_unless (first_cause ((not (alive i), Deleted) ∷ [])) (first (filter (key_below k) (keys i))) End
       go c (inr dead) = dead_finds (is_live db k) _ dead ∙ sym (dead_finds (is_live eb k) _ (sym (live_same schema capacity db eb ldb leb r c k typed) ∙ dead))
 
   find_stable : (form : Form) → find p (find_cells schema capacity db unit form) ≡ find p (find_cells schema capacity eb unit form)

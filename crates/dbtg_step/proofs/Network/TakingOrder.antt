@@ -7,7 +7,7 @@ use Rattle.dbtg_schema.specs.Lists.{Lists}
 use Rattle.dbtg_schema.specs.Sound.{IsSound}
 use Rattle.dbtg_cells.specs.declared.key.Owner.{Owner}
 use Rattle.dbtg_cells.specs.declared.name.CellName.{CellName}
-use Rattle.dbtg_cells.specs.Names.{name_eq, name_lt}
+use Rattle.dbtg_cells.specs.Names.{name_eq, name_below}
 use Rattle.dbtg_cells.specs.Shown.{CellValue}
 use Rattle.dbtg_unit.specs.declared.statement.Statement.{Statement}
 use Rattle.dbtg_unit.specs.declared.unit.Unit.{Unit}
@@ -39,7 +39,7 @@ in_held b (a ∷ areas) (inl e) = or_left _ _ (eq-eqb a b (sym e))
 in_held b (a ∷ areas) (inr i) = or_right _ _ (in_held b areas i)
 
 module _ (schema : Lists) (capacity : ℕ) (unit : Unit) (x : Statement) where
-  areas_closed : (g : List (Option Owner)) (areas : List ℕ) (cells : List (HeldCell CellName CellValue)) → TakenInTurn (network schema capacity) name_lt unit x g areas cells → IsClosed nat_lt (has_area areas) (areas_in_order schema unit x)
+  areas_closed : (g : List (Option Owner)) (areas : List ℕ) (cells : List (HeldCell CellName CellValue)) → TakenInTurn (network schema capacity) name_below unit x g areas cells → IsClosed nat_lt (has_area areas) (areas_in_order schema unit x)
   areas_closed g _ _ NoneYet = λ h d k i b. absurd (false≢true k)
   areas_closed g _ _ (AreaNext {areas} {a} db taken e) =
       closed_on nat_lt number_never number_chain (has_area areas) (has_area (a ∷ areas)) (areas_in_order schema unit x) a (areas_ascend schema capacity db unit (holding g areas []) x) (reads_area schema capacity db unit x g areas [] a e).1
@@ -49,7 +49,7 @@ module _ (schema : Lists) (capacity : ℕ) (unit : Unit) (x : Statement) where
   areas_closed g _ _ (CellNext {areas} {cells} {h} db taken go e) = areas_closed g areas cells taken
 
   -- where an area is needed no cell is held
-  no_cells : (db : Database) (g : List (Option Owner)) (areas : List ℕ) (cells : List (HeldCell CellName CellValue)) (a : ℕ) → TakenInTurn (network schema capacity) name_lt unit x g areas cells → (network schema capacity).need db unit x g areas cells ≡ NeedsArea a → cells ≡ []
+  no_cells : (db : Database) (g : List (Option Owner)) (areas : List ℕ) (cells : List (HeldCell CellName CellValue)) (a : ℕ) → TakenInTurn (network schema capacity) name_below unit x g areas cells → (network schema capacity).need db unit x g areas cells ≡ NeedsArea a → cells ≡ []
   no_cells db g _ _ a NoneYet e = refl
   no_cells db g _ _ a (AreaNext other taken f) e = refl
   no_cells db g _ _ a (CellNext {areas} {cells} {h} other taken go f) e =
@@ -57,7 +57,7 @@ module _ (schema : Lists) (capacity : ℕ) (unit : Unit) (x : Statement) where
       let there = (reads_cell schema capacity other unit x g areas cells h.name f).1 in
       absurd (cc (here, there))
 
-  pub area_is_above : (db : Database) (g : List (Option Owner)) (areas : List ℕ) (cells : List (HeldCell CellName CellValue)) (a : ℕ) → TakenInTurn (network schema capacity) name_lt unit x g areas cells → (network schema capacity).need db unit x g areas cells ≡ NeedsArea a →
+  pub area_is_above : (db : Database) (g : List (Option Owner)) (areas : List ℕ) (cells : List (HeldCell CellName CellValue)) (a : ℕ) → TakenInTurn (network schema capacity) name_below unit x g areas cells → (network schema capacity).need db unit x g areas cells ≡ NeedsArea a →
       ((b : ℕ) → In b areas → b < a) × (cells ≡ [])
   area_is_above db g areas cells a taken e = (
     (λ b i. ltb-true b a (above_held nat_lt number_never number_chain number_total (has_area areas) (areas_in_order schema unit x) a (reads_area schema capacity db unit x g areas cells a e).1 (areas_closed g areas cells taken) b (in_held b areas i))),
@@ -72,7 +72,7 @@ module _ (schema : Lists) (capacity : ℕ) (unit : Unit) (x : Statement) where
       f _ _ r e
 
   -- the areas depend on no guess
-  pub areas_the_same : (g g' : List (Option Owner)) (areas : List ℕ) (cells : List (HeldCell CellName CellValue)) → TakenInTurn (network schema capacity) name_lt unit x g areas cells → TakenInTurn (network schema capacity) name_lt unit x g' areas []
+  pub areas_the_same : (g g' : List (Option Owner)) (areas : List ℕ) (cells : List (HeldCell CellName CellValue)) → TakenInTurn (network schema capacity) name_below unit x g areas cells → TakenInTurn (network schema capacity) name_below unit x g' areas []
   areas_the_same g g' _ _ NoneYet = NoneYet
   areas_the_same g g' _ _ (AreaNext {areas} {a} db taken e) =
       let r = reads_area schema capacity db unit x g areas [] a e in
@@ -94,7 +94,7 @@ held_alike schema capacity db eb (k ∷ ks) a b c h = elim (or_cases _ _ h) [
 ]
 
 module _ (schema : Lists) (sound : IsSound schema) (capacity : ℕ) (unit : Unit) (x : Statement) (shared : is_delete x ≡ false) where
-  cells_closed : (g : List (Option Owner)) (areas : List ℕ) (cells : List (HeldCell CellName CellValue)) → TakenInTurn (network schema capacity) name_lt unit x g areas cells → (db : Database) → MayGoOn (network schema capacity) name_lt db unit x cells → IsClosed name_lt (has_cell cells) (cells_of schema capacity db unit g x)
+  cells_closed : (g : List (Option Owner)) (areas : List ℕ) (cells : List (HeldCell CellName CellValue)) → TakenInTurn (network schema capacity) name_below unit x g areas cells → (db : Database) → MayGoOn (network schema capacity) name_below db unit x cells → IsClosed name_below (has_cell cells) (cells_of schema capacity db unit g x)
   cells_closed g _ _ NoneYet db may = λ h d k i b. absurd (false≢true k)
   cells_closed g _ _ (AreaNext other taken e) db may = λ h d k i b. absurd (false≢true k)
   cells_closed g _ _ (CellNext {areas} {cells} {h} other taken then_ e) db may =
@@ -104,20 +104,20 @@ module _ (schema : Lists) (sound : IsSound schema) (capacity : ℕ) (unit : Unit
       let of = unit_of_schema schema capacity db may.units may.u unit may.may.legal may.may.found in
       let stable = cells_stable schema capacity db other may.may.legal.legal then_.may.legal.legal unit of (is_not_held cells)
       (λ c n. held_alike schema capacity db other cells agrees agreed c (not-false (has_cell cells c) n)) g x shared in
-      closed_on name_lt name_never name_chain (has_cell cells) (has_cell (h ∷ cells)) (cells_of schema capacity db unit g x) h.name (cells_ascend schema sound capacity db unit g x shared)
+      closed_on name_below name_never name_chain (has_cell cells) (has_cell (h ∷ cells)) (cells_of schema capacity db unit g x) h.name (cells_ascend schema sound capacity db unit g x shared)
       (stable ∙ (reads_cell schema capacity other unit x g areas cells h.name e).2)
       (λ d k. elim (or_cases _ _ k) [ inl q ↦ inr (same_name d h.name q) | inr q ↦ inl q ])
       (λ d k. or_right _ _ k)
       closed
 
-  pub cell_is_above : (db : Database) (g : List (Option Owner)) (areas : List ℕ) (cells : List (HeldCell CellName CellValue)) (c : CellName) → TakenInTurn (network schema capacity) name_lt unit x g areas cells → MayGoOn (network schema capacity) name_lt db unit x cells →
-      (network schema capacity).need db unit x g areas cells ≡ NeedsCell c → (h : HeldCell CellName CellValue) → In h cells → name_lt h.name c ≡ true
+  pub cell_is_above : (db : Database) (g : List (Option Owner)) (areas : List ℕ) (cells : List (HeldCell CellName CellValue)) (c : CellName) → TakenInTurn (network schema capacity) name_below unit x g areas cells → MayGoOn (network schema capacity) name_below db unit x cells →
+      (network schema capacity).need db unit x g areas cells ≡ NeedsCell c → (h : HeldCell CellName CellValue) → In h cells → name_below h.name c ≡ true
   cell_is_above db g areas cells c taken may e h i =
-      above_held name_lt name_never name_chain name_total (has_cell cells) (cells_of schema capacity db unit g x) c (reads_cell schema capacity db unit x g areas cells c e).2
+      above_held name_below name_never name_chain name_total (has_cell cells) (cells_of schema capacity db unit g x) c (reads_cell schema capacity db unit x g areas cells c e).2
       (cells_closed g areas cells taken db may) h.name (held_name cells h h.name i (name_eq_refl h.name))
 
 -- what a statement needs is in order
-pub network_needs_in_order : (schema : Lists) (capacity : ℕ) → IsSound schema → NeedsInOrder (network schema capacity) name_lt
+pub network_needs_in_order : (schema : Lists) (capacity : ℕ) → IsSound schema → NeedsInOrder (network schema capacity) name_below
 network_needs_in_order schema capacity sound = record {
   area_above = λ db unit x g areas cells a. area_is_above schema capacity unit x db g areas cells a;
   cell_above = λ db unit x g areas cells c shared. cell_is_above schema sound capacity unit x shared db g areas cells c;

@@ -5,7 +5,7 @@ use Rattle.std.proofs.lemmas.Bool.Decides.{eqb_tells}
 use Rattle.std.proofs.lemmas.List.{map-append}
 use Rattle.dbtg_schema.specs.Lists.{Lists}
 use Rattle.dbtg_schema.specs.Sound.{IsSound}
-use Rattle.dbtg_cells.specs.Names.{name_lt}
+use Rattle.dbtg_cells.specs.Names.{name_below}
 use Rattle.dbtg_unit.specs.declared.moves.Move.{Move}
 use Rattle.dbtg_unit.specs.declared.moves.Move.TheVariants.{Step}
 use Rattle.dbtg_unit.specs.declared.statement.Statement.{Statement}
@@ -69,7 +69,7 @@ module _ (schema : Lists) (capacity : ℕ) where
     pub record ComesOut (s : M) (left : List Statement) (r : M) : Type 0 where
       pub steps : IsSteppedOut (network schema capacity) opening u s r
       pub lawful : Lawful (network schema capacity) opening r
-      pub in_turn : AllInTurn (network schema capacity) name_lt r
+      pub in_turn : AllInTurn (network schema capacity) name_below r
       pub state : UnitState (network schema capacity)
       pub found : unit_at r.units u ≡ Some state
       pub rests : Rests schema capacity state
@@ -193,7 +193,7 @@ module _ (schema : Lists) (capacity : ℕ) where
       pub lawful : Lawful (network schema capacity) opening last
       pub made : made_by last ≡ made_by s ++ in_turn_from u scripts
 
-    pub come_out : (scripts : List (List Statement)) (u : ℕ) (s : M) → Lawful (network schema capacity) opening s → AllInTurn (network schema capacity) name_lt s → AllBetween s → Stand scripts u s → ComeOut scripts u s
+    pub come_out : (scripts : List (List Statement)) (u : ℕ) (s : M) → Lawful (network schema capacity) opening s → AllInTurn (network schema capacity) name_below s → AllBetween s → Stand scripts u s → ComeOut scripts u s
     unfolding AreSteppedOut
     come_out [] u s l order between h = record { last = s; steps = refl; lawful = l; made = sym (append-nil (made_by s)) }
     come_out (script ∷ scripts) u s l order between h =

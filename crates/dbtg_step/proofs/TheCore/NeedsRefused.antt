@@ -11,7 +11,7 @@ use Rattle.dbtg_cells.specs.declared.key.DbKey.{DbKey}
 use Rattle.dbtg_cells.specs.declared.key.Owner.{Owner}
 use Rattle.dbtg_cells.specs.declared.cell.Cell.{Cell}
 use Rattle.dbtg_cells.specs.declared.name.CellName.{CellName}
-use Rattle.dbtg_cells.specs.Names.{name_eq, name_lt}
+use Rattle.dbtg_cells.specs.Names.{name_eq, name_below}
 use Rattle.dbtg_cells.specs.CellNumbers.{cell_number}
 use Rattle.dbtg_cells.proofs.Public.{has_number}
 use Rattle.dbtg_unit.specs.declared.held.Need.TheVariants.{Take, Ready}
@@ -100,12 +100,12 @@ module _ (schema : Lists) (capacity u : ℕ) (old : Parts) (r : Runner) (well : 
       let here = found schema capacity u old r well numbered at in
       let is = ap (progress_of schema capacity r.held) s.before.stage in
       let remaining = drop_found r.script r.next x.0 x.1 in
-      let order = ordered (network schema capacity) (network_is_sequential schema capacity well.sound) name_lt (needs_in_order schema capacity well.sound) opening (state_of schema capacity old) well.lawful well.in_turn in
-      let turn : InTurn (network schema capacity) name_lt state progress = well.in_turn.each u state progress here is s.before.ticket in
+      let order = ordered (network schema capacity) (network_is_sequential schema capacity well.sound) name_below (needs_in_order schema capacity well.sound) opening (state_of schema capacity old) well.lawful well.in_turn in
+      let turn : InTurn (network schema capacity) name_below state progress = well.in_turn.each u state progress here is s.before.ticket in
       let same : turn.x ≡ x.0 = (let both = sym turn.remaining ∙ remaining in cc (both)) in
       let alone : w.exclusive ≡ true = turn.exclusive ∙ (ap is_delete same ∙ has.deletes) in
       let db = database_now schema capacity u old r well numbered at in
-      let moves = exclusive_moves (network schema capacity) (network_is_sequential schema capacity well.sound) opening name_lt names_are_ordered (state_of schema capacity old) well.lawful order u state progress here is x.0 (drop (suc r.next) r.script)
+      let moves = exclusive_moves (network schema capacity) (network_is_sequential schema capacity well.sound) opening name_below names_are_ordered (state_of schema capacity old) well.lawful order u state progress here is x.0 (drop (suc r.next) r.script)
       s.before.ticket remaining (λ t. ap held_cells_of (s.turned t)) alone (next_need_of r.held.guesses (need schema capacity db r.unit r.held x.0)) (ap (next_need_of r.held.guesses) (need_of_holding schema capacity db r.unit x.0 r.held)) (no_area_needed schema capacity db r.unit r.held x.0 has) in
       let wanting = wants schema capacity u old r well numbered at w s moves.after moves.event (next_need_of r.held.guesses (need schema capacity db r.unit r.held x.0)) (ap (next_need_of r.held.guesses) (need_of_holding schema capacity db r.unit x.0 r.held)) (delete_goes_onward schema capacity db r.unit r.held x.0 has.deletes) in
       refused_is schema capacity u old r well numbered at w s wanting old r refl refl (sym (set_same_at old.runners.items (u - 1) r at)) refl (well.runners (u - 1) r at)

@@ -15,7 +15,7 @@ use Rattle.dbtg_cells.specs.declared.name.CellName.{CellName}
 use Rattle.dbtg_cells.specs.declared.name.CellName.TheVariants.{Usage, Extent, Ring, Slot}
 use Rattle.dbtg_cells.specs.Cells.{shown}
 use Rattle.dbtg_cells.specs.Shown.{UsageValue, ExtentValue, RingValue, SlotValue}
-use Rattle.dbtg_cells.specs.Names.{name_eq, name_lt}
+use Rattle.dbtg_cells.specs.Names.{name_eq, name_below}
 use Rattle.dbtg_cells.proofs.Public.{at_left, get_behind, numbered_at, same_name, stands_at}
 use Rattle.dbtg_cells.specs.CellNumbers.{cell_count, cell_number, cells_in_order}
 use Rattle.dbtg_unit.specs.declared.statement.Statement.{Statement}
@@ -154,14 +154,14 @@ module _ (schema : Lists) (capacity : ℕ) where
         let facts = network_is_sequential schema capacity sound in
         let is_opening = machine_is_opening schema capacity scripts (opening_is_legal schema capacity (length scripts)) fit in
         let lawful = opening_is_lawful (network schema capacity) facts (opening_of schema capacity (length scripts)) (machine_of schema capacity scripts) is_opening in
-        let in_turn = start_in_turn (network schema capacity) facts (opening_of schema capacity (length scripts)) name_lt names_are_ordered (needs_in_order schema capacity sound) (machine_of schema capacity scripts) is_opening in
+        let in_turn = start_in_turn (network schema capacity) facts (opening_of schema capacity (length scripts)) name_below names_are_ordered (needs_in_order schema capacity sound) (machine_of schema capacity scripts) is_opening in
         let guessed = subst (AllGuesses (network schema capacity) (HaveRings schema capacity)) (sym opens_state) (opening_has_rings schema capacity scripts) in
         record {
           sound = sound;
           table = table_count parts.table.items table;
           runners = subst (RunnersFit schema capacity) (sym runners) (runners_fit 1 scripts);
           lawful = subst (λ n. Lawful (network schema capacity) (opening_of schema capacity n) (state_of schema capacity parts)) (sym count) (subst (Lawful (network schema capacity) (opening_of schema capacity (length scripts))) (sym opens_state) lawful);
-          in_turn = subst (AllInTurn (network schema capacity) name_lt) (sym opens_state) in_turn;
+          in_turn = subst (AllInTurn (network schema capacity) name_below) (sym opens_state) in_turn;
           guesses = guessed.each;
         }
 

@@ -6,7 +6,7 @@ use Rattle.dbtg_schema.specs.Lists.{Lists}
 use Rattle.dbtg_cells.specs.declared.cell.Cell.{Cell}
 use Rattle.dbtg_cells.specs.declared.name.CellName.{CellName}
 use Rattle.dbtg_cells.specs.Cells.{shown}
-use Rattle.dbtg_cells.specs.Names.{name_lt}
+use Rattle.dbtg_cells.specs.Names.{name_below}
 use Rattle.dbtg_cells.specs.Shown.{CellValue}
 use Rattle.dbtg_unit.specs.declared.unit.Entry.{Entry}
 use Rattle.dbtg_unit.specs.Hands.Hands.{Hands}
@@ -136,7 +136,7 @@ guessed : (schema : Lists) (capacity : ℕ) (parts : Parts) → IsWell schema ca
 guessed schema capacity parts well = record { each = well.guesses }
 
 module _ (schema : Lists) (capacity u : ℕ) (old new : Parts) (well : IsWell schema capacity old) (count : length new.runners.items ≡ length old.runners.items) (table : length new.table.items ≡ length old.table.items) (runners : RunnersFit schema capacity new.runners.items) where
-  kept : Lawful (network schema capacity) (opening_for schema capacity old) (state_of schema capacity new) → AllInTurn (network schema capacity) name_lt (state_of schema capacity new) → AllGuesses (network schema capacity) (HaveRings schema capacity) (state_of schema capacity new) → IsWell schema capacity new
+  kept : Lawful (network schema capacity) (opening_for schema capacity old) (state_of schema capacity new) → AllInTurn (network schema capacity) name_below (state_of schema capacity new) → AllGuesses (network schema capacity) (HaveRings schema capacity) (state_of schema capacity new) → IsWell schema capacity new
   kept l o g = record {
     sound = well.sound;
     table = table ∙ well.table;
@@ -149,7 +149,7 @@ module _ (schema : Lists) (capacity u : ℕ) (old new : Parts) (well : IsWell sc
   pub stayed : state_of schema capacity new ≡ state_of schema capacity old → IsWell schema capacity new
   stayed e =
       kept (subst (Lawful (network schema capacity) (opening_for schema capacity old)) (sym e) well.lawful)
-      (subst (AllInTurn (network schema capacity) name_lt) (sym e) well.in_turn)
+      (subst (AllInTurn (network schema capacity) name_below) (sym e) well.in_turn)
       (subst (AllGuesses (network schema capacity) (HaveRings schema capacity)) (sym e) (guessed schema capacity old well))
 
   moved_on : core_of schema capacity new ≡ with_state (core_of schema capacity old) (state_of schema capacity new)
@@ -164,7 +164,7 @@ module _ (schema : Lists) (capacity u : ℕ) (old new : Parts) (well : IsWell sc
   stepped_well Moved s =
       kept schema capacity u old new well s.count s.table s.runners
       (subst (λ t. IfMoved (network schema capacity) t (Lawful (network schema capacity) (opening_for schema capacity old))) s.tells (step_keeps (network schema capacity) (network_is_sequential schema capacity well.sound) (opening_for schema capacity old) (state_of schema capacity old) well.lawful u))
-      (subst (λ t. IfMoved (network schema capacity) t (AllInTurn (network schema capacity) name_lt)) s.tells (step_in_turn (network schema capacity) name_lt (needs_in_order schema capacity well.sound) (opening_for schema capacity old) (state_of schema capacity old) well.lawful well.in_turn u))
+      (subst (λ t. IfMoved (network schema capacity) t (AllInTurn (network schema capacity) name_below)) s.tells (step_in_turn (network schema capacity) name_below (needs_in_order schema capacity well.sound) (opening_for schema capacity old) (state_of schema capacity old) well.lawful well.in_turn u))
       (subst (λ t. IfMoved (network schema capacity) t (AllGuesses (network schema capacity) (HaveRings schema capacity))) s.tells (step_keeps_guesses (network schema capacity) (HaveRings schema capacity) (statements_keep_rings schema capacity well.sound) (opening_for schema capacity old) (state_of schema capacity old) well.lawful (guessed schema capacity old well) u))
   stepped_well Blocked s = stayed schema capacity u old new well s.count s.table s.runners s.tells.1
   stepped_well Idle s = stayed schema capacity u old new well s.count s.table s.runners s.tells.1
@@ -181,7 +181,7 @@ module _ (schema : Lists) (capacity u : ℕ) (old new : Parts) (well : IsWell sc
   quit_well Moved s =
       kept schema capacity u old new well s.count s.table s.runners
       (subst (λ t. IfMoved (network schema capacity) t (Lawful (network schema capacity) (opening_for schema capacity old))) s.tells (quit_keeps (network schema capacity) (network_is_sequential schema capacity well.sound) (opening_for schema capacity old) (state_of schema capacity old) well.lawful u))
-      (subst (λ t. IfMoved (network schema capacity) t (AllInTurn (network schema capacity) name_lt)) s.tells (quit_in_turn (network schema capacity) name_lt (needs_in_order schema capacity well.sound) (opening_for schema capacity old) (state_of schema capacity old) well.lawful well.in_turn u))
+      (subst (λ t. IfMoved (network schema capacity) t (AllInTurn (network schema capacity) name_below)) s.tells (quit_in_turn (network schema capacity) name_below (needs_in_order schema capacity well.sound) (opening_for schema capacity old) (state_of schema capacity old) well.lawful well.in_turn u))
       (subst (λ t. IfMoved (network schema capacity) t (AllGuesses (network schema capacity) (HaveRings schema capacity))) s.tells (quit_keeps_guesses (network schema capacity) (HaveRings schema capacity) (statements_keep_rings schema capacity well.sound) (opening_for schema capacity old) (state_of schema capacity old) well.lawful (guessed schema capacity old well) u))
   quit_well Blocked s = absurd s.tells
   quit_well Idle s = stayed schema capacity u old new well s.count s.table s.runners s.tells.1
@@ -197,8 +197,8 @@ module _ (schema : Lists) (capacity u : ℕ) (old new : Parts) (well : IsWell sc
 pub never_stuck_well : (schema : Lists) (capacity : ℕ) (parts : Parts) → IsWell schema capacity parts → IsNeverStuck (core_of schema capacity parts)
 never_stuck_well schema capacity parts well =
     let facts = network_is_sequential schema capacity well.sound in
-    let order = ordered (network schema capacity) facts name_lt (needs_in_order schema capacity well.sound) (opening_for schema capacity parts) (state_of schema capacity parts) well.lawful well.in_turn in
-    never_stuck (network schema capacity) facts (opening_for schema capacity parts) name_lt names_are_ordered (state_of schema capacity parts) well.lawful order
+    let order = ordered (network schema capacity) facts name_below (needs_in_order schema capacity well.sound) (opening_for schema capacity parts) (state_of schema capacity parts) well.lawful well.in_turn in
+    never_stuck (network schema capacity) facts (opening_for schema capacity parts) name_below names_are_ordered (state_of schema capacity parts) well.lawful order
 
 -- the units that the core shows
 pub unit_shown : (schema : Lists) (capacity u : ℕ) (table : List Place) (history : List Entry) (runners : List Runner) → option_map (λ (x : Runner). x.unit) (unit_at runners u) ≡ option_map (λ (x : UnitState (network schema capacity)). x.unit) (unit_at (state_from schema capacity table history runners).units u)

@@ -8,7 +8,7 @@ use Rattle.dbtg_schema.specs.Lists.{Lists}
 use Rattle.dbtg_schema.specs.Sound.{IsSound}
 use Rattle.dbtg_cells.specs.declared.key.Owner.{Owner}
 use Rattle.dbtg_cells.specs.declared.name.CellName.{CellName}
-use Rattle.dbtg_cells.specs.Names.{name_lt}
+use Rattle.dbtg_cells.specs.Names.{name_below}
 use Rattle.dbtg_cells.specs.Shown.{CellValue}
 use Rattle.dbtg_unit.specs.declared.statement.Statement.{Statement}
 use Rattle.dbtg_unit.specs.declared.unit.Unit.{Unit}
@@ -45,7 +45,7 @@ pub record IsAtWork (schema : Lists) (capacity u : ℕ) (s : State (network sche
   pub state : UnitState (network schema capacity)
   pub found : unit_at s.units u ≡ Some state
   pub others : (w : ℕ) (other : UnitState (network schema capacity)) → w ≢ u → unit_at s.units w ≡ Some other → other.progress ≡ None
-  pub in_turn : AllInTurn (network schema capacity) name_lt s
+  pub in_turn : AllInTurn (network schema capacity) name_below s
 
 -- nothing is left to do
 pub record Rests (schema : Lists) (capacity : ℕ) (state : UnitState (network schema capacity)) : Type 0 where
@@ -390,7 +390,7 @@ module _ (schema : Lists) (capacity : ℕ) where
           ];
         }
 
-    stays_alone : (t : M) → StepsAlone (network schema capacity) opening s u a.state t → AllInTurn (network schema capacity) name_lt t → IsAtWork schema capacity u t
+    stays_alone : (t : M) → StepsAlone (network schema capacity) opening s u a.state t → AllInTurn (network schema capacity) name_below t → IsAtWork schema capacity u t
     stays_alone t c order = record {
       state = c.new;
       found = subst (λ us. unit_at us u ≡ Some c.new) (sym c.units) (set_at s.units u a.state c.new a.found);
@@ -404,7 +404,7 @@ module _ (schema : Lists) (capacity : ℕ) where
     stays_at_work t e =
         stays_alone t
         (subst (λ r. IfMoved (network schema capacity) r (StepsAlone (network schema capacity) opening s u a.state)) e (step_alone (network schema capacity) opening s u a.state a.found))
-        (subst (λ r. IfMoved (network schema capacity) r (AllInTurn (network schema capacity) name_lt)) e (step_in_turn (network schema capacity) name_lt (needs_in_order schema capacity sound) opening s l a.in_turn u))
+        (subst (λ r. IfMoved (network schema capacity) r (AllInTurn (network schema capacity) name_below)) e (step_in_turn (network schema capacity) name_below (needs_in_order schema capacity sound) opening s l a.in_turn u))
 
 -- OF THE PARTS
 

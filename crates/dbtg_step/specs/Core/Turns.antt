@@ -84,7 +84,6 @@ pub record TurnedIs (schema : Lists) (capacity : ℕ) (scripts : List (List Stat
 -- HOW A TURN GOES
 
 module _ (D : SequentialDatabase) where
-
   -- how many statements each unit has left
   abbrev pub lefts_of : State D → List ℕ
   lefts_of s = map (λ state. length state.remaining) s.units

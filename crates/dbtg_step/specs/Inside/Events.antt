@@ -7,7 +7,7 @@ use Rattle.dbtg_schema.specs.Lists.{Lists}
 use Rattle.dbtg_schema.specs.Lookups.{at}
 use Rattle.dbtg_schema.specs.Sound.{IsSound}
 use Rattle.dbtg_cells.specs.CellNumbers.{cell_count, is_cell}
-use Rattle.dbtg_cells.specs.Names.{name_lt}
+use Rattle.dbtg_cells.specs.Names.{name_below}
 use Rattle.dbtg_cells.specs.declared.key.Owner.{Owner}
 use Rattle.dbtg_unit.specs.declared.held.Need.{Need}
 use Rattle.dbtg_unit.specs.declared.held.Need.TheVariants.{Stale}
@@ -62,7 +62,7 @@ pub record IsWell (schema : Lists) (capacity : ℕ) (parts : Parts) : Type 0 whe
   pub table : length parts.table.items ≡ cell_count schema capacity
   pub runners : RunnersFit schema capacity parts.runners.items
   pub lawful : Lawful (network schema capacity) (opening_for schema capacity parts) (state_of schema capacity parts)
-  pub in_turn : AllInTurn (network schema capacity) name_lt (state_of schema capacity parts)
+  pub in_turn : AllInTurn (network schema capacity) name_below (state_of schema capacity parts)
   pub guesses : (u : ℕ) (state : UnitState (network schema capacity)) → unit_at (state_of schema capacity parts).units u ≡ Some state → HaveRings schema capacity state.guesses
 
 -- owners against which guesses stand have an entry for each set

@@ -5,7 +5,7 @@ use Rattle.std.specs.List.{find, list_any}
 use Rattle.dbtg_schema.specs.Lists.{Lists}
 use Rattle.dbtg_cells.specs.declared.cell.Cell.{Cell}
 use Rattle.dbtg_cells.specs.declared.name.CellName.{CellName}
-use Rattle.dbtg_cells.specs.Names.{name_lt}
+use Rattle.dbtg_cells.specs.Names.{name_below}
 use Rattle.dbtg_unit.specs.declared.held.Need.{Need}
 use Rattle.dbtg_unit.specs.declared.held.Need.TheVariants.{Area, Take, Stale, Ready}
 use Rattle.dbtg_unit.specs.declared.statement.Statement.{Statement}
@@ -21,17 +21,17 @@ use Rattle.dbtg_step.specs.Core.Parts.{held_cells_of}
 
 -- the cells in hand are those of this database, legal with a unit that may make the statement
 abbrev pub AreCellsOf : Lists → ℕ → Database → Unit → Statement → Hands → Type 0
-AreCellsOf schema capacity db unit x hands = MayGoOn (network schema capacity) name_lt db unit x (held_cells_of hands.cells)
+AreCellsOf schema capacity db unit x hands = MayGoOn (network schema capacity) name_below db unit x (held_cells_of hands.cells)
 
 -- each area and cell in hand was what the statement needed next, one after another, and the cells in hand are as they were
 abbrev pub WasTakenInTurn : Lists → ℕ → Unit → Statement → Hands → Type 0
-WasTakenInTurn schema capacity unit x hands = TakenInTurn (network schema capacity) name_lt unit x hands.guesses (reverse hands.areas) (held_cells_of hands.cells)
+WasTakenInTurn schema capacity unit x hands = TakenInTurn (network schema capacity) name_below unit x hands.guesses (reverse hands.areas) (held_cells_of hands.cells)
 
 -- an area that is needed is above all areas in hand, and no cell is in hand; a cell is above all cells in hand, those of a
 -- DELETE apart
 abbrev pub IsAboveHands : Statement → Hands → Need → Type 0
 IsAboveHands x hands (Area a) = ((b : ℕ) → In b hands.areas → b < a) × (hands.cells ≡ [])
-IsAboveHands x hands (Take c) = is_delete x ≡ false → (e : CellName × Cell) → In e hands.cells → name_lt e.0 c ≡ true
+IsAboveHands x hands (Take c) = is_delete x ≡ false → (e : CellName × Cell) → In e hands.cells → name_below e.0 c ≡ true
 IsAboveHands x hands (Stale owners) = ⊤
 IsAboveHands x hands Ready = ⊤
 

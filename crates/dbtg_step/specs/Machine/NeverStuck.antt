@@ -16,7 +16,6 @@ module _ (D : SequentialDatabase) where
   IsNotStuck opening s = (u : ℕ) (state : UnitState D) (w : Progress D) → unit_at s.units u ≡ Some state → state.progress ≡ Some w → SomeUnitMoves opening s
 
 module _ (D : SequentialDatabase) (below : D.Cell → D.Cell → Bool) where
-
   -- unit u of a legal database, in which the held cells have their values, may make the statement
   pub record MayGoOn (db : D.Db) (unit : D.Unit) (x : D.Statement) (cells : HeldCells D) : Type 0 where
     pub units : List D.Unit

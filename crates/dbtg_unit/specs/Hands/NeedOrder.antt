@@ -3,7 +3,7 @@
 use Rattle.std.specs.Prelude.{ℕ, ◌≡◌, ◌==◌, true, false, nat_lt, List, [], ◌⊎◌, length, take, ⊤}
 use Rattle.std.specs.List.{list_all, list_any}
 use Rattle.dbtg_schema.specs.Lists.{Lists}
-use Rattle.dbtg_cells.specs.Names.{name_lt}
+use Rattle.dbtg_cells.specs.Names.{name_below}
 use Rattle.dbtg_unit.specs.declared.held.Need.{Need}
 use Rattle.dbtg_unit.specs.declared.held.Need.TheVariants.{Area, Take, Stale, Ready}
 use Rattle.dbtg_unit.specs.declared.statement.Statement.{Statement}
@@ -24,7 +24,7 @@ pub record IsInTurn (schema : Lists) (capacity : ℕ) (db : Database) (unit : Un
 -- an area that is needed is above all areas in hand, and no cell is in hand; a cell is above all cells in hand, those of a DELETE apart
 abbrev pub IsAbove : Statement → Hands → Need → Type 0
 IsAbove x hands (Area a) = (list_all (λ b. nat_lt b a) hands.areas ≡ true) × (hands.cells ≡ [])
-IsAbove x hands (Take c) = is_delete x ≡ false → list_all (λ e. name_lt e.0 c) hands.cells ≡ true
+IsAbove x hands (Take c) = is_delete x ≡ false → list_all (λ e. name_below e.0 c) hands.cells ≡ true
 IsAbove x hands (Stale owners) = ⊤
 IsAbove x hands Ready = ⊤
 

@@ -4,14 +4,14 @@ use Rattle.std.specs.Prelude.{None, Vec, filter, take}
 use Rattle.std.specs.List.{find}
 use Rattle.std.specs.declared.alloc.Global.{Global}
 use Rattle.dbtg_cells.specs.declared.name.CellName.{CellName}
-use Rattle.dbtg_cells.specs.Names.{name_lt}
+use Rattle.dbtg_cells.specs.Names.{name_below}
 use Rattle.dbtg_erase.specs.NextCell.{first_missing, least_name}
 use Rattle.dbtg_erase.proofs.SortedNames.{names_rank, sorted_around}
 use Rattle.dbtg_erase.proofs.around.around.Goals as goal
 
 pub returns : goal.returns
 returns c =
-    let sorted = c.sort_unstable_by.ensures.sorted name_lt names_rank (always_returns_same _ _ _ (λ a r f k. search rules)) in
+    let sorted = c.sort_unstable_by.ensures.sorted name_below names_rank (always_returns_same _ _ _ (λ a r f k. search rules)) in
     let unsorted = c.in_ok-names.names.items in
     let names = c.sort_unstable_by.new.self.items in
     record {

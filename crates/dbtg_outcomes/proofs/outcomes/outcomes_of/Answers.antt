@@ -25,6 +25,6 @@ pub returns : goal.returns
 returns c =
     let m = c.args.meeting.now in
     are_outcomes m c.requires.meeting c.args.search.now c.as_slice.result.now c.in_ok-groups.groups.items c.as_slice-3.result.now _ c.requires.at c.as_slice.ensures.value c.as_slice-3.ensures.value c.in_ok-groups.ensures
-    (c.orders_of.ensures ∙ ap (λ (gs : List Group). all_orders (Some 0) gs) c.as_slice-4.ensures.value)
+    (c.all_orders.ensures ∙ ap (λ (gs : List Group). all_orders (Some 0) gs) c.as_slice-4.ensures.value)
     (c.in_ok-results.ensures ∙ ap (λ (gs : List Group). map one_result gs) c.as_slice-2.ensures.value)
     (subst (λ (l : List (List Statement)). AreAllAnswered c.as_slice-3.result.now l c.in_ok-answered.answered.items) c.requires.scripts c.in_ok-answered.ensures)

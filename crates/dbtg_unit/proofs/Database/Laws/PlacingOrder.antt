@@ -14,7 +14,7 @@ use Rattle.dbtg_cells.specs.Keys.{key_eq}
 use Rattle.dbtg_cells.specs.Placed.{After, Before, placed}
 use Rattle.dbtg_cells.proofs.Public.{key_eq_refl}
 use Rattle.dbtg_unit.specs.Database.State.Base.{is_member}
-use Rattle.dbtg_unit.specs.Database.Statements.Effect.{spot, refuses_equal, option_value_eq, comes_before, key_below, after_position, before_position}
+use Rattle.dbtg_unit.specs.Database.Statements.Effect.{spot, refuses_equal, option_value_eq, comes_before, sort_key_below, after_position, before_position}
 use Rattle.dbtg_unit.specs.Database.State.Legal.{pairwise, keys_in_order}
 use Rattle.dbtg_unit.specs.Database.Laws.Placing.{comparable, compares, has_equal, stand_in_order, StandsRight, IsPlaced}
 use Rattle.dbtg_unit.proofs.Lists.Listing.{any_placed, any_parts}
@@ -58,19 +58,19 @@ not_so b h = not_from_false b (false_from_ne_true b h)
 side_of : (up : Bool) (duplicates : Duplicates) (x m : Option Value) → comparable x m ≡ true → (refuses_equal (Sorted up duplicates) && option_value_eq x m) ≡ false
     → cond (comes_before up duplicates x m) (keys_in_order (Sorted up duplicates) x m) (keys_in_order (Sorted up duplicates) m x) ≡ true
 side_of up LastAmongEqual x m k e =
-    elim (cases_Bool (key_below up m x)) [
-      | inl h ↦ ap (λ t. cond (not t) (not t) (not (key_below up x m))) h ∙ not_from_false _ (key_below_asym up m x h)
-      | inr h ↦ ap (λ t. cond (not t) (not t) (not (key_below up x m))) h
+    elim (cases_Bool (sort_key_below up m x)) [
+      | inl h ↦ ap (λ t. cond (not t) (not t) (not (sort_key_below up x m))) h ∙ not_from_false _ (key_below_asym up m x h)
+      | inr h ↦ ap (λ t. cond (not t) (not t) (not (sort_key_below up x m))) h
     ]
 side_of up FirstAmongEqual x m k e =
-    elim (cases_Bool (key_below up x m)) [
-      | inl h ↦ ap (λ t. cond t (not (key_below up m x)) (not t)) h ∙ not_from_false _ (key_below_asym up x m h)
-      | inr h ↦ ap (λ t. cond t (not (key_below up m x)) (not t)) h
+    elim (cases_Bool (sort_key_below up x m)) [
+      | inl h ↦ ap (λ t. cond t (not (sort_key_below up m x)) (not t)) h ∙ not_from_false _ (key_below_asym up x m h)
+      | inr h ↦ ap (λ t. cond t (not (sort_key_below up m x)) (not t)) h
     ]
 side_of up NotAllowed x m k e =
-    elim (cases_Bool (key_below up x m)) [
-      | inl h ↦ ap (λ t. cond t t (key_below up m x)) h
-      | inr h ↦ ap (λ t. cond t t (key_below up m x)) h ∙ key_below_either up x m k e h
+    elim (cases_Bool (sort_key_below up x m)) [
+      | inl h ↦ ap (λ t. cond t t (sort_key_below up m x)) h
+      | inr h ↦ ap (λ t. cond t t (sort_key_below up m x)) h ∙ key_below_either up x m k e h
     ]
 
 -- two on either side of a new member are in order
@@ -84,29 +84,29 @@ across up NotAllowed x y m c d h g = key_below_trans up x m y h g
 pub divided_by_new_member : (up : Bool) (duplicates : Duplicates) (x y m : Option Value) → comparable x m ≡ true → comparable y m ≡ true → keys_in_order (Sorted up duplicates) x y ≡ true
     → (comes_before up duplicates x m || not (comes_before up duplicates y m)) ≡ true
 divided_by_new_member up LastAmongEqual x y m j k h =
-    elim (cases_Bool (key_below up m x)) [
-      | inl l ↦ elim (cases_Bool (key_below up m y)) [
+    elim (cases_Bool (sort_key_below up m x)) [
+      | inl l ↦ elim (cases_Bool (sort_key_below up m y)) [
         | inl n ↦ or_right _ _ (ap (λ t. not (not t)) n)
         | inr n ↦ elim (cases_Bool (option_value_eq y m)) [
-          | inl e ↦ clash (not-true _ h) (subst (λ (z : Option Value). key_below up z x ≡ true) (sym (same_option_value y m e)) l)
+          | inl e ↦ clash (not-true _ h) (subst (λ (z : Option Value). sort_key_below up z x ≡ true) (sym (same_option_value y m e)) l)
           | inr e ↦ clash (not-true _ h) (key_below_trans up y m x (other_side y m k e n) l)
         ]
       ]
       | inr l ↦ or_left _ _ (not_from_false _ l)
     ] where
       -- y is not m and m is not below y
-      other_side : (y m : Option Value) → comparable y m ≡ true → option_value_eq y m ≡ false → key_below up m y ≡ false → key_below up y m ≡ true
-      other_side y m k e n = elim (cases_Bool (key_below up y m)) [ inl t ↦ t | inr t ↦ clash n (key_below_either up y m k e t) ]
+      other_side : (y m : Option Value) → comparable y m ≡ true → option_value_eq y m ≡ false → sort_key_below up m y ≡ false → sort_key_below up y m ≡ true
+      other_side y m k e n = elim (cases_Bool (sort_key_below up y m)) [ inl t ↦ t | inr t ↦ clash n (key_below_either up y m k e t) ]
 divided_by_new_member up FirstAmongEqual x y m j k h =
-    elim (cases_Bool (key_below up x m)) [
+    elim (cases_Bool (sort_key_below up x m)) [
       | inl l ↦ or_left _ _ l
       | inr l ↦ or_right _ _ (not_so _ (λ n. elim (cases_Bool (option_value_eq x m)) [
-        | inl e ↦ clash (not-true _ h) (subst (λ (z : Option Value). key_below up y z ≡ true) (sym (same_option_value x m e)) n)
+        | inl e ↦ clash (not-true _ h) (subst (λ (z : Option Value). sort_key_below up y z ≡ true) (sym (same_option_value x m e)) n)
         | inr e ↦ clash (not-true _ h) (key_below_trans up y m x n (key_below_either up x m j e l))
       ]))
     ]
 divided_by_new_member up NotAllowed x y m j k h =
-    elim (cases_Bool (key_below up x m)) [
+    elim (cases_Bool (sort_key_below up x m)) [
       | inl l ↦ or_left _ _ l
       | inr l ↦ or_right _ _ (not_so _ (λ n. clash l (key_below_trans up x y m h n)))
     ]
@@ -179,14 +179,14 @@ module _ (position : Option DbKey) (key : DbKey → Option Value) (m : DbKey) (l
   placing_keeps_order Next kinds apart in_order = placed_at Next (divides_after position) (unordered (placed (spot Next position key m) m list)) (right_after position)
   placing_keeps_order Prior kinds apart in_order = placed_at Prior (divides_before position) (unordered (placed (spot Prior position key m) m list)) (right_before position)
   placing_keeps_order (Sorted up FirstAmongEqual) kinds apart in_order =
-      let before_m : DbKey → Bool = λ x. key_below up (key x) (key m) in
+      let before_m : DbKey → Bool = λ x. sort_key_below up (key x) (key m) in
       sorted_at up FirstAmongEqual kinds apart in_order
       (ap (has_equal key m) (in_front_of_it (key_eq m) m (filter before_m list) _ (key_eq_refl m) (low_part before_m))
-      ∙ none_from_all _ (filter before_m list) (all_weaker before_m _ (filter before_m list) (λ x l. not_so _ (λ e. key_below_irrefl up (key m) (subst (λ (z : Option Value). key_below up z (key m) ≡ true) (same_option_value (key x) (key m) e) l))) (all_kept before_m list)))
+      ∙ none_from_all _ (filter before_m list) (all_weaker before_m _ (filter before_m list) (λ x l. not_so _ (λ e. key_below_irrefl up (key m) (subst (λ (z : Option Value). sort_key_below up z (key m) ≡ true) (same_option_value (key x) (key m) e) l))) (all_kept before_m list)))
   placing_keeps_order (Sorted up LastAmongEqual) kinds apart in_order =
-      let before_m : DbKey → Bool = λ x. not (key_below up (key m) (key x)) in
-      let after_m : DbKey → Bool = λ x. not (not (key_below up (key m) (key x))) in
+      let before_m : DbKey → Bool = λ x. not (sort_key_below up (key m) (key x)) in
+      let after_m : DbKey → Bool = λ x. not (not (sort_key_below up (key m) (key x))) in
       sorted_at up LastAmongEqual kinds apart in_order
       (ap (has_equal key m) (behind_it (key_eq m) m (filter before_m list) _ (key_eq_refl m) (low_part before_m))
-      ∙ none_from_all _ (filter after_m list) (all_weaker after_m _ (filter after_m list) (λ x l. not_so _ (λ e. key_below_irrefl up (key m) (subst (λ (z : Option Value). key_below up (key m) z ≡ true) (same_option_value (key x) (key m) e) (not-false _ (not-true _ l))))) (all_kept after_m list)))
+      ∙ none_from_all _ (filter after_m list) (all_weaker after_m _ (filter after_m list) (λ x l. not_so _ (λ e. key_below_irrefl up (key m) (subst (λ (z : Option Value). sort_key_below up (key m) z ≡ true) (same_option_value (key x) (key m) e) (not-false _ (not-true _ l))))) (all_kept after_m list)))
   placing_keeps_order (Sorted up NotAllowed) kinds apart in_order = sorted_at up NotAllowed kinds apart in_order apart

@@ -11,7 +11,7 @@ use Rattle.dbtg_schema.specs.Structure.{types_in}
 use Rattle.dbtg_cells.specs.declared.key.DbKey.{DbKey}
 use Rattle.dbtg_cells.specs.declared.key.Owner.{Owner}
 use Rattle.dbtg_cells.specs.declared.key.Value.{Value}
-use Rattle.dbtg_cells.specs.Keys.{key_eq, key_lt, value_eq, values_eq}
+use Rattle.dbtg_cells.specs.Keys.{key_eq, key_below, value_eq, values_eq}
 use Rattle.dbtg_cells.proofs.Public.{passes_at}
 use Rattle.dbtg_unit.specs.declared.statement.Which.{Which}
 use Rattle.dbtg_unit.specs.declared.statement.Which.TheVariants.{First, Last, Next, Prior, Nth}
@@ -83,8 +83,8 @@ chosen_passes p (Nth n) test place xs x h e = nth_passes p n (filter test xs) x 
 by_key_passes : (p : DbKey → Bool) (which : Which) (current : Option DbKey) (xs : List DbKey) (x : DbKey) → list_all p xs ≡ true → chosen_by_key which current xs ≡ Some x → p x ≡ true
 by_key_passes p First current xs x h e = first_passes p xs x h e
 by_key_passes p Last current xs x h e = final_passes p xs x h e
-by_key_passes p Next current xs x h e = let t : DbKey → Bool = λ k. some_and (λ c. key_lt c k) current in first_passes p (filter t xs) x (all_filter p t xs h) e
-by_key_passes p Prior current xs x h e = let t : DbKey → Bool = λ k. some_and (λ c. key_lt k c) current in final_passes p (filter t xs) x (all_filter p t xs h) e
+by_key_passes p Next current xs x h e = let t : DbKey → Bool = λ k. some_and (λ c. key_below c k) current in first_passes p (filter t xs) x (all_filter p t xs h) e
+by_key_passes p Prior current xs x h e = let t : DbKey → Bool = λ k. some_and (λ c. key_below k c) current in final_passes p (filter t xs) x (all_filter p t xs h) e
 by_key_passes p (Nth n) current xs x h e = nth_passes p n xs x h e
 
 found_in : (p : DbKey → Bool) (test : DbKey → Bool) (xs : List DbKey) (x : DbKey) → list_all p xs ≡ true → find test xs ≡ Some x → p x ≡ true
@@ -139,8 +139,8 @@ module _ (schema : Lists) (capacity : ℕ) (db : Database) (unit : Unit) (legal 
       let list = members_of db s place.owner in
       found_unless (first_cause ((is_none (db.lists s place.owner), Deleted) ∷ (needs_position which && is_lost place.at list, PositionLost) ∷ [])) (chosen which (has_type r) place.at list) End
 
-  abbrev next_equal : ℕ → DbKey → Result DbKey Cause
-  next_equal r k = found_unless (first_cause ((not (is_live db k), Deleted) ∷ [])) (first (filter (key_lt k) (with_calc schema capacity db r (calc_items schema r (items_of db k))))) End
+  abbrev duplicate_found : ℕ → DbKey → Result DbKey Cause
+  duplicate_found r k = found_unless (first_cause ((not (is_live db k), Deleted) ∷ [])) (first (filter (key_below k) (with_calc schema capacity db r (calc_items schema r (items_of db k))))) End
 
   abbrev by_value : Value → ℕ → Place → Result DbKey Cause
   by_value value s place =
@@ -162,10 +162,10 @@ module _ (schema : Lists) (capacity : ℕ) (db : Database) (unit : Unit) (legal 
   found_live (OwnerOf s) = of_current (option_and_then (λ place. key_of_place (record place { at = None })) (place_in schema unit s)) if_live (λ k. where_live k Deleted)
   found_live (Calc r values) =
       of_key None (first (with_calc schema capacity db r values)) NoneSatisfies (λ x e. first_passes (is_live db) (with_calc schema capacity db r values) x (calc_live r values) e)
-  found_live (NextDuplicate r) = of_current (at unit.currency.types r) (next_equal r) (λ k.
+  found_live (NextDuplicate r) = of_current (at unit.currency.types r) (duplicate_found r) (λ k.
       let equal = with_calc schema capacity db r (calc_items schema r (items_of db k)) in
-      of_key (first_cause ((not (is_live db k), Deleted) ∷ [])) (first (filter (key_lt k) equal)) End
-      (λ x e. first_passes (is_live db) (filter (key_lt k) equal) x (all_filter (is_live db) (key_lt k) equal (calc_live r (calc_items schema r (items_of db k)))) e))
+      of_key (first_cause ((not (is_live db k), Deleted) ∷ [])) (first (filter (key_below k) equal)) End
+      (λ x e. first_passes (is_live db) (filter (key_below k) equal) x (all_filter (is_live db) (key_below k) equal (calc_live r (calc_items schema r (items_of db k)))) e))
   found_live (Sorted value s) = of_current (place_in schema unit s) (by_value value s) (λ place.
       of_key (first_cause ((is_none (db.lists s place.owner), Deleted) ∷ [])) (find (λ k. some_and (value_eq value) (sort_key schema db s k)) (members_of db s place.owner)) NoneSatisfies
       (λ x e. found_in (is_live db) (λ k. some_and (value_eq value) (sort_key schema db s k)) (members_of db s place.owner) x (members_live s place.owner) e))

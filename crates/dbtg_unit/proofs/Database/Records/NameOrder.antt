@@ -4,7 +4,7 @@ use Rattle.std.specs.Prelude.{nat_lt, ◌==◌}
 use Rattle.std.proofs.lemmas.Bool.{and_parts, and_from, or_cases, or_left, or_right, ltb-true, lt-ltb, eqb-true, eq-eqb}
 use Rattle.dbtg_cells.specs.declared.name.CellName.{CellName}
 use Rattle.dbtg_cells.specs.declared.name.CellName.TheVariants.{Usage, Extent, Ring, Slot}
-use Rattle.dbtg_cells.specs.Names.{place_lt, name_lt}
+use Rattle.dbtg_cells.specs.Names.{place_lt, name_below}
 
 -- by a number first, and by something else where that is the same
 chain_of : (a b c : ℕ) (x y z : Bool) → (x ≡ true → y ≡ true → z ≡ true) → (nat_lt a b || (a == b && x)) ≡ true → (nat_lt b c || (b == c && y)) ≡ true → (nat_lt a c || (a == c && z)) ≡ true
@@ -71,13 +71,13 @@ place_total (Some p) (Some q) = elim (total_of p.0 q.0 (nat_lt p.1 q.1) (p.1 ≡
   | inr (inr h) ↦ inr (inr h)
 ]
 
-pub name_never : (c : CellName) → name_lt c c ≡ true → ⊥
+pub name_never : (c : CellName) → name_below c c ≡ true → ⊥
 name_never (Usage a) e = number_never a e
 name_never (Extent t) e = number_never t e
 name_never (Ring s o) e = never_of s (place_lt o o) (place_never o) e
 name_never (Slot t n) e = never_of t (nat_lt n n) (number_never n) e
 
-pub name_chain : (c d e : CellName) → name_lt c d ≡ true → name_lt d e ≡ true → name_lt c e ≡ true
+pub name_chain : (c d e : CellName) → name_below c d ≡ true → name_below d e ≡ true → name_below c e ≡ true
 name_chain (Usage a) (Usage b) (Usage c) f g = number_chain a b c f g
 name_chain (Usage a) d (Extent t) f g = refl
 name_chain (Usage a) d (Ring s o) f g = refl
@@ -111,7 +111,7 @@ name_chain (Slot t n) (Slot u m) (Extent a) f g = absurd (cc (g))
 name_chain (Slot t n) (Slot u m) (Ring s o) f g = absurd (cc (g))
 name_chain (Slot t n) (Slot u m) (Slot v k) f g = chain_of t u v (nat_lt n m) (nat_lt m k) (nat_lt n k) (number_chain n m k) f g
 
-pub name_total : (c d : CellName) → (name_lt c d ≡ true) ⊎ ((c ≡ d) ⊎ (name_lt d c ≡ true))
+pub name_total : (c d : CellName) → (name_below c d ≡ true) ⊎ ((c ≡ d) ⊎ (name_below d c ≡ true))
 name_total (Usage a) (Usage b) = elim (number_total a b) [ inl h ↦ inl h | inr (inl e) ↦ inr (inl (ap Usage e)) | inr (inr h) ↦ inr (inr h) ]
 name_total (Usage a) (Extent t) = inl refl
 name_total (Usage a) (Ring s o) = inl refl

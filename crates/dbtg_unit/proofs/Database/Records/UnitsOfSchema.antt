@@ -13,7 +13,7 @@ use Rattle.dbtg_cells.specs.declared.key.DbKey.{DbKey}
 use Rattle.dbtg_cells.specs.declared.key.Owner.{Owner}
 use Rattle.dbtg_cells.specs.declared.key.Owner.TheVariants.{System, Rec}
 use Rattle.dbtg_cells.specs.declared.usage.Mode.{Mode}
-use Rattle.dbtg_cells.specs.Keys.{key_lt}
+use Rattle.dbtg_cells.specs.Keys.{key_below}
 use Rattle.dbtg_unit.specs.declared.statement.Suppress.{Suppress}
 use Rattle.dbtg_unit.specs.declared.unit.Place.{Place}
 use Rattle.dbtg_unit.specs.declared.unit.Unit.{Unit}
@@ -64,7 +64,7 @@ at_number f n s x h = let e : 0 + s ≡ s = omega arith in subst (λ m. f m ≡ 
 
 -- KEYS IN ORDER
 
-pub key_lt_trans : (a b c : DbKey) → key_lt a b ≡ true → key_lt b c ≡ true → key_lt a c ≡ true
+pub key_lt_trans : (a b c : DbKey) → key_below a b ≡ true → key_below b c ≡ true → key_below a c ≡ true
 key_lt_trans a b c h g =
     ⊎_elim
     (λ x. let x' = ltb-true a.rtype b.rtype x in ⊎_elim
@@ -99,16 +99,16 @@ key_lt_trans a b c h g =
 -- keys of the schema, within the capacity, in key order
 pub record IsKept (schema : Lists) (capacity : ℕ) (kept : List (DbKey × ℕ)) : Type 0 where
   pub keys : list_all (λ e. is_key_of schema e.0) kept ≡ true
-  pub order : pairwise (λ e f. key_lt e.0 f.0) kept ≡ true
+  pub order : pairwise (λ e f. key_below e.0 f.0) kept ≡ true
   pub numbers : list_all (λ e. is_number capacity e.0.number) kept ≡ true
 
 same_keys : (p : DbKey → Bool) (f : DbKey × ℕ → DbKey × ℕ) → ((e : DbKey × ℕ) → (f e).0 ≡ e.0) → (kept : List (DbKey × ℕ)) → list_all (λ e. p e.0) (map f kept) ≡ list_all (λ e. p e.0) kept
 same_keys p f w [] = refl
 same_keys p f w (e ∷ es) = λ i. p (w e i) && same_keys p f w es i
 
-same_order : (f : DbKey × ℕ → DbKey × ℕ) → ((e : DbKey × ℕ) → (f e).0 ≡ e.0) → (kept : List (DbKey × ℕ)) → pairwise (λ e g. key_lt e.0 g.0) (map f kept) ≡ pairwise (λ e g. key_lt e.0 g.0) kept
+same_order : (f : DbKey × ℕ → DbKey × ℕ) → ((e : DbKey × ℕ) → (f e).0 ≡ e.0) → (kept : List (DbKey × ℕ)) → pairwise (λ e g. key_below e.0 g.0) (map f kept) ≡ pairwise (λ e g. key_below e.0 g.0) kept
 same_order f w [] = refl
-same_order f w (e ∷ es) = λ i. (same_keys (key_lt (f e).0) f w es ∙ (λ j. list_all (λ g. key_lt (w e j) g.0) es)) i && same_order f w es i
+same_order f w (e ∷ es) = λ i. (same_keys (key_below (f e).0) f w es ∙ (λ j. list_all (λ g. key_below (w e j) g.0) es)) i && same_order f w es i
 
 module _ (schema : Lists) (capacity : ℕ) (kept : List (DbKey × ℕ)) (good : IsKept schema capacity kept) where
   pub kept_renoted : (test : DbKey → Bool) (version : DbKey → ℕ) → IsKept schema capacity (map (λ e. cond (test e.0) (e.0, version e.0) e) kept)
@@ -128,7 +128,7 @@ module _ (schema : Lists) (capacity : ℕ) (kept : List (DbKey × ℕ)) (good : 
   kept_filtered test =
       record {
         keys = all_filter (λ e. is_key_of schema e.0) test kept good.keys;
-        order = pairwise_filter (λ e f. key_lt e.0 f.0) test kept good.order;
+        order = pairwise_filter (λ e f. key_below e.0 f.0) test kept good.order;
         numbers = all_filter (λ e. is_number capacity e.0.number) test kept good.numbers;
       }
 
@@ -136,21 +136,21 @@ module _ (schema : Lists) (capacity : ℕ) (kept : List (DbKey × ℕ)) (good : 
   kept_noted k v key number =
       record {
         keys = parts (λ e. is_key_of schema e.0) key good.keys;
-        order = pairwise_append (λ e f. key_lt e.0 f.0) low ((k, v) ∷ high) (pairwise_filter (λ e f. key_lt e.0 f.0) (λ e. key_lt e.0 k) kept good.order)
-            (and_from _ _ (all_kept (λ e. key_lt k e.0) kept) (pairwise_filter (λ e f. key_lt e.0 f.0) (λ e. key_lt k e.0) kept good.order))
-            (all_weaker (λ e. key_lt e.0 k) (λ e. list_all (λ f. key_lt e.0 f.0) ((k, v) ∷ high)) low
-            (λ e below. and_from _ _ below (all_weaker (λ f. key_lt k f.0) (λ f. key_lt e.0 f.0) high (λ f above. key_lt_trans e.0 k f.0 below above) (all_kept (λ f. key_lt k f.0) kept)))
-            (all_kept (λ e. key_lt e.0 k) kept));
+        order = pairwise_append (λ e f. key_below e.0 f.0) low ((k, v) ∷ high) (pairwise_filter (λ e f. key_below e.0 f.0) (λ e. key_below e.0 k) kept good.order)
+            (and_from _ _ (all_kept (λ e. key_below k e.0) kept) (pairwise_filter (λ e f. key_below e.0 f.0) (λ e. key_below k e.0) kept good.order))
+            (all_weaker (λ e. key_below e.0 k) (λ e. list_all (λ f. key_below e.0 f.0) ((k, v) ∷ high)) low
+            (λ e below. and_from _ _ below (all_weaker (λ f. key_below k f.0) (λ f. key_below e.0 f.0) high (λ f above. key_lt_trans e.0 k f.0 below above) (all_kept (λ f. key_below k f.0) kept)))
+            (all_kept (λ e. key_below e.0 k) kept));
         numbers = parts (λ e. is_number capacity e.0.number) number good.numbers;
       } where
         low : List (DbKey × ℕ)
-        low = filter (λ e. key_lt e.0 k) kept
+        low = filter (λ e. key_below e.0 k) kept
 
         high : List (DbKey × ℕ)
-        high = filter (λ e. key_lt k e.0) kept
+        high = filter (λ e. key_below k e.0) kept
 
         parts : (p : DbKey × ℕ → Bool) → p (k, v) ≡ true → list_all p kept ≡ true → list_all p (noted k v kept) ≡ true
-        parts p h all = list_all-append p low ((k, v) ∷ high) ∙ and_from _ _ (all_filter p (λ e. key_lt e.0 k) kept all) (and_from _ _ h (all_filter p (λ e. key_lt k e.0) kept all))
+        parts p h all = list_all-append p low ((k, v) ∷ high) ∙ and_from _ _ (all_filter p (λ e. key_below e.0 k) kept all) (and_from _ _ h (all_filter p (λ e. key_below k e.0) kept all))
 
 -- UNITS
 

@@ -3,12 +3,12 @@ use Rattle.std.proofs.Common.{◌≡◌, refl, sym, ◌∙◌, ap, subst, ℕ, B
 use Rattle.std.proofs.lemmas.Bool.{and_parts, and_from, or_cases, or_parts, or_left, or_right, cases_Bool, false≢true, false_from_ne_true, ltb-true, ltb-false, lt-ltb, eqb-true, eqb-false, eq-eqb}
 use Rattle.dbtg_cells.specs.declared.key.Value.{Value}
 use Rattle.dbtg_cells.specs.declared.key.Value.TheVariants.{Num, Text}
-use Rattle.dbtg_cells.specs.Keys.{bytes_lt, bytes_same, value_lt, value_eq}
+use Rattle.dbtg_cells.specs.Keys.{bytes_below, bytes_same, value_below, value_eq}
 use Rattle.dbtg_cells.proofs.Public.{nothing, same_value}
-use Rattle.dbtg_unit.specs.Database.Statements.Effect.{key_below, option_value_eq}
+use Rattle.dbtg_unit.specs.Database.Statements.Effect.{sort_key_below, option_value_eq}
 use Rattle.dbtg_unit.specs.Database.Laws.Placing.{comparable}
 
-pub bytes_lt_trans : (a b c : List ℕ) → bytes_lt a b ≡ true → bytes_lt b c ≡ true → bytes_lt a c ≡ true
+pub bytes_lt_trans : (a b c : List ℕ) → bytes_below a b ≡ true → bytes_below b c ≡ true → bytes_below a c ≡ true
 bytes_lt_trans [] [] [] h g = h
 bytes_lt_trans [] [] (z ∷ c) h g = refl
 bytes_lt_trans [] (y ∷ b) [] h g = g
@@ -27,12 +27,12 @@ bytes_lt_trans (x ∷ a) (y ∷ b) (z ∷ c) h g =
     (or_cases _ _ g))
     (or_cases _ _ h)
 
-bytes_lt_irrefl : (a : List ℕ) → bytes_lt a a ≡ true → ⊥
+bytes_lt_irrefl : (a : List ℕ) → bytes_below a a ≡ true → ⊥
 bytes_lt_irrefl [] h = false≢true h
 bytes_lt_irrefl (x ∷ a) h = ⊎_elim (λ l. let low = ltb-true x x l in absurd (omega arith)) (λ l. bytes_lt_irrefl a (and_parts _ _ l).1) (or_cases _ _ h)
 
 -- of two texts that are not the same, one comes before the other
-bytes_lt_either : (a b : List ℕ) → bytes_same a b ≡ false → bytes_lt a b ≡ false → bytes_lt b a ≡ true
+bytes_lt_either : (a b : List ℕ) → bytes_same a b ≡ false → bytes_below a b ≡ false → bytes_below b a ≡ true
 bytes_lt_either [] [] h g = sym h
 bytes_lt_either [] (y ∷ b) h g = sym g
 bytes_lt_either (x ∷ a) [] h g = refl
@@ -42,11 +42,11 @@ bytes_lt_either (x ∷ a) (y ∷ b) h g =
     elim (cases_Bool (eqb x y)) [
       | inl e ↦
           let same = eqb-true x y e in
-          or_right _ _ (and_from _ _ (eq-eqb y x (sym same)) (bytes_lt_either a b (subst (λ t. (t && bytes_same a b) ≡ false) e h) (subst (λ t. (t && bytes_lt a b) ≡ false) e gs.1)))
+          or_right _ _ (and_from _ _ (eq-eqb y x (sym same)) (bytes_lt_either a b (subst (λ t. (t && bytes_same a b) ≡ false) e h) (subst (λ t. (t && bytes_below a b) ≡ false) e gs.1)))
       | inr e ↦ let apart = eqb-false x y e in or_left _ _ (lt-ltb y x (omega arith))
     ]
 
-pub value_lt_trans : (a b c : Value) → value_lt a b ≡ true → value_lt b c ≡ true → value_lt a c ≡ true
+pub value_lt_trans : (a b c : Value) → value_below a b ≡ true → value_below b c ≡ true → value_below a c ≡ true
 value_lt_trans (Num a) (Num b) (Num c) h g = let low = ltb-true a b h in let high = ltb-true b c g in lt-ltb a c (omega arith)
 value_lt_trans (Text a) (Text b) (Text c) h g = bytes_lt_trans a b c h g
 value_lt_trans (Num a) (Num b) (Text c) h g = nothing g
@@ -54,12 +54,12 @@ value_lt_trans (Num a) (Text b) c h g = nothing h
 value_lt_trans (Text a) (Text b) (Num c) h g = nothing g
 value_lt_trans (Text a) (Num b) c h g = nothing h
 
-value_lt_irrefl : (a : Value) → value_lt a a ≡ true → ⊥
+value_lt_irrefl : (a : Value) → value_below a a ≡ true → ⊥
 value_lt_irrefl (Num a) h = let low = ltb-true a a h in absurd (omega arith)
 value_lt_irrefl (Text a) h = bytes_lt_irrefl a h
 
 -- of two values of one kind that are not the same, one comes before the other
-pub value_lt_either : (a b : Value) → comparable (Some a) (Some b) ≡ true → value_eq a b ≡ false → value_lt a b ≡ false → value_lt b a ≡ true
+pub value_lt_either : (a b : Value) → comparable (Some a) (Some b) ≡ true → value_eq a b ≡ false → value_below a b ≡ false → value_below b a ≡ true
 value_lt_either (Num a) (Num b) k h g = let apart = eqb-false a b h in let low = ltb-false a b g in lt-ltb b a (omega arith)
 value_lt_either (Text a) (Text b) k h g = bytes_lt_either a b h g
 value_lt_either (Num a) (Text b) k h g = nothing k
@@ -73,7 +73,7 @@ same_option_value (Some a) (Some b) h = ap Some (same_value a b h)
 
 -- SORT KEYS
 
-pub key_below_trans : (up : Bool) (a b c : Option Value) → key_below up a b ≡ true → key_below up b c ≡ true → key_below up a c ≡ true
+pub key_below_trans : (up : Bool) (a b c : Option Value) → sort_key_below up a b ≡ true → sort_key_below up b c ≡ true → sort_key_below up a c ≡ true
 key_below_trans true (Some a) (Some b) (Some c) h g = value_lt_trans a b c h g
 key_below_trans false (Some a) (Some b) (Some c) h g = value_lt_trans c b a g h
 key_below_trans true None b c h g = nothing h
@@ -83,13 +83,13 @@ key_below_trans false None (Some b) c h g = nothing h
 key_below_trans true (Some a) (Some b) None h g = nothing g
 key_below_trans false (Some a) (Some b) None h g = nothing g
 
-pub key_below_irrefl : (up : Bool) (a : Option Value) → key_below up a a ≡ true → ⊥
+pub key_below_irrefl : (up : Bool) (a : Option Value) → sort_key_below up a a ≡ true → ⊥
 key_below_irrefl true None h = false≢true h
 key_below_irrefl false None h = false≢true h
 key_below_irrefl true (Some a) h = value_lt_irrefl a h
 key_below_irrefl false (Some a) h = value_lt_irrefl a h
 
-pub key_below_asym : (up : Bool) (a b : Option Value) → key_below up a b ≡ true → key_below up b a ≡ false
+pub key_below_asym : (up : Bool) (a b : Option Value) → sort_key_below up a b ≡ true → sort_key_below up b a ≡ false
 key_below_asym up a b h = false_from_ne_true _ (λ g. key_below_irrefl up a (key_below_trans up a b a h g))
 
 comparable_sym : (a b : Value) → comparable (Some a) (Some b) ≡ true → comparable (Some b) (Some a) ≡ true
@@ -98,7 +98,7 @@ comparable_sym (Text a) (Text b) h = refl
 comparable_sym (Num a) (Text b) h = h
 comparable_sym (Text a) (Num b) h = h
 
-pub key_below_either : (up : Bool) (a b : Option Value) → comparable a b ≡ true → option_value_eq a b ≡ false → key_below up a b ≡ false → key_below up b a ≡ true
+pub key_below_either : (up : Bool) (a b : Option Value) → comparable a b ≡ true → option_value_eq a b ≡ false → sort_key_below up a b ≡ false → sort_key_below up b a ≡ true
 key_below_either up None b k h g = nothing k
 key_below_either up (Some a) None k h g = nothing (comparable_none a k) where
   comparable_none : (a : Value) → comparable (Some a) None ≡ true → false ≡ true

@@ -11,7 +11,7 @@ use Rattle.dbtg_cells.specs.declared.key.DbKey.{DbKey}
 use Rattle.dbtg_cells.specs.declared.key.Value.{Value}
 use Rattle.dbtg_cells.specs.declared.extent.Number.{Number}
 use Rattle.dbtg_cells.specs.declared.name.CellName.TheVariants.{Extent}
-use Rattle.dbtg_cells.specs.Keys.{key_eq, key_lt, values_eq}
+use Rattle.dbtg_cells.specs.Keys.{key_eq, key_below, values_eq}
 use Rattle.dbtg_cells.specs.Members.{is_left_out}
 use Rattle.dbtg_cells.specs.Numbers.{numbers_from, numbers_where, is_used, is_free, has_values, entry_of, last_of, is_number_left_out}
 use Rattle.dbtg_cells.specs.Shown.{ExtentValue}
@@ -144,7 +144,7 @@ module _ (schema : Lists) (capacity : ℕ) (db : Database) (legal : Legal schema
     there (Some r) = refl
 
   -- before and behind the key of a number
-  pub above_in_hand : (k : DbKey) → k.rtype ≡ t → (n : ℕ) → key_lt k (key_of numbers t n) ≡ nat_lt k.number n || (k.number == n && nat_lt k.generation (last_of n numbers))
+  pub above_in_hand : (k : DbKey) → k.rtype ≡ t → (n : ℕ) → key_below k (key_of numbers t n) ≡ nat_lt k.number n || (k.number == n && nat_lt k.generation (last_of n numbers))
   above_in_hand k is_t n = grind (arith, nat_tests, is_t)
 
   module _ (k : DbKey) (is_t : k.rtype ≡ t) (live : is_live db k ≡ true) where
@@ -162,7 +162,7 @@ module _ (schema : Lists) (capacity : ℕ) (db : Database) (legal : Legal schema
           | inr e ↦ false_from_ne_true _ (λ h. false≢true (sym e ∙ eq-eqb k.number n (ap (λ (x : DbKey). x.number) (same_key k (key_of numbers t n) h)))) ∙ sym e
         ]
 
-    pub behind_in_hand : (n : ℕ) → key_lt k (key_of numbers t n) ≡ nat_lt k.number n
+    pub behind_in_hand : (n : ℕ) → key_below k (key_of numbers t n) ≡ nat_lt k.number n
     behind_in_hand n =
         above_in_hand k is_t n ∙ elim (cases_Bool (eqb k.number n)) [
           | inl e ↦ let same : k.generation ≡ last_of n numbers = generation_is n (eqb-true k.number n e) in grind (arith, nat_tests, same)
@@ -170,8 +170,8 @@ module _ (schema : Lists) (capacity : ℕ) (db : Database) (legal : Legal schema
         ]
 
     -- the keys of this list behind it
-    pub keys_behind_in_hand : (ns : List ℕ) → filter (key_lt k) (map (key_of numbers t) ns) ≡ map (key_of numbers t) (filter (nat_lt k.number) ns)
-    keys_behind_in_hand ns = filter_map (key_lt k) (key_of numbers t) ns ∙ ap (map (key_of numbers t)) (filter_agree (λ n. key_lt k (key_of numbers t n)) (nat_lt k.number) behind_in_hand ns)
+    pub keys_behind_in_hand : (ns : List ℕ) → filter (key_below k) (map (key_of numbers t) ns) ≡ map (key_of numbers t) (filter (nat_lt k.number) ns)
+    keys_behind_in_hand ns = filter_map (key_below k) (key_of numbers t) ns ∙ ap (map (key_of numbers t)) (filter_agree (λ n. key_below k (key_of numbers t n)) (nat_lt k.number) behind_in_hand ns)
 
   -- CALC VALUES THAT A RECORD HAS
 

@@ -14,7 +14,7 @@ use Rattle.dbtg_cells.specs.declared.key.Owner.{Owner}
 use Rattle.dbtg_cells.specs.declared.key.Owner.TheVariants.{System, Rec}
 use Rattle.dbtg_cells.specs.declared.name.CellName.{CellName}
 use Rattle.dbtg_cells.specs.declared.name.CellName.TheVariants.{Usage, Extent, Ring}
-use Rattle.dbtg_cells.specs.Keys.{key_lt, value_eq}
+use Rattle.dbtg_cells.specs.Keys.{key_below, value_eq}
 use Rattle.dbtg_unit.specs.declared.statement.Form.{Form}
 use Rattle.dbtg_unit.specs.declared.statement.Form.TheVariants.{Key, CurrentOfUnit, CurrentOfType, CurrentOfSet, CurrentOfArea, InSet, InArea, OwnerOf, Calc, NextDuplicate, Sorted}
 use Rattle.dbtg_unit.specs.declared.statement.Which.{Which}
@@ -185,7 +185,7 @@ module _ (schema : Lists) (capacity : ℕ) (db : Database) (legal : Legal schema
   find_cells_lie unit of (NextDuplicate r) f =
       and_from _ _ (lies_first schema (Extent r) []) (found_passes (lies_in schema (area_of schema r ∷ [])) _ (λ k e.
       let c = current_is (at unit.currency.types r) _ k e in
-      calc_lies r _ k (first_of_filter (key_lt c.0) _ k (found_is _ _ _ k c.2)).0))
+      calc_lies r _ k (first_of_filter (key_below c.0) _ k (found_is _ _ _ k c.2)).0))
   find_cells_lie unit of (Sorted v s) f =
       all_join _ (ring_names s (current_owner schema unit s)) _ (rings_lie schema (find_areas schema unit (Sorted v s)) s _ (home_first s _)) (found_passes (lies_in schema (find_areas schema unit (Sorted v s))) _ (sorted_lies unit v s))
 

@@ -12,7 +12,7 @@ use Rattle.dbtg_cells.specs.declared.key.DbKey.{DbKey}
 use Rattle.dbtg_cells.specs.declared.key.Owner.{Owner}
 use Rattle.dbtg_cells.specs.declared.name.CellName.{CellName}
 use Rattle.dbtg_cells.specs.declared.name.CellName.TheVariants.{Usage, Extent, Ring, Slot}
-use Rattle.dbtg_cells.specs.Names.{name_lt}
+use Rattle.dbtg_cells.specs.Names.{name_below}
 use Rattle.dbtg_unit.specs.declared.statement.Form.{Form}
 use Rattle.dbtg_unit.specs.declared.statement.Form.TheVariants.{Key, CurrentOfUnit, CurrentOfType, CurrentOfSet, CurrentOfArea, InSet, InArea, OwnerOf, Calc, NextDuplicate, Sorted}
 use Rattle.dbtg_unit.specs.declared.statement.Statement.{Statement}
@@ -58,13 +58,13 @@ ring_of_some s (Ring t o) e = refl
 ring_of_some s (Slot t n) e = absurd (false≢true e)
 
 -- extents come before rings and slots, rings before slots
-extent_first : (t : ℕ) (c : CellName) → (is_ring c || is_slot c) ≡ true → name_lt (Extent t) c ≡ true
+extent_first : (t : ℕ) (c : CellName) → (is_ring c || is_slot c) ≡ true → name_below (Extent t) c ≡ true
 extent_first t (Usage a) e = absurd (false≢true e)
 extent_first t (Extent u) e = absurd (false≢true e)
 extent_first t (Ring s o) e = refl
 extent_first t (Slot u n) e = refl
 
-before_slot : (c d : CellName) → (is_extent c || is_ring c) ≡ true → is_slot d ≡ true → name_lt c d ≡ true
+before_slot : (c d : CellName) → (is_extent c || is_ring c) ≡ true → is_slot d ≡ true → name_below c d ≡ true
 before_slot (Usage a) d e f = absurd (false≢true e)
 before_slot (Extent t) (Usage a) e f = absurd (false≢true f)
 before_slot (Extent t) (Extent u) e f = absurd (false≢true f)
@@ -76,7 +76,7 @@ before_slot (Ring s o) (Ring t p) e f = absurd (false≢true f)
 before_slot (Ring s o) (Slot u n) e f = refl
 before_slot (Slot t n) d e f = absurd (false≢true e)
 
-ring_before : (s t : ℕ) (c d : CellName) → is_ring_of s c ≡ true → is_ring_of t d ≡ true → nat_lt s t ≡ true → name_lt c d ≡ true
+ring_before : (s t : ℕ) (c d : CellName) → is_ring_of s c ≡ true → is_ring_of t d ≡ true → nat_lt s t ≡ true → name_below c d ≡ true
 ring_before s t (Usage a) d e f h = absurd (false≢true e)
 ring_before s t (Extent u) d e f h = absurd (false≢true e)
 ring_before s t (Slot u n) d e f h = absurd (false≢true e)
@@ -86,14 +86,14 @@ ring_before s t (Ring u o) (Slot v n) e f h = absurd (false≢true f)
 ring_before s t (Ring u o) (Ring v p) e f h = or_left _ _ (subst (λ x. nat_lt x v ≡ true) (sym (eqb-true u s e)) (subst (λ x. nat_lt s x ≡ true) (sym (eqb-true v t f)) h))
 
 -- lists of rings, each of its set, one set after another
-rings_ascend : (f : ℕ → List CellName) (sets : List ℕ) → pairwise nat_lt sets ≡ true → ((s : ℕ) → list_all (is_ring_of s) (f s) ≡ true) → ((s : ℕ) → pairwise name_lt (f s) ≡ true) → pairwise name_lt (flat_map f sets) ≡ true
+rings_ascend : (f : ℕ → List CellName) (sets : List ℕ) → pairwise nat_lt sets ≡ true → ((s : ℕ) → list_all (is_ring_of s) (f s) ≡ true) → ((s : ℕ) → pairwise name_below (f s) ≡ true) → pairwise name_below (flat_map f sets) ≡ true
 rings_ascend f [] h rings each = refl
 rings_ascend f (s ∷ sets) h rings each =
     let hs = and_parts _ _ h in
-    ascending_join name_lt (f s) (flat_map f sets) (each s) (rings_ascend f sets hs.1 rings each)
-    (λ c i. all_flat (name_lt c) f sets (λ t j. all_in (name_lt c) (f t) (λ d k. ring_before s t c d (all_at (is_ring_of s) c (f s) (rings s) i) (all_at (is_ring_of t) d (f t) (rings t) k) (all_at (nat_lt s) t sets hs.0 j))))
+    ascending_join name_below (f s) (flat_map f sets) (each s) (rings_ascend f sets hs.1 rings each)
+    (λ c i. all_flat (name_below c) f sets (λ t j. all_in (name_below c) (f t) (λ d k. ring_before s t c d (all_at (is_ring_of s) c (f s) (rings s) i) (all_at (is_ring_of t) d (f t) (rings t) k) (all_at (nat_lt s) t sets hs.0 j))))
 
-slots_alone : (o : Option DbKey) → pairwise name_lt (slot_names o) ≡ true
+slots_alone : (o : Option DbKey) → pairwise name_below (slot_names o) ≡ true
 slots_alone None = refl
 slots_alone (Some k) = refl
 
@@ -101,7 +101,7 @@ all_slots : (o : Option DbKey) → list_all is_slot (slot_names o) ≡ true
 all_slots None = refl
 all_slots (Some k) = refl
 
-found_alone : (r : Result DbKey Cause) → pairwise name_lt (found_slot r) ≡ true
+found_alone : (r : Result DbKey Cause) → pairwise name_below (found_slot r) ≡ true
 found_alone (Ok k) = refl
 found_alone (Err cause) = refl
 
@@ -109,7 +109,7 @@ found_slots : (r : Result DbKey Cause) → list_all is_slot (found_slot r) ≡ t
 found_slots (Ok k) = refl
 found_slots (Err cause) = refl
 
-rings_alone : (s : ℕ) (o : Option Owner) → pairwise name_lt (ring_names s o) ≡ true
+rings_alone : (s : ℕ) (o : Option Owner) → pairwise name_below (ring_names s o) ≡ true
 rings_alone s None = refl
 rings_alone s (Some o) = refl
 
@@ -118,8 +118,8 @@ all_rings s None = refl
 all_rings s (Some o) = and_from _ _ (eq-eqb s s refl) refl
 
 -- extents and rings, then slots
-then_slots : (cs ds : List CellName) → pairwise name_lt cs ≡ true → list_all (λ c. is_extent c || is_ring c) cs ≡ true → pairwise name_lt ds ≡ true → list_all is_slot ds ≡ true → pairwise name_lt (cs ++ ds) ≡ true
-then_slots cs ds h k g s = ascending_join name_lt cs ds h g (λ c i. all_in (name_lt c) ds (λ d j. before_slot c d (all_at (λ c. is_extent c || is_ring c) c cs k i) (all_at is_slot d ds s j)))
+then_slots : (cs ds : List CellName) → pairwise name_below cs ≡ true → list_all (λ c. is_extent c || is_ring c) cs ≡ true → pairwise name_below ds ≡ true → list_all is_slot ds ≡ true → pairwise name_below (cs ++ ds) ≡ true
+then_slots cs ds h k g s = ascending_join name_below cs ds h g (λ c i. all_in (name_below c) ds (λ d j. before_slot c d (all_at (λ c. is_extent c || is_ring c) c cs k i) (all_at is_slot d ds s j)))
 
 weaker : (p q : CellName → Bool) (cs : List CellName) → ((c : CellName) → p c ≡ true → q c ≡ true) → list_all p cs ≡ true → list_all q cs ≡ true
 weaker p q [] f h = refl
@@ -137,20 +137,20 @@ ring_then (Extent t) e = absurd (false≢true e)
 ring_then (Ring s o) e = refl
 ring_then (Slot t n) e = absurd (false≢true e)
 
-ring_slots : (s : ℕ) (o : Option Owner) (ds : List CellName) → pairwise name_lt ds ≡ true → list_all is_slot ds ≡ true → pairwise name_lt (ring_names s o ++ ds) ≡ true
+ring_slots : (s : ℕ) (o : Option Owner) (ds : List CellName) → pairwise name_below ds ≡ true → list_all is_slot ds ≡ true → pairwise name_below (ring_names s o ++ ds) ≡ true
 ring_slots s o ds g k = then_slots (ring_names s o) ds (rings_alone s o) (weaker (is_ring_of s) _ (ring_names s o) (λ c e. ring_counts c (ring_of_some s c e)) (all_rings s o)) g k
 
-extent_slots : (t : ℕ) (ds : List CellName) → pairwise name_lt ds ≡ true → list_all is_slot ds ≡ true → pairwise name_lt (Extent t ∷ ds) ≡ true
+extent_slots : (t : ℕ) (ds : List CellName) → pairwise name_below ds ≡ true → list_all is_slot ds ≡ true → pairwise name_below (Extent t ∷ ds) ≡ true
 extent_slots t ds g k = then_slots (Extent t ∷ []) ds refl refl g k
 
-extent_found : (t : ℕ) (r : Result DbKey Cause) → pairwise name_lt (Extent t ∷ found_slot r) ≡ true
+extent_found : (t : ℕ) (r : Result DbKey Cause) → pairwise name_below (Extent t ∷ found_slot r) ≡ true
 extent_found t r = extent_slots t (found_slot r) (found_alone r) (found_slots r)
 
-extents_above : (t : ℕ) (ts : List ℕ) → list_all (nat_lt t) ts ≡ true → list_all (name_lt (Extent t)) (map Extent ts) ≡ true
+extents_above : (t : ℕ) (ts : List ℕ) → list_all (nat_lt t) ts ≡ true → list_all (name_below (Extent t)) (map Extent ts) ≡ true
 extents_above t [] h = refl
 extents_above t (u ∷ ts) h = let hs = and_parts _ _ h in and_from _ _ hs.0 (extents_above t ts hs.1)
 
-extents_ascend : (ts : List ℕ) → pairwise nat_lt ts ≡ true → pairwise name_lt (map Extent ts) ≡ true
+extents_ascend : (ts : List ℕ) → pairwise nat_lt ts ≡ true → pairwise name_below (map Extent ts) ≡ true
 extents_ascend [] h = refl
 extents_ascend (t ∷ ts) h = let hs = and_parts _ _ h in and_from _ _ (extents_above t ts hs.0) (extents_ascend ts hs.1)
 
@@ -166,7 +166,7 @@ module _ (schema : Lists) (sound : IsSound schema) (capacity : ℕ) (db : Databa
   sets_ascend : pairwise nat_lt (set_numbers schema) ≡ true
   sets_ascend = ascending_range 0 (length schema.sets)
 
-  find_ascends : (form : Form) → pairwise name_lt (find_cells schema capacity db unit form) ≡ true
+  find_ascends : (form : Form) → pairwise name_below (find_cells schema capacity db unit form) ≡ true
   find_ascends (Key k) = refl
   find_ascends CurrentOfUnit = slots_alone unit.currency.run_unit
   find_ascends (CurrentOfType r) = slots_alone (at unit.currency.types r)
@@ -201,17 +201,17 @@ module _ (schema : Lists) (sound : IsSound schema) (capacity : ℕ) (db : Databa
         go None e = absurd (false≢true e)
         go (Some m) e = refl
 
-    store_one : (s : ℕ) → pairwise name_lt (current s ++ own s) ≡ true
+    store_one : (s : ℕ) → pairwise name_below (current s ++ own s) ≡ true
     unfolding current own
     store_one s = elim (cases_Bool (owns schema s k.rtype)) [
       | inl e ↦ elim (cases_Bool (list_any (λ s'. s' == s) (automatic_sets schema k.rtype))) [
         | inl a ↦ absurd (false≢true (sym (owner_is_no_member schema sound s k.rtype e) ∙ is_member_of s a))
         | inr a ↦ rw (a, e) refl
       ]
-      | inr e ↦ rw e (cond_both (list_any (λ s'. s' == s) (automatic_sets schema k.rtype)) (ring_names s (current_owner schema unit s)) [] (λ cs. pairwise name_lt (cs ++ []) ≡ true) (λ a. alone (current_owner schema unit s)) (λ a. refl))
+      | inr e ↦ rw e (cond_both (list_any (λ s'. s' == s) (automatic_sets schema k.rtype)) (ring_names s (current_owner schema unit s)) [] (λ cs. pairwise name_below (cs ++ []) ≡ true) (λ a. alone (current_owner schema unit s)) (λ a. refl))
     ]
       where
-        alone : (o : Option Owner) → pairwise name_lt (ring_names s o ++ []) ≡ true
+        alone : (o : Option Owner) → pairwise name_below (ring_names s o ++ []) ≡ true
         alone None = refl
         alone (Some o) = refl
 
@@ -222,7 +222,7 @@ module _ (schema : Lists) (sound : IsSound schema) (capacity : ℕ) (db : Databa
         (cond_both (list_any (λ s'. s' == s) (automatic_sets schema k.rtype)) _ _ (λ cs. list_all (is_ring_of s) cs ≡ true) (λ e. all_rings s (current_owner schema unit s)) (λ e. refl))
         (cond_both (owns schema s k.rtype) _ _ (λ cs. list_all (is_ring_of s) cs ≡ true) (λ e. and_from _ _ (eq-eqb s s refl) refl) (λ e. refl))
 
-    store_rings_ascend : pairwise name_lt (store_rings schema unit k) ≡ true
+    store_rings_ascend : pairwise name_below (store_rings schema unit k) ≡ true
     unfolding current own
     store_rings_ascend = rings_ascend (λ s. current s ++ own s) (set_numbers schema) sets_ascend store_of store_one
 
@@ -231,10 +231,10 @@ module _ (schema : Lists) (sound : IsSound schema) (capacity : ℕ) (db : Databa
     store_rings_are = all_flat is_ring (λ s. current s ++ own s) (set_numbers schema) (λ s i. weaker (is_ring_of s) is_ring (current s ++ own s) (ring_of_some s) (store_of s))
 
   -- an extent, then rings, then slots
-  in_kinds : (es rings slots : List CellName) → pairwise name_lt es ≡ true → ((c : CellName) → In c es → (t : ℕ) × (c ≡ Extent t)) → pairwise name_lt rings ≡ true → list_all is_ring rings ≡ true → pairwise name_lt slots ≡ true → list_all is_slot slots ≡ true → pairwise name_lt (es ++ rings ++ slots) ≡ true
+  in_kinds : (es rings slots : List CellName) → pairwise name_below es ≡ true → ((c : CellName) → In c es → (t : ℕ) × (c ≡ Extent t)) → pairwise name_below rings ≡ true → list_all is_ring rings ≡ true → pairwise name_below slots ≡ true → list_all is_slot slots ≡ true → pairwise name_below (es ++ rings ++ slots) ≡ true
   in_kinds es rings slots he ke hr kr hs ks =
       then_slots (es ++ rings) slots
-      (ascending_join name_lt es rings he hr (λ c i. let e = ke c i in subst (λ d. list_all (name_lt d) rings ≡ true) (sym e.1) (weaker is_ring (name_lt (Extent e.0)) rings (λ d h. extent_first e.0 d (ring_then d h)) kr)))
+      (ascending_join name_below es rings he hr (λ c i. let e = ke c i in subst (λ d. list_all (name_below d) rings ≡ true) (sym e.1) (weaker is_ring (name_below (Extent e.0)) rings (λ d h. extent_first e.0 d (ring_then d h)) kr)))
       (all_join _ es rings (all_in _ es (λ c i. let e = ke c i in subst (λ d. (is_extent d || is_ring d) ≡ true) (sym e.1) refl)) (weaker is_ring _ rings ring_counts kr))
       hs ks
 
@@ -242,21 +242,21 @@ module _ (schema : Lists) (sound : IsSound schema) (capacity : ℕ) (db : Databa
   one_extent t c (inl e) = (t, sym e)
   one_extent t c (inr i) = absurd i
 
-  store_ascends : (t : ℕ) (key : Option DbKey) (b : Bool) → pairwise name_lt (Extent t ∷ store_cells schema unit key b) ≡ true
+  store_ascends : (t : ℕ) (key : Option DbKey) (b : Bool) → pairwise name_below (Extent t ∷ store_cells schema unit key b) ≡ true
   store_ascends t None b = refl
   store_ascends t (Some k) true = refl
   store_ascends t (Some k) false = in_kinds (Extent t ∷ []) (store_rings schema unit k) (slot_name k ∷ []) refl (one_extent t) (store_rings_ascend k) (store_rings_are k) refl refl
 
-  modify_ascends : (g : List (Option Owner)) (t : ℕ) (named : List ℕ) (calc : Bool) → pairwise name_lt ((if calc then Extent t ∷ [] else []) ++ flat_map (λ s. ring_names s (at g s)) (rekeyed_sets schema t named) ++ slot_names unit.currency.run_unit) ≡ true
+  modify_ascends : (g : List (Option Owner)) (t : ℕ) (named : List ℕ) (calc : Bool) → pairwise name_below ((if calc then Extent t ∷ [] else []) ++ flat_map (λ s. ring_names s (at g s)) (rekeyed_sets schema t named) ++ slot_names unit.currency.run_unit) ≡ true
   modify_ascends g t named calc =
       in_kinds (if calc then Extent t ∷ [] else []) (flat_map (λ s. ring_names s (at g s)) (rekeyed_sets schema t named)) (slot_names unit.currency.run_unit)
-      (cond_both calc _ _ (λ cs. pairwise name_lt cs ≡ true) (λ e. refl) (λ e. refl))
+      (cond_both calc _ _ (λ cs. pairwise name_below cs ≡ true) (λ e. refl) (λ e. refl))
       (λ c. cond_both calc _ _ (λ cs. In c cs → (u : ℕ) × (c ≡ Extent u)) (λ e. one_extent t c) (λ e i. absurd i))
       (rings_ascend (λ s. ring_names s (at g s)) (rekeyed_sets schema t named) (pairwise_filter nat_lt _ (set_numbers schema) sets_ascend) (λ s. all_rings s (at g s)) (λ s. rings_alone s (at g s)))
       (all_flat is_ring (λ s. ring_names s (at g s)) (rekeyed_sets schema t named) (λ s i. weaker (is_ring_of s) is_ring (ring_names s (at g s)) (ring_of_some s) (all_rings s (at g s))))
       (slots_alone unit.currency.run_unit) (all_slots unit.currency.run_unit)
 
-  pub cells_ascend : (g : List (Option Owner)) (x : Statement) → is_delete x ≡ false → pairwise name_lt (cells_of schema capacity db unit g x) ≡ true
+  pub cells_ascend : (g : List (Option Owner)) (x : Statement) → is_delete x ≡ false → pairwise name_below (cells_of schema capacity db unit g x) ≡ true
   cells_ascend g (OpenArea a mode) d = refl
   cells_ascend g (CloseArea a) d = refl
   cells_ascend g (Find form suppress) d = find_ascends form

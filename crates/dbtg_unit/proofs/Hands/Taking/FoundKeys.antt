@@ -5,7 +5,7 @@ use Rattle.std.proofs.lemmas.Option.{same_Some}
 use Rattle.std.proofs.lemmas.List.{reverse-append}
 use Rattle.dbtg_schema.specs.Lookups.{first, final, behind, in_front, nth, some_and}
 use Rattle.dbtg_cells.specs.declared.key.DbKey.{DbKey}
-use Rattle.dbtg_cells.specs.Keys.{key_eq, key_lt}
+use Rattle.dbtg_cells.specs.Keys.{key_eq, key_below}
 use Rattle.dbtg_unit.specs.declared.statement.Which.{Which}
 use Rattle.dbtg_unit.specs.declared.statement.Which.TheVariants.{First, Last, Next, Prior, Nth}
 use Rattle.dbtg_unit.specs.declared.unit.Cause.{Cause}
@@ -55,8 +55,8 @@ chosen_in (Nth n) test p ks k e = of_filter test k ks (nth_in n (filter test ks)
 pub chosen_by_key_in : (which : Which) (p : Option DbKey) (ks : List DbKey) (k : DbKey) → chosen_by_key which p ks ≡ Some k → In k ks
 chosen_by_key_in First p ks k e = first_in ks k e
 chosen_by_key_in Last p ks k e = final_in ks k e
-chosen_by_key_in Next p ks k e = (of_filter (λ x. some_and (λ c. key_lt c x) p) k ks (first_in _ k e)).0
-chosen_by_key_in Prior p ks k e = (of_filter (λ x. some_and (λ c. key_lt x c) p) k ks (final_in _ k e)).0
+chosen_by_key_in Next p ks k e = (of_filter (λ x. some_and (λ c. key_below c x) p) k ks (first_in _ k e)).0
+chosen_by_key_in Prior p ks k e = (of_filter (λ x. some_and (λ c. key_below x c) p) k ks (final_in _ k e)).0
 chosen_by_key_in (Nth n) p ks k e = nth_in n ks k e
 
 pub first_of_filter : (test : DbKey → Bool) (ks : List DbKey) (k : DbKey) → first (filter test ks) ≡ Some k → In k ks × (test k ≡ true)

@@ -9,7 +9,7 @@ use Rattle.dbtg_schema.proofs.Public.{none_is}
 use Rattle.dbtg_cells.specs.declared.cell.Cell.{Cell}
 use Rattle.dbtg_cells.specs.declared.key.Owner.{Owner}
 use Rattle.dbtg_cells.specs.declared.name.CellName.{CellName}
-use Rattle.dbtg_cells.specs.Names.{name_eq, name_lt}
+use Rattle.dbtg_cells.specs.Names.{name_eq, name_below}
 use Rattle.dbtg_cells.proofs.Public.{name_eq_refl}
 use Rattle.dbtg_unit.specs.declared.held.Need.{Need}
 use Rattle.dbtg_unit.specs.declared.held.Need.TheVariants.{Area, Take, Stale, Ready}
@@ -130,8 +130,8 @@ module _ (schema : Lists) (capacity : ℕ) (db : Database) (unit : Unit) (hands 
         let first = needs_area a (sym e) in
         (all_in (λ b. nat_lt b a) hands.areas (λ b i. above_first nat_lt lacks_area (length hands.areas) (areas_in_order schema unit x) a areas_ascend first (λ d k. held_area d (subst (In d) (sym turn.areas) k)) b (subst (In b) turn.areas i)), no_cell a first)
     above_hands (Take c) e = λ shared.
-        all_in (λ (f : CellName × Cell). name_lt f.0 c) hands.cells (λ f i.
-        above_first name_lt lacks_cell (length hands.cells) (cells_of schema capacity db unit hands.guesses x) c (cells_ascend schema sound capacity db unit hands.guesses x shared) (needs_cell c (sym e)).2
+        all_in (λ (f : CellName × Cell). name_below f.0 c) hands.cells (λ f i.
+        above_first name_below lacks_cell (length hands.cells) (cells_of schema capacity db unit hands.guesses x) c (cells_ascend schema sound capacity db unit hands.guesses x shared) (needs_cell c (sym e)).2
         (λ d k. held_cell d (subst (In d) (sym turn.cells) k)) f.0 (subst (In f.0) turn.cells (in_map (λ (e : CellName × Cell). e.0) f hands.cells i)))
     above_hands (Stale owners) e = tt
     above_hands Ready e = tt

@@ -3,7 +3,7 @@ use Rattle.std.specs.Prelude.{◌≡◌, refl, true, false, List, [], ◌∷◌,
 use Rattle.std.specs.List.{list_all, list_any}
 use Rattle.dbtg_cells.specs.declared.name.CellName.{CellName}
 use Rattle.dbtg_cells.specs.declared.name.CellName.TheVariants.{Usage, Extent, Ring, Slot}
-use Rattle.dbtg_cells.specs.Names.{name_lt}
+use Rattle.dbtg_cells.specs.Names.{name_below}
 use Rattle.dbtg_unit.specs.Database.State.CellNames.{area_of_cell}
 use Rattle.dbtg_cells.specs.CellNumbers.{is_cell}
 use Rattle.dbtg_unit.specs.Inside.Belongs.{is_name_of}
@@ -17,14 +17,14 @@ ascending =
     ∷ Ring has (Some (customers, 1)) ∷ Ring has (Some (customers, 2)) ∷ Ring lines (Some (orders, 1)) ∷ Ring watch None ∷ Ring watch (Some (0, 1))
     ∷ Slot customers 1 ∷ Slot customers 2 ∷ Slot orders 1 ∷ Slot items 2 ∷ []
 
-in_order : pairwise name_lt ascending ≡ true
+in_order : pairwise name_below ascending ≡ true
 in_order = refl
 
 -- no cell comes before itself, or before one that comes before it
-not_backwards : list_any (λ c. list_any (λ d. name_lt d c) (c ∷ [])) ascending ≡ false
+not_backwards : list_any (λ c. list_any (λ d. name_below d c) (c ∷ [])) ascending ≡ false
 not_backwards = refl
 
-not_reversed : pairwise (λ c d. name_lt d c) (Slot items 2 ∷ Ring watch None ∷ Extent items ∷ Usage side ∷ []) ≡ true
+not_reversed : pairwise (λ c d. name_below d c) (Slot items 2 ∷ Ring watch None ∷ Extent items ∷ Usage side ∷ []) ≡ true
 not_reversed = refl
 
 cells_there : list_all (is_cell shop 2) (

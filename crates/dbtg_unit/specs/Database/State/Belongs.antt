@@ -8,7 +8,7 @@ use Rattle.dbtg_schema.specs.Structure.{is_system, owns}
 use Rattle.dbtg_cells.specs.declared.key.DbKey.{DbKey}
 use Rattle.dbtg_cells.specs.declared.key.Owner.{Owner}
 use Rattle.dbtg_cells.specs.declared.key.Owner.TheVariants.{System, Rec}
-use Rattle.dbtg_cells.specs.Keys.{key_lt}
+use Rattle.dbtg_cells.specs.Keys.{key_below}
 use Rattle.dbtg_unit.specs.declared.unit.Place.{Place}
 use Rattle.dbtg_unit.specs.declared.unit.Unit.{Unit}
 use Rattle.dbtg_unit.specs.Database.Statements.Fits.{if_named, is_type}
@@ -40,7 +40,7 @@ pub record IsUnitOf (schema : Lists) (unit : Unit) : Type 0 where
   pub of_sets : (s : ℕ) → if_named (is_place_in schema s) (at unit.currency.sets s) ≡ true
   -- the kept list is in key order, no key twice
   pub kept_keys : list_all (λ e. is_key_of schema e.0) unit.kept ≡ true
-  pub kept_order : pairwise (λ e f. key_lt e.0 f.0) unit.kept ≡ true
+  pub kept_order : pairwise (λ e f. key_below e.0 f.0) unit.kept ≡ true
 
 -- a number from 1 to the capacity
 abbrev pub is_number : ℕ → ℕ → Bool

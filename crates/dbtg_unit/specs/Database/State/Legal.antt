@@ -17,7 +17,7 @@ use Rattle.dbtg_unit.specs.declared.unit.Unit.{Unit}
 use Rattle.dbtg_schema.specs.Lookups.{at, some_and}
 use Rattle.dbtg_unit.specs.Database.State.Base.{Database, is_live, items_of, members_of, is_member, sort_key, calc_items}
 use Rattle.dbtg_unit.specs.Database.Statements.Fits.{values_fit}
-use Rattle.dbtg_unit.specs.Database.Statements.Effect.{conflict, key_below}
+use Rattle.dbtg_unit.specs.Database.Statements.Effect.{conflict, sort_key_below}
 use Rattle.dbtg_schema.specs.Structure.{calc_of, is_automatic, is_mandatory, is_system, member_clause, order_of, owns, pictures}
 
 -- the test holds of each element and each later one
@@ -36,8 +36,8 @@ has_occurrence schema db s (Rec k) = owns schema s k.rtype && is_live db k
 
 -- keys may stand one before the other in a list of this order
 abbrev pub keys_in_order : Order → Option Value → Option Value → Bool
-keys_in_order (Sorted ascending NotAllowed) a b = key_below ascending a b
-keys_in_order (Sorted ascending duplicates) a b = not (key_below ascending b a)
+keys_in_order (Sorted ascending NotAllowed) a b = sort_key_below ascending a b
+keys_in_order (Sorted ascending duplicates) a b = not (sort_key_below ascending b a)
 keys_in_order order a b = true
 
 -- x may stand before y in a list of set s

@@ -7,7 +7,7 @@ use Rattle.dbtg_schema.specs.Lists.{Lists}
 use Rattle.dbtg_cells.specs.declared.key.DbKey.{DbKey}
 use Rattle.dbtg_cells.specs.declared.key.Owner.{Owner}
 use Rattle.dbtg_cells.specs.declared.key.Owner.TheVariants.{System, Rec}
-use Rattle.dbtg_cells.specs.Keys.{key_eq, key_lt}
+use Rattle.dbtg_cells.specs.Keys.{key_eq, key_below}
 use Rattle.dbtg_unit.specs.declared.unit.Place.{Place}
 use Rattle.dbtg_unit.specs.declared.unit.Unit.{Unit}
 use Rattle.dbtg_unit.specs.declared.statement.Suppress.{Suppress}
@@ -85,4 +85,4 @@ forgotten k = filter (λ e. not (key_eq k e.0))
 
 -- the kept list with k at version v, in key order
 abbrev pub noted : DbKey → ℕ → List (DbKey × ℕ) → List (DbKey × ℕ)
-noted k v kept = filter (λ e. key_lt e.0 k) kept ++ (k, v) ∷ filter (λ e. key_lt k e.0) kept
+noted k v kept = filter (λ e. key_below e.0 k) kept ++ (k, v) ∷ filter (λ e. key_below k e.0) kept

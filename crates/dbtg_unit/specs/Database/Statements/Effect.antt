@@ -13,7 +13,7 @@ use Rattle.dbtg_cells.specs.declared.key.Owner.TheVariants.{System, Rec}
 use Rattle.dbtg_cells.specs.declared.key.Value.{Value}
 pub use Rattle.dbtg_cells.specs.Keys.{option_value_eq}
 pub use Rattle.dbtg_cells.specs.Modes.{is_exclusive, is_protected, conflict}
-pub use Rattle.dbtg_cells.specs.Orders.{key_below, comes_before}
+pub use Rattle.dbtg_cells.specs.Orders.{sort_key_below, comes_before}
 use Rattle.dbtg_cells.specs.Keys.{key_eq, owner_eq}
 use Rattle.dbtg_cells.specs.Placed.{Spot, Front, Back, After, Before, Among, placed}
 use Rattle.dbtg_unit.specs.declared.statement.Change.{Change}

@@ -6,7 +6,7 @@ use Rattle.dbtg_schema.specs.Lists.{Lists}
 use Rattle.dbtg_cells.specs.declared.key.DbKey.{DbKey}
 use Rattle.dbtg_cells.specs.declared.key.Value.{Value}
 pub use Rattle.dbtg_cells.specs.Keys.{has_type}
-use Rattle.dbtg_cells.specs.Keys.{key_eq, key_lt, value_eq, values_eq}
+use Rattle.dbtg_cells.specs.Keys.{key_eq, key_below, value_eq, values_eq}
 use Rattle.dbtg_unit.specs.declared.statement.Which.{Which}
 use Rattle.dbtg_unit.specs.declared.statement.Which.TheVariants.{First, Last, Next, Prior, Nth}
 use Rattle.dbtg_unit.specs.declared.statement.Form.{Form}
@@ -58,8 +58,8 @@ keys_in_area schema capacity db r a = filter (has_type r) (flat_map (live_keys c
 abbrev pub chosen_by_key : Which → Option DbKey → List DbKey → Option DbKey
 chosen_by_key First current keys = first keys
 chosen_by_key Last current keys = final keys
-chosen_by_key Next current keys = first (filter (λ k. some_and (λ c. key_lt c k) current) keys)
-chosen_by_key Prior current keys = final (filter (λ k. some_and (λ c. key_lt k c) current) keys)
+chosen_by_key Next current keys = first (filter (λ k. some_and (λ c. key_below c k) current) keys)
+chosen_by_key Prior current keys = final (filter (λ k. some_and (λ c. key_below k c) current) keys)
 chosen_by_key (Nth n) current keys = nth n keys
 
 -- the keys of type r with these CALC items, in key order
@@ -93,7 +93,7 @@ found schema capacity db unit (OwnerOf s) = with_current (option_and_then (λ pl
 found schema capacity db unit (Calc r values) = found_unless None (first (with_calc schema capacity db r values)) NoneSatisfies
 found schema capacity db unit (NextDuplicate r) = with_current (at unit.currency.types r) (λ k.
     found_unless (first_cause ((not (is_live db k), Deleted) ∷ []))
-    (first (filter (key_lt k) (with_calc schema capacity db r (calc_items schema r (items_of db k))))) End)
+    (first (filter (key_below k) (with_calc schema capacity db r (calc_items schema r (items_of db k))))) End)
 found schema capacity db unit (Sorted value s) = with_current (place_in schema unit s) (λ place.
     found_unless (first_cause ((is_none (db.lists s place.owner), Deleted) ∷ []))
     (find (λ k. some_and (value_eq value) (sort_key schema db s k)) (members_of db s place.owner)) NoneSatisfies)

@@ -1,7 +1,7 @@
 use Rattle.std.proofs.Common.{◌≡◌, sym, ap, ◌∙◌, ◌^◌, ◌≤◌, ◌<◌, true, nat_lt, nat_le, length, arith}
 use Rattle.std.proofs.lemmas.Bool.Decides.{nat_tests}
 use Rattle.std.proofs.Math.Pow.{pow_mono}
-use Rattle.dbtg_unit.proofs.fits.is_of_sets.Goals as goal
+use Rattle.dbtg_unit.proofs.fits.suppress_fits.Goals as goal
 
 pub returns-then-count-ge16 : goal.returns-then-count-ge16
 returns-then-count-ge16 c =

@@ -2,7 +2,7 @@ use Rattle.std.proofs.Common.{◌∙◌, sym, ap}
 use Rattle.dbtg_unit.specs.Database.Statements.Found.{chosen_by_key}
 use Rattle.dbtg_plan.specs.Inside.Finding.{area_keys_in}
 use Rattle.dbtg_plan.proofs.Find.ChosenKeys.{last_chosen}
-use Rattle.dbtg_plan.proofs.finding.area.choose_key.Goals as goal
+use Rattle.dbtg_plan.proofs.finding.area.chosen_by_key.Goals as goal
 
 pub returns-in-Last : goal.returns-in-Last
 returns-in-Last c =
