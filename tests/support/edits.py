@@ -2,99 +2,75 @@
 
 `file: PATH` names a file of src/, `in: FUNCTION` a function of it (`name` or `Type::name`), and pairs `old: TEXT` and `new: TEXT` say
 what changes: each old text stands exactly once in the file, or in the function that is named. An edit that changes more than bodies of
-functions names in `refused: PATH` the function that has to be refused, as a check names it below the crate. One that tests/edits/NAMED
-lists and that the prover finds no values against names in `test: NAME` a test that fails with the edit in it. One that no contract can
-refuse says why in `unseen: WHY`, and names such a test too; it is not checked."""
+functions says in `refused: PATH` which of the functions that it changes has to be refused, as a check names it below the crate. One that
+tests/edits/NAMED lists and that the prover finds no values against names in `test: NAME` a test that fails with the edit in it. One that
+no contract can refuse says why in `unseen: WHY`, and names such a test too; it is not checked."""
 
-import functools
-import glob
 import os
 import re
+from pathlib import Path
 
 from functions import functions_of, module_of
 from kit import text_of
 
 
-class BadEdit(Exception):
-    """An edit that cannot be applied."""
-
-
 class Sources:
-    """The source files of a crate, read once."""
+    """The source files of a crate by their paths in it, with their functions, and its types, each with the module that declares it."""
 
     def __init__(self, folder):
-        self.folder = folder
+        self.folder, self.crate = folder, os.path.basename(folder)
+        self.texts = {str(it.relative_to(folder)): it.read_text("utf-8") for it in sorted(Path(folder, "src").rglob("*.rt"))}
+        self.functions = {file: functions_of(text, file) for file, text in self.texts.items()}
+        declared = re.compile(r"(?m)^(?:pub(?:\(\w+\))? )?(?:struct|enum) (\w+)")
+        self.declared = {name: module_of(file) for file, text in self.texts.items() for name in declared.findall(text)}
 
-    @functools.lru_cache(maxsize=None)
-    def files(self):
-        found = (f"{at}/{name}" for at, _, names in os.walk(f"{self.folder}/src") for name in names if name.endswith(".rt"))
-        return sorted(os.path.relpath(it, self.folder) for it in found)
-
-    @functools.lru_cache(maxsize=None)
-    def text(self, file):
-        if file not in self.files():
-            raise BadEdit(f"{file} is no source file of the crate")
-        return text_of(f"{self.folder}/{file}")
-
-    @functools.lru_cache(maxsize=None)
-    def functions(self, file):
-        return functions_of(self.folder, file)
-
-    @functools.lru_cache(maxsize=None)
-    def declared(self):
-        """The structs and enums of the crate, each with the module that declares it."""
-        return {name: module_of(it) for it in self.files() for name in re.findall(r"(?m)^(?:pub(?:\(\w+\))? )?(?:struct|enum) (\w+)", self.text(it))}
-
-    def function(self, file, shown):
-        found = [it for it in self.functions(file) if it.shown() == shown]
-        if len(found) != 1:
-            raise BadEdit(f"{file} has {len(found)} functions {shown}, and not one")
-        return found[0]
-
-    def path(self, file, function):
-        return function.path(module_of(file), self.declared())
-
-    def proofs(self, file, function):
+    def proofs(self, function):
         """The folders below proofs/ of what is written by hand of a function, of its closures, and of the cycle of calls that it is in,
         which is named after all that are in it: `+closure+name`."""
-        own, closures = self.path(file, function).replace("::", "/"), function.closures(module_of(file)).replace("::", "/")
-        cycles = (os.path.relpath(it, f"{self.folder}/proofs") for it in glob.glob(f"{self.folder}/proofs/{os.path.dirname(own)}/+*"))
-        return [own, closures, *(it for it in cycles if function.name in it.split("+"))]
+        own, closures = (it.replace("::", "/") for it in function.names(self.declared))
+        module = os.path.dirname(own)
+        cycles = [it.name for it in Path(self.folder, "proofs", module).glob("+*") if function.name in it.name.split("+")]
+        return [own, closures, *(os.path.join(module, it) for it in cycles)]
 
     def place(self, file, inside, old):
-        """Where an old text stands, which does so once."""
-        text, (first, end) = self.text(file), (inside.start, inside.end) if inside else (0, None)
-        count = text.count(old, first, end)
+        """Where an old text stands in a file, or in a function of it: it does so once."""
+        first, end = (inside.start, inside.end) if inside else (0, None)
+        count = self.texts[file].count(old, first, end)
         if count != 1:
-            raise BadEdit(f"an old text stands {count} times, and not once: {old[:80]}")
-        at = text.index(old, first, end)
+            raise ValueError(f"an old text stands {count} times, and not once: {old[:80]}")
+        at = self.texts[file].index(old, first)
         return at, at + len(old)
 
 
 class Edit:
     """An edit: the pieces that it puts into files, as pairs of the file and the place with the new text; the functions whose bodies it
-    changes, each with its file; what is refused where it changes more; and the lines of answers by hand that are left out, by file."""
+    changes; the names of those that have to be refused, what the names of their closures begin with, and the folders of what is written by
+    hand of them; and the answers in these that are left out, as pairs of the file and a line."""
 
     def __init__(self, path, sources):
         text = text_of(path)
         self.name = path.stem
         self.refused, self.tests, self.unseen = (re.findall(rf"(?m)^{it}: (\S.*)$", text) for it in ("refused", "test", "unseen"))
         self.pieces = list(pieces_of(text, sources))
-        inside = [next(((file, f) for f in sources.functions(file) if f.opens <= at and end <= f.end), None) for file, (at, end, _) in self.pieces]
-        self.functions, self.left_out = list(dict.fromkeys(filter(None, inside))), {}
+        inside = [next((it for it in sources.functions[file] if it.opens <= at and end <= it.end), None) for file, (at, end, _) in self.pieces]
         if not self.pieces or not self.unseen and (None in inside) != bool(self.refused):
-            raise BadEdit("it changes nothing, or does not name the function that has to be refused where, and only where, it changes more than bodies")
+            raise ValueError("it changes nothing, or does not name the function that has to be refused where, and only where, it changes more than bodies")
         if self.unseen and not self.tests:
-            raise BadEdit("no contract sees it, and it names no test")
-        self.paths = self.refused or [sources.path(*it) for it in self.functions]
-        self.closures = [] if self.refused else [it.closures(module_of(file)) for file, it in self.functions]
-        self.proofs = [at for it in self.functions for at in sources.proofs(*it)]
+            raise ValueError("no contract sees it, and it names no test")
+        names = {it: it.names(sources.declared) for it in inside if it}
+        self.functions = list(names)
+        judged = [it for it, (path, _) in names.items() if not self.refused or path in self.refused]
+        if not judged and not self.unseen:
+            raise ValueError("it does not change the body of the function that has to be refused")
+        self.paths = [f"{sources.crate}::{names[it][0]}" for it in judged]
+        self.closures = tuple(f"{sources.crate}::{names[it][1]}::" for it in judged)
+        self.proofs = tuple(f"{at}/" for it in judged for at in sources.proofs(it))
+        self.left_out = set()
 
     def leave_out(self, errors):
         """Leaves out the answers at which these errors stand; whether there is one that was not left out before."""
-        new = [(file, line) for file, line, _ in errors if file.endswith("/Answers.antt") and line not in self.left_out.get(file, [])]
-        for file, line in new:
-            self.left_out.setdefault(file, []).append(line)
+        new = {(file, line) for file, line, _ in errors if file.endswith("/Answers.antt")} - self.left_out
+        self.left_out |= new
         return bool(new)
 
     def is_harmless(self):
@@ -105,18 +81,21 @@ class Edit:
 def pieces_of(text, sources):
     """The pieces of an edit's text, in the order of its lines."""
     file = inside = old = None
-    for line in text.splitlines():
-        word, _, rest = line.partition(":")
-        rest = rest.removeprefix(" ")
+    for word, rest in re.findall(r"(?m)^(\w+): ?(.*)$", text):
         if word == "file":
-            file, inside = rest.strip(), None
+            file, inside = rest, None
+            if file not in sources.texts:
+                raise ValueError(f"{file} is no source file of the crate")
         elif word == "in":
-            inside = sources.function(file, rest.strip())
+            found = [it for it in sources.functions.get(file, []) if it.shown() == rest]
+            if len(found) != 1:
+                raise ValueError(f"{file} has {len(found)} functions {rest}, and not one")
+            inside = found[0]
         elif word == "old":
             old = rest
         elif word == "new":
             if not file or not old:
-                raise BadEdit("a new text stands before any file or old text")
+                raise ValueError("a new text stands before any file or old text")
             yield file, (*sources.place(file, inside, old), rest)
             old = None
 
@@ -126,10 +105,12 @@ def in_rounds(edits):
     alone."""
     rounds = []
     for it in edits:
-        has_room = lambda one: not any(it.refused or other.refused or set(other.functions) & set(it.functions) for other in one)
-        room = next(filter(has_room, rounds), [])
-        room.append(it)
-        rounds += [room] if len(room) == 1 else []
+        for one in rounds:
+            if not any(it.refused or other.refused or set(it.functions) & set(other.functions) for other in one):
+                one.append(it)
+                break
+        else:
+            rounds.append([it])
     return rounds
 
 

@@ -4,20 +4,19 @@ it. A function stands at the margin, or one step in where an impl block or a tra
 import re
 from dataclasses import dataclass
 
-from kit import text_of
-
 HEAD = re.compile(r'(    |)(?:(?:pub(?:\(\w+\))?|const|unsafe|extern "C") )*fn (\w+)')
 BLOCK = re.compile(r"(?:pub(?:\(\w+\))? |unsafe )*(?:impl|trait)\b(?:<.*?>(?= \w))?\s*(?:([\w:]+)(<.*>)? for \W*)?([\w:]+)")
 
 
 @dataclass(frozen=True)
 class Function:
-    """A function with a body: its name, the type and the trait of the impl block in which it stands, if any. `start`, `opens` and
-    `end` are places in the text of its file."""
+    """A function with a body: its module, its name, the type and the trait of the impl block in which it stands, if any. `start`, `opens`
+    and `end` are places in the text of its file."""
 
-    name: str
+    module: str
     owner: str
     trait: str
+    name: str
     start: int
     opens: int
     end: int
@@ -25,20 +24,12 @@ class Function:
     def shown(self):
         return f"{self.owner}::{self.name}" if self.owner else self.name
 
-    def path(self, module, declared):
-        """The name that a check gives it, without that of the crate: a method bears the module that declares its type, which may be
-        another, and one of a trait the module of its impl block and the trait's name."""
-        if not self.owner:
-            parts = [module, self.name]
-        elif self.trait:
-            parts = [module, self.owner + self.trait, self.name]
-        else:
-            parts = [declared.get(self.owner, module), self.owner, self.name]
-        return "::".join(filter(None, parts))
-
-    def closures(self, module):
-        """What the names of its closures begin with."""
-        return "::".join(filter(None, [module, "fn", self.owner, self.name]))
+    def names(self, declared):
+        """The name that a check gives it, without that of the crate, and what the names of its closures begin with. A method bears the
+        module that declares its type, which may be another; one of a trait bears that of its impl block, and the trait's name."""
+        module = self.module if self.trait else declared.get(self.owner, self.module)
+        parts = [module, self.owner + self.trait, self.name], [self.module, "fn", self.owner, self.name]
+        return tuple("::".join(filter(None, it)) for it in parts)
 
 
 def module_of(file):
@@ -46,22 +37,21 @@ def module_of(file):
     return re.sub(r"(^|::)(lib|main|mod)$", "", re.sub(r"(^src/|\.rt$)", "", file).replace("/", "::"))
 
 
-def functions_of(folder, path):
-    """The functions of a file, in their order, with the type whose impl block they stand in."""
-    text = text_of(f"{folder}/{path}")
+def functions_of(text, file):
+    """The functions in the text of a file, in their order."""
     found, block, at, past = [], ("", ""), 0, 0
     for line in text.splitlines(keepends=True):
         head, opens = HEAD.match(line), BLOCK.match(line)
         if at >= past and opens:
-            arguments = re.sub(r"<.*>", "", (opens[2] or "<>")[1:-1])
             owner, trait = (path.split("::")[-1] for path in (opens[3], opens[1] or ""))
+            arguments = re.sub(r"<.*>", "", (opens[2] or "<>")[1:-1])
             block = owner, trait + "".join(re.findall(r"[A-Za-z_]\w*", arguments))
         elif at >= past and line == "}\n":
             block = "", ""
         elif at >= past and head and (not head[1] or block[0]):
             body = body_of(text, at, head[1])
             if body:
-                found.append(Function(head[2], *(block if head[1] else ("", "")), at, *body))
+                found.append(Function(module_of(file), *(block if head[1] else ("", "")), head[2], at, *body))
                 past = body[1]
         at += len(line)
     return found

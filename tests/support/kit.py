@@ -7,11 +7,10 @@ import subprocess
 ROOT = os.path.dirname(os.path.dirname(os.path.dirname(os.path.realpath(__file__))))
 
 
-@functools.lru_cache(maxsize=None)
+@functools.cache
 def kit():
     """The kit's folder, of which `rt doc` prints a page."""
-    page = subprocess.run(["rt", "doc"], capture_output=True, text=True, check=True).stdout
-    return os.path.dirname(page.strip())
+    return os.path.dirname(subprocess.run(["rt", "doc"], capture_output=True, text=True, check=True).stdout.strip())
 
 
 def rattle():
@@ -23,19 +22,17 @@ def text_of(path):
         return it.read()
 
 
+@functools.cache
 def crates_of(root=ROOT):
     """The repository's crates, each with the libraries that it names, as crates.txt has them."""
     lines = [line.partition("#")[0].partition(":") for line in text_of(f"{root}/crates.txt").splitlines()]
     return {name.split()[0]: uses.split() for name, colon, uses in lines if colon}
 
 
-def below(crates, name):
+@functools.cache
+def below(name):
     """The repository's libraries below a crate, each after those that it uses."""
-    found = []
-    for it in crates[name]:
-        if it in crates:
-            found += [*below(crates, it), it]
-    return list(dict.fromkeys(found))
+    return list(dict.fromkeys(low for it in crates_of()[name] if it in crates_of() for low in (*below(it), it)))
 
 
 def root_file(crate_folder):
@@ -43,22 +40,17 @@ def root_file(crate_folder):
     return "src/main.rt" if os.path.isfile(f"{crate_folder}/src/main.rt") else "src/lib.rt"
 
 
-def check_words(crates, name, root=ROOT, links=""):
-    """The words of `rattle check` over the built libraries below a crate, which lie below `root`, to be run in its folder or in a
-    copy of it; `links` says what a copy is linked with that declares a foreign function."""
-    words = ["--crate-name", name, root_file(f"{ROOT}/crates/{name}")]
-    for it in ["std", *(it for it in crates[name] if it not in crates)]:
-        words += ["--extern", f"{it}={kit()}/rlibs/{it}.rlib"]
-    words += ["-L", f"dependency={kit()}/rlibs"]
-    for it in crates[name]:
-        if it in crates:
-            words += ["--extern", f"{it}={rlib(it, root)}"]
-    for it in below(crates, name):
-        words += ["-L", f"dependency={os.path.dirname(rlib(it, root))}"]
-    words += ["--antt-project", f"{kit()}/rattle/logic/antt-project.json", "--logic-built", f"{kit()}/logic_built"]
-    return [*words, "--links", f"{name}={links}"]
+def check_words(name, libraries=ROOT, links=""):
+    """The words of `rattle check` of a crate, to be run in its folder or in a copy of it, over the libraries that are built below the
+    folder `libraries`; `links` says what a copy is linked with that declares a foreign function."""
+    words = ["--crate-name", name, root_file(f"{ROOT}/crates/{name}"), "-L", f"dependency={kit()}/rlibs"]
+    for it in ["std", *crates_of()[name]]:
+        words += ["--extern", f"{it}={rlib(it, libraries)}"]
+    for it in below(name):
+        words += ["-L", f"dependency={os.path.dirname(rlib(it, libraries))}"]
+    return [*words, "--antt-project", f"{kit()}/rattle/logic/antt-project.json", "--logic-built", f"{kit()}/logic_built", "--links", f"{name}={links}"]
 
 
-def rlib(name, root=ROOT):
-    """Where the built library of a crate lies."""
-    return f"{root}/crates/{name}/out/rlib/{name}.rlib"
+def rlib(name, libraries=ROOT):
+    """Where a library lies: one of the repository as it was built below this folder, or one of the kit."""
+    return f"{libraries}/crates/{name}/out/rlib/{name}.rlib" if name in crates_of() else f"{kit()}/rlibs/{name}.rlib"

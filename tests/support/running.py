@@ -3,7 +3,6 @@
 import os
 import re
 import subprocess
-import tempfile
 from concurrent.futures import ThreadPoolExecutor
 from dataclasses import dataclass
 
@@ -17,7 +16,7 @@ class Ran:
     name: str
     text: str
     seconds: float
-    status: int = 0
+    status: int
 
     def counts(self):
         """What a last line `.. N passed, M failed` counts; without one the command did not come to its end."""
@@ -25,30 +24,29 @@ class Ran:
         return (int(found[1]), int(found[2])) if found else (0, 1)
 
 
-def ran(words, nice=0, name=None):
-    """Runs a command at the top of the repository."""
-    with tempfile.TemporaryFile("w+", errors="replace") as out:
-        process = subprocess.Popen(["nice", "-n", str(nice), *words], cwd=kit.ROOT, stdin=subprocess.DEVNULL, stdout=out, stderr=subprocess.STDOUT)
+def ran(words, nice=0, name=None, hear=lambda line: None):
+    """Runs a command at the top of the repository, and has each line heard that it prints."""
+    words, text = ["nice", "-n", str(nice), *words], ""
+    with subprocess.Popen(words, cwd=kit.ROOT, stdin=subprocess.DEVNULL, stdout=subprocess.PIPE, stderr=subprocess.STDOUT, text=True, errors="replace") as process:
+        for line in process.stdout:
+            hear(line)
+            text += line
         _, status, used = os.wait4(process.pid, 0)
         process.returncode = os.waitstatus_to_exitcode(status)
-        out.seek(0)
-        return Ran(name or words[0], out.read(), used.ru_utime + used.ru_stime, process.returncode)
-
-
-def tests(program=None):
-    """The words of the tests of tests/tests.list: of those that are run with the program, where its path is given; else of the others."""
-    lines = [line.split() for line in kit.text_of(f"{kit.ROOT}/tests/tests.list").splitlines() if line and not line.startswith("#")]
-    return [[program if it == "PROGRAM" else it for it in words] for words in lines if ("PROGRAM" in words) == bool(program)]
+    return Ran(name or words[3], text, used.ru_utime + used.ru_stime, process.returncode)
 
 
 def run_tests(program=None, nice=0):
-    """Runs the tests with the program, two at a time; or the others, one after the other."""
+    """Runs the tests of tests/tests.list that are run with the program, two at a time; without its path the others, one by one."""
+    lines = [line.split() for line in kit.text_of(f"{kit.ROOT}/tests/tests.list").splitlines() if line and not line.startswith("#")]
+    tests = [[program if it == "PROGRAM" else it for it in words] for words in lines if ("PROGRAM" in words) == bool(program)]
     with ThreadPoolExecutor(2 if program else 1) as pool:
-        return list(pool.map(lambda it: ran(it, nice), tests(program)))
+        return list(pool.map(lambda it: ran(it, nice), tests))
 
 
-def summed_up(done):
-    """The lines that show where the processor minutes went, and what passed and what failed, all together."""
-    lines = [f"{it.name:<34}{it.seconds / 60:>6.1f}{'' if not it.counts()[1] else '   FAILED'}" for it in done]
+def sum_up(done, *lines):
+    """Prints where the processor minutes went, these lines, and what passed and what failed, all together; gives the exit status."""
+    print("processor minutes", *(f"{it.name:<34}{it.seconds / 60:>6.1f}{'   FAILED' if it.counts()[1] else ''}" for it in done), sep="\n")
     passed, failed = (sum(counts) for counts in zip(*(it.counts() for it in done)))
-    return ["processor minutes", *lines, f"{'together':<34}{sum(it.seconds for it in done) / 60:>6.1f}"], passed, failed
+    print(f"{'together':<34}{sum(it.seconds for it in done) / 60:>6.1f}", *lines, f"{passed} passed, {failed} failed", sep="\n")
+    return 1 if failed else 0

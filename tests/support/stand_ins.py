@@ -2,12 +2,11 @@
 it matters nothing how these are done: the body of every other function gives way to a call that never returns, by the word of a foreign
 function that promises what is false. Such a body meets any contract at once."""
 
-import os
 import shutil
 from pathlib import Path
 
 from edits import with_pieces
-from kit import root_file, text_of
+from kit import root_file
 
 TEXT = """unsafe extern "C" {
     safe fn falsity() -> u8
@@ -20,24 +19,22 @@ pub fn never_returns() -> ! {
 }
 """
 BODY = "{ crate::stand_in::never_returns() }"
+BY_HAND = ("Answers.antt", "Invariants.antt", "Proof.antt")
 
 
 def make_copy(copy, sources, staying, pieces):
     """Makes a copy of a crate with these pieces in its files, in which others stand in for all functions but those that are staying.
     What proved their bodies by hand goes with these."""
-    for part in ("src", "specs", "proofs"):
-        if os.path.isdir(f"{sources.folder}/{part}"):
-            shutil.copytree(f"{sources.folder}/{part}", f"{copy}/{part}")
-    for file in sources.files():
+    shutil.copytree(sources.folder, copy, ignore=shutil.ignore_patterns("out", "must-fail"), dirs_exist_ok=True)
+    for file, text in sources.texts.items():
         own = [piece for at, piece in pieces if at == file]
-        others = [(it.opens, it.end, BODY) for it in sources.functions(file) if (file, it) not in staying]
-        Path(copy, file).write_text(with_pieces(sources.text(file), own + others), "utf-8")
+        others = [(it.opens, it.end, BODY) for it in sources.functions[file] if it not in staying]
+        Path(copy, file).write_text(with_pieces(text, own + others), "utf-8")
     # A check of a program links it with all that it reaches; so a copy is a library.
     root = Path(copy, root_file(copy))
-    root.write_text(text_of(root).replace("\nfn main(", "\nfn main_of_the_program(") + "\nmod stand_in;\n", "utf-8")
+    root.write_text(root.read_text("utf-8").replace("\nfn main(", "\nfn main_of_the_program(") + "\nmod stand_in;\n", "utf-8")
     Path(copy, "src/stand_in.rt").write_text(TEXT, "utf-8")
-    kept = [f"{copy}/proofs/{it}" for one in staying for it in sources.proofs(*one)]
-    for at, _, names in os.walk(f"{copy}/proofs"):
-        for name in names:
-            if name in ("Answers.antt", "Invariants.antt", "Proof.antt") and not any(at == it or at.startswith(f"{it}/") for it in kept):
-                os.remove(f"{at}/{name}")
+    kept = [Path(copy, "proofs", it) for function in staying for it in sources.proofs(function)]
+    for path in Path(copy, "proofs").rglob("*.antt"):
+        if path.name in BY_HAND and not any(it in path.parents for it in kept):
+            path.unlink()
