@@ -29,9 +29,6 @@ opened db count = opening_views db.board.shared.table_id db.about count
 abbrev opened_unit : Database → ℕ → UnitView
 opened_unit db number = opening_view db.board.shared.table_id db.about number
 
-opened_count : (db : Database) (count : ℕ) → length (opening_views db.board.shared.table_id db.about count) ≡ count
-opened_count db count = length-map (range_with_len 1 count) (opened_unit db) ∙ length-range_with_len 1 count
-
 opened_at : (db : Database) (count k : ℕ) (d : UnitView) → k < count → get_or (opened db count) k d ≡ opened_unit db (1 + k)
 opened_at db count k d below =
     let l = length-range_with_len 1 count in
@@ -67,9 +64,9 @@ are_of script number db after history ran whole own = record {
 
 -- a run of units that were opened with their database: its history is that of all scripts
 pub history_of_all : (db : Database) (scripts : List (List Statement)) (settled : Settled) → db.about.units ≡ length scripts
-    → IsRun db scripts (opening_views db.board.shared.table_id db.about (length scripts)) settled
+    → length (opened db (length scripts)) ≡ length scripts → IsRun db scripts (opened db (length scripts)) settled
     → IsHistoryOfAll db.schema db.about.capacity scripts settled.history settled.image settled.units
-history_of_all db scripts settled count run = record {
+history_of_all db scripts settled count many run = record {
   leads = subst (λ n. LeadsTo db.schema db.about.capacity n settled.history settled.image settled.units) count run.ends.leads;
   own = λ k script at. own_of k script at;
 }
@@ -79,7 +76,6 @@ history_of_all db scripts settled count run = record {
         let before = opened_unit db 1 in
         let after = get_or run.after k before in
         let below = slice_get_within scripts k script at in
-        let many = opened_count db (length scripts) in
         let came = run.made.count in
         let made = run.made.each k script before before (omega arith) in
         let ran = subst (λ s. Ran s (get_or (opened db (length scripts)) k before) after × IsWhole s (get_or (opened db (length scripts)) k before) after) (get_or_from_slice_get scripts k script script at) made in

@@ -1,13 +1,12 @@
 -- What is told of a line.
-use Rattle.std.proofs.Common.{◌≡◌, ℕ, suc, ◌+◌, ◌-◌, ◌<◌, ◌≤◌, Bool, true, false, List, [], ◌∷◌, ◌++◌, length, Some, slice_get, inl, inr, ap, sym, ◌∙◌, subst, arith, length-append, IfOk, Result, Ok, Err}
-use Rattle.std.specs.Prelude.{OnErr, ◌==◌, if◌then◌else◌}
+use Rattle.std.proofs.Common.{◌≡◌, ℕ, ◌+◌, ◌-◌, List, [], ◌∷◌, ◌++◌, length, Some, slice_get, inl, inr, ap, sym, ◌∙◌, subst, arith, length-append, IfOk, Result, Ok, Err}
+use Rattle.std.specs.Prelude.{OnErr}
 use Rattle.dbtg_schema.specs.Lists.{Lists}
 use Rattle.dbtg_cells.proofs.Public.{get_behind}
 use Rattle.dbtg_unit.specs.declared.unit.Entry.{Entry}
-use Rattle.dbtg_script.specs.Printing.Spelling.{behind}
 use Rattle.dbtg_script.specs.declared.fault.Cause.{Cause}
 use Rattle.dbtg.specs.Asking.{asked_of, behind_spaces, turn_after}
-use Rattle.dbtg.specs.Sessions.{Answers, IsAnswerReply, IsFaultText, IsLastAnswer, IsNoUnit, IsText, IsUnmade, RefusesLine, TakesAsked, TakesLine, Typed, no_unit_text}
+use Rattle.dbtg.specs.Sessions.{Answers, IsFaultText, IsLastAnswer, IsNoUnit, IsText, IsUnmade, RefusesLine, TakesAsked, TakesLine, Typed, answer_reply, no_unit_text}
 use Rattle.dbtg.specs.declared.shell.asked.Asked.{Asked}
 use Rattle.dbtg.specs.declared.shell.commands.Reply.{Reply}
 use Rattle.dbtg.specs.declared.shell.commands.Reply.TheVariants as reply
@@ -21,33 +20,11 @@ last_entry history before e is =
     let place : length history - 1 ≡ length before = omega (arith, many) in
     ap (slice_get history) place ∙ ap (λ (es : List Entry). slice_get es (length before)) is ∙ get_behind before e []
 
-pub is_last : (typed : Typed) (schema : Lists) (one : Entry) (out : List ℕ) → Some one ≡ slice_get typed.making.history (length typed.making.history - 1) → schema ≡ typed.making.schema → IsAnswerReply schema one out → IsLastAnswer typed out
+pub is_last : (typed : Typed) (schema : Lists) (one : Entry) (out : List ℕ) → Some one ≡ slice_get typed.making.history (length typed.making.history - 1) → schema ≡ typed.making.schema → out ≡ answer_reply schema one → IsLastAnswer typed out
 is_last typed schema one out at same told = λ before e is.
     let found : Some one ≡ Some e = at ∙ last_entry typed.making.history before e is in
     let entry : one ≡ e = cc (found) in
-    subst (λ (s : Lists). IsAnswerReply s e out) same (subst (λ (x : Entry). IsAnswerReply schema x out) entry told)
-
--- THE ROWS OF A TABLE
-
-at_most : (c : ℕ) (text : List ℕ) → length (behind c text) ≤ length text
-at_most c [] = omega arith
-at_most c (b ∷ bs) = step (b == c) (at_most c bs)
-  where
-    step : (is : Bool) → length (behind c bs) ≤ length bs → length (if is then bs else behind c bs) ≤ suc (length bs)
-    step true h = omega arith
-    step false h = omega (arith, h)
-
-pub behind_is_shorter : (c : ℕ) (text : List ℕ) → 0 < length text → length (behind c text) < length text
-behind_is_shorter c [] some = absurd (omega (arith, some))
-behind_is_shorter c (b ∷ bs) some = step (b == c) (at_most c bs)
-  where
-    step : (is : Bool) → length (behind c bs) ≤ length bs → length (if is then bs else behind c bs) < suc (length bs)
-    step true h = omega arith
-    step false h = omega (arith, h)
-
-pub not_empty : (text : List ℕ) (is : Bool) → is ≡ (length text == 0) → is ≡ false → 0 < length text
-not_empty [] is e false_is = absurd (cc (e, false_is))
-not_empty (b ∷ bs) is e false_is = omega arith
+    subst (λ (s : Lists). out ≡ answer_reply s e) same (subst (λ (x : Entry). out ≡ answer_reply schema x) entry told)
 
 -- WHAT IS TOLD
 

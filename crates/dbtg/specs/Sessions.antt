@@ -1,6 +1,6 @@
 -- A session of the shell: statements that are made whole on one database, and the script of each unit, which grows by a line with
 -- each statement.
-use Rattle.std.specs.Prelude.{ℕ, ◌≡◌, ◌+◌, ◌-◌, ◌≤◌, ◌<◌, ◌∷◌, ◌++◌, ◌⊎◌, ◌%◌, Bool, true, false, IfOk, OnErr, List, [], codes, decimal, length, None, Some, Result, Ok, Err, slice_get, slice_set, unwrap_or}
+use Rattle.std.specs.Prelude.{ℕ, ◌≡◌, ◌+◌, ◌-◌, ◌≤◌, ◌<◌, ◌∷◌, ◌++◌, ◌⊎◌, ◌%◌, Bool, true, false, IfOk, OnErr, List, [], codes, decimal, length, Option, None, Some, ◌==◌, option_map, if◌then◌else◌, Result, Ok, Err, slice_get, slice_set, unwrap_or}
 use Rattle.dbtg_schema.specs.Lists.{Lists}
 use Rattle.dbtg_schema.specs.Lookups.{first}
 use Rattle.dbtg_schema.specs.Texts.SchemaFaults.{refusal as schema_refusal}
@@ -12,7 +12,6 @@ use Rattle.dbtg_unit.specs.declared.unit.Entry.{Entry}
 use Rattle.dbtg_step.specs.Core.Whole.{HasMade, Making, state_now}
 use Rattle.dbtg_script.specs.Lines.{trimmed}
 use Rattle.dbtg_script.specs.Printing.Causes.{cause_number}
-use Rattle.dbtg_script.specs.Printing.Spelling.{in_front}
 use Rattle.dbtg_script.specs.StatementFaults.{line_faults}
 use Rattle.dbtg_script.specs.Statements.{line_statement}
 use Rattle.dbtg_script.specs.Printing.Texts.{answer_text, named_answer_text, run_text}
@@ -27,8 +26,7 @@ use Rattle.dbtg.specs.declared.shell.asked.Asked.TheVariants as asked
 use Rattle.dbtg.specs.declared.shell.commands.Reply.{Reply}
 use Rattle.dbtg.specs.declared.shell.commands.Reply.TheVariants as reply
 use Rattle.dbtg_command.specs.declared.explain.causes.TheConstants.{CAUSES}
-use Rattle.dbtg_command.specs.Explaining.{code_in}
-use Rattle.dbtg_command.specs.FaultyWord.{behind_all}
+use Rattle.dbtg_command.specs.Explaining.{field, row_of}
 use Rattle.dbtg_command.specs.Refusals.{schema_in}
 use Rattle.dbtg.specs.Asking.{asked_of, behind_spaces, turn_after}
 use Rattle.dbtg.specs.Replaying.{IsReplay}
@@ -76,27 +74,20 @@ pub record AreTurnsOf (typed : Typed) (turns : List ℕ) : Type 0 where
 
 -- WHAT IS PRINTED
 
--- a row of a table, which has one on each line, with this code
-pub record IsRow (table : List ℕ) (code : ℕ) (row : List ℕ) : Type 0 where
-  pub place : ℕ
-  pub is_line : row ≡ in_front 10 (behind_all 10 place table)
-  pub of_code : code_in row ≡ code
+-- what the cause with this code is called, in its row of the table of causes
+abbrev pub cause_name : ℕ → Option (List ℕ)
+cause_name code = option_map (field 1) (row_of code CAUSES.now)
 
--- the name in the row that the table of causes has of this code
-pub record IsCauseName (code : ℕ) (name : List ℕ) : Type 0 where
-  pub row : List ℕ
-  pub is_row : IsRow CAUSES.now code row
-  pub is_name : name ≡ in_front 124 (behind_all 124 1 row)
-
--- the answer as `replay` prints it; a refusal may have the name of its cause behind it
-abbrev pub IsAnswerReply : Lists → Entry → List ℕ → Type 0
-IsAnswerReply schema e out =
-    (out ≡ answer_text schema e)
-    ⊎ ((0 < status_code e.statement e.answer.status) × (name : List ℕ) × IsCauseName (status_code e.statement e.answer.status % 100) name × (out ≡ named_answer_text schema e name))
+-- the answer as `replay` prints it; a refusal has the name of its cause behind it
+abbrev pub answer_reply : Lists → Entry → List ℕ
+answer_reply schema e =
+    let status = status_code e.statement e.answer.status in
+    if status == 0 then answer_text schema e
+    else unwrap_or (option_map (named_answer_text schema e) (cause_name (status % 100))) (answer_text schema e)
 
 -- the answer of the statement that was made last
 abbrev pub IsLastAnswer : Typed → List ℕ → Type 0
-IsLastAnswer typed out = (before : List Entry) (e : Entry) → typed.making.history ≡ before ++ e ∷ [] → IsAnswerReply typed.making.schema e out
+IsLastAnswer typed out = (before : List Entry) (e : Entry) → typed.making.history ≡ before ++ e ∷ [] → out ≡ answer_reply typed.making.schema e
 
 -- the line that tells that there is no such unit
 abbrev pub no_unit_text : ℕ → List ℕ

@@ -1,40 +1,24 @@
 //! What the shell replies to a line: texts of answers, faults and currents.
-ghost use Rattle.std.specs.Prelude.{◌≡◌, ◌-◌, ◌%◌, ◌≤◌, ◌<◌, [], IfOk, IfSome, OnOk, Some, option_map, slice_get};
+ghost use Rattle.std.specs.Prelude.{◌≡◌, ◌-◌, ◌%◌, ◌≤◌, ◌<◌, [], IfOk, OnOk, Some, option_map, slice_get};
 ghost use Rattle.dbtg_script.specs.Printing.Texts.{image_text, unit_text, units_text};
 ghost use Rattle.dbtg_step.specs.Core.Whole.{state_now};
 ghost use Rattle.dbtg_unit.specs.Database.State.Image.{image_of};
-ghost use Rattle.dbtg.specs.Sessions.{IsAnswerReply, IsCauseName, IsFaultText, IsRow, no_unit_text};
+ghost use Rattle.dbtg.specs.Sessions.{IsFaultText, answer_reply, cause_name, no_unit_text};
 
 use crate::shell::session::Session;
-use dbtg_command::explain::{CAUSES, Kind, field, line_of, meaning_of, said_of_word};
+use dbtg_command::explain::{CAUSES, Kind, field, line_of, meaning_of, row_with, said_of_word};
 use dbtg_schema::Schema;
 use dbtg_script::{
-    Cause, behind, image_text, in_front, number, push_answer, push_named_answer, push_number,
-    push_unit, units_text,
+    Cause, image_text, in_front, push_answer, push_named_answer, push_number, push_unit, units_text,
 };
 use dbtg_unit::Entry;
 use std::alloc::{AllocError, Global};
 
-// The first row of a table, a row a line, that has this code.
-fn row_of(table: &'static [u8], code: u16) -> Option<&'static [u8]>
-    ensures { IfSome result (λ row. IsRow table.now code row.now) }
-{
-    let mut rest = table;
-    while !rest.is_empty() {
-        let row = in_front(rest, b'\n');
-        if number(in_front(row, b'|')) == code as u64 {
-            return Some(row);
-        }
-        rest = behind(rest, b'\n');
-    }
-    None
-}
-
 /// What the cause of a refusal is called, as the command explain names it.
 fn cause_name(status: u16) -> Option<&'static [u8]>
-    ensures { IfSome result (λ name. IsCauseName (status % 100) name.now) }
+    ensures { option_map (λ name. name.now) result ≡ cause_name (status % 100) }
 {
-    let row = row_of(CAUSES.as_bytes(), status % 100)?;
+    let row = row_with(CAUSES, status % 100)?;
     Some(field(row, 1))
 }
 
@@ -45,7 +29,7 @@ pub fn push_answer_reply(
     entry: &Entry,
 ) -> Result<(), AllocError>
     requires { out.old.items ≡ [] }
-    ensures { OnOk result (IsAnswerReply schema.now entry.now out.new.items) }
+    ensures { OnOk result (out.new.items ≡ answer_reply schema.now entry.now) }
 {
     let status = entry.answer.status.code(&entry.statement);
     if status == 0 {

@@ -1,4 +1,4 @@
-use Rattle.std.proofs.Common.{◌∙◌, subst, arith}
+use Rattle.std.proofs.Common.{◌∙◌, subst, sym, ap, length, arith}
 use Rattle.dbtg_run.specs.Running.{IsRun}
 use Rattle.dbtg.specs.Threading.{IsHistoryOfAll}
 use Rattle.dbtg.proofs.OnThreads.{history_of_all}
@@ -15,7 +15,8 @@ returns-in-Ok-clause-history g c =
     let db = c.in_ok-db.db in
     let settled = c.in-Ok.settled in
     let run = subst (λ us. IsRun db c.args.scripts.now us settled) c.in_ok-db.ensures.units c.in-Ok.ensures.ok in
-    let made = history_of_all db c.args.scripts.now settled c.in_ok-db.ensures.database.2 run in
+    let many = ap length (sym c.in_ok-db.ensures.units) ∙ c.in_ok-db.ensures.count in
+    let made = history_of_all db c.args.scripts.now settled c.in_ok-db.ensures.database.2 many run in
     let of_schema = subst (λ s. IsHistoryOfAll s db.about.capacity c.args.scripts.now settled.history settled.image settled.units) c.in_ok-db.ensures.database.0 made in
     subst (λ n. IsHistoryOfAll c.args.schema n c.args.scripts.now settled.history settled.image settled.units) c.in_ok-db.ensures.database.1 of_schema
 
