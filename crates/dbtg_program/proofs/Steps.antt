@@ -10,7 +10,7 @@ use Rattle.dbtg_program.specs.declared.program.Program.{Program}
 use Rattle.dbtg_program.specs.States.{ProgramState}
 use Rattle.dbtg_program.specs.declared.going.Progress.{Progress}
 use Rattle.dbtg_program.specs.declared.going.Progress.TheVariants as progress
-use Rattle.dbtg_program.specs.Views.{Stays, Stood, view_step}
+use Rattle.dbtg_program.specs.Inside.Views.{Stays, Stood, view_step}
 use Rattle.dbtg_program.specs.Going.{Due, at_line, due, ended, ends, goes, line_at, line_number, makes, placed, within}
 
 pub within_goes : (schema : Lists) (program : Program) (n line : ℕ) (state behind : ProgramState) → 0 < n → at_line schema program state (line_at program state) ≡ goes behind

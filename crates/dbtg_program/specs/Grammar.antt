@@ -1,28 +1,21 @@
--- The grammar of the sentences that scripts have not, with what is judged at each word.
-use Rattle.std.specs.Prelude.{ℕ, Bool, true, false, ◌&&◌, ◌||◌, ◌==◌, List, length, codes}
-use Rattle.std.specs.List.{list_all}
-use Rattle.dbtg_schema.specs.Texts.Forms as forms
-use Rattle.dbtg_schema.specs.Texts.Forms.{one, either, maybe, ◌▹◌}
-use Rattle.dbtg_schema.specs.Texts.Spelling.{is_digit, is_picture}
+-- The sentences that scripts have not: which word may stand in each place, and what is judged there.
+use Rattle.std.specs.Prelude.{ℕ, Bool, true, false, ◌&&◌, ◌||◌, ◌==◌, List, [], ◌∷◌, ◌++◌, length, is_some, codes}
+use Rattle.dbtg_schema.specs.Lookups.{some_and}
+use Rattle.dbtg_schema.specs.Texts.Spelling.{is_picture}
 use Rattle.dbtg_script.specs.Tokens.{Token, plain, equals, literal}
 use Rattle.dbtg_script.specs.Printing.Spelling.{has_byte, is_number}
-use Rattle.dbtg_program.specs.Sentences.{is_equals, is_own_name, is_word}
-
--- what stands in one place: this very word, any plain word, the sign =, a field, a literal or a field, a picture, four digits
-pub data Kind : Type 0 where
-  key : List ℕ → Kind
-  any : Kind
-  equal_sign : Kind
-  field : Kind
-  value : Kind
-  picture : Kind
-  code : Kind
+use Rattle.dbtg_program.specs.declared.grammar.Keyword.{Keyword}
+use Rattle.dbtg_program.specs.declared.grammar.Keyword.TheVariants as keyword
+use Rattle.dbtg_program.specs.declared.grammar.Kind.{Kind}
+use Rattle.dbtg_program.specs.declared.grammar.Kind.TheVariants as kind
+use Rattle.dbtg_program.specs.declared.grammar.Role.{Role}
+use Rattle.dbtg_program.specs.declared.grammar.Role.TheVariants as role
+use Rattle.dbtg_program.specs.declared.grammar.Place.{Place}
+use Rattle.dbtg_program.specs.Sentences.{is_equals, is_own_name, is_spelled, is_word, plain_text}
 
 -- a word in a field's place: a name, or a word with a period
 abbrev pub may_name_field : Token → Bool
-may_name_field (plain t) = is_own_name t || has_byte 46 t
-may_name_field equals = false
-may_name_field (literal t) = false
+may_name_field w = some_and (λ t. is_own_name t || has_byte 46 t) (plain_text w)
 
 -- a word that is a value by itself
 abbrev pub is_literal : Token → Bool
@@ -30,74 +23,59 @@ is_literal (plain t) = is_number t
 is_literal equals = false
 is_literal (literal t) = true
 
--- a plain word that passes the test
-abbrev pub is_plain : (List ℕ → Bool) → Token → Bool
-is_plain test (plain t) = test t
-is_plain test equals = false
-is_plain test (literal t) = false
+-- =, < or >
+abbrev pub is_relation_word : Token → Bool
+is_relation_word w = is_equals w || is_spelled (codes "<") w || is_spelled (codes ">") w
+
+-- PICTURE or PIC
+abbrev pub is_picture_word : Token → Bool
+is_picture_word w = is_spelled (codes "PICTURE") w || is_spelled (codes "PIC") w
+
+-- four digits
+abbrev pub is_code : Token → Bool
+is_code w = some_and (λ t. length t == 4 && is_number t) (plain_text w)
 
 -- which word fits
 abbrev pub fits : Kind → Token → Bool
-fits (key k) w = is_word k w
-fits any w = is_plain (λ t. true) w
-fits equal_sign w = is_equals w
-fits field w = may_name_field w
-fits value w = is_literal w || may_name_field w
-fits picture w = is_plain is_picture w
-fits code w = is_plain (λ t. length t == 4 && list_all is_digit t) w
+fits (kind.Key k) w = is_word k w
+fits kind.Any w = is_some (plain_text w)
+fits kind.EqualSign w = is_equals w
+fits kind.Relation w = is_relation_word w
+fits kind.Field w = may_name_field w
+fits kind.Value w = is_literal w || may_name_field w
+fits kind.PictureWord w = is_picture_word w
+fits kind.Picture w = some_and is_picture (plain_text w)
+fits kind.Code w = is_code w
 
--- what is judged at a word
-pub data Role : Type 0 where
-  nothing_more : Role
-  counter : Role
-  counter_name : Role
-  paragraph : Role
-  first_value : Role
-  first_number : Role
-  second_value : Role
-  moved_to : Role
-  counted_to : Role
-
--- the forms of this grammar
-abbrev pub Form : Type 0
-Form = forms.Form Kind Role
+-- a word of this kind, with what is judged at it
+abbrev pub one : Kind → Role → Place
+one k r = record { kind = k; role = r; optional = false }
 
 -- this very word
-abbrev pub say : List ℕ → Form
-say w = one (key w) nothing_more
+abbrev pub say : Keyword → Place
+say w = one (kind.Key w) role.Plain
 
--- 01 c ( PICTURE | PIC ) [ IS ] picture
-abbrev pub naming : Form
-naming = one (key (codes "01")) counter ▹ one any counter_name ▹ either (say (codes "PICTURE")) (say (codes "PIC")) ▹ maybe (say (codes "IS")) ▹ one picture nothing_more
-
--- MOVE x TO f
-abbrev pub moving : Form
-moving = say (codes "MOVE") ▹ one value first_value ▹ say (codes "TO") ▹ one field moved_to
-
--- ADD x TO f
-abbrev pub adding : Form
-adding = say (codes "ADD") ▹ one value first_number ▹ say (codes "TO") ▹ one field counted_to
-
--- SUBTRACT x FROM f
-abbrev pub subtracting : Form
-subtracting = say (codes "SUBTRACT") ▹ one value first_number ▹ say (codes "FROM") ▹ one field counted_to
-
--- GO TO p
-abbrev pub jump : Form
-jump = say (codes "GO") ▹ say (codes "TO") ▹ one any paragraph
-
--- = or < or >
-abbrev pub relation : Form
-relation = either (one equal_sign nothing_more) (either (say (codes "<")) (say (codes ">")))
+-- this very word, or nothing
+abbrev pub maybe : Keyword → Place
+maybe w = record { kind = kind.Key w; role = role.Plain; optional = true }
 
 -- STATUS [ NOT ] = dddd, or x [ NOT ] ( = | < | > ) x
-abbrev pub condition : Form
-condition =
-    either (say (codes "STATUS") ▹ maybe (say (codes "NOT")) ▹ one equal_sign nothing_more ▹ one code nothing_more)
-    (one value first_value ▹ maybe (say (codes "NOT")) ▹ relation ▹ one value second_value)
+abbrev pub condition : Bool → List Place
+condition true = say keyword.Status ∷ maybe keyword.Not ∷ one kind.EqualSign role.Plain ∷ one kind.Code role.Plain ∷ []
+condition false = one kind.Value role.FirstValue ∷ maybe keyword.Not ∷ one kind.Relation role.Plain ∷ one kind.Value role.SecondValue ∷ []
 
--- a sentence that begins with a word of its own
-abbrev pub own_sentence : Form
-own_sentence =
-    either naming (either moving (either adding (either subtracting (either jump
-    (either (say (codes "IF") ▹ condition ▹ jump) (either (say (codes "ASSERT") ▹ condition) (say (codes "STOP"))))))))
+-- GO TO p
+abbrev pub jump : List Place
+jump = say keyword.Go ∷ say keyword.To ∷ one kind.Any role.Paragraph ∷ []
+
+-- the places of the sentence with this verb; the flag says that it asks for STATUS
+abbrev pub form : Keyword → Bool → List Place
+form keyword.Level s = one (kind.Key keyword.Level) role.Counter ∷ one kind.Any role.CounterName ∷ one kind.PictureWord role.Plain ∷ maybe keyword.Is ∷ one kind.Picture role.Plain ∷ []
+form keyword.Move s = say keyword.Move ∷ one kind.Value role.FirstValue ∷ say keyword.To ∷ one kind.Field role.MovedTo ∷ []
+form keyword.Add s = say keyword.Add ∷ one kind.Value role.FirstNumber ∷ say keyword.To ∷ one kind.Field role.CountedTo ∷ []
+form keyword.Subtract s = say keyword.Subtract ∷ one kind.Value role.FirstNumber ∷ say keyword.From ∷ one kind.Field role.CountedTo ∷ []
+form keyword.Go s = jump
+form keyword.If s = say keyword.If ∷ condition s ++ jump
+form keyword.Assert s = say keyword.Assert ∷ condition s
+form keyword.Stop s = say keyword.Stop ∷ []
+form _ s = []

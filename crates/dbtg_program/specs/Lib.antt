@@ -7,3 +7,4 @@ pub mod Sentences
 pub mod Grammar
 pub mod Faults
 pub mod Reading
+pub mod Inside

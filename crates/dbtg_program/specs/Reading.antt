@@ -1,97 +1,104 @@
 -- The program that a text without faults is.
-use Rattle.std.specs.Prelude.{ℕ, ◌-◌, Bool, List, length, map, if◌then◌else◌, is_some, unwrap_or, codes, drop, take}
+use Rattle.std.specs.Prelude.{◌≡◌, ℕ, ◌+◌, Bool, true, false, List, map, Option, Some, None, if◌then◌else◌, unwrap_or, codes}
 use Rattle.std.specs.List.{list_any}
 use Rattle.dbtg_schema.specs.Lists.{Lists}
 use Rattle.dbtg_schema.specs.Texts.Forms.{labels}
+use Rattle.dbtg_cells.specs.declared.key.Value.TheVariants.{Num}
 use Rattle.dbtg_script.specs.Printing.Spelling.{number}
 use Rattle.dbtg_script.specs.StatementGrammar as script
 use Rattle.dbtg_script.specs.Statements.{statement_of}
-use Rattle.dbtg_script.specs.Tokens.{Token, plain, equals, literal}
+use Rattle.dbtg_script.specs.Tokens.{Token}
+use Rattle.dbtg_script.specs.Values.{up_to}
+use Rattle.dbtg_program.specs.declared.grammar.Keyword.{Keyword}
+use Rattle.dbtg_program.specs.declared.grammar.Keyword.TheVariants as keyword
 use Rattle.dbtg_program.specs.declared.program.Operand.{Operand}
 use Rattle.dbtg_program.specs.declared.program.Operand.TheVariants as operand
 use Rattle.dbtg_program.specs.declared.program.Relation.{Relation}
 use Rattle.dbtg_program.specs.declared.program.Relation.TheVariants.{Less, Equal, Greater}
 use Rattle.dbtg_program.specs.declared.program.Condition.{Condition}
 use Rattle.dbtg_program.specs.declared.program.Condition.TheVariants.{Compare, Status}
-use Rattle.dbtg_program.specs.declared.program.Word.{Word}
-use Rattle.dbtg_program.specs.declared.program.Word.TheVariants as word
 use Rattle.dbtg_program.specs.declared.program.Sentence.{Sentence}
 use Rattle.dbtg_program.specs.declared.program.Sentence.TheVariants.{Heading, Statement, Filled, Move, Add, Subtract, GoTo, If, Assert, Stop}
+use Rattle.dbtg_program.specs.declared.fault.Fault.{Fault}
+use Rattle.dbtg_program.specs.declared.fault.ProgramFault.{ProgramFault}
+use Rattle.dbtg_program.specs.declared.fault.ProgramFault.TheVariants.{Memory, Refused}
+use Rattle.dbtg_program.specs.declared.program.Line.{Line}
 use Rattle.dbtg_program.specs.declared.program.Program.{Program}
-use Rattle.dbtg_program.specs.Values.{fields_with, records_of}
-use Rattle.dbtg_program.specs.Sentences.{Holding, begins, counters_of, field_named, is_word, last_word, marked, paragraph_at, paragraph_of, sentences_of, text_in, word_at}
+use Rattle.dbtg_program.specs.Values.{records_from}
+use Rattle.dbtg_program.specs.Sentences.{Holding, Text, field_named, fields_in, is_equals, is_spelled, is_word, marked, paragraph_at, sentences_of, text_in, verb_of, word_at, word_of}
 use Rattle.dbtg_program.specs.Grammar.{is_literal}
-use Rattle.dbtg_program.specs.Faults.{Around, is_own, literal_value}
+use Rattle.dbtg_program.specs.Faults.{literal_value, words_at_first}
 
 -- the number of the field that a word names
-abbrev pub field_in : Around → Token → ℕ
-field_in around w = unwrap_or (field_named around.schema (counters_of around.text) (text_in w)) 0
+abbrev pub field_in : Text → Token → ℕ
+field_in text w = unwrap_or (field_named (fields_in text) (text_in w)) 0
 
 -- the operand that a word is
-abbrev pub operand_of : Around → Token → Operand
-operand_of around w = if is_literal w then operand.Literal (literal_value w) else operand.Field (field_in around w)
+abbrev pub operand_of : Text → Token → Operand
+operand_of text w = if is_literal w then operand.Literal (unwrap_or (literal_value w) (Num 0)) else operand.Field (field_in text w)
 
 -- the sentence at which a paragraph begins
-abbrev pub target_of : Around → Token → ℕ
-target_of around w = unwrap_or (paragraph_at around.text (text_in w)) 0
+abbrev pub target_of : Text → Token → ℕ
+target_of text w = unwrap_or (paragraph_at text.sentences (text_in w)) 0
 
 -- the relation that a word asks for
 abbrev pub relation_of : Token → Relation
-relation_of equals = Equal
-relation_of (plain t) = if is_word (codes "<") (plain t) then Less else Greater
-relation_of (literal t) = Greater
+relation_of w = if is_equals w then Equal else (if is_spelled (codes "<") w then Less else Greater)
 
--- the condition that words say: STATUS [ NOT ] = dddd, or x [ NOT ] relation x
-abbrev pub condition_of : Around → List Token → Condition
-condition_of around ws =
-    let negated = is_word (codes "NOT") (word_at 1 ws) in
-    if begins (codes "STATUS") ws then Status negated (number (text_in (last_word ws)))
-    else Compare (operand_of around (word_at 0 ws)) negated (relation_of (word_at (length ws - 2) ws)) (operand_of around (last_word ws))
+-- NOT stands behind the verb and the first value
+abbrev pub is_negated : List Token → Bool
+is_negated ws = is_word keyword.Not (word_at 2 ws)
 
--- a word that is no field word
-abbrev pub as_it_is : Token → Word
-as_it_is (plain t) = word.Plain t
-as_it_is equals = word.Equals
-as_it_is (literal t) = word.Literal t
+-- the place of the relation in a sentence with a condition
+abbrev pub relation_at : List Token → ℕ
+relation_at ws = if is_negated ws then 3 else 2
 
--- a word of a statement
-abbrev pub word_of : Around → Token × Bool → Word
-word_of around m = if m.1 then word.Field (field_in around m.0) else as_it_is m.0
+-- the condition behind a verb: STATUS [ NOT ] = dddd, or x [ NOT ] relation x
+abbrev pub condition_of : Text → List Token → Condition
+condition_of text ws =
+    if is_word keyword.Status (word_at 1 ws) then Status (is_negated ws) (up_to 9999 (number (text_in (word_at (relation_at ws + 1) ws))))
+    else Compare (operand_of text (word_at 1 ws)) (is_negated ws) (relation_of (word_at (relation_at ws) ws)) (operand_of text (word_at (relation_at ws + 1) ws))
+
+-- the sentence that these words with this verb say; a counter does nothing
+abbrev pub said_by : Text → List Token → Keyword → Sentence
+said_by text ws keyword.Move = Move (operand_of text (word_at 1 ws)) (field_in text (word_at 3 ws))
+said_by text ws keyword.Add = Add (operand_of text (word_at 1 ws)) (field_in text (word_at 3 ws))
+said_by text ws keyword.Subtract = Subtract (operand_of text (word_at 1 ws)) (field_in text (word_at 3 ws))
+said_by text ws keyword.Go = GoTo (target_of text (word_at 2 ws))
+said_by text ws keyword.If = If (condition_of text ws) (target_of text (word_at (relation_at ws + 4) ws))
+said_by text ws keyword.Assert = Assert (condition_of text ws)
+said_by text ws keyword.Stop = Stop
+said_by text ws _ = Heading
 
 -- the statement that words say, with fields or without
-abbrev pub statement_in : Around → List Token → Sentence
-statement_in around ws =
-    if list_any (λ m. m.1) (marked ws) then Filled (map (word_of around) (marked ws))
-    else Statement (statement_of around.schema (labels script.fits script.statement ws))
+abbrev pub statement_in : Text → List Token → Sentence
+statement_in text ws =
+    if list_any (λ m. m.1) (marked ws) then Filled (map (word_of (fields_in text)) (marked ws))
+    else Statement (statement_of text.schema (labels script.fits script.statement (words_at_first text ws)))
 
--- the sentence that words say which begin with a word of their own; GO TO p and IF .. GO TO p end with p
-abbrev pub own_sentence_of : Around → List Token → Sentence
-own_sentence_of around ws =
-    if begins (codes "MOVE") ws then Move (operand_of around (word_at 1 ws)) (field_in around (word_at 3 ws))
-    else (if begins (codes "ADD") ws then Add (operand_of around (word_at 1 ws)) (field_in around (word_at 3 ws))
-    else (if begins (codes "SUBTRACT") ws then Subtract (operand_of around (word_at 1 ws)) (field_in around (word_at 3 ws))
-    else (if begins (codes "GO") ws then GoTo (target_of around (last_word ws))
-    else (if begins (codes "IF") ws then If (condition_of around (drop 1 (take (length ws - 3) ws))) (target_of around (last_word ws))
-    else (if begins (codes "ASSERT") ws then Assert (condition_of around (drop 1 ws))
-    else (if begins (codes "STOP") ws then Stop
-    else Heading))))))
+-- the sentence that begins a paragraph, has a verb, or is a statement
+abbrev pub sentence_with : Text → List Token → Option (List ℕ) → Option Keyword → Sentence
+sentence_with text ws (Some name) verb = Heading
+sentence_with text ws None (Some verb) = said_by text ws verb
+sentence_with text ws None None = statement_in text ws
 
 -- the sentence of a line
-abbrev pub sentence_of : Around → Holding → Sentence
-sentence_of around l =
-    if is_some (paragraph_of l) then Heading
-    else (if is_own l.words then own_sentence_of around l.words else statement_in around l.words)
+abbrev pub sentence_of : Text → Holding → Sentence
+sentence_of text l = sentence_with text l.words l.paragraph (verb_of l.words)
 
--- the program that these sentences are
-abbrev pub program_of : Lists → List Holding → Program
-program_of schema ls =
-    let around : Around = record { schema = schema; text = ls; before = ls } in
-    record {
-      lines = map (λ l. record { number = l.number; sentence = sentence_of around l }) ls;
-      fields = fields_with schema (counters_of ls);
-      records = records_of schema;
-    }
+-- the line of a program
+abbrev pub line_of : Text → Holding → Line
+line_of text l = record { number = l.number; sentence = sentence_of text l }
 
--- the program of a text
+-- the program that a text is
+abbrev pub program_of : Text → Program
+program_of text = record { lines = map (line_of text) text.sentences; fields = fields_in text; records = records_from 0 text.schema.types }
+
+-- the program of these bytes
 abbrev pub program : Lists → List ℕ → Program
-program schema text = program_of schema (sentences_of text)
+program schema text = program_of (record { schema = schema; sentences = sentences_of text })
+
+-- the program is refused with this fault, unless memory ran out
+abbrev pub RefusesProgram : ProgramFault → Option Fault → Type 0
+RefusesProgram Memory v = Unit {0}
+RefusesProgram (Refused line cause) v = v ≡ Some (record { line = line; cause = cause })

@@ -1,5 +1,6 @@
 -- The state of a program.
 use Rattle.std.specs.Prelude.{ℕ, List, map}
+use Rattle.dbtg_schema.specs.declared.shape.Item.{Item}
 use Rattle.dbtg_cells.specs.declared.key.Value.{Value}
 use Rattle.dbtg_program.specs.declared.program.Program.{Program}
 use Rattle.dbtg_program.specs.Values.{empty_value}
@@ -10,6 +11,10 @@ pub record ProgramState : Type 0 where
   pub values : List Value
   pub status : ℕ
 
+-- before any sentence of a program with these fields
+abbrev pub beginning_with : List Item → ProgramState
+beginning_with fields = record { at = 0; values = map (λ f. empty_value f.picture) fields; status = 0 }
+
 -- before any sentence
 abbrev pub beginning : Program → ProgramState
-beginning program = record { at = 0; values = map (λ f. empty_value f.picture) program.fields; status = 0 }
+beginning program = beginning_with program.fields

@@ -1,8 +1,7 @@
 -- Values as a program has them, and its fields.
-use Rattle.std.specs.Prelude.{ℕ, ◌+◌, ◌-◌, ◌^◌, Bool, false, ◌&&◌, ◌==◌, nat_le, nat_lt, List, [], ◌∷◌, ◌++◌, length, map, take, Option, Some, None, if◌then◌else◌}
-use Rattle.std.specs.List.{range_with_len}
+use Rattle.std.specs.Prelude.{ℕ, ◌+◌, ◌-◌, ◌^◌, Bool, false, ◌&&◌, ◌==◌, nat_le, nat_lt, List, [], ◌∷◌, ◌++◌, length, map, Option, Some, None, if◌then◌else◌}
+use Rattle.std.specs.List.{flat_map}
 use Rattle.dbtg_schema.specs.Lists.{Lists}
-use Rattle.dbtg_schema.specs.Lookups.{flatten}
 use Rattle.dbtg_schema.specs.declared.shape.Item.{Item}
 use Rattle.dbtg_schema.specs.declared.shape.RecordType.{RecordType}
 use Rattle.dbtg_schema.specs.declared.shape.Picture.{Picture}
@@ -49,18 +48,19 @@ subtracted (Num x) (Num f) = if nat_le x f then Some (Num (f - x)) else None
 subtracted (Num x) (Text f) = None
 subtracted (Text x) f = None
 
--- the items of these record types, type behind type
-abbrev pub items_of : List RecordType → List Item
-items_of types = flatten (map (λ t. t.items) types)
+-- the field of an item of a record type, named r.i
+abbrev pub field_of : RecordType → Item → Item
+field_of t i = record { name = t.name ++ 46 ∷ i.name; picture = i.picture }
 
--- the number of the first item of record type r, among all items
-abbrev pub first_item : Lists → ℕ → ℕ
-first_item schema r = length (items_of (take r schema.types))
+-- the fields of a record type
+abbrev pub fields_of : RecordType → List Item
+fields_of t = map (field_of t) t.items
 
--- the fields of a program that has these counters
+-- the fields of a program: the items of all record types, type behind type, and then its counters
 abbrev pub fields_with : Lists → List Item → List Item
-fields_with schema counters = items_of schema.types ++ counters
+fields_with schema counters = flat_map fields_of schema.types ++ counters
 
--- for each record type, the number of its first item
-abbrev pub records_of : Lists → List ℕ
-records_of schema = map (first_item schema) (range_with_len 0 (length schema.types))
+-- for each of these record types the number of its first field, where the first type's is k
+abbrev pub records_from : ℕ → List RecordType → List ℕ
+records_from k [] = []
+records_from k (t ∷ ts) = k ∷ records_from (k + length t.items) ts

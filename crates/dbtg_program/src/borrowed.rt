@@ -1,9 +1,11 @@
 //! Values that are lent, and how two of them stand to each other.
 
 ghost use Rattle.dbtg_cells.specs.declared.key.Value.{Value as SaidValue};
-ghost use Rattle.dbtg_program.specs.Conditions.{number_order, order, order_of_spaces, text_order, turned};
-ghost use Rattle.dbtg_program.specs.Views.{view};
-ghost use Rattle.std.specs.Prelude.{◌≡◌, IfOk};
+ghost use Rattle.dbtg_program.specs.Conditions.{is_less, stand_so};
+ghost use Rattle.dbtg_cells.specs.Keys.{bytes_below};
+ghost use Rattle.dbtg_script.specs.Values.{filled};
+ghost use Rattle.dbtg_program.specs.Inside.Views.{view};
+ghost use Rattle.std.specs.Prelude.{◌≡◌, IfOk, length, replicate};
 
 use crate::program::Relation;
 use dbtg_cells::Value;
@@ -37,79 +39,68 @@ pub fn owned(alloc: Global, value: Borrowed) -> Result<Value, AllocError>
     }
 }
 
-fn number_order(a: u64, b: u64) -> Relation
-    ensures { result ≡ number_order a b }
-{
-    if a < b {
-        Relation::Less
-    } else if b < a {
-        Relation::Greater
-    } else {
-        Relation::Equal
-    }
-}
-
-fn turned(relation: Relation) -> Relation
-    ensures { result ≡ turned relation }
-{
-    match relation {
-        Relation::Less => Relation::Greater,
-        Relation::Equal => Relation::Equal,
-        Relation::Greater => Relation::Less,
-    }
-}
-
-/// The empty text, as if it had spaces, and this one.
-fn order_of_spaces(text: &[u8]) -> Relation
-    ensures { result ≡ order_of_spaces text.now }
+/// Are spaces, as many as this text has bytes, below it?
+fn spaces_below(text: &[u8]) -> bool
+    ensures { result ≡ bytes_below (replicate (length text.now) 32) text.now }
 {
     match text.split_first() {
-        None => Relation::Equal,
-        Some((b, rest)) => {
-            match number_order(32, *b as u64) {
-                Relation::Equal => order_of_spaces(rest),
-                other => other,
-            }
-        }
+        None => false,
+        Some((b, rest)) => b' ' < *b || (b' ' == *b && spaces_below(rest)),
+    }
+}
+
+/// Is this text below as many spaces?
+fn below_spaces(text: &[u8]) -> bool
+    ensures { result ≡ bytes_below text.now (replicate (length text.now) 32) }
+{
+    match text.split_first() {
+        None => false,
+        Some((b, rest)) => *b < b' ' || (*b == b' ' && below_spaces(rest)),
     }
 }
 
 /// Byte by byte; the shorter text as if it had spaces.
-fn text_order(a: &[u8], b: &[u8]) -> Relation
-    ensures { result ≡ text_order a.now b.now }
+fn text_below(a: &[u8], b: &[u8]) -> bool
+    ensures { result ≡ bytes_below (filled (length b.now) a.now) (filled (length a.now) b.now) }
 {
     match a.split_first() {
-        None => order_of_spaces(b),
+        None => spaces_below(b),
         Some((x, xs)) => {
             match b.split_first() {
-                None => turned(order_of_spaces(a)),
-                Some((y, ys)) => {
-                    match number_order(*x as u64, *y as u64) {
-                        Relation::Equal => text_order(xs, ys),
-                        other => other,
-                    }
-                }
+                None => below_spaces(a),
+                Some((y, ys)) => *x < *y || (*x == *y && text_below(xs, ys)),
             }
         }
     }
 }
 
-/// How two values stand to each other.
-pub fn order(a: Borrowed, b: Borrowed) -> Relation
-    ensures { result ≡ order (view a.entry) (view b.entry) }
+/// Is the first value less than the second?
+fn is_less(a: Borrowed, b: Borrowed) -> bool
+    ensures { result ≡ is_less (view a.entry) (view b.entry) }
 {
     match a {
         Borrowed::Number(x) => {
             match b {
-                Borrowed::Number(y) => number_order(x, y),
-                Borrowed::Text(_) => Relation::Less,
+                Borrowed::Number(y) => x < y,
+                Borrowed::Text(_) => false,
             }
         }
         Borrowed::Text(x) => {
             match b {
-                Borrowed::Number(_) => Relation::Greater,
-                Borrowed::Text(y) => text_order(x, y),
+                Borrowed::Number(_) => false,
+                Borrowed::Text(y) => text_below(x, y),
             }
         }
+    }
+}
+
+/// Do two values stand so to each other?
+pub fn stand_so(relation: Relation, a: Borrowed, b: Borrowed) -> bool
+    ensures { result ≡ stand_so relation (view a.entry) (view b.entry) }
+{
+    match relation {
+        Relation::Less => is_less(a, b),
+        Relation::Equal => !is_less(a, b) && !is_less(b, a),
+        Relation::Greater => is_less(b, a),
     }
 }

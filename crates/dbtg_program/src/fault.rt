@@ -1,9 +1,11 @@
 //! Why a program is refused.
 
 ghost use Rattle.dbtg_program.specs.Faults.{cause_number};
+ghost use Rattle.dbtg_program.specs.declared.fault.ProgramFault.TheVariants.{Memory};
 ghost use Rattle.std.specs.Prelude.{◌≡◌};
 
 use dbtg_script::Cause;
+use std::alloc::AllocError;
 
 /// What is wrong with a program. Each cause has a number by which it is printed.
 #[derive(Clone, Copy, Debug, PartialEq, Eq)]
@@ -28,9 +30,26 @@ pub enum ProgramCause {
 
 /// A fault of a program: what is wrong, and on which line, from 1.
 #[derive(Clone, Copy, Debug, PartialEq, Eq)]
-pub struct ProgramFault {
+pub struct Fault {
     pub line: u64,
     pub cause: ProgramCause,
+}
+
+/// Why no program was read.
+#[derive(Debug, Drop)]
+pub enum ProgramFault {
+    /// The text has a fault; this is its first.
+    Refused { line: u64, cause: ProgramCause },
+    /// A growth was refused before a fault was met.
+    Memory,
+}
+
+impl From<AllocError> for ProgramFault {
+    ghost from_gives = { λ _ e. e ≡ Memory };
+
+    fn from(_e: AllocError) -> ProgramFault {
+        ProgramFault::Memory
+    }
 }
 
 impl ProgramCause {

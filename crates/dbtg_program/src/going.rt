@@ -4,10 +4,11 @@ ghost use Rattle.dbtg_program.specs.Conditions.{holds};
 ghost use Rattle.dbtg_program.specs.Going.{at_line, done, ends, goes, has_room, line_at, line_number, made, next, onward, put};
 ghost use Rattle.dbtg_program.specs.States.{ProgramState};
 ghost use Rattle.dbtg_program.specs.Values.{added, can_hold, subtracted};
-ghost use Rattle.dbtg_program.specs.Views.{Stands, Stays, Stood, view, view_due, view_step};
+ghost use Rattle.dbtg_program.specs.Inside.Views.{Stays, Stood, view, view_step};
+ghost use Rattle.dbtg_program.specs.Views.{Stands, view_due};
 ghost use Rattle.std.specs.Prelude.{◌≡◌, ◌+◌, ◌<◌, ◌^◌, IfOk, if◌then◌else◌, length, nat_lt};
 
-use crate::borrowed::{Borrowed, owned};
+use crate::borrowed::{Borrowed, lent, owned};
 use crate::program::{Condition, End, Line, Program, Sentence};
 use crate::said::read_filled;
 use crate::state::State;
@@ -42,20 +43,21 @@ fn has_digits(value: u64, digits: u8) -> bool
     }
 }
 
-fn can_hold(picture: Picture, value: &Value) -> bool
-    ensures { result ≡ can_hold picture value.now }
+/// Does the picture hold the value?
+pub fn can_hold(picture: Picture, value: Borrowed) -> bool
+    ensures { result ≡ can_hold picture (view value.entry) }
 {
     match picture {
         Picture::Number(digits) => {
             match value {
-                Value::Num(n) => *n < 1_000_000_000_000_000_000 && has_digits(*n, digits),
-                Value::Text(_) => false,
+                Borrowed::Number(n) => n < 1_000_000_000_000_000_000 && has_digits(n, digits),
+                Borrowed::Text(_) => false,
             }
         }
         Picture::Text(size) => {
             match value {
-                Value::Num(_) => false,
-                Value::Text(text) => text.len() <= size as usize,
+                Borrowed::Number(_) => false,
+                Borrowed::Text(text) => text.len() <= size as usize,
             }
         }
     }
@@ -66,7 +68,7 @@ fn has_room(program: &Program, field: usize, value: &Value) -> bool
 {
     match program.fields.get(field) {
         None => false,
-        Some(item) => can_hold(item.picture, value),
+        Some(item) => can_hold(item.picture, lent(value)),
     }
 }
 

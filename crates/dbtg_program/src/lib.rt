@@ -4,11 +4,13 @@
 mod borrowed;
 mod fault;
 mod going;
+mod grammar;
 mod program;
 mod said;
 mod state;
 
 pub use fault::{ProgramCause, ProgramFault};
 pub use going::{Due, next};
+pub use grammar::{Keyword, Kind, Place, Role};
 pub use program::{Condition, End, Line, Operand, Program, Relation, Sentence, Word};
 pub use state::State;

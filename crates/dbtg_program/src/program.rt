@@ -1,7 +1,7 @@
 //! What a program is, as it was read.
 //!
-//! Its fields are numbered from 0: the items of the record types, type behind type as the schema has them, and its counters behind
-//! them. A text in a program is without the spaces at its end.
+//! Its fields are numbered from 0: the items of the record types, type behind type as the schema has them, each named r.i, and its
+//! counters behind them. A text in a program is without the spaces at its end.
 
 use dbtg_cells::Value;
 use dbtg_schema::{Item, Row};

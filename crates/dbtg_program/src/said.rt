@@ -1,9 +1,13 @@
 //! The statement that words with fields say in a state.
 
 ghost use Rattle.dbtg_program.specs.Going.{read_words, said_word};
-ghost use Rattle.dbtg_program.specs.Views.{digits_of};
+ghost use Rattle.dbtg_program.specs.Inside.Views.{digits_of};
+ghost use Rattle.dbtg_schema.specs.Texts.Forms.{labels};
+ghost use Rattle.dbtg_script.specs.Reading.{Refuses, verdict};
+ghost use Rattle.dbtg_script.specs.StatementGrammar.{fits, statement};
+ghost use Rattle.dbtg_script.specs.Statements.{statement_of};
 ghost use Rattle.dbtg_script.specs.Tokens.{view};
-ghost use Rattle.std.specs.Prelude.{◌≡◌, IfOk, map};
+ghost use Rattle.std.specs.Prelude.{◌≡◌, [], IfErr, IfOk, None, OnOk, map};
 
 use crate::borrowed::Borrowed;
 use crate::program::Word;
@@ -69,7 +73,23 @@ fn tokens_of<'a>(
     Ok(tokens)
 }
 
-/// The statement that a script's reader says these words are in this state; none where a value does not fit.
+/// The statement that a script's reader says these words are in this state.
+pub fn read_said(
+    alloc: Global,
+    schema: &Schema,
+    state: &State,
+    words: &[Word],
+) -> Result<Statement, LineFault>
+    ensures accepted { OnOk result (verdict schema.now [] statement (map (said_word state.now) words.now) ≡ None) }
+    ensures statement { IfOk result (λ s. s ≡ statement_of schema.now (labels fits statement (map (said_word state.now) words.now))) }
+    ensures refused { IfErr result (λ e. Refuses e (verdict schema.now [] statement (map (said_word state.now) words.now))) }
+{
+    let digits = digits_of_each(alloc, state, words)?;
+    let tokens = tokens_of(alloc, state, words, digits.as_slice())?;
+    read_statement_words(alloc, schema, tokens.as_slice())
+}
+
+/// The same; none where a value does not fit.
 pub fn read_filled(
     alloc: Global,
     schema: &Schema,
@@ -78,9 +98,7 @@ pub fn read_filled(
 ) -> Result<Option<Statement>, AllocError>
     ensures { IfOk result (λ s. s ≡ read_words schema.now (map (said_word state.now) words.now)) }
 {
-    let digits = digits_of_each(alloc, state, words)?;
-    let tokens = tokens_of(alloc, state, words, digits.as_slice())?;
-    match read_statement_words(alloc, schema, tokens.as_slice()) {
+    match read_said(alloc, schema, state, words) {
         Ok(statement) => Ok(Some(statement)),
         Err(LineFault::Refused(_)) => Ok(None),
         Err(LineFault::Memory) => Err(AllocError),

@@ -1,16 +1,16 @@
 //! The state of a program.
 
-ghost use Rattle.dbtg_program.specs.Conditions.{asked, field_value, holds, is_relation, value_of};
+ghost use Rattle.dbtg_program.specs.Conditions.{asked, field_value, holds, value_of};
 ghost use Rattle.dbtg_program.specs.Going.{filled, placed, told, with_record};
-ghost use Rattle.dbtg_program.specs.States.{beginning};
+ghost use Rattle.dbtg_program.specs.States.{beginning, beginning_with};
 ghost use Rattle.dbtg_program.specs.Values.{as_field, empty_value, stripped};
-ghost use Rattle.dbtg_program.specs.Views.{view};
+ghost use Rattle.dbtg_program.specs.Inside.Views.{view};
 ghost use Rattle.std.specs.Prelude.{◌≡◌, ◌+◌, ◌<◌, ◌≤◌, IfOk, OnErr, OnOk, length, map, slice_set, take};
 
-use crate::borrowed::{Borrowed, lent, order};
-use crate::program::{Condition, Operand, Program, Relation};
+use crate::borrowed::{Borrowed, lent, stand_so};
+use crate::program::{Condition, Operand, Program};
 use dbtg_cells::{DbKey, Value};
-use dbtg_schema::{Picture, Row};
+use dbtg_schema::{Item, Picture, Row};
 use dbtg_unit::{Answer, Statement, Status};
 use std::alloc::{AllocError, Global};
 use std::marker::Model;
@@ -41,7 +41,7 @@ fn empty_value(alloc: Global, picture: Picture) -> Value
 }
 
 /// How many bytes a text has without the spaces at its end.
-fn stripped_len(text: &[u8]) -> usize
+pub fn stripped_len(text: &[u8]) -> usize
     ensures within { result ≤ length text.now }
     ensures stripped { take result text.now ≡ stripped text.now }
 {
@@ -121,12 +121,12 @@ fn place(fields: &mut [Value], first: usize, mut values: Vec<Value>)
 }
 
 impl State {
-    /// Before any sentence.
-    pub fn beginning(alloc: Global, program: &Program) -> Result<Self, AllocError>
-        ensures { IfOk result (λ state. state ≡ beginning program.now) }
+    /// Before any sentence of a program with these fields.
+    pub(crate) fn beginning_with(alloc: Global, fields: &[Item]) -> Result<Self, AllocError>
+        ensures { IfOk result (λ state. state ≡ beginning_with fields.now) }
     {
         let mut values = Vec::new(alloc);
-        for field in program.fields.as_slice() {
+        for field in fields {
             values.push(empty_value(alloc, field.picture))?;
         }
         Ok(Self {
@@ -134,6 +134,13 @@ impl State {
             values,
             status: 0,
         })
+    }
+
+    /// Before any sentence.
+    pub fn beginning(alloc: Global, program: &Program) -> Result<Self, AllocError>
+        ensures { IfOk result (λ state. state ≡ beginning program.now) }
+    {
+        Self::beginning_with(alloc, program.fields.as_slice())
     }
 
     /// The number of the sentence at which the program stands, from 0.
@@ -178,8 +185,8 @@ impl State {
                 relation,
                 right,
             } => {
-                let found = order(self.value_of(left), self.value_of(right));
-                asked(*negated, is_relation(*relation, found))
+                let test = stand_so(*relation, self.value_of(left), self.value_of(right));
+                asked(*negated, test)
             }
             Condition::Status { negated, code } => asked(*negated, self.status == *code),
         }
@@ -234,12 +241,6 @@ impl State {
         }
         Ok(())
     }
-}
-
-fn is_relation(asked: Relation, found: Relation) -> bool
-    ensures { result ≡ is_relation asked found }
-{
-    asked == found
 }
 
 fn asked(negated: bool, test: bool) -> bool

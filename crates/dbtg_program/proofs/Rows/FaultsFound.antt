@@ -1,23 +1,22 @@
 -- The first fault of programs: its line and its number.
 use Prim.Native.String.{String}
-use Rattle.std.specs.Prelude.{◌≡◌, refl, ℕ, ◌++◌, List, [], ◌∷◌, Option, Some, None, map, codes}
+use Rattle.std.specs.Prelude.{◌≡◌, refl, ℕ, ◌+◌, ◌++◌, List, [], ◌∷◌, Option, Some, None, map, codes}
 use Rattle.std.specs.Fmt.{digits}
 use Rattle.dbtg_schema.specs.Lookups.{first}
 use Rattle.dbtg_unit.proofs.Rows.Defined.Schemas.{card}
 use Rattle.dbtg_script.specs.Tokens.{into, onto}
 use Rattle.dbtg_program.specs.Faults.{cause_number, sentence_faults}
-use Rattle.dbtg_program.specs.Sentences.{Holding}
+use Rattle.dbtg_program.specs.Sentences.{Holding, Text}
 use Rattle.dbtg_program.proofs.Rows.Words.{lines_at_once}
 
--- the line and the number of each fault of sentences
-abbrev pub faults_in : List Holding → List Holding → List Holding → List (ℕ × ℕ)
-faults_in text before [] = []
-faults_in text before (l ∷ ls) =
-    map (λ c. (l.number, cause_number c)) (sentence_faults (record { schema = card; text = text; before = before }) l) ++ faults_in text (before ++ l ∷ []) ls
+-- the line and the number of each fault of sentences, the first of this number
+abbrev pub faults_in : Text → ℕ → List Holding → List (ℕ × ℕ)
+faults_in text at [] = []
+faults_in text at (l ∷ ls) = map (λ c. (l.number, cause_number c)) (sentence_faults text at l) ++ faults_in text (at + 1) ls
 
 -- the first fault of these lines
 abbrev pub fault_of : List String → Option (ℕ × ℕ)
-fault_of ls = let text = lines_at_once 1 (map (λ l. codes l) ls) in first (faults_in text [] text)
+fault_of ls = let sentences = lines_at_once 1 (map (λ l. codes l) ls) in first (faults_in (record { schema = card; sentences = sentences }) 0 sentences)
 
 none : fault_of ("01 N PIC 9(4)" ∷ "AGAIN." ∷ "IF N = 3 GO TO OUT" ∷ "STORE CUSTOMER CNO = N CNAME = CUSTOMER.CNAME" ∷ "GO TO AGAIN" ∷ "OUT." ∷ []) ≡ None
 unfolding onto into digits

@@ -3,7 +3,7 @@ use Prim.Native.String.{String}
 use Rattle.std.proofs.Common.{◌≡◌, refl, ap}
 use Rattle.std.specs.Prelude.{ℕ, ◌+◌, true, false, ◌==◌, List, [], ◌∷◌, ◌++◌, Option, Some, None, map, codes, if◌then◌else◌}
 use Rattle.dbtg_script.specs.Tokens.{Token, equals, into, literal, onto, tokens}
-use Rattle.dbtg_script.specs.Lines.{ends_with, is_statement, trimmed, without_last}
+use Rattle.dbtg_script.specs.Lines.{is_statement, trimmed}
 use Rattle.dbtg_schema.specs.Lists.{Lists}
 use Rattle.dbtg_cells.specs.declared.key.DbKey.{DbKey}
 use Rattle.dbtg_cells.specs.declared.key.Value.{Value}
@@ -15,7 +15,7 @@ use Rattle.dbtg_program.specs.declared.program.End.{End}
 use Rattle.dbtg_program.specs.declared.program.Program.{Program}
 use Rattle.dbtg_program.specs.States.{ProgramState, beginning}
 use Rattle.dbtg_program.specs.Going.{Due, due, ended, next, told}
-use Rattle.dbtg_program.specs.Sentences.{Holding, cut, cut_lines, with_signs}
+use Rattle.dbtg_program.specs.Sentences.{Holding, cut, cut_lines, holding}
 use Rattle.dbtg_program.specs.Reading.{program_of}
 
 -- WORDS, CUT AT ONCE
@@ -37,14 +37,11 @@ both_is [] = refl
 both_is (b ∷ bs) = ap (λ (p : List Token × List Token). both_with b bs p) (both_is bs)
 
 -- a line, cut into words
-abbrev pub with_words : ℕ → List ℕ → List Token → Holding
-with_words number line ws = record { number = number; period = ends_with 46 (without_last 13 line); words = with_signs ws }
-
 abbrev pub cut_at_once : ℕ → List ℕ → Holding
-cut_at_once number line = with_words number line (both (trimmed line)).0
+cut_at_once number line = holding number line (both (trimmed line)).0
 
 cut_is : (number : ℕ) (line : List ℕ) → cut_at_once number line ≡ cut number line
-cut_is number line = ap (λ (p : List Token × List Token). with_words number line p.0) (both_is (trimmed line))
+cut_is number line = ap (λ (p : List Token × List Token). holding number line p.0) (both_is (trimmed line))
 
 abbrev pub lines_at_once : ℕ → List (List ℕ) → List Holding
 lines_at_once number [] = []
@@ -57,7 +54,7 @@ lines_are number (l ∷ ls) = rw (cut_is number l, lines_are (number + 1) ls) re
 
 -- the program of these lines
 abbrev pub of_lines : Lists → List String → Program
-of_lines schema ls = program_of schema (lines_at_once 1 (map (λ l. codes l) ls))
+of_lines schema ls = program_of (record { schema = schema; sentences = lines_at_once 1 (map (λ l. codes l) ls) })
 
 -- ANSWERS
 

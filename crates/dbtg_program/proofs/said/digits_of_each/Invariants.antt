@@ -1,5 +1,5 @@
 use Rattle.std.proofs.Common.{◌≡◌, map, take}
-use Rattle.dbtg_program.specs.Views.{digits_of}
+use Rattle.dbtg_program.specs.Inside.Views.{digits_of}
 use Rattle.dbtg_program.proofs.said.digits_of_each.Given as goal
 
 abbrev pub invariant-loop-word : goal.invariant-loop-word
