@@ -1,5 +1,5 @@
 //! All that can come out when scripts run at the same time.
-ghost use Rattle.std.specs.Prelude.{◌≡◌, ◌≤◌, ◌<◌, Some, true, length, map, All, IfErr, IfOk, OnOk};
+ghost use Rattle.std.specs.Prelude.{◌≡◌, ◌≤◌, ◌<◌, Some, true, length, map, All, IfErr, IfOk, MatchResult, OnOk};
 ghost use Rattle.dbtg_schema.specs.Sound.{IsSound};
 ghost use Rattle.dbtg_step.specs.Laws.{scripts_fit};
 ghost use Rattle.dbtg_outcomes.specs.declared.search.Stop.TheVariants.{States};
@@ -46,6 +46,7 @@ fn search_all(
     ensures at { IfOk result (IsAt meeting.now (count_statements meeting.now.scripts)) }
     ensures limit { IfOk result (λ search. search.limit ≡ limit) }
     ensures stopped { IfErr result (λ stop. stop ≡ States → limit < count_states meeting.now) }
+    ensures at_once { limit ≡ 0 → MatchResult result (λ _. ⊥) (λ stop. stop ≡ States) }
 {
     let mut search = Search::begin(alloc, meeting, limit)?;
     search.pass(alloc, meeting, scripts)?;
@@ -141,7 +142,7 @@ fn outcomes_of(
 }
 
 /// All that can come out when these scripts run at the same time, a unit for each. It stops where there are more states than
-/// the limit.
+/// the limit; at a limit of 0 at once, without memory.
 pub fn all_outcomes(
     alloc: Global,
     schema: &Schema,
@@ -156,6 +157,7 @@ pub fn all_outcomes(
     ensures outcomes { IfOk result (AreOutcomes (record { schema = schema.now; capacity = capacity; scripts = scripts.now; tells = tells_answers })) }
     ensures within { IfOk result (λ all. count_states (record { schema = schema.now; capacity = capacity; scripts = scripts.now; tells = tells_answers }) ≤ limit) }
     ensures stopped { IfErr result (λ stop. stop ≡ States → limit < count_states (record { schema = schema.now; capacity = capacity; scripts = scripts.now; tells = tells_answers })) }
+    ensures at_once { limit ≡ 0 → MatchResult result (λ _. ⊥) (λ stop. stop ≡ States) }
 {
     let meeting = Meeting {
         schema,

@@ -1,6 +1,6 @@
 //! A search among all orders of the statements of scripts, layer by layer: a layer has the states after so many statements, each
 //! with the first order that leads there and the number of all orders that do.
-ghost use Rattle.std.specs.Prelude.{◌≡◌, ◌≤◌, ◌<◌, ◌∷◌, [], Some, length, option_map, All, IfErr, IfOk, OnOk};
+ghost use Rattle.std.specs.Prelude.{◌≡◌, ◌≤◌, ◌<◌, ◌∷◌, [], Some, length, option_map, All, IfErr, IfOk, MatchResult, OnOk};
 ghost use Rattle.dbtg_unit.specs.Database.Laws.Replaying.{statements_of};
 ghost use Rattle.dbtg_outcomes.specs.declared.search.Stop.TheVariants.{Memory, States};
 ghost use Rattle.dbtg_outcomes.specs.Inside.Grouped.{IsAdded};
@@ -179,6 +179,7 @@ impl Search {
         ensures at { IfOk result (IsAt meeting.now 0) }
         ensures limit { IfOk result (λ search. search.limit ≡ limit) }
         ensures stopped { IfErr result (λ stop. stop ≡ States → limit < states_within meeting.now 0) }
+        ensures at_once { limit ≡ 0 → MatchResult result (λ _. ⊥) (λ stop. stop ≡ States) }
     {
         if limit == 0 {
             return Err(Stop::States);

@@ -26,3 +26,14 @@ returns-clause-at c =
 
 pub returns-clause-limit : goal.returns-clause-limit
 returns-clause-limit c = c.in_ok-pass.ensures.advances.limit_is ∙ c.in_ok-search.ensures.limit
+
+pub returns-in_err-search-clause-at_once : goal.returns-in_err-search-clause-at_once
+returns-in_err-search-clause-at_once c = λ none.
+    let told = err_from_is_err_and c.from_residual.result c.from_residual.ensures.1 in
+    rw (told.1, told.2) (c.in_err-search.ensures.at_once none)
+
+pub returns-in_err-pass-clause-at_once : goal.returns-in_err-pass-clause-at_once
+returns-in_err-pass-clause-at_once c = λ none. absurd (c.in_ok-search.ensures.at_once none)
+
+pub returns-clause-at_once : goal.returns-clause-at_once
+returns-clause-at_once c = λ none. absurd (c.in_ok-search.ensures.at_once none)
