@@ -137,16 +137,24 @@ def words_in(folder, args="args"):
 
 def machine_of(folder, words):
     """The machine before the command with these words, and the texts of its moves and its turns, if it has them."""
-    capacity, order, files = 100, {"--moves": None, "--turns": None}, []
+    capacity, order, files, first = 100, {"--moves": None, "--turns": None}, [], []
     words = iter(words[1:])
     for word in words:
         if word == "--capacity":
             capacity = int(next(words))
         elif word in order:
             order[word] = read(f"{folder}/{next(words)}")
+        elif word == "--first":
+            first.append(read(f"{folder}/{next(words)}"))
         elif word != "--explain":
             files.append(read(f"{folder}/{word}"))
-    return Machine(Schema(files[0]), capacity, files[1:]), order["--moves"], order["--turns"]
+    return Machine(Schema(files[0]), capacity, [*files[1:], *first]), order["--moves"], order["--turns"]
+
+
+def first_turns(machine, words):
+    """The turns in which the last unit makes its script before the others, where the command with these words has it do so."""
+    last = machine.units[-1]
+    return [last.number] * len(last.script) if "--first" in words else []
 
 
 def turns_in(text):
@@ -168,6 +176,7 @@ def printed(machine, *head):
 def replay(folder, words):
     """What the command with these words prints."""
     machine, moves, turns = machine_of(folder, words)
+    list(machine.run_turns(first_turns(machine, words)))
     if moves is not None:
         return printed(machine, machine.run_moves(moves))
     if turns is None:

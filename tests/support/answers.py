@@ -2,6 +2,7 @@
 pages alone. It says which fault a text has, and what is printed of one that has none."""
 
 import functools
+import os
 import re
 import sys
 from dataclasses import replace
@@ -86,7 +87,7 @@ def replayed(kind, text, case):
         machine = Machine(schema_at(case.files()[0]), 100, [characters(text)])
         machine.run_serially()
         return printed(machine)
-    machine, _, _ = machine_of(case.folder, [*case.options(), *case.parts()[1]])
+    machine, _, _ = machine_of(case.folder, [*case.options(), *(os.path.relpath(it, case.folder) for it in case.files())])
     if kind == "moves":
         return printed(machine, machine.run_moves(characters(text)))
     for _ in machine.run_turns(turns_in(characters(text))):

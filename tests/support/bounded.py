@@ -55,12 +55,13 @@ class Case:
         return options, words
 
     def files(self):
-        """The paths of the schema and the scripts."""
-        return [os.path.join(self.folder, it) for it in self.parts()[1]]
+        """The paths of the schema and the scripts, that which is made first behind the others."""
+        first = [it[1] for it in self.parts()[0] if it[0] == "--first"]
+        return [os.path.join(self.folder, it) for it in [*self.parts()[1], *first]]
 
     def options(self):
-        """The words before the schema, without the moves or turns and the wish to have a fault explained."""
-        return [self.words[0], *(it for option in self.parts()[0] if option[0] not in ("--moves", "--turns", "--explain") for it in option)]
+        """The words before the schema, without files and the wish to have a fault explained."""
+        return [self.words[0], *(it for option in self.parts()[0] if option[0] not in ("--first", "--moves", "--turns", "--explain") for it in option)]
 
 
 def bytes_of(path):

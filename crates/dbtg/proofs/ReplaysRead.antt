@@ -1,14 +1,15 @@
 -- A run of the statements that were read is the replay of the texts: of a source, and of what is at hand.
-use Rattle.std.proofs.Common.{◌≡◌, ℕ, Bool, true, false, List, [], ◌∷◌, ◌++◌, length, map, Option, refl, ap, ◌∙◌, subst}
+use Rattle.std.proofs.Common.{◌≡◌, ℕ, Bool, true, false, List, [], ◌∷◌, ◌++◌, drop, length, map, Option, Some, None, refl, ap, ◌∙◌, subst}
 use Rattle.std.specs.List.{list_all}
 use Rattle.std.proofs.lemmas.List.Folds.{list_all-append}
 use Rattle.dbtg_schema.specs.Lists.{Lists}
 use Rattle.dbtg_unit.specs.Database.Statements.Fits.{fits}
 use Rattle.dbtg_unit.specs.declared.moves.Move.{Move}
+use Rattle.dbtg_unit.specs.declared.moves.Stepped.{Stepped}
 use Rattle.dbtg_unit.specs.declared.statement.Statement.{Statement}
 use Rattle.dbtg_step.specs.Machine.Headline.{RunIs}
 use Rattle.dbtg_step.specs.Laws.{scripts_fit}
-use Rattle.dbtg_step.specs.Core.Serial.{SerialRunIs}
+use Rattle.dbtg_step.specs.declared.results.Run.{Run}
 use Rattle.dbtg_script.specs.Statements.{script}
 use Rattle.dbtg_script.specs.Printing.Texts.{moves_text}
 use Rattle.dbtg_command.specs.declared.order.Order.{Order}
@@ -16,11 +17,12 @@ use Rattle.dbtg_command.specs.declared.order.Order.TheVariants.{Moves, Serial, T
 use Rattle.dbtg_command.specs.declared.order.OrderKind.{OrderKind}
 use Rattle.dbtg_command.specs.declared.order.OrderKind.TheVariants as kind
 use Rattle.dbtg_command.specs.declared.place.Place.{Place}
-use Rattle.dbtg_command.specs.Refusals.{AcceptsOrder, is_count, moves_in, turns_in}
+use Rattle.dbtg_command.specs.Refusals.{AcceptsOrder, is_count, turns_in}
 use Rattle.dbtg_command.specs.Sources.{HoldsOrder, ReadMoves, ReadSchema, ReadScripts, ReadTurns, kind_of}
 use Rattle.dbtg_command.specs.Inside.Sources.{StandsIn}
 use Rattle.dbtg_command.proofs.Public.{all_accepted, all_are, order_is, read_texts}
-use Rattle.dbtg.specs.Replaying.{IsPrinted, IsPrintedRun, IsReplay, ReplaysHeld, RunByTurnsIs, echo_of, shown_text}
+use Rattle.dbtg.specs.Ordering.{AreFirstMoves, first_turns}
+use Rattle.dbtg.specs.Replaying.{InTurnIs, IsPrinted, IsPrintedRun, IsReplay, ReplaysHeld, RunByTurnsIs, echo_of, shown_text}
 use Rattle.dbtg.specs.Threading.{IsThreads, ThreadsHeld}
 
 -- statements that fit behind scripts that fit
@@ -29,46 +31,64 @@ fit_behind lists statements before after e all one =
     ap (scripts_fit lists) e ∙ list_all-append (list_all (fits lists)) before (statements ∷ []) ∙ rw (all, one) refl
 
 -- what a run of the statements that were read gives is the replay of the texts
-pub replays : (holds : Place → List ℕ → Type 0) (lists : Lists) (count : ℕ) (order : Order (List ℕ)) (echo : Bool) (capacity : ℕ) (out : List ℕ)
+pub replays : (holds : Place → List ℕ → Type 0) (lists : Lists) (count : ℕ) (order : Order (List ℕ)) (first echo : Bool) (capacity : ℕ) (out : List ℕ)
     → is_count count ≡ true → ReadSchema holds lists → (scripts : ReadScripts holds lists count) → HoldsOrder holds order → AcceptsOrder order
-    → IsPrintedRun lists capacity (map (script lists) scripts.texts) (echo_of echo scripts.texts) order out → ReplaysHeld holds count (kind_of order) echo capacity out
-replays holds lists count order echo capacity out right read scripts held accepted run = (
+    → IsPrintedRun first lists capacity (map (script lists) scripts.texts) (echo_of echo scripts.texts) order out → ReplaysHeld holds count (kind_of order) first echo capacity out
+replays holds lists count order first echo capacity out right read scripts held accepted run = (
   read_texts holds lists count read scripts order held,
   record {
     count = ap is_count scripts.many ∙ right;
     texts = all_accepted holds lists count read scripts;
     order_too = accepted;
-    run = subst (λ (s : Lists). IsPrintedRun s capacity (map (script s) scripts.texts) (echo_of echo scripts.texts) order out) read.says run;
+    run = subst (λ (s : Lists). IsPrintedRun first s capacity (map (script s) scripts.texts) (echo_of echo scripts.texts) order out) read.says run;
   },
 )
 
+-- what is shown of a run does not depend on what its moves came to
+same_shown : (lists : Lists) (texts : Option (List (List ℕ))) (given : Run) (results : List Stepped) → shown_text lists texts given ≡ shown_text lists texts (record given { results = results })
+same_shown lists None given results = refl
+same_shown lists (Some texts) given results = refl
+
 -- the same of what was read: nothing that says the order, moves, or turns; and the texts that are shown
 module _ (holds : Place → List ℕ → Type 0) (lists : Lists) (count capacity : ℕ) (out : List ℕ) (right : is_count count ≡ true) (read : ReadSchema holds lists) (scripts : ReadScripts holds lists count)
-    (statements : List (List Statement)) (same : statements ≡ map (script lists) scripts.texts) (echo : Bool) (texts : Option (List (List ℕ))) (are : texts ≡ echo_of echo scripts.texts) where
-  pub replays_serially : IsPrinted (SerialRunIs lists capacity statements) (shown_text lists texts) out → ReplaysHeld holds count kind.Serial echo capacity out
-  replays_serially run =
-      let of_all = subst (λ ss. IsPrinted (SerialRunIs lists capacity ss) (shown_text lists texts) out) same run in
-      replays holds lists count Serial echo capacity out right read scripts tt tt
-      (subst (λ ts. IsPrinted (SerialRunIs lists capacity (map (script lists) scripts.texts)) (shown_text lists ts) out) are of_all)
+    (statements : List (List Statement)) (same : statements ≡ map (script lists) scripts.texts) (first echo : Bool) (texts : Option (List (List ℕ))) (are : texts ≡ echo_of echo scripts.texts) where
+  replays_in : (order : Order (List ℕ)) → HoldsOrder holds order → AcceptsOrder order → IsPrintedRun first lists capacity statements texts order out → ReplaysHeld holds count (kind_of order) first echo capacity out
+  replays_in order held accepted run =
+      let of_all = subst (λ ss. IsPrintedRun first lists capacity ss texts order out) same run in
+      replays holds lists count order first echo capacity out right read scripts held accepted
+      (subst (λ ts. IsPrintedRun first lists capacity (map (script lists) scripts.texts) ts order out) are of_all)
 
-  pub replays_moves : (moves used : List Move) → ReadMoves holds moves → used ≡ moves → IsPrinted (RunIs lists capacity statements used) (λ given. moves_text given.results ++ shown_text lists texts given) out → ReplaysHeld holds count kind.Moves echo capacity out
-  replays_moves moves used by e run =
-      let of_text = subst (λ ms. IsPrinted (RunIs lists capacity statements ms) (λ given. moves_text given.results ++ shown_text lists texts given) out) (e ∙ by.says) run in
-      let of_all = subst (λ ss. IsPrinted (RunIs lists capacity ss (moves_in by.text)) (λ given. moves_text given.results ++ shown_text lists texts given) out) same of_text in
-      replays holds lists count (Moves by.text) echo capacity out right read scripts by.held by.accepted
-      (subst (λ ts. IsPrinted (RunIs lists capacity (map (script lists) scripts.texts) (moves_in by.text)) (λ given. moves_text given.results ++ shown_text lists ts given) out) are of_all)
+  pub replays_serially : IsPrinted (InTurnIs first lists capacity statements) (shown_text lists texts) out → ReplaysHeld holds count kind.Serial first echo capacity out
+  replays_serially run = replays_in Serial tt tt run
 
-  pub replays_turns : (turns used : List ℕ) → ReadTurns holds turns → used ≡ turns → IsPrinted (RunByTurnsIs lists capacity statements used) (shown_text lists texts) out → ReplaysHeld holds count kind.Turns echo capacity out
-  replays_turns turns used by e run =
-      let of_text = subst (λ us. IsPrinted (RunByTurnsIs lists capacity statements us) (shown_text lists texts) out) (e ∙ by.says) run in
-      let of_all = subst (λ ss. IsPrinted (RunByTurnsIs lists capacity ss (turns_in by.text)) (shown_text lists texts) out) same of_text in
-      replays holds lists count (Turns by.text) echo capacity out right read scripts by.held by.accepted
-      (subst (λ ts. IsPrinted (RunByTurnsIs lists capacity (map (script lists) scripts.texts) (turns_in by.text)) (shown_text lists ts) out) are of_all)
+  -- all moves are those of the first script, so many, and those that were read
+  pub replays_moves : (moves before all : List Move) (many : ℕ) → ReadMoves holds moves → AreFirstMoves first lists capacity statements before → all ≡ before ++ moves → many ≡ length before
+      → IsPrinted (RunIs lists capacity statements all) (λ given. moves_text (drop many given.results) ++ shown_text lists texts given) out → ReplaysHeld holds count kind.Moves first echo capacity out
+  replays_moves moves before all many by are_first all_is many_is run =
+      let whole = run.given in
+      let results = drop (length before) whole.results in
+      replays_in (Moves by.text) by.held by.accepted (record {
+        given = record whole { results = results };
+        is_run = record {
+          before = before;
+          are_first = are_first;
+          whole = whole;
+          is_run = subst (λ ms. RunIs lists capacity statements ms whole) (all_is ∙ ap (λ (ms : List Move). before ++ ms) by.says) run.is_run;
+          given_is = refl;
+        };
+        is_text = run.is_text ∙ ap (λ k. moves_text (drop k whole.results) ++ shown_text lists texts whole) many_is ∙ ap (λ xs. moves_text results ++ xs) (same_shown lists texts whole results);
+      })
+
+  pub replays_turns : (turns given used : List ℕ) → ReadTurns holds turns → given ≡ turns → used ≡ first_turns first statements ++ given
+      → IsPrinted (RunByTurnsIs lists capacity statements used) (shown_text lists texts) out → ReplaysHeld holds count kind.Turns first echo capacity out
+  replays_turns turns given used by same_turns e run =
+      let says : used ≡ first_turns first statements ++ turns_in by.text = e ∙ ap (λ (us : List ℕ). first_turns first statements ++ us) (same_turns ∙ by.says) in
+      replays_in (Turns by.text) by.held by.accepted (subst (λ us. IsPrinted (RunByTurnsIs lists capacity statements us) (shown_text lists texts) out) says run)
 
 -- OF BYTES AT HAND
 
 pub at_hand_replay : (schema : List ℕ) (scripts : List (List ℕ)) (order : Order (List ℕ)) (which : OrderKind) (capacity : ℕ) (out : List ℕ) → which ≡ kind_of order
-    → ReplaysHeld (StandsIn schema scripts order) (length scripts) which false capacity out → IsReplay schema scripts order capacity out
+    → ReplaysHeld (StandsIn schema scripts order) (length scripts) which false false capacity out → IsReplay schema scripts order capacity out
 at_hand_replay schema scripts order which capacity out e held =
     let texts = held.0 in
     subst (λ (s : List ℕ). IsReplay s scripts order capacity out) texts.holds_schema

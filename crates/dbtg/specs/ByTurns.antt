@@ -5,8 +5,6 @@ use Rattle.dbtg_schema.specs.Lists.{Lists}
 use Rattle.dbtg_unit.specs.declared.moves.Move.{Move}
 use Rattle.dbtg_unit.specs.declared.moves.Stepped.{Stepped}
 use Rattle.dbtg_unit.specs.declared.statement.Statement.{Statement}
-use Rattle.dbtg_step.specs.declared.results.Run.{Run}
-use Rattle.dbtg_step.specs.Core.Turns.{IsRunByTurns}
 use Rattle.dbtg_script.specs.Moves.{refusal as moves_refusal}
 use Rattle.dbtg_script.specs.Statements.{script}
 use Rattle.dbtg_script.specs.Printing.Texts.{moves_text}
@@ -19,11 +17,8 @@ use Rattle.dbtg_command.specs.declared.order.OrderKind.TheVariants as kind
 use Rattle.dbtg_command.specs.declared.place.Place.{Place}
 use Rattle.dbtg_command.specs.Refusals.{AcceptsTexts, is_count, moves_in, schema_in, turns_in}
 use Rattle.dbtg_command.specs.Sources.{ReadSchema, ReadScripts, ReadTurns, Texts, ToldOfRun}
+use Rattle.dbtg.specs.Ordering.{StandFor}
 use Rattle.dbtg.specs.Replaying.{IsReplay}
-
--- these turns stand for these moves: there is such a run
-abbrev pub StandFor : Lists → ℕ → List (List Statement) → List ℕ → List Move → Type 0
-StandFor lists capacity scripts turns moves = (given : Run) × IsRunByTurns lists capacity scripts turns moves given
 
 -- the text is accepted as one of moves, and says those for which the turns stand, as moves are printed
 pub record AreMovesOf (lists : Lists) (capacity : ℕ) (scripts : List (List Statement)) (turns : List ℕ) (out : List ℕ) : Type 0 where

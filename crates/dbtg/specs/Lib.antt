@@ -1,3 +1,4 @@
+pub mod Ordering
 pub mod Replaying
 pub mod ByTurns
 pub mod Threading

@@ -1,6 +1,6 @@
 -- What `timeline` prints: the picture of the events that moves make. Without moves or turns these are the moves of the serial run.
 -- text, scripts and order are bytes, lists the schema that a text says.
-use Rattle.std.specs.Prelude.{ℕ, ◌+◌, ◌≡◌, Bool, true, false, List, [], ◌∷◌, ◌++◌, length, map, replicate}
+use Rattle.std.specs.Prelude.{ℕ, ◌≡◌, Bool, true, false, List, ◌++◌, length, map}
 use Rattle.dbtg_schema.specs.Lists.{Lists}
 use Rattle.dbtg_unit.specs.declared.moves.Move.{Move}
 use Rattle.dbtg_unit.specs.declared.statement.Statement.{Statement}
@@ -14,7 +14,7 @@ use Rattle.dbtg_command.specs.declared.order.Order.{Order}
 use Rattle.dbtg_command.specs.declared.order.Order.TheVariants.{Moves, Serial, Turns}
 use Rattle.dbtg_command.specs.declared.order.OrderKind.{OrderKind}
 use Rattle.dbtg_command.specs.declared.place.Place.{Place}
-use Rattle.dbtg.specs.ByTurns.{StandFor}
+use Rattle.dbtg.specs.Ordering.{AreFirstMoves, StandFor, first_turns, serial_turns}
 use Rattle.dbtg_command.specs.Refusals.{AcceptsOrder, AcceptsTexts, is_count, moves_in, schema_in, turns_in}
 use Rattle.dbtg_command.specs.Sources.{Texts}
 
@@ -23,16 +23,11 @@ abbrev pub picture : Bool → List (List (List ℕ)) → List Event → List ℕ
 picture true scripts events = timeline_svg scripts events
 picture false scripts events = timeline_text scripts events
 
--- unit u takes a turn for each statement of its script, then the next unit
-abbrev pub serial_turns : ℕ → List (List Statement) → List ℕ
-serial_turns u [] = []
-serial_turns u (script ∷ scripts) = replicate (length script) u ++ serial_turns (u + 1) scripts
-
--- these moves say the order, or its turns stand for them
-abbrev pub AreInOrder : Lists → ℕ → List (List Statement) → Order (List ℕ) → List Move → Type 0
-AreInOrder lists capacity scripts Serial moves = StandFor lists capacity scripts (serial_turns 1 scripts) moves
-AreInOrder lists capacity scripts (Moves text) moves = moves ≡ moves_in text
-AreInOrder lists capacity scripts (Turns text) moves = StandFor lists capacity scripts (turns_in text) moves
+-- these moves say the order, or its turns stand for them; where one script is made first, its moves or turns stand before them
+abbrev pub AreInOrder : Bool → Lists → ℕ → List (List Statement) → Order (List ℕ) → List Move → Type 0
+AreInOrder first lists capacity scripts Serial moves = StandFor lists capacity scripts (first_turns first scripts ++ serial_turns 1 scripts) moves
+AreInOrder first lists capacity scripts (Moves text) moves = (before : List Move) × AreFirstMoves first lists capacity scripts before × (moves ≡ before ++ moves_in text)
+AreInOrder first lists capacity scripts (Turns text) moves = StandFor lists capacity scripts (first_turns first scripts ++ turns_in text) moves
 
 -- the text is the picture of the events of such moves
 pub record IsPictured (lists : Lists) (capacity : ℕ) (scripts : List (List Statement)) (texts : List (List ℕ)) (svg : Bool) (Are : List Move → Type 0) (out : List ℕ) : Type 0 where
@@ -41,12 +36,12 @@ pub record IsPictured (lists : Lists) (capacity : ℕ) (scripts : List (List Sta
   pub is_text : out ≡ picture svg (map statement_lines texts) (events_of_run lists capacity scripts moves)
 
 -- 1 to 8 scripts, nothing is refused, and the text is the picture of the run of what the texts say
-pub record IsTimeline (text : List ℕ) (scripts : List (List ℕ)) (order : Order (List ℕ)) (capacity : ℕ) (svg : Bool) (out : List ℕ) : Type 0 where
+pub record IsTimeline (first : Bool) (text : List ℕ) (scripts : List (List ℕ)) (order : Order (List ℕ)) (capacity : ℕ) (svg : Bool) (out : List ℕ) : Type 0 where
   pub count : is_count (length scripts) ≡ true
   pub texts : AcceptsTexts text scripts
   pub order_too : AcceptsOrder order
-  pub pictured : IsPictured (schema_in text) capacity (map (script (schema_in text)) scripts) scripts svg (AreInOrder (schema_in text) capacity (map (script (schema_in text)) scripts) order) out
+  pub pictured : IsPictured (schema_in text) capacity (map (script (schema_in text)) scripts) scripts svg (AreInOrder first (schema_in text) capacity (map (script (schema_in text)) scripts) order) out
 
 -- what `timeline` prints of texts that are held
-abbrev pub TimelineHeld : (Place → List ℕ → Type 0) → ℕ → OrderKind → ℕ → Bool → List ℕ → Type 0
-TimelineHeld holds count which capacity svg out = (texts : Texts holds count which) × IsTimeline texts.schema texts.scripts texts.order capacity svg out
+abbrev pub TimelineHeld : (Place → List ℕ → Type 0) → ℕ → OrderKind → Bool → ℕ → Bool → List ℕ → Type 0
+TimelineHeld holds count which first capacity svg out = (texts : Texts holds count which) × IsTimeline first texts.schema texts.scripts texts.order capacity svg out

@@ -6,6 +6,8 @@ ghost use Rattle.std.specs.Process.{exit_status};
 ghost use Rattle.dbtg_schema.specs.Sound.{IsSound};
 ghost use Rattle.dbtg_command.specs.Refusals.{is_count, status_of};
 
+mod first;
+mod ordering;
 mod outcomes;
 mod replay;
 mod scripts;
@@ -22,6 +24,7 @@ use dbtg_command::explain::{Topic, explained};
 use dbtg_command::reason::reason;
 use dbtg_command::{Call, Fault, Files, Named, Order, Paths, call_of, read_schema, status_of};
 use dbtg_schema::Schema;
+use first::refusals_of_first;
 use outcomes::print_outcomes;
 use replay::{check_count, replay};
 use shell::session::Session;
@@ -95,8 +98,8 @@ fn printed(rt: &HostRuntime, files: &Files<HostRuntime>, call: &Call) -> Result<
     let alloc = rt.alloc();
     match call.named {
         Named::Draw => draw(alloc, files),
-        Named::Replay => replay(alloc, files, call.capacity, call.echo),
-        Named::Timeline => timeline(alloc, files, call.capacity, call.svg),
+        Named::Replay => replay(alloc, files, call.capacity, call.echo, call.first),
+        Named::Timeline => timeline(alloc, files, call.capacity, call.svg, call.first),
         _ => check(alloc, files),
     }
 }
@@ -107,7 +110,30 @@ fn print_files(rt: &HostRuntime, call: &Call) -> ExitCode {
         reader: rt,
         paths: &paths,
     };
-    print_or_tell(rt, printed(rt, &files, call), &paths, call.explains)
+    let given = printed(rt, &files, call);
+    if given.is_ok() {
+        tell_refusals(rt, &files, call);
+    }
+    print_or_tell(rt, given, &paths, call.explains)
+}
+
+// Does a run begin with a script that can be read again? Standard input cannot.
+fn begins_with_file(call: &Call) -> bool {
+    let runs = matches!(call.named, Named::Replay | Named::Timeline);
+    runs && call.first && call.schema != "-" && call.scripts.last().is_some_and(|path| *path != "-")
+}
+
+// Which statements of the script that is made first were refused.
+fn tell_refusals(rt: &HostRuntime, files: &Files<HostRuntime>, call: &Call) {
+    if !begins_with_file(call) {
+        return;
+    }
+    let Ok(told) = refusals_of_first(rt.alloc(), files, call.capacity) else {
+        return;
+    };
+    if let Ok(lines) = String::from_utf8_lossy(rt.alloc(), told.as_slice()) {
+        let _ = eprint!(rt; "{lines}");
+    }
 }
 
 fn print_threads<R: Threads + Wait + Sync>(rt: &HostRuntime, threads: &R, call: &Call) -> ExitCode {

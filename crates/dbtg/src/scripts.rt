@@ -20,8 +20,8 @@ pub struct Scripts {
     pub texts: Row<Row<u8>>,
 }
 
-// Reads the script of this number, and puts it behind those in front.
-fn take_next<S: Source>(
+/// Reads the script of this number, and puts it behind those in front.
+pub fn take_next<S: Source>(
     alloc: Global,
     source: &S,
     schema: &Schema,

@@ -1,66 +1,23 @@
 //! The picture of an interleaving.
-ghost use Rattle.std.specs.Prelude.{◌≡◌, ◌≤◌, ◌++◌, IfErr, IfOk, OnOk, length, map, replicate, true};
+ghost use Rattle.std.specs.Prelude.{◌≡◌, ◌≤◌, IfErr, IfOk, length, map, true};
 ghost use Rattle.dbtg_schema.specs.Sound.{IsSound};
 ghost use Rattle.dbtg_script.specs.Lines.{statement_lines};
 ghost use Rattle.dbtg_step.specs.Laws.{scripts_fit};
 ghost use Rattle.dbtg_timeline.specs.Watching.{events_of_run};
-ghost use Rattle.dbtg.specs.ByTurns.{StandFor};
-ghost use Rattle.dbtg.specs.Picturing.{IsPictured, TimelineHeld, picture, serial_turns};
+ghost use Rattle.dbtg.specs.Ordering.{StandFor};
+ghost use Rattle.dbtg.specs.Picturing.{IsPictured, TimelineHeld, picture};
 ghost use Rattle.dbtg_command.specs.Refusals.{is_count};
 ghost use Rattle.dbtg_command.specs.Sources.{ReadSchema, ToldOfRun};
 
+use crate::ordering::{moves_behind_first, moves_of_turns, serial_turns, turns_behind_first};
 use crate::replay::schema_for_run;
 use crate::scripts::{Scripts, read_scripts_with_texts};
 use dbtg_command::{Fault, OrderKind, Source, copy_scripts, read_moves, read_turns};
 use dbtg_schema::{Row, Schema};
 use dbtg_script::statement_lines;
-use dbtg_step::run_turns;
 use dbtg_timeline::{Event, timeline_svg, timeline_text, watch};
 use dbtg_unit::{Move, Statement};
 use std::alloc::{AllocError, Global};
-
-fn push_turns(turns: &mut Vec<u8>, unit: u8, count: usize) -> Result<(), AllocError>
-    ensures { OnOk result (turns.new.items ≡ turns.old.items ++ replicate count unit) }
-{
-    for _turn in 0..count {
-        turns.push(unit)?;
-    }
-    Ok(())
-}
-
-// The turns by which one script is made after the other.
-fn serial_turns(alloc: Global, scripts: &[Row<Statement>]) -> Result<Vec<u8>, AllocError>
-    requires { length scripts.now ≤ 255 }
-    ensures { IfOk result (λ turns. turns.items ≡ serial_turns 1 scripts.now) }
-{
-    let mut turns = Vec::new(alloc);
-    let mut unit = 0;
-    for script in scripts {
-        unit += 1;
-        push_turns(&mut turns, unit, script.len())?;
-    }
-    Ok(turns)
-}
-
-// The moves that turns stand for, all of them.
-fn moves_of_turns(
-    alloc: Global,
-    schema: &Schema,
-    capacity: u16,
-    scripts: Row<Row<Statement>>,
-    turns: &[u8],
-) -> Result<Row<Move>, AllocError>
-    requires sound { IsSound schema.now }
-    requires units { length scripts ≤ 255 }
-    requires fit { scripts_fit schema.now scripts ≡ true }
-    ensures { IfOk result (λ moves. StandFor schema.now capacity scripts turns.now moves) }
-{
-    let turned = run_turns(alloc, schema, capacity, scripts, turns, usize::MAX)?;
-    match turned.into_moves() {
-        Some(moves) => Ok(moves),
-        None => Err(AllocError),
-    }
-}
 
 // The texts of the statements of each script.
 fn texts_of_statements(alloc: Global, texts: &[Row<u8>]) -> Result<Vec<Row<Row<u8>>>, AllocError>
@@ -150,43 +107,49 @@ fn timeline_known<S: Source>(
     known: &Schema,
     capacity: u16,
     svg: bool,
+    first: bool,
 ) -> Result<Vec<u8>, Fault>
     requires counted { is_count (S.count source.now) ≡ true }
     requires read { ReadSchema (S.holds source.now) known.now }
     requires sound { IsSound known.now }
-    ensures done { IfOk result (λ out. TimelineHeld (S.holds source.now) (S.count source.now) (S.order source.now) capacity svg out.items) }
+    ensures done { IfOk result (λ out. TimelineHeld (S.holds source.now) (S.count source.now) (S.order source.now) first capacity svg out.items) }
     ensures refused { IfErr result (λ fault. ToldOfRun (S.holds source.now) (S.fails source.now) fault (S.count source.now) (S.order source.now)) }
 {
     let scripts = read_scripts_with_texts(alloc, source, known)?;
+    let statements = scripts.statements.as_slice();
     match source.order() {
         OrderKind::Serial => {
-            let turns = serial_turns(alloc, scripts.statements.as_slice())?;
+            let serial = serial_turns(alloc, statements)?;
+            let turns = turns_behind_first(alloc, first, statements, serial.as_slice())?;
             Ok(picture_of_turns(alloc, known, capacity, scripts, svg, turns.as_slice())?)
         }
         OrderKind::Moves => {
             let moves = read_moves(alloc, source)?;
-            Ok(picture_of_moves(alloc, known, capacity, scripts, svg, moves.as_slice())?)
+            let all = moves_behind_first(alloc, first, known, capacity, statements, moves)?;
+            Ok(picture_of_moves(alloc, known, capacity, scripts, svg, all.moves.as_slice())?)
         }
         OrderKind::Turns => {
-            let turns = read_turns(alloc, source)?;
+            let given = read_turns(alloc, source)?;
+            let turns = turns_behind_first(alloc, first, statements, given.as_slice())?;
             Ok(picture_of_turns(alloc, known, capacity, scripts, svg, turns.as_slice())?)
         }
     }
 }
 
 /// What `timeline` prints of the schema, the scripts and the moves or turns that a source gives, or the first fault. Without moves and
-/// turns one script is made after the other.
+/// turns one script is made after the other. Before all others the last script is made, where it is made first.
 pub fn timeline<S: Source>(
     alloc: Global,
     source: &S,
     capacity: u16,
     svg: bool,
+    first: bool,
 ) -> Result<Vec<u8>, Fault>
-    ensures done { IfOk result (λ out. TimelineHeld (S.holds source.now) (S.count source.now) (S.order source.now) capacity svg out.items) }
+    ensures done { IfOk result (λ out. TimelineHeld (S.holds source.now) (S.count source.now) (S.order source.now) first capacity svg out.items) }
     ensures refused { IfErr result (λ fault. ToldOfRun (S.holds source.now) (S.fails source.now) fault (S.count source.now) (S.order source.now)) }
 {
     let known = schema_for_run(alloc, source)?;
-    let said = timeline_known(alloc, source, &known, capacity, svg);
+    let said = timeline_known(alloc, source, &known, capacity, svg, first);
     known.discard();
     said
 }

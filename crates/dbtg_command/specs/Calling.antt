@@ -1,5 +1,5 @@
 -- What the words of the command ask for, of what `clap` finds in them.
-use Rattle.std.specs.Prelude.{ℕ, ◌≡◌, Bool, true, false, List, [], Option, Some, None, codes, map, option_map, unwrap_or}
+use Rattle.std.specs.Prelude.{ℕ, ◌≡◌, ◌++◌, Bool, true, false, List, [], Option, Some, None, codes, is_some, map, option_map, option_to_list, unwrap_or}
 use Rattle.clap.specs.Matches.{first_value, found_of, matched_of, one_text, raw_values}
 use Rattle.clap.specs.Simple.{App, HasMatchesOf, subcommand_rows_of}
 use Rattle.clap.specs.Walk.{rows_of}
@@ -36,6 +36,10 @@ pub record IsFlag (found : Found) (id : List ℕ) (flag : Bool) : Type 0 where
 abbrev pub words_in : Found → List ℕ → List (List ℕ)
 words_in found id = unwrap_or (option_map raw_values (matched_of found id)) []
 
+-- the scripts, and behind them the one that is made first, if there is one
+abbrev pub scripts_in : Found → List (List ℕ)
+scripts_in found = words_in found (codes "scripts") ++ option_to_list (first_value found (codes "first"))
+
 -- the number that a word says, up to a greatest one, and 0 without a word
 abbrev pub count_for : ℕ → Option (List ℕ) → Option ℕ
 count_for most None = Some 0
@@ -61,13 +65,14 @@ pub record IsCall (asked : Named) (found : Found) (call : Call) : Type 0 where
   pub echo : IsFlag found (codes "echo") call.echo
   pub svg : IsFlag found (codes "svg") call.svg
   pub answers : IsFlag found (codes "answers") call.answers
+  pub first : call.first ≡ is_some (first_value found (codes "first"))
   pub capacity : count_for 1000 (first_value found (codes "capacity")) ≡ Some call.capacity
   pub limit : count_for 1000000000 (first_value found (codes "limit")) ≡ Some call.limit
   pub units : count_for 8 (first_value found (codes "units")) ≡ Some call.units
   pub order : order_map (λ path. path.now) call.order ≡ order_in found
   pub saved : option_map (λ path. path.now) call.saved ≡ first_value found (codes "save-turns")
   pub schema : call.schema.now ≡ unwrap_or (first_value found (codes "schema")) []
-  pub scripts : map (λ path. path.now) call.scripts.items ≡ words_in found (codes "scripts")
+  pub scripts : map (λ path. path.now) call.scripts.items ≡ scripts_in found
   pub topic : IsAsked (words_in found (codes "topic")) (Some call.topic)
 
 -- the call is that of the command which was met in a parse, with what was found for it

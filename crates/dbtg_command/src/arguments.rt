@@ -10,6 +10,7 @@ pub enum Word<'a> {
     Capacity,
     Echo,
     Explain,
+    First,
     Limit,
     Moves,
     SaveTurns,
@@ -98,6 +99,14 @@ fn explain_option<'a>(alloc: Global) -> Arg<'a> {
     )
 }
 
+fn first_option<'a>(alloc: Global) -> Arg<'a> {
+    file_option(
+        alloc,
+        "first",
+        "A script made whole before the others, by the last unit [default: none]",
+    )
+}
+
 fn limit_option<'a>(alloc: Global) -> Arg<'a> {
     let help = "States to allow, 1 to 1000000000; a million can take 7 GB";
     number_option(alloc, "limit", "1000000", help)
@@ -153,6 +162,7 @@ pub fn arg_of<'a>(alloc: Global, word: Word<'a>) -> Result<Arg<'a>, AllocError> 
         Word::Capacity => Ok(capacity_option(alloc)),
         Word::Echo => Ok(echo_option(alloc)),
         Word::Explain => Ok(explain_option(alloc)),
+        Word::First => Ok(first_option(alloc)),
         Word::Limit => Ok(limit_option(alloc)),
         Word::Moves => Ok(moves_option(alloc)),
         Word::SaveTurns => Ok(save_turns_option(alloc)),

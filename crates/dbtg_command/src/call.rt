@@ -1,7 +1,7 @@
 //! What the words of the command ask for, of what `clap` finds in them.
 ghost use Rattle.std.specs.Prelude.{◌≡◌, ◌≤◌, IfOk, IfSome, codes, map, string_bytes};
 ghost use Rattle.clap.specs.Matches.{first_value, found_of};
-ghost use Rattle.dbtg_command.specs.Calling.{IsCall, IsCallIn, IsCallOf, count_for, name_of, order_in, words_in};
+ghost use Rattle.dbtg_command.specs.Calling.{IsCall, IsCallIn, IsCallOf, count_for, name_of, order_in, scripts_in, words_in};
 ghost use Rattle.dbtg_command.specs.Capacity.{count_in};
 ghost use Rattle.dbtg_command.specs.Explaining.{IsAsked};
 ghost use Rattle.dbtg_command.specs.Sources.{order_map};
@@ -28,6 +28,8 @@ pub struct Call<'a> {
     pub svg: bool,
     /// Results are also told apart by the answers that units get.
     pub answers: bool,
+    /// The last script is made before all others.
+    pub first: bool,
     pub capacity: u16,
     /// How many states may come.
     pub limit: u64,
@@ -47,6 +49,17 @@ fn words_of<'a>(alloc: Global, given: &ArgMatches<'a>, id: &str) -> Result<Vec<&
         Some(words) => Vec::from_slice(alloc, words),
         None => Ok(Vec::new(alloc)),
     }
+}
+
+// The scripts, and behind them the one that is made first.
+fn scripts_wanted<'a>(alloc: Global, given: &ArgMatches<'a>) -> Result<Vec<&'a str>, AllocError>
+    ensures { IfOk result (λ scripts. map (λ path. path.now) scripts.items ≡ scripts_in (found_of given.now)) }
+{
+    let mut scripts = words_of(alloc, given, "scripts")?;
+    if let Some(path) = given.get_str("first") {
+        scripts.push(path)?;
+    }
+    Ok(scripts)
 }
 
 // The number that an option has, at most so large, and 0 where the command has no such option.
@@ -122,13 +135,14 @@ fn given_call<'a>(alloc: Global, named: Named, given: &ArgMatches<'a>) -> Result
     let limit = count_wanted(alloc, named, given, "limit", 1_000_000_000)?;
     let units = count_wanted(alloc, named, given, "units", 8)?;
     let topic = topic_wanted(alloc, given)?;
-    let scripts = words_of(alloc, given, "scripts")?;
+    let scripts = scripts_wanted(alloc, given)?;
     Ok(Call {
         named,
         explains: given.get_flag("explain"),
         echo: given.get_flag("echo"),
         svg: given.get_flag("svg"),
         answers: given.get_flag("answers"),
+        first: given.get_str("first").is_some(),
         capacity: capacity as u16,
         limit,
         units: units as u16,

@@ -45,7 +45,12 @@ fn check_command<'a>(alloc: Global, name: &'a str) -> Result<Command<'a>, AllocE
         name,
         "Reads a schema and scripts, and tells how large they are",
         "Example: dbtg check shop.schema unit1.script unit2.script",
-        &[Word::Explain, Word::Schema(SCHEMA), Word::Scripts(scripts)],
+        &[
+            Word::First,
+            Word::Explain,
+            Word::Schema(SCHEMA),
+            Word::Scripts(scripts),
+        ],
     )
 }
 
@@ -81,6 +86,7 @@ fn replay_command<'a>(alloc: Global, name: &'a str) -> Result<Command<'a>, Alloc
         "Example: dbtg replay --capacity 10 --moves shop.moves shop.schema unit1.script unit2.script",
         &[
             Word::Capacity,
+            Word::First,
             Word::Moves,
             Word::TurnsOption,
             Word::Echo,
@@ -117,6 +123,7 @@ fn timeline_command<'a>(alloc: Global, name: &'a str) -> Result<Command<'a>, All
         "Example: dbtg timeline --moves shop.moves shop.schema unit1.script unit2.script",
         &[
             Word::Capacity,
+            Word::First,
             Word::Moves,
             Word::TurnsOption,
             Word::Svg("Draws as SVG [default: plain text]"),

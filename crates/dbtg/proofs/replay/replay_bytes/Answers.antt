@@ -13,7 +13,7 @@ returns-clause-done c =
     let schema = c.args.schema.now in
     let scripts = c.args.scripts.now in
     let order = order_map (λ t. t.now) c.args.order in
-    IfOk-weaker c.replay.result (λ out. ReplaysHeld (StandsIn schema scripts order) (length scripts) (kind_of c.args.order) false c.args.capacity out.items) (λ out. IsReplay schema scripts order c.args.capacity out.items)
+    IfOk-weaker c.replay.result (λ out. ReplaysHeld (StandsIn schema scripts order) (length scripts) (kind_of c.args.order) false false c.args.capacity out.items) (λ out. IsReplay schema scripts order c.args.capacity out.items)
     (λ out held. at_hand_replay schema scripts order (kind_of c.args.order) c.args.capacity out.items (same_kind _ c.args.order) held) c.replay.ensures.done
 
 pub returns-clause-refused : goal.returns-clause-refused

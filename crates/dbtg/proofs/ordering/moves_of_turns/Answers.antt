@@ -1,7 +1,7 @@
 use Rattle.std.proofs.Common.{◌∙◌, subst, sym}
 use Rattle.dbtg_step.specs.Core.Turns.{AreGiven}
 use Rattle.dbtg.proofs.Pictures.{stands_for}
-use Rattle.dbtg.proofs.timeline.moves_of_turns.Goals as goal
+use Rattle.dbtg.proofs.ordering.moves_of_turns.Goals as goal
 
 pub returns-in-Some : goal.returns-in-Some
 returns-in-Some c =
