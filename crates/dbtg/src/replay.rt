@@ -231,7 +231,9 @@ fn replay_known<S: Source>(
     ensures refused { IfErr result (λ fault. ToldOfRun (S.holds source.now) (S.fails source.now) fault (S.count source.now) (S.order source.now)) }
 {
     let Scripts { statements, texts } = read_scripts_with_texts(alloc, source, known)?;
-    replay_read(alloc, source, known, capacity, statements, &texts, echo, first)
+    replay_read(
+        alloc, source, known, capacity, statements, &texts, echo, first,
+    )
 }
 
 /// What `replay` prints of the schema, the scripts and the moves or turns that a source gives, or the first fault. Without moves and
