@@ -1,13 +1,5 @@
-mod ReplaysRead
-mod UnitEntries
-mod ScriptLength
-mod UnitsOfTurns
-mod SameRun
-mod MovesOfTurns
 mod OnThreads
 mod SavedTurns
-mod SessionSteps
-mod SessionTurns
-mod ShellReplies
+mod TextsAtHand
 mod Pictures
 mod Listings

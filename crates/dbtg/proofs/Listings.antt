@@ -29,7 +29,7 @@ use Rattle.dbtg_command.specs.declared.order.Order.TheVariants.{Serial}
 use Rattle.dbtg_command.specs.declared.place.Place.{Place}
 use Rattle.dbtg.specs.Listing.{AreResultTexts, AreTold, IsListing, IsLong, IsOver, IsResultText, OutcomesHeld, ToldOfOutcomes, result_line, result_text, summary_text, worded}
 use Rattle.dbtg.specs.Inside.Listing.{IsUntold, are_short}
-use Rattle.dbtg.specs.Replaying.{given_text}
+use Rattle.dbtg_replay.specs.Replaying.{given_text}
 use Rattle.dbtg_command.specs.Refusals.{is_count}
 use Rattle.dbtg_command.specs.Sources.{ReadSchema, ReadScripts}
 use Rattle.dbtg_command.proofs.Public.{all_accepted, read_texts}

@@ -5,22 +5,16 @@ use Rattle.dbtg_unit.specs.declared.moves.Move.{Move}
 use Rattle.dbtg_unit.specs.declared.statement.Statement.{Statement}
 use Rattle.dbtg_script.specs.Lines.{statement_lines}
 use Rattle.dbtg_script.specs.Statements.{script}
-use Rattle.dbtg_step.specs.declared.results.Run.{Run}
-use Rattle.dbtg_step.specs.Core.Turns.{IsRunByTurns}
 use Rattle.dbtg_timeline.specs.Watching.{events_of_run}
 use Rattle.dbtg_command.specs.declared.place.Place.{Place}
 use Rattle.dbtg_command.specs.declared.order.Order.{Order}
 use Rattle.dbtg_command.specs.declared.order.Order.TheVariants.{Moves, Serial, Turns}
 use Rattle.dbtg_command.specs.declared.order.OrderKind.TheVariants as kind
-use Rattle.dbtg.specs.Ordering.{AreFirstMoves, StandFor, first_turns, serial_turns}
+use Rattle.dbtg_replay.specs.Ordering.{AreFirstMoves, StandFor, first_turns, serial_turns}
 use Rattle.dbtg.specs.Picturing.{AreInOrder, IsPictured, TimelineHeld, picture}
 use Rattle.dbtg_command.specs.Refusals.{AcceptsOrder, is_count, turns_in}
 use Rattle.dbtg_command.specs.Sources.{HoldsOrder, ReadMoves, ReadSchema, ReadScripts, ReadTurns, kind_of}
 use Rattle.dbtg_command.proofs.Public.{all_accepted, read_texts}
-
--- these moves are those of a run by turns
-pub stands_for : (lists : Lists) (capacity : ℕ) (scripts : List (List Statement)) (turns : List ℕ) (moves said : List Move) (given : Run) → said ≡ moves → IsRunByTurns lists capacity scripts turns moves given → StandFor lists capacity scripts turns said
-stands_for lists capacity scripts turns moves said given e run = (given, subst (λ ms. IsRunByTurns lists capacity scripts turns ms given) (sym e) run)
 
 pictures : (holds : Place → List ℕ → Type 0) (lists : Lists) (count : ℕ) (order : Order (List ℕ)) (first svg : Bool) (capacity : ℕ) (out : List ℕ)
     → is_count count ≡ true → ReadSchema holds lists → (scripts : ReadScripts holds lists count) → HoldsOrder holds order → AcceptsOrder order

@@ -20,9 +20,9 @@ use Rattle.dbtg_command.specs.declared.fault.Fault.{Fault}
 use Rattle.dbtg_command.specs.declared.fault.Fault.TheVariants as fault
 use Rattle.dbtg_command.specs.declared.order.OrderKind.TheVariants as kind
 use Rattle.dbtg_command.specs.declared.place.Place.{Place}
-use Rattle.dbtg.specs.Ordering.{StandFor}
+use Rattle.dbtg_replay.specs.Ordering.{StandFor}
 use Rattle.dbtg_command.specs.Refusals.{AcceptsTexts, is_count, schema_in}
-use Rattle.dbtg.specs.Replaying.{given_text}
+use Rattle.dbtg_replay.specs.Replaying.{given_text}
 use Rattle.dbtg_command.specs.Sources.{ReadSchema, ReadScripts, Texts, ToldOfRun}
 
 -- a number of orders, in digits where 64 bits can count it

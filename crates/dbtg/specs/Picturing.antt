@@ -14,7 +14,7 @@ use Rattle.dbtg_command.specs.declared.order.Order.{Order}
 use Rattle.dbtg_command.specs.declared.order.Order.TheVariants.{Moves, Serial, Turns}
 use Rattle.dbtg_command.specs.declared.order.OrderKind.{OrderKind}
 use Rattle.dbtg_command.specs.declared.place.Place.{Place}
-use Rattle.dbtg.specs.Ordering.{AreFirstMoves, StandFor, first_turns, serial_turns}
+use Rattle.dbtg_replay.specs.Ordering.{AreFirstMoves, StandFor, first_turns, serial_turns}
 use Rattle.dbtg_command.specs.Refusals.{AcceptsOrder, AcceptsTexts, is_count, moves_in, schema_in, turns_in}
 use Rattle.dbtg_command.specs.Sources.{Texts}
 

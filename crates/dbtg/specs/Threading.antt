@@ -17,7 +17,7 @@ use Rattle.dbtg_command.specs.declared.order.OrderKind.TheVariants as kind
 use Rattle.dbtg_command.specs.declared.place.Place.{Place}
 use Rattle.dbtg_command.specs.Refusals.{AcceptsTexts, is_count, schema_in}
 use Rattle.dbtg_command.specs.Sources.{Texts}
-use Rattle.dbtg.specs.Replaying.{IsReplay}
+use Rattle.dbtg_replay.specs.Replaying.{IsReplay}
 
 -- the entries are those of the script's statements, in order: of all, or of as many as a journal has room for
 pub record AreOf (script : List Statement) (entries : List Entry) : Type 0 where

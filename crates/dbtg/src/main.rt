@@ -6,16 +6,10 @@ ghost use Rattle.std.specs.Process.{exit_status};
 ghost use Rattle.dbtg_schema.specs.Sound.{IsSound};
 ghost use Rattle.dbtg_command.specs.Refusals.{is_count, status_of};
 
-mod first;
-mod ordering;
 mod outcomes;
 mod replay;
-mod scripts;
-mod shell;
 mod threads;
 mod timeline;
-mod turns;
-mod writing;
 
 use clap::error::ErrorKind;
 use dbtg_command::check::check;
@@ -23,12 +17,11 @@ use dbtg_command::draw::draw;
 use dbtg_command::explain::{Topic, explained};
 use dbtg_command::reason::reason;
 use dbtg_command::{Call, Fault, Files, Named, Order, Paths, call_of, read_schema, status_of};
+use dbtg_replay::replay::{check_count, replay};
+use dbtg_replay::{moves_for_turns, refusals_of_first};
 use dbtg_schema::Schema;
-use first::refusals_of_first;
+use dbtg_shell::{Broken, Session, converse, write_file};
 use outcomes::print_outcomes;
-use replay::{check_count, replay};
-use shell::session::Session;
-use shell::{Broken, converse};
 use std::env;
 use std::io::{self, Write};
 use std::process::ExitCode;
@@ -36,8 +29,6 @@ use std::sync::Wait;
 use std::thread::Threads;
 use threads::{OnThreads, run_on_threads};
 use timeline::timeline;
-use turns::moves_for_turns;
-use writing::write_file;
 
 /// The exit status of a program whose reader has gone away: the one by which a shell tells that the signal SIGPIPE ended it.
 const READER_GONE: u8 = 141;

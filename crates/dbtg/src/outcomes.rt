@@ -8,15 +8,15 @@ ghost use Rattle.dbtg_script.specs.Printing.WordTexts.{moves_words_text, turns_t
 ghost use Rattle.dbtg.specs.Listing.{AreTold, IsListing, IsLong, IsOver, IsResultText, OutcomesHeld, ToldOfOutcomes, count_text, differing_text, orders_text, result_line, spaced_status, summary_text, worded};
 ghost use Rattle.dbtg.specs.Inside.Listing.{IsUntold, are_short};
 ghost use Rattle.dbtg_command.specs.Refusals.{is_count};
-ghost use Rattle.dbtg.specs.Replaying.{given_text};
+ghost use Rattle.dbtg_replay.specs.Replaying.{given_text};
 ghost use Rattle.dbtg_command.specs.Sources.{ReadSchema};
 ghost use Rattle.dbtg_command.specs.declared.fault.Fault.TheVariants.{Memory, MovesOver};
 ghost use Rattle.dbtg_command.specs.declared.order.OrderKind.TheVariants.{Serial};
 
-use crate::replay::{push_given, schema_for_run};
-use crate::scripts::read_scripts;
 use dbtg_command::{Fault, Source, copy_scripts};
 use dbtg_outcomes::{Answered, OneResult, Outcomes, Stop, all_outcomes};
+use dbtg_replay::read_scripts;
+use dbtg_replay::replay::{push_given, schema_for_run};
 use dbtg_schema::{Row, Schema};
 use dbtg_script::{moves_words_text, push_number, push_status, turns_text};
 use dbtg_step::{Run, Turned, run_turns};

@@ -10,13 +10,13 @@ ghost use Rattle.dbtg_command.specs.Sources.{ToldOfRun};
 ghost use Rattle.dbtg_command.specs.declared.order.Order.TheVariants as by;
 ghost use Rattle.dbtg_command.specs.declared.order.OrderKind.TheVariants.{Serial};
 
-use crate::replay::schema_for_run;
-use crate::scripts::read_scripts;
 use dbtg_command::{AtHand, Fault, Order, Source};
+use dbtg_replay::replay::schema_for_run;
+use dbtg_replay::{read_scripts, units_in_turn};
 use dbtg_run::{Database, NoGate, Settled, run_units};
 use dbtg_schema::{Row, Schema};
 use dbtg_script::{push_run, turns_text};
-use dbtg_unit::{Entry, Statement};
+use dbtg_unit::Statement;
 use std::alloc::{AllocError, Global};
 use std::sync::Wait;
 use std::thread::Threads;
@@ -43,13 +43,6 @@ fn settled_text(alloc: Global, settled: &Settled) -> Result<Vec<u8>, AllocError>
     )?;
     out.extend_from_slice(b"AUDIT EQUAL\n")?;
     Ok(out)
-}
-
-/// The units of a history, in the order of their tickets.
-pub fn units_in_turn(alloc: Global, history: &[Entry]) -> Result<Vec<u8>, AllocError>
-    ensures { IfOk result (λ units. units.items ≡ map (λ e. e.unit) history.now) }
-{
-    history.iter().map(|entry| entry.unit).collect(alloc)
 }
 
 // What a settled database has to say.

@@ -4,15 +4,17 @@ ghost use Rattle.dbtg_schema.specs.Sound.{IsSound};
 ghost use Rattle.dbtg_script.specs.Lines.{statement_lines};
 ghost use Rattle.dbtg_step.specs.Laws.{scripts_fit};
 ghost use Rattle.dbtg_timeline.specs.Watching.{events_of_run};
-ghost use Rattle.dbtg.specs.Ordering.{StandFor};
+ghost use Rattle.dbtg_replay.specs.Ordering.{StandFor};
 ghost use Rattle.dbtg.specs.Picturing.{IsPictured, TimelineHeld, picture};
 ghost use Rattle.dbtg_command.specs.Refusals.{is_count};
 ghost use Rattle.dbtg_command.specs.Sources.{ReadSchema, ToldOfRun};
 
-use crate::ordering::{moves_behind_first, moves_of_turns, serial_turns, turns_behind_first};
-use crate::replay::schema_for_run;
-use crate::scripts::{Scripts, read_scripts_with_texts};
 use dbtg_command::{Fault, OrderKind, Source, copy_scripts, read_moves, read_turns};
+use dbtg_replay::replay::schema_for_run;
+use dbtg_replay::{
+    Scripts, moves_behind_first, moves_of_turns, read_scripts_with_texts, serial_turns,
+    turns_behind_first,
+};
 use dbtg_schema::{Row, Schema};
 use dbtg_script::statement_lines;
 use dbtg_timeline::{Event, timeline_svg, timeline_text, watch};

@@ -1,5 +1,6 @@
 //! What a statement prepares once it needs nothing more: its answer and its changes, with room for all of them.
-ghost use Rattle.std.specs.Prelude.{◌≡◌, false, IfOk};
+ghost use Rattle.std.specs.Prelude.{◌≡◌, None, false, IfOk};
+ghost use Rattle.dbtg_unit.specs.Database.Statements.Checks.{refused_at_once};
 ghost use Rattle.dbtg_unit.specs.Hands.EditsOf.{is_delete};
 ghost use Rattle.dbtg_unit.specs.Hands.Locality.{IsMadeOnEach, made_by};
 ghost use Rattle.dbtg_unit.specs.Hands.Making.{CanFinish, MayPrepare, ShowsTheSame};
@@ -15,10 +16,9 @@ use dbtg_schema::Schema;
 use dbtg_unit::{Held, Prepared, Statement, Unit, refused, refused_at_once};
 use std::alloc::{AllocError, Global};
 
-/// Prepares a statement other than DELETE that needs nothing more: makes room for what it adds to the cells in hand, which show
-/// what they did, and fixes its answer and its changes. Where no memory is found, only room was made.
-#[tactic(auto, using(crate::proofs::Plans::OpenClose::close_can_finish, crate::proofs::Plans::GetKeepFree::get_finishes, crate::proofs::Plans::GetKeepFree::keep_finishes, crate::proofs::Plans::GetKeepFree::free_finishes, crate::proofs::Connect::RemoveIsEffect::remove_finishes, crate::proofs::Modify::ModifyReady::modify_finishes, crate::proofs::Plans::PartByPart::makes_if_ok, dbtg_unit::proofs::Public::plan_makes))]
-pub fn prepare(
+// Prepares a statement that the checks without cells let through.
+#[tactic(auto, using(crate::proofs::Plans::OpenClose::close_can_finish, crate::proofs::Plans::GetKeepFree::get_finishes, crate::proofs::Plans::GetKeepFree::keep_finishes, crate::proofs::Plans::GetKeepFree::free_finishes, crate::proofs::Connect::RemoveIsEffect::remove_finishes, crate::proofs::Modify::ModifyReady::modify_finishes))]
+fn prepare_passed(
     alloc: Global,
     schema: &Schema,
     capacity: u16,
@@ -28,13 +28,10 @@ pub fn prepare(
 ) -> Result<Prepared, AllocError>
     requires may { MayPrepare schema.now capacity unit.now held.old statement.now }
     requires other { is_delete statement.now ≡ false }
+    requires passes { refused_at_once schema.now capacity unit.now statement.now ≡ None }
     ensures shows { ShowsTheSame held.old held.new }
     ensures prepared { IfOk result (λ plan. CanFinish schema.now capacity unit.now held.new statement.now plan) }
-    ensures made { IfOk result (λ plan. IsMadeOnEach schema.now capacity unit.now held.old statement.now (made_by schema.now unit.now held.new plan)) }
 {
-    if let Some(cause) = refused_at_once(schema, capacity, unit, statement) {
-        return Ok(refused(alloc, cause));
-    }
     match statement {
         Statement::OpenArea { area, mode } => {
             prepare_open(alloc, schema, capacity, unit, *area, *mode, held)
@@ -60,5 +57,28 @@ pub fn prepare(
         ),
         // The contract: a DELETE is another crate's.
         Statement::Delete(_) => unreachable!(),
+    }
+}
+
+/// Prepares a statement other than DELETE that needs nothing more: makes room for what it adds to the cells in hand, which show
+/// what they did, and fixes its answer and its changes. Where no memory is found, only room was made.
+#[tactic(auto, using(crate::proofs::Plans::PartByPart::makes_if_ok))]
+pub fn prepare(
+    alloc: Global,
+    schema: &Schema,
+    capacity: u16,
+    unit: &Unit,
+    statement: &Statement,
+    held: &mut Held,
+) -> Result<Prepared, AllocError>
+    requires may { MayPrepare schema.now capacity unit.now held.old statement.now }
+    requires other { is_delete statement.now ≡ false }
+    ensures shows { ShowsTheSame held.old held.new }
+    ensures prepared { IfOk result (λ plan. CanFinish schema.now capacity unit.now held.new statement.now plan) }
+    ensures made { IfOk result (λ plan. IsMadeOnEach schema.now capacity unit.now held.old statement.now (made_by schema.now unit.now held.new plan)) }
+{
+    match refused_at_once(schema, capacity, unit, statement) {
+        Some(cause) => Ok(refused(alloc, cause)),
+        None => prepare_passed(alloc, schema, capacity, unit, statement, held),
     }
 }

@@ -1,11 +1,11 @@
 use Rattle.std.proofs.Common.{false, length}
 use Rattle.std.proofs.lemmas.Result.{IfErr-weaker, IfOk-weaker}
 use Rattle.dbtg_command.specs.Refusals.{RefusesReplay}
-use Rattle.dbtg.specs.Replaying.{IsReplay, ReplaysHeld}
+use Rattle.dbtg_replay.specs.Replaying.{IsReplay, ReplaysHeld}
 use Rattle.dbtg_command.specs.Inside.Sources.{StandsIn}
 use Rattle.dbtg_command.specs.Sources.{ToldOfRun, kind_of, order_map}
 use Rattle.dbtg_command.proofs.Public.{OnlyMemory, run_told, same_kind}
-use Rattle.dbtg.proofs.ReplaysRead.{at_hand_replay}
+use Rattle.dbtg.proofs.TextsAtHand.{at_hand_replay}
 use Rattle.dbtg.proofs.replay.replay_bytes.Goals as goal
 
 pub returns-clause-done : goal.returns-clause-done

@@ -2,7 +2,7 @@ use Rattle.std.proofs.Common.{length}
 use Rattle.dbtg_command.specs.declared.order.Order.TheVariants as by
 use Rattle.dbtg_command.specs.declared.order.OrderKind.TheVariants as kind
 use Rattle.dbtg_command.proofs.Public.{run_told}
-use Rattle.dbtg.proofs.ReplaysRead.{at_hand_threads}
+use Rattle.dbtg.proofs.TextsAtHand.{at_hand_threads}
 use Rattle.dbtg.proofs.threads.threads_bytes.Goals as goal
 
 pub returns-in-Ok-clause-done : goal.returns-in-Ok-clause-done

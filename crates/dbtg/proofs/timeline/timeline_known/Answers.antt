@@ -1,5 +1,5 @@
 use Rattle.std.proofs.Common.{◌≡◌, ◌++◌, sym, ap, ◌∙◌, subst}
-use Rattle.dbtg.specs.Ordering.{AreFirstMoves, first_turns, serial_turns}
+use Rattle.dbtg_replay.specs.Ordering.{AreFirstMoves, first_turns, serial_turns}
 use Rattle.dbtg_command.specs.declared.order.OrderKind.TheVariants as kind
 use Rattle.dbtg.proofs.Pictures.{pictures_moves, pictures_serially, pictures_turns}
 use Rattle.dbtg.proofs.timeline.timeline_known.Goals as goal

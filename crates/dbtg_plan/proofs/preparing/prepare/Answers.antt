@@ -1,5 +1,4 @@
 use Rattle.std.proofs.Common.{sym, ◌∙◌, subst}
-use Rattle.dbtg_unit.specs.declared.statement.Statement.{Statement}
 use Rattle.dbtg_unit.specs.Hands.Making.{CanFinish}
 use Rattle.dbtg_unit.specs.Hands.Prepared.{Plan}
 use Rattle.std.proofs.Common.{refl}
@@ -15,8 +14,3 @@ returns-in-Some-clause-prepared c =
 pub returns-in-Some-clause-made : goal.returns-in-Some-clause-made
 returns-in-Some-clause-made c =
     plan_makes c.args.schema.now c.args.capacity c.args.unit.now c.args.statement.now c.refused.result c.args.held.now c.args.held.now c.requires.may (record { areas = refl; cells = refl; guesses = refl }) (returns-in-Some-clause-prepared c)
-
-pub returns-in-Find-clause-made : goal.returns-in-Find-clause-made
-returns-in-Find-clause-made c =
-    plan_makes c.args.schema.now c.args.capacity c.args.unit.now c.args.statement.now c.prepare_find.result c.args.held.now c.args.held.now c.requires.may (record { areas = refl; cells = refl; guesses = refl })
-    (subst (λ (s : Statement). CanFinish c.args.schema.now c.args.capacity c.args.unit.now c.args.held.now s c.prepare_find.result) (sym c.in-Find.is) c.prepare_find.ensures)

@@ -1,0 +1,24 @@
+-- What is printed of texts at hand is what a source that gives them has printed.
+use Rattle.std.proofs.Common.{◌≡◌, ℕ, false, List, length, subst}
+use Rattle.dbtg_command.specs.declared.order.Order.{Order}
+use Rattle.dbtg_command.specs.declared.order.Order.TheVariants.{Serial}
+use Rattle.dbtg_command.specs.declared.order.OrderKind.{OrderKind}
+use Rattle.dbtg_command.specs.Sources.{kind_of}
+use Rattle.dbtg_command.specs.Inside.Sources.{StandsIn}
+use Rattle.dbtg_command.proofs.Public.{all_are, order_is}
+use Rattle.dbtg_replay.specs.Replaying.{IsReplay, ReplaysHeld}
+use Rattle.dbtg.specs.Threading.{IsThreads, ThreadsHeld}
+
+pub at_hand_replay : (schema : List ℕ) (scripts : List (List ℕ)) (order : Order (List ℕ)) (which : OrderKind) (capacity : ℕ) (out : List ℕ) → which ≡ kind_of order
+    → ReplaysHeld (StandsIn schema scripts order) (length scripts) which false false capacity out → IsReplay schema scripts order capacity out
+at_hand_replay schema scripts order which capacity out e held =
+    let texts = held.0 in
+    subst (λ (s : List ℕ). IsReplay s scripts order capacity out) texts.holds_schema
+    (subst (λ (ss : List (List ℕ)). IsReplay texts.schema ss order capacity out) (all_are schema order scripts texts.scripts texts.holds_scripts texts.many)
+    (subst (λ (o : Order (List ℕ)). IsReplay texts.schema texts.scripts o capacity out) (order_is schema scripts order texts.order texts.holds_order (texts.is_kind ∙ e)) held.1))
+
+pub at_hand_threads : (schema : List ℕ) (scripts : List (List ℕ)) (capacity : ℕ) (out turns : List ℕ) → ThreadsHeld (StandsIn schema scripts Serial) (length scripts) capacity out turns → IsThreads schema scripts capacity out turns
+at_hand_threads schema scripts capacity out turns held =
+    let texts = held.0 in
+    subst (λ (s : List ℕ). IsThreads s scripts capacity out turns) texts.holds_schema
+    (subst (λ (ss : List (List ℕ)). IsThreads texts.schema ss capacity out turns) (all_are schema Serial scripts texts.scripts texts.holds_scripts texts.many) held.1)

@@ -1,0 +1,13 @@
+use Rattle.std.proofs.Common.{◌≡◌}
+use Rattle.std.specs.Prelude.{option_map}
+use Rattle.std.proofs.lemmas.Result.{IfOk-weaker}
+use Rattle.dbtg_step.specs.Core.Serial.{SerialRunIs}
+use Rattle.dbtg_replay.specs.Replaying.{IsPrinted, shown_text}
+use Rattle.dbtg_replay.proofs.replay.serial_text.Goals as goal
+
+pub returns : goal.returns
+returns c =
+    let lists = c.args.schema.now in
+    let texts = option_map (λ t. t.now) c.args.echo in
+    IfOk-weaker c.text_of-text.result (λ out. out.items ≡ shown_text lists texts c.in_ok-given.given) (λ out. IsPrinted (SerialRunIs lists c.args.capacity c.args.scripts) (shown_text lists texts) out.items)
+    (λ out text. record { given = c.in_ok-given.given; is_run = c.in_ok-given.ensures; is_text = text }) c.text_of-text.ensures

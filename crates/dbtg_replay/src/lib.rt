@@ -1,0 +1,16 @@
+//! Runs scripts in an order that is told, and says what comes of it: the scripts that a source gives, one after another, by moves or by
+//! turns; and the commands `replay` and `turns`. The shell and the program, which print more of runs, stand on it.
+#![tactic(auto)]
+
+mod first;
+mod ordering;
+pub mod replay;
+mod scripts;
+mod turns;
+
+pub use first::refusals_of_first;
+pub use ordering::{
+    AllMoves, moves_behind_first, moves_of_turns, serial_turns, turns_behind_first, units_in_turn,
+};
+pub use scripts::{Scripts, read_scripts, read_scripts_with_texts};
+pub use turns::moves_for_turns;

@@ -1,0 +1,135 @@
+//! In which order units make their statements: turns, the moves that they stand for, and the script that is made first.
+ghost use Rattle.std.specs.Prelude.{◌≡◌, ◌≤◌, ◌++◌, IfOk, List, OnOk, drop, length, map, replicate, true};
+ghost use Rattle.dbtg_schema.specs.Sound.{IsSound};
+ghost use Rattle.dbtg_unit.specs.declared.moves.Move.{Move};
+ghost use Rattle.dbtg_step.specs.Laws.{scripts_fit};
+ghost use Rattle.dbtg_replay.specs.Ordering.{AreFirstMoves, StandFor, first_turns, serial_turns};
+
+use dbtg_command::copy_scripts;
+use dbtg_schema::{Row, Schema};
+use dbtg_step::run_turns;
+use dbtg_unit::{Entry, Move, Statement};
+use std::alloc::{AllocError, Global};
+
+/// The moves of a run, and how many of them, in front, make the script that is made first.
+#[derive(Drop)]
+pub struct AllMoves {
+    pub moves: Vec<Move>,
+    pub before: usize,
+}
+
+/// The elements of a list but for so many in front.
+pub fn behind<T>(all: &[T], count: usize) -> &[T]
+    ensures { result.now ≡ drop count all.now }
+{
+    &all[count.min(all.len())..]
+}
+
+fn push_turns(turns: &mut Vec<u8>, unit: u8, count: usize) -> Result<(), AllocError>
+    ensures { OnOk result (turns.new.items ≡ turns.old.items ++ replicate count unit) }
+{
+    for _turn in 0..count {
+        turns.push(unit)?;
+    }
+    Ok(())
+}
+
+/// The turns by which one script is made after the other.
+pub fn serial_turns(alloc: Global, scripts: &[Row<Statement>]) -> Result<Vec<u8>, AllocError>
+    requires { length scripts.now ≤ 255 }
+    ensures { IfOk result (λ turns. turns.items ≡ serial_turns 1 scripts.now) }
+{
+    let mut turns = Vec::new(alloc);
+    let mut unit = 0;
+    for script in scripts {
+        unit += 1;
+        push_turns(&mut turns, unit, script.len())?;
+    }
+    Ok(turns)
+}
+
+/// The units of a history, in the order of their tickets.
+pub fn units_in_turn(alloc: Global, history: &[Entry]) -> Result<Vec<u8>, AllocError>
+    ensures { IfOk result (λ units. units.items ≡ map (λ e. e.unit) history.now) }
+{
+    history.iter().map(|entry| entry.unit).collect(alloc)
+}
+
+// The turns by which the last script is made, where it is made first.
+fn first_turns(
+    alloc: Global,
+    first: bool,
+    scripts: &[Row<Statement>],
+) -> Result<Vec<u8>, AllocError>
+    requires { length scripts.now ≤ 255 }
+    ensures { IfOk result (λ turns. turns.items ≡ first_turns first scripts.now) }
+{
+    let mut turns = Vec::new(alloc);
+    if !first {
+        return Ok(turns);
+    }
+    if let Some(script) = scripts.get(scripts.len().saturating_sub(1)) {
+        push_turns(&mut turns, scripts.len() as u8, script.len())?;
+    }
+    Ok(turns)
+}
+
+/// These turns, behind those by which the last script is made, where it is made first.
+pub fn turns_behind_first(
+    alloc: Global,
+    first: bool,
+    scripts: &[Row<Statement>],
+    turns: &[u8],
+) -> Result<Vec<u8>, AllocError>
+    requires { length scripts.now ≤ 255 }
+    ensures { IfOk result (λ all. all.items ≡ first_turns first scripts.now ++ turns.now) }
+{
+    let mut all = first_turns(alloc, first, scripts)?;
+    all.extend_from_slice(turns)?;
+    Ok(all)
+}
+
+/// The moves that turns stand for, all of them.
+pub fn moves_of_turns(
+    alloc: Global,
+    schema: &Schema,
+    capacity: u16,
+    scripts: Row<Row<Statement>>,
+    turns: &[u8],
+) -> Result<Row<Move>, AllocError>
+    requires sound { IsSound schema.now }
+    requires units { length scripts ≤ 255 }
+    requires fit { scripts_fit schema.now scripts ≡ true }
+    ensures { IfOk result (λ moves. StandFor schema.now capacity scripts turns.now moves) }
+{
+    let turned = run_turns(alloc, schema, capacity, scripts, turns, usize::MAX)?;
+    match turned.into_moves() {
+        Some(moves) => Ok(moves),
+        None => Err(AllocError),
+    }
+}
+
+/// These moves, behind those by which the last script is made, where it is made first.
+pub fn moves_behind_first(
+    alloc: Global,
+    first: bool,
+    schema: &Schema,
+    capacity: u16,
+    scripts: &[Row<Statement>],
+    moves: Vec<Move>,
+) -> Result<AllMoves, AllocError>
+    requires sound { IsSound schema.now }
+    requires units { length scripts.now ≤ 255 }
+    requires fit { scripts_fit schema.now scripts.now ≡ true }
+    ensures { IfOk result (λ all. (before : List Move) × AreFirstMoves first schema.now capacity scripts.now before × (all.moves.items ≡ before ++ moves.items) × (all.before ≡ length before)) }
+{
+    if !first {
+        return Ok(AllMoves { moves, before: 0 });
+    }
+    let turns = first_turns(alloc, true, scripts)?;
+    let copies = copy_scripts(alloc, scripts)?;
+    let mut all = moves_of_turns(alloc, schema, capacity, copies, turns.as_slice())?.into_vec();
+    let before = all.len();
+    all.extend_from_slice(moves.as_slice())?;
+    Ok(AllMoves { moves: all, before })
+}

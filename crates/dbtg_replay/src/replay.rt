@@ -1,0 +1,256 @@
+//! Running scripts, and the text of what comes of it.
+ghost use Rattle.std.specs.Prelude.{◌≡◌, ◌++◌, ◌≤◌, IfErr, IfOk, OnOk, true, false, drop, length, map, option_map};
+ghost use Rattle.dbtg_schema.specs.Sound.{IsSound};
+ghost use Rattle.dbtg_script.specs.Statements.{script};
+ghost use Rattle.dbtg_script.specs.Printing.Texts.{moves_text};
+ghost use Rattle.dbtg_step.specs.Machine.Headline.{RunIs};
+ghost use Rattle.dbtg_step.specs.Laws.{scripts_fit};
+ghost use Rattle.dbtg_step.specs.Core.Serial.{SerialRunIs};
+ghost use Rattle.dbtg_command.specs.Refusals.{is_count};
+ghost use Rattle.dbtg_replay.specs.Replaying.{InTurnIs, IsPrinted, ReplaysHeld, RunByTurnsIs, echo_of, shown_text};
+ghost use Rattle.dbtg_command.specs.Sources.{ReadSchema, ReadScripts, ToldOfRun};
+ghost use Rattle.dbtg_command.specs.declared.fault.Fault.TheVariants.{ScriptCount};
+ghost use Rattle.dbtg_command.specs.declared.order.OrderKind.{OrderKind as Kind};
+
+use crate::ordering::{AllMoves, behind, moves_behind_first, serial_turns, turns_behind_first};
+use crate::scripts::{Scripts, read_scripts_with_texts};
+use dbtg_command::{Fault, OrderKind, Source, read_moves, read_schema, read_turns};
+use dbtg_schema::{Row, Schema};
+use dbtg_script::{moves_text, push_echoed_run, push_run};
+use dbtg_step::{Run, run, run_serial, run_turns};
+use dbtg_unit::Statement;
+use std::alloc::{AllocError, Global};
+
+/// Is this a number of scripts that can be run, 1 to 8?
+pub fn check_count(count: usize) -> Result<(), Fault>
+    ensures right { OnOk result (is_count count ≡ true) }
+    ensures wrong { IfErr result (λ fault. (is_count count ≡ false) × (fault ≡ ScriptCount)) }
+{
+    if 1 <= count && count <= 8 {
+        Ok(())
+    } else {
+        Err(Fault::ScriptCount)
+    }
+}
+
+/// The schema of a source that has a right number of scripts.
+pub fn schema_for_run<S: Source>(alloc: Global, source: &S) -> Result<Schema, Fault>
+    ensures counted { OnOk result (is_count (S.count source.now) ≡ true) }
+    ensures read { IfOk result (λ schema. ReadSchema (S.holds source.now) schema) }
+    ensures sound { IfOk result (λ schema. IsSound schema) }
+    ensures refused { IfErr result (λ fault. (which : Kind) → ToldOfRun (S.holds source.now) (S.fails source.now) fault (S.count source.now) which) }
+{
+    check_count(source.count())?;
+    read_schema(alloc, source)
+}
+
+/// Answers, image and units, behind a text; with the scripts' texts the statement of each answer beside it.
+pub fn push_given(
+    alloc: Global,
+    out: &mut Vec<u8>,
+    schema: &Schema,
+    echo: Option<&[Row<u8>]>,
+    given: &Run,
+) -> Result<(), AllocError>
+    ensures { OnOk result (out.new.items ≡ out.old.items ++ shown_text schema.now (option_map (λ t. t.now) echo.entry) given.now) }
+{
+    let history = given.history.as_slice();
+    let units = given.units.as_slice();
+    match echo {
+        None => push_run(alloc, out, schema, history, &given.image, units),
+        Some(texts) => push_echoed_run(alloc, out, schema, texts, history, &given.image, units),
+    }
+}
+
+// What a run gives, as a text of its own.
+fn text_of(
+    alloc: Global,
+    schema: &Schema,
+    echo: Option<&[Row<u8>]>,
+    given: &Run,
+) -> Result<Vec<u8>, AllocError>
+    ensures { IfOk result (λ out. out.items ≡ shown_text schema.now (option_map (λ t. t.now) echo.entry) given.now) }
+{
+    let mut out = Vec::new(alloc);
+    push_given(alloc, &mut out, schema, echo, given)?;
+    Ok(out)
+}
+
+// The same, behind the line of what the moves came to, but for so many of them.
+fn text_with_moves(
+    alloc: Global,
+    schema: &Schema,
+    echo: Option<&[Row<u8>]>,
+    given: &Run,
+    before: usize,
+) -> Result<Vec<u8>, AllocError>
+    ensures { IfOk result (λ out. out.items ≡ moves_text (drop before given.now.results) ++ shown_text schema.now (option_map (λ t. t.now) echo.entry) given.now) }
+{
+    let mut out = moves_text(alloc, behind(given.results.as_slice(), before))?;
+    push_given(alloc, &mut out, schema, echo, given)?;
+    Ok(out)
+}
+
+// Runs one script after the other.
+fn serial_text(
+    alloc: Global,
+    schema: &Schema,
+    capacity: u16,
+    scripts: Row<Row<Statement>>,
+    echo: Option<&[Row<u8>]>,
+) -> Result<Vec<u8>, AllocError>
+    requires sound { IsSound schema.now }
+    requires units { length scripts ≤ 255 }
+    requires fit { scripts_fit schema.now scripts ≡ true }
+    ensures { IfOk result (λ out. IsPrinted (SerialRunIs schema.now capacity scripts) (shown_text schema.now (option_map (λ t. t.now) echo.entry)) out.items) }
+{
+    let given = run_serial(alloc, schema, capacity, scripts)?;
+    let text = text_of(alloc, schema, echo, &given);
+    given.discard();
+    text
+}
+
+// Makes these moves; the line of what they came to leaves out those that make the first script.
+fn moved_text(
+    alloc: Global,
+    schema: &Schema,
+    capacity: u16,
+    scripts: Row<Row<Statement>>,
+    all: &AllMoves,
+    echo: Option<&[Row<u8>]>,
+) -> Result<Vec<u8>, AllocError>
+    requires sound { IsSound schema.now }
+    requires units { length scripts ≤ 255 }
+    requires fit { scripts_fit schema.now scripts ≡ true }
+    ensures { IfOk result (λ out. IsPrinted (RunIs schema.now capacity scripts all.now.moves.items) (λ given. moves_text (drop all.now.before given.results) ++ shown_text schema.now (option_map (λ t. t.now) echo.entry) given) out.items) }
+{
+    let given = run(alloc, schema, capacity, scripts, all.moves.as_slice())?;
+    let text = text_with_moves(alloc, schema, echo, &given, all.before);
+    given.discard();
+    text
+}
+
+// Takes these turns. The moves that they stand for are not asked for.
+fn turned_text(
+    alloc: Global,
+    schema: &Schema,
+    capacity: u16,
+    scripts: Row<Row<Statement>>,
+    turns: &[u8],
+    echo: Option<&[Row<u8>]>,
+) -> Result<Vec<u8>, AllocError>
+    requires sound { IsSound schema.now }
+    requires units { length scripts ≤ 255 }
+    requires fit { scripts_fit schema.now scripts ≡ true }
+    ensures { IfOk result (λ out. IsPrinted (RunByTurnsIs schema.now capacity scripts turns.now) (shown_text schema.now (option_map (λ t. t.now) echo.entry)) out.items) }
+{
+    let given = run_turns(alloc, schema, capacity, scripts, turns, 0)?;
+    let text = text_of(alloc, schema, echo, &given.run);
+    given.discard();
+    text
+}
+
+// Runs one script after the other; the last one before all others, where it is made first.
+fn in_turn_text(
+    alloc: Global,
+    schema: &Schema,
+    capacity: u16,
+    first: bool,
+    scripts: Row<Row<Statement>>,
+    echo: Option<&[Row<u8>]>,
+) -> Result<Vec<u8>, AllocError>
+    requires sound { IsSound schema.now }
+    requires units { length scripts ≤ 255 }
+    requires fit { scripts_fit schema.now scripts ≡ true }
+    ensures { IfOk result (λ out. IsPrinted (InTurnIs first schema.now capacity scripts) (shown_text schema.now (option_map (λ t. t.now) echo.entry)) out.items) }
+{
+    if !first {
+        return serial_text(alloc, schema, capacity, scripts, echo);
+    }
+    let serial = serial_turns(alloc, scripts.as_slice())?;
+    let turns = turns_behind_first(alloc, true, scripts.as_slice(), serial.as_slice())?;
+    turned_text(alloc, schema, capacity, scripts, turns.as_slice(), echo)
+}
+
+fn echo_of(echo: bool, texts: &Row<Row<u8>>) -> Option<&[Row<u8>]>
+    ensures { option_map (λ t. t.now) result ≡ echo_of echo texts.now }
+{
+    if echo { Some(texts.as_slice()) } else { None }
+}
+
+/// What is printed of the run of scripts that were read, with their texts, in the order that is told.
+fn replay_read<S: Source>(
+    alloc: Global,
+    source: &S,
+    known: &Schema,
+    capacity: u16,
+    scripts: Row<Row<Statement>>,
+    texts: &Row<Row<u8>>,
+    echo: bool,
+    first: bool,
+) -> Result<Vec<u8>, Fault>
+    requires counted { is_count (S.count source.now) ≡ true }
+    requires read { ReadSchema (S.holds source.now) known.now }
+    requires sound { IsSound known.now }
+    requires scripts { (read : ReadScripts (S.holds source.now) known.now (S.count source.now)) × (scripts ≡ map (script known.now) read.texts) × (texts.now ≡ read.texts) }
+    requires many { length scripts ≡ S.count source.now }
+    requires fitting { scripts_fit known.now scripts ≡ true }
+    ensures done { IfOk result (λ out. ReplaysHeld (S.holds source.now) (S.count source.now) (S.order source.now) first echo capacity out.items) }
+    ensures refused { IfErr result (λ fault. ToldOfRun (S.holds source.now) (S.fails source.now) fault (S.count source.now) (S.order source.now)) }
+{
+    let shown = echo_of(echo, texts);
+    let statements = scripts.as_slice();
+    match source.order() {
+        OrderKind::Serial => Ok(in_turn_text(alloc, known, capacity, first, scripts, shown)?),
+        OrderKind::Moves => {
+            let moves = read_moves(alloc, source)?;
+            let all = moves_behind_first(alloc, first, known, capacity, statements, moves)?;
+            Ok(moved_text(alloc, known, capacity, scripts, &all, shown)?)
+        }
+        OrderKind::Turns => {
+            let given = read_turns(alloc, source)?;
+            let turns = turns_behind_first(alloc, first, statements, given.as_slice())?;
+            Ok(turned_text(alloc, known, capacity, scripts, turns.as_slice(), shown)?)
+        }
+    }
+}
+
+/// What is printed of the scripts over a schema that was read.
+fn replay_known<S: Source>(
+    alloc: Global,
+    source: &S,
+    known: &Schema,
+    capacity: u16,
+    echo: bool,
+    first: bool,
+) -> Result<Vec<u8>, Fault>
+    requires counted { is_count (S.count source.now) ≡ true }
+    requires read { ReadSchema (S.holds source.now) known.now }
+    requires sound { IsSound known.now }
+    ensures done { IfOk result (λ out. ReplaysHeld (S.holds source.now) (S.count source.now) (S.order source.now) first echo capacity out.items) }
+    ensures refused { IfErr result (λ fault. ToldOfRun (S.holds source.now) (S.fails source.now) fault (S.count source.now) (S.order source.now)) }
+{
+    let Scripts { statements, texts } = read_scripts_with_texts(alloc, source, known)?;
+    replay_read(
+        alloc, source, known, capacity, statements, &texts, echo, first,
+    )
+}
+
+/// What `replay` prints of the schema, the scripts and the moves or turns that a source gives, or the first fault. Without moves and
+/// turns one script runs after the other. Before all others the last script is made, where it is made first. With an echo each answer
+/// has its statement beside it.
+pub fn replay<S: Source>(
+    alloc: Global,
+    source: &S,
+    capacity: u16,
+    echo: bool,
+    first: bool,
+) -> Result<Vec<u8>, Fault>
+    ensures done { IfOk result (λ out. ReplaysHeld (S.holds source.now) (S.count source.now) (S.order source.now) first echo capacity out.items) }
+    ensures refused { IfErr result (λ fault. ToldOfRun (S.holds source.now) (S.fails source.now) fault (S.count source.now) (S.order source.now)) }
+{
+    let known = schema_for_run(alloc, source)?;
+    let said = replay_known(alloc, source, &known, capacity, echo, first);
+    known.discard();
+    said
+}

@@ -1,0 +1,3 @@
+mod SessionSteps
+mod SessionTurns
+mod ShellReplies

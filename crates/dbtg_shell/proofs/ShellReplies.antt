@@ -1,0 +1,73 @@
+-- What is told of a line.
+use Rattle.std.proofs.Common.{◌≡◌, ℕ, ◌+◌, ◌-◌, List, [], ◌∷◌, ◌++◌, length, Some, slice_get, inl, inr, ap, sym, ◌∙◌, subst, arith, length-append, IfOk, Result, Ok, Err}
+use Rattle.std.specs.Prelude.{OnErr}
+use Rattle.dbtg_schema.specs.Lists.{Lists}
+use Rattle.dbtg_cells.proofs.Public.{get_behind}
+use Rattle.dbtg_unit.specs.declared.unit.Entry.{Entry}
+use Rattle.dbtg_script.specs.declared.fault.Cause.{Cause}
+use Rattle.dbtg_shell.specs.Asking.{asked_of, behind_spaces, turn_after}
+use Rattle.dbtg_shell.specs.Sessions.{Answers, IsFaultText, IsLastAnswer, IsNoUnit, IsText, IsUnmade, RefusesLine, TakesAsked, TakesLine, Typed, answer_reply, no_unit_text}
+use Rattle.dbtg_shell.specs.declared.asked.Asked.{Asked}
+use Rattle.dbtg_shell.specs.declared.commands.Reply.{Reply}
+use Rattle.dbtg_shell.specs.declared.commands.Reply.TheVariants as reply
+use Rattle.dbtg_shell.specs.declared.session.Refusal.TheVariants.{Fault}
+
+-- THE LAST ENTRY
+
+last_entry : (history before : List Entry) (e : Entry) → history ≡ before ++ e ∷ [] → slice_get history (length history - 1) ≡ Some e
+last_entry history before e is =
+    let many : length history ≡ length before + 1 = ap length is ∙ length-append before (e ∷ []) in
+    let place : length history - 1 ≡ length before = omega (arith, many) in
+    ap (slice_get history) place ∙ ap (λ (es : List Entry). slice_get es (length before)) is ∙ get_behind before e []
+
+pub is_last : (typed : Typed) (schema : Lists) (one : Entry) (out : List ℕ) → Some one ≡ slice_get typed.making.history (length typed.making.history - 1) → schema ≡ typed.making.schema → out ≡ answer_reply schema one → IsLastAnswer typed out
+is_last typed schema one out at same told = λ before e is.
+    let found : Some one ≡ Some e = at ∙ last_entry typed.making.history before e is in
+    let entry : one ≡ e = cc (found) in
+    subst (λ (s : Lists). out ≡ answer_reply s e) same (subst (λ (x : Entry). out ≡ answer_reply schema x) entry told)
+
+-- WHAT IS TOLD
+
+-- what holds whatever comes out
+pub if_ok : {A E : Type 0} (result : Result A E) (P : Type 0) → P → IfOk result (λ x. P)
+if_ok (Ok x) P p = p
+if_ok (Err e) P p = tt
+
+pub on_err : {A E : Type 0} (result : Result A E) (P : Type 0) → P → OnErr result P
+on_err (Ok x) P p = tt
+on_err (Err e) P p = p
+
+is_text : (A B : List ℕ → Type 0) (r : Reply) → ((out : List ℕ) → A out → B out) → IsText A r → IsText B r
+is_text A B (reply.Text out) f told = f out.items told
+is_text A B reply.Untold f told = told
+is_text A B (reply.Save directory) f told = told
+is_text A B (reply.Load path) f told = told
+is_text A B reply.Quit f told = told
+
+-- a line comes to nothing where there is no such unit, and where it has a fault
+module _ {E : Type 0} (u : ℕ) (old new : Typed) (line : List ℕ) (result : Result Reply E) (same : new ≡ old) where
+  unmade : (A : List ℕ → Type 0) → ((out : List ℕ) → A out → IsUnmade old u line out) → IfOk result (IsText A) → TakesLine u old line result new
+  unmade A f told = taken result told
+    where
+      taken : (r : Result Reply E) → IfOk r (IsText A) → TakesLine u old line r new
+      taken (Ok it) h = inr (same, is_text A (IsUnmade old u line) it f h)
+      taken (Err e) h = same
+
+  pub without_unit : IsNoUnit old.making.units u → IfOk result (IsText (λ out. out ≡ no_unit_text old.making.units)) → TakesLine u old line result new
+  without_unit none told = unmade (λ out. out ≡ no_unit_text old.making.units) (λ out h. inl (none, h)) told
+
+  pub with_fault : (cause : Cause) → RefusesLine (Fault cause) old u line → IfOk result (IsText (IsFaultText cause)) → TakesLine u old line result new
+  with_fault cause refused told = unmade (IsFaultText cause) (λ out h. inr (inr (cause, refused, h))) told
+
+-- WHAT A LINE ASKS FOR IS DONE
+
+pub answered : {E : Type 0} (line : List ℕ) (turn turn_now : ℕ) (old new : Typed) (told : Result Reply E) (one asked : Asked)
+    → asked_of line (behind_spaces line) one → one ≡ asked → TakesAsked turn old asked told new → IfOk told (λ x. turn_now ≡ turn_after old.making.units turn asked) → OnErr told (turn_now ≡ turn)
+    → Answers line turn old told turn_now new
+answered line turn turn_now old new told one asked read is done given kept = record {
+  one = one;
+  is_read = read;
+  is_done = subst (λ (it : Asked). TakesAsked turn old it told new) (sym is) done;
+  given = subst (λ (it : Asked). IfOk told (λ x. turn_now ≡ turn_after old.making.units turn it)) (sym is) given;
+  kept = kept;
+}

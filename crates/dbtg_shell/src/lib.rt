@@ -1,0 +1,16 @@
+//! The shell: statements are read a line at a time, each is made whole and answered at once. It stands on what runs scripts in order, since
+//! it saves the scripts and the turns by which they are made again.
+#![tactic(auto)]
+
+mod asked;
+mod commands;
+mod dialogue;
+mod replies;
+mod saved;
+mod session;
+mod writing;
+
+pub use commands::{Reply, Shell};
+pub use dialogue::{Broken, converse};
+pub use session::{Refusal, Script, Session};
+pub use writing::write_file;

@@ -1,0 +1,115 @@
+//! What the shell replies to a line: texts of answers, faults and currents.
+ghost use Rattle.std.specs.Prelude.{◌≡◌, ◌-◌, ◌%◌, ◌≤◌, ◌<◌, [], IfOk, OnOk, Some, option_map, slice_get};
+ghost use Rattle.dbtg_script.specs.Printing.Texts.{image_text, unit_text, units_text};
+ghost use Rattle.dbtg_step.specs.Core.Whole.{state_now};
+ghost use Rattle.dbtg_unit.specs.Database.State.Image.{image_of};
+ghost use Rattle.dbtg_shell.specs.Sessions.{IsFaultText, answer_reply, cause_name, no_unit_text};
+
+use crate::session::Session;
+use dbtg_command::explain::{CAUSES, Kind, field, line_of, meaning_of, row_with, said_of_word};
+use dbtg_schema::Schema;
+use dbtg_script::{
+    Cause, image_text, in_front, push_answer, push_named_answer, push_number, push_unit, units_text,
+};
+use dbtg_unit::Entry;
+use std::alloc::{AllocError, Global};
+
+/// What the cause of a refusal is called, as the command explain names it.
+fn cause_name(status: u16) -> Option<&'static [u8]>
+    ensures { option_map (λ name. name.now) result ≡ cause_name (status % 100) }
+{
+    let row = row_with(CAUSES, status % 100)?;
+    Some(field(row, 1))
+}
+
+/// The answer of an entry, as `replay` prints it; a refusal with the name of its cause.
+pub fn push_answer_reply(
+    out: &mut Vec<u8>,
+    schema: &Schema,
+    entry: &Entry,
+) -> Result<(), AllocError>
+    requires { out.old.items ≡ [] }
+    ensures { OnOk result (out.new.items ≡ answer_reply schema.now entry.now) }
+{
+    let status = entry.answer.status.code(&entry.statement);
+    if status == 0 {
+        return push_answer(out, schema, entry);
+    }
+    match cause_name(status) {
+        Some(name) => push_named_answer(out, schema, entry, name),
+        None => push_answer(out, schema, entry),
+    }
+}
+
+// What is meant where a command is typed without its period.
+fn hint_for(line: &[u8]) -> &'static [u8] {
+    match in_front(in_front(line, b'\r'), b' ') {
+        b"quit" | b"exit" | b"QUIT" | b"EXIT" | b"q" => b"; .quit ends the shell",
+        b"help" | b"HELP" | b"?" => b"; .help shows what can be typed",
+        _ => b"",
+    }
+}
+
+/// The fault of a line: its number, and what is said of the word that is at fault, or what the fault means.
+pub fn fault_reply(
+    alloc: Global,
+    schema: &Schema,
+    line: &[u8],
+    cause: Cause,
+) -> Result<Vec<u8>, AllocError>
+    ensures { IfOk result (λ out. IsFaultText cause out.items) }
+{
+    let number = cause.number();
+    let meaning = meaning_of(Kind::Script, number);
+    let word = said_of_word(alloc, schema, line_of(line, 1), number, meaning)?;
+    let mut out = Vec::from_slice(alloc, b"fault ")?;
+    push_number(&mut out, number as u64)?;
+    out.extend_from_slice(b": ")?;
+    out.extend_from_slice(if word.is_empty() {
+        meaning
+    } else {
+        word.as_slice()
+    })?;
+    out.extend_from_slice(hint_for(line))?;
+    out.push(b'\n')?;
+    Ok(out)
+}
+
+/// The line that tells that there is no such unit among so many.
+pub fn no_unit_reply(alloc: Global, units: usize) -> Result<Vec<u8>, AllocError>
+    ensures { IfOk result (λ out. out.items ≡ no_unit_text units) }
+{
+    let mut out = Vec::from_slice(
+        alloc,
+        b"there is no such unit: they are numbered from 1 to ",
+    )?;
+    push_number(&mut out, units as u64)?;
+    out.push(b'\n')?;
+    Ok(out)
+}
+
+/// The records, the lists of the sets, the least free numbers, and who has each area open.
+pub fn database_reply(alloc: Global, session: &Session<'_>) -> Result<Vec<u8>, AllocError>
+    ensures { IfOk result (λ out. let m = session.now.making in let image = image_of m.schema m.capacity (state_now m).database in out.items ≡ image_text m.schema image.records image.lists image.next image.usage) }
+{
+    image_text(alloc, session.schema(), &session.image()?)
+}
+
+/// The currents of all units.
+pub fn units_reply(alloc: Global, session: &Session<'_>) -> Result<Vec<u8>, AllocError>
+    ensures { IfOk result (λ out. out.items ≡ units_text session.now.making.schema (state_now session.now.making).units) }
+{
+    units_text(alloc, session.schema(), session.units())
+}
+
+/// The currents of the unit of this number.
+pub fn unit_reply(alloc: Global, session: &Session<'_>, unit: u8) -> Result<Vec<u8>, AllocError>
+    requires low { 0 < unit }
+    requires high { unit ≤ session.now.making.units }
+    ensures { IfOk result (λ out. option_map (unit_text session.now.making.schema) (slice_get (state_now session.now.making).units (unit - 1)) ≡ Some out.items) }
+{
+    let mut out = Vec::new(alloc);
+    let shown = &session.units()[unit as usize - 1];
+    push_unit(&mut out, session.schema(), shown)?;
+    Ok(out)
+}
