@@ -14,7 +14,7 @@ use dbtg_script::{
     read_script, units_text,
 };
 use dbtg_step::{Core, Run, audit, run, run_serial};
-use dbtg_unit::{Move, Statement, Stepped};
+use dbtg_unit::{Entry, Move, Statement, Stepped};
 use hands::by_hand;
 use replay::replay_bytes;
 use std::alloc::{AllocError, Global};
@@ -251,6 +251,31 @@ fn is_audited(rt: &HostRuntime, schema: &Schema, given: &Run) -> Option<bool> {
     None
 }
 
+// Texts with a fault that is found before a statement is kept, with the fault's line: the answer is the fault, whatever is refused.
+fn judge_texts(rt: &HostRuntime, schema: &Schema) {
+    let texts = [
+        (1, b"GOT\nGET".as_slice()),
+        (3, b"* a note\n\nGOT".as_slice()),
+        (2, b"* a note\nSTORE CUSTOMER CNAME = \"ADA".as_slice()),
+        (1, b"GET\tCUSTOMER".as_slice()),
+    ];
+    for (at, text) in texts {
+        match read_script(rt.alloc(), schema, text) {
+            Err(ScriptFault::Refused { line, .. }) if line == at => {}
+            _ => tell(rt, "a fault that is not told at once"),
+        }
+    }
+}
+
+// Lists whose tickets do not begin with 0, or whose units are not there: they are no histories, whatever is refused.
+fn judge_lists(rt: &HostRuntime, schema: &Schema, history: &[Entry]) {
+    for (units, list) in [(2, &history[1..]), (1, history)] {
+        if !matches!(audit(rt.alloc(), schema, CAPACITY, units, list), Ok(None)) {
+            tell(rt, "a list that is not judged at once");
+        }
+    }
+}
+
 // The bytes of both scripts.
 fn script_bytes(rt: &HostRuntime) -> Option<Vec<Row<u8>>> {
     for _ in 0..2 {
@@ -330,6 +355,8 @@ fn all<R: Threads + Wait + Sync>(rt: &HostRuntime, threads: &R) -> Option<(Vec<u
             tell(rt, "a history that is none");
         }
     }
+    judge_texts(rt, &schema);
+    judge_lists(rt, &schema, given.history.as_slice());
     let out = text(rt, &schema, &given)?;
     if text(rt, &schema, &whole)?.as_slice() != out.as_slice() {
         tell(rt, "a run that comes to something else");

@@ -26,7 +26,7 @@ abbrev pub IsPicture : Picture → Type 0
 IsPicture (Number n) = (1 ≤ n) × (n ≤ 18)
 IsPicture (Text n) = (1 ≤ n) × (n ≤ 64)
 
--- the CALC clause of a record type with so many items
+-- the CALC clause of a record type with this number of items
 pub record IsCalc (items : ℕ) (calc : Calc) : Type 0 where
   pub some_item : 0 < length calc.items
   pub items_limit : length calc.items ≤ 4

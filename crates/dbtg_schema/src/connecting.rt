@@ -58,7 +58,7 @@ fn sets_connecting(schema: &Schema, rtype: RecordNo) -> SetMarks
     SetMarks { marks }
 }
 
-/// The same of each record type.
+/// The same for each record type.
 pub fn sets_connecting_each(alloc: Global, schema: &Schema) -> Result<Row<SetMarks>, AllocError>
     ensures { IfOk result (λ each. AreConnectingOfEach each schema.now) }
 {

@@ -54,7 +54,7 @@ fn leads_by(schema: &Schema, set: SetNo, owner: RecordNo, member: RecordNo) -> b
     schema.owns(set, owner) && schema.member_clause(set, member).is_some()
 }
 
-/// Does a set lead from this owner type to this member type? There are so many sets.
+/// Does one of the schema's sets lead from this owner type to this member type? `sets` is how many it has.
 #[tactic(auto, unfolding(crate::specs::Inside::Erasing::leads_to))]
 fn leads(schema: &Schema, sets: u8, owner: RecordNo, member: RecordNo) -> bool
     requires { sets ≡ length schema.now.sets }
@@ -153,7 +153,7 @@ fn is_given_by(table: &[[bool; 16]], marks: &[bool], row: u8, number: u8) -> boo
     is_marked(marks, row) && marked_in(table, row, number)
 }
 
-/// Has a marked row this mark? There are so many rows.
+/// Does a marked row, among the first `rows` of the table, have this mark?
 #[tactic(auto, unfolding(crate::specs::Inside::Erasing::is_given))]
 fn is_given(table: &[[bool; 16]], rows: u8, marks: &[bool], number: u8) -> bool
     ensures { result ≡ is_given table.now rows marks.now number }
@@ -207,7 +207,7 @@ fn areas_reached(schema: &Schema, ways: &Ways, rtype: RecordNo) -> AreaSet
     AreaSet { members }
 }
 
-/// The same of each record type.
+/// The same for each record type.
 pub fn areas_of_each(alloc: Global, schema: &Schema) -> Result<Row<AreaSet>, AllocError>
     ensures { IfOk result (λ each. AreErasedOfEach each schema.now) }
 {

@@ -47,11 +47,11 @@ pub struct Schema {
     types: Row<RecordType>,
     sets: Row<SetType>,
     index: SchemaIndex,
-    /// Of each record type the sets in which STORE connects its records, and those that it owns.
+    /// For each record type: the sets in which STORE connects its records, and those that it owns.
     sets_of_types: Row<SetsOfType>,
-    /// Of each record type the sets in which STORE connects its records; of none while they are worked out.
+    /// For each record type: the sets in which STORE connects its records. Empty while they are worked out.
     connecting: Row<SetMarks>,
-    /// Of each record type the areas that a DELETE may reach; of none while they are worked out.
+    /// For each record type: the areas that a DELETE may reach. Empty while they are worked out.
     erased: Row<AreaSet>,
 }
 

@@ -67,7 +67,7 @@ fn sets_of_type(alloc: Global, sets: &[SetType], rtype: RecordNo) -> Result<Sets
     Ok(SetsOfType { automatic, owned })
 }
 
-/// The sets of each of so many record types.
+/// The sets of each record type, by its number.
 pub fn sets_of_each(
     alloc: Global,
     sets: &[SetType],

@@ -1,4 +1,5 @@
 mod Fitting
 mod Reading
 mod Printing
+mod Rows
 pub mod Public

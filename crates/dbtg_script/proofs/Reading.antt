@@ -2,6 +2,7 @@
 -- May use: the lemmas on grammars of dbtg_schema.
 -- Promises: `Accepted`, `NoFault`: a line without faults is derived, and one that is derived has no fault of the grammar; `KnownLines`: a line that is found is read as before.
 pub mod Accepted
+pub mod AtOnce
 pub mod Derived
 pub mod Firsts
 pub mod Kinds

@@ -54,7 +54,7 @@ abbrev pub quit_of : Option ℕ → Option (Move × ℕ)
 quit_of None = None
 quit_of (Some u) = Some (Quit u, 1)
 
--- so many steps of a unit
+-- the steps of a unit, and how many
 abbrev pub steps_of : Option (ℕ × ℕ) → Option (Move × ℕ)
 steps_of None = None
 steps_of (Some r) = Some (Step r.0, r.1)
@@ -82,12 +82,12 @@ abbrev pub total_after : {A : Type 0} → ℕ → Option (A × ℕ) → ℕ
 total_after total None = total
 total_after total (Some m) = total + m.1
 
--- what is wrong with a word behind so many entries: it is of another shape, or the total passes 1,000,000 with it
+-- what is wrong with a word behind `total` entries: it is of another shape, or it brings the total over 1,000,000
 abbrev pub word_faults : {A : Type 0} → ℕ → Option (A × ℕ) → List MovesCause
 word_faults total None = NotAMove ∷ []
 word_faults total (Some m) = if nat_lt 1000000 (total + m.1) then TooManyMoves ∷ [] else []
 
--- every fault of what words say, of which the first has this number, behind so many entries: the number of the word, and the cause
+-- every fault of what words say, behind `total` entries. The first word has this number; a fault has its word's number and its cause
 abbrev pub faults_from : {A : Type 0} → ℕ → ℕ → List (Option (A × ℕ)) → List (ℕ × MovesCause)
 faults_from total number [] = []
 faults_from total number (s ∷ ss) = map (λ c. (number, c)) (word_faults total s) ++ faults_from (total_after total s) (number + 1) ss

@@ -1,5 +1,5 @@
 -- The refusal, as it is reached from left to right.
-use Rattle.std.specs.Prelude.{◌≡◌, ℕ, not, ◌&&◌, nat_le, false, List, [], ◌∷◌, ◌++◌, Option, Some, Result, MatchResult, if◌then◌else◌}
+use Rattle.std.specs.Prelude.{◌≡◌, ℕ, ◌+◌, not, ◌&&◌, nat_le, false, List, [], ◌∷◌, ◌++◌, map, Option, Some, Result, MatchResult, if◌then◌else◌}
 use Rattle.dbtg_schema.specs.Lists.{Lists}
 use Rattle.dbtg_schema.specs.Lookups.{first}
 use Rattle.dbtg_schema.specs.Texts.Forms.{by_start, start_with, starts}
@@ -10,10 +10,10 @@ use Rattle.dbtg_script.specs.declared.fault.LineFault.{LineFault}
 use Rattle.dbtg_script.specs.declared.fault.LineFault.TheVariants as line
 use Rattle.dbtg_script.specs.declared.fault.ScriptFault.{ScriptFault}
 use Rattle.dbtg_script.specs.declared.fault.ScriptFault.TheVariants as script
-use Rattle.dbtg_script.specs.Lines.{ends_in_text, is_allowed, is_statement}
+use Rattle.dbtg_script.specs.Lines.{ends_in_text, is_allowed, is_statement, lines, trimmed}
 use Rattle.dbtg_script.specs.Tokens.{Token, tokens}
 use Rattle.dbtg_script.specs.StatementGrammar.{Form, Labelled, fits, statement}
-use Rattle.dbtg_script.specs.StatementFaults.{at_other, faults_from, said, when}
+use Rattle.dbtg_script.specs.StatementFaults.{at_other, faults_from, said, too_long, when}
 
 -- the first fault of a line from here on
 unfoldable pub verdict : Lists → List Labelled → Form → List Token → Option Cause
@@ -37,6 +37,16 @@ faults_at_once schema count line =
 -- the first of these faults is told, and not want of memory
 abbrev pub IsToldAtOnce : {A : Type 0} → List Cause → Result A LineFault → Type 0
 IsToldAtOnce causes result = (c : Cause) → first causes ≡ Some c → MatchResult result (λ _. ⊥) (λ e. e ≡ line.Refused c)
+
+-- the faults of lines that are found before a statement is kept; the first line has this number
+abbrev pub lines_faults_at_once : Lists → ℕ → List (List ℕ) → List Fault
+lines_faults_at_once schema number [] = []
+lines_faults_at_once schema number (l ∷ ls) =
+    map (λ c. record { line = number; cause = c }) (faults_at_once schema 0 (trimmed l)) ++ (if is_statement (trimmed l) then [] else lines_faults_at_once schema (number + 1) ls)
+
+-- the faults of a script that are found before a statement is kept
+abbrev pub script_faults_at_once : Lists → List ℕ → List Fault
+script_faults_at_once schema text = too_long text ++ lines_faults_at_once schema 1 (lines text)
 
 -- the line is refused with this fault, unless memory ran out
 abbrev pub Refuses : LineFault → Option Cause → Type 0

@@ -223,7 +223,7 @@ fn spelled_move(text: &[u8]) -> Option<(Move, u64)>
     }
 }
 
-/// Puts an entry so many times behind others.
+/// Appends an entry `count` times.
 pub fn push_times<T: Copy>(entries: &mut Vec<T>, one: T, count: u64) -> Result<(), AllocError>
     ensures { OnOk result (entries.new.items ≡ entries.old.items ++ replicate count one) }
 {

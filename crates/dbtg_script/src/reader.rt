@@ -5,16 +5,17 @@ ghost use Rattle.dbtg_script.specs.Inside.Automaton.{rest_of};
 ghost use Rattle.dbtg_schema.specs.Lookups.{first};
 ghost use Rattle.dbtg_schema.specs.Lists.{Lists};
 ghost use Rattle.dbtg_script.specs.Inside.Known.{IsKnown, Says};
-ghost use Rattle.dbtg_script.specs.Lines.{ends_in_text, trimmed};
-ghost use Rattle.dbtg_script.specs.Reading.{IsToldAtOnce, Refuses, RefusesScript, faults_at, faults_at_once, first_word_faults, verdict};
-ghost use Rattle.dbtg_script.specs.Inside.Reading.{at_line};
+ghost use Rattle.dbtg_script.specs.Lines.{ends_in_text, is_statement, trimmed};
+ghost use Rattle.dbtg_script.specs.Reading.{IsToldAtOnce, Refuses, RefusesScript, faults_at, faults_at_once, first_word_faults, script_faults_at_once, verdict};
+ghost use Rattle.dbtg_script.specs.Inside.Reading.{MayTakeMemory, at_line};
 ghost use Rattle.dbtg_script.specs.StatementFaults.{line_faults, refusal, statement_faults, when};
 ghost use Rattle.dbtg_script.specs.Statements.{line_statement, prepend, script, statement_of};
 ghost use Rattle.dbtg_script.specs.StatementGrammar.{fits, statement};
 ghost use Rattle.dbtg_script.specs.Tokens.{Token as SeenToken, tokens, view};
-ghost use Rattle.std.specs.Prelude.{◌≡◌, ◌<◌, ◌∷◌, ◌++◌, ℕ, List, [], None, IfErr, IfOk, IfSome, MatchResult, OnOk, false, true, length};
+ghost use Rattle.std.specs.Prelude.{◌≡◌, ◌<◌, ◌∷◌, ◌++◌, ℕ, List, [], None, IfErr, IfOk, IfSome, MatchResult, OnErr, OnOk, Some, false, true, length};
 ghost use Rattle.std.specs.List.{list_all};
 ghost use Rattle.dbtg_schema.specs.Sound.{IsSound};
+ghost use Rattle.dbtg_script.specs.declared.fault.Fault.{Fault as SeenFault};
 ghost use Rattle.dbtg_unit.specs.Database.Statements.Fits.{fits as statement_fits};
 
 use crate::automaton::{State, follow};
@@ -109,7 +110,7 @@ fn read_statement<'a>(
     }
 }
 
-/// The statement of a line behind so many statements, if it holds one.
+/// The statement of a line behind `count` statements, if it holds one.
 fn read_line<'a>(
     alloc: Global,
     words: &mut Words<'a>,
@@ -121,6 +122,7 @@ fn read_line<'a>(
     ensures statement { IfOk result (λ s. s ≡ line_statement words.old.schema line.now) }
     ensures refused { IfErr result (λ e. Refuses e (first (line_faults words.old.schema count line.now))) }
     ensures at_once { IsToldAtOnce (faults_at_once words.old.schema count line.now) result }
+    ensures note { is_statement line.now ≡ false → IfErr result (λ e. e ≡ LineFault.Memory → ⊥) }
 {
     let holds_one = is_statement(line);
     if holds_one && 65535 <= count {
@@ -135,8 +137,8 @@ fn read_line<'a>(
     Ok(Some(read_statement(alloc, words, line)?))
 }
 
-/// The statement of one more line of a script that has so many statements; none where the line is a note or blank. A fault of the
-/// line as a whole, or of its first word, is never told as want of memory.
+/// The statement of one more line, behind `count` statements of a script; none where the line is a note or blank. Want of memory is
+/// never told of such a line, nor in place of a fault of the line as a whole or of its first word.
 pub fn read_script_line(
     alloc: Global,
     schema: &Schema,
@@ -148,6 +150,7 @@ pub fn read_script_line(
     ensures fitting { IsSound schema.now → IfOk result (λ s. IfSome s (λ x. statement_fits schema.now x ≡ true)) }
     ensures refused { IfErr result (λ e. Refuses e (first (line_faults schema.now count (trimmed line.now)))) }
     ensures at_once { IsToldAtOnce (faults_at_once schema.now count (trimmed line.now)) result }
+    ensures note { is_statement (trimmed line.now) ≡ false → IfErr result (λ e. e ≡ LineFault.Memory → ⊥) }
 {
     let mut words = Words::new(alloc, schema);
     read_line(alloc, &mut words, count, trimmed(line))
@@ -160,7 +163,8 @@ fn said_again(
     statements: &[Statement],
     line: &[u8],
 ) -> Result<Option<Statement>, AllocError>
-    ensures { (schema : Lists) → IsKnown schema statements.now known.now.places → IfOk result (λ found. IfSome found (λ s. Says schema (length statements.now) line.now s)) }
+    ensures says { (schema : Lists) → IsKnown schema statements.now known.now.places → IfOk result (λ found. IfSome found (λ s. Says schema (length statements.now) line.now s)) }
+    ensures memory { (schema : Lists) → IsKnown schema statements.now known.now.places → OnErr result (MayTakeMemory schema (length statements.now) line.now) }
 {
     if 65535 <= statements.len() {
         return Ok(None);
@@ -185,7 +189,8 @@ fn said_at_once(
     line: &[u8],
 ) -> Result<Option<Statement>, AllocError>
     requires { IsKnown schema.now statements.now known.now.places }
-    ensures { IfOk result (λ found. IfSome found (λ s. Says schema.now (length statements.now) line.now s)) }
+    ensures says { IfOk result (λ found. IfSome found (λ s. Says schema.now (length statements.now) line.now s)) }
+    ensures memory { OnErr result (MayTakeMemory schema.now (length statements.now) line.now) }
 {
     if 65535 <= statements.len() {
         return Ok(None);
@@ -210,6 +215,8 @@ fn take_new_line<'a>(
     ensures accepted { OnOk result (first (line_faults words.old.schema (length statements.old.items) line.now) ≡ None) }
     ensures taken { OnOk result (statements.new.items ≡ statements.old.items ++ prepend (line_statement words.old.schema line.now) []) }
     ensures refused { IfErr result (λ e. Refuses e (first (line_faults words.old.schema (length statements.old.items) line.now))) }
+    ensures at_once { IsToldAtOnce (faults_at_once words.old.schema (length statements.old.items) line.now) result }
+    ensures note { is_statement line.now ≡ false → IfErr result (λ e. e ≡ LineFault.Memory → ⊥) }
 {
     match read_line(alloc, words, statements.len(), line) {
         Err(fault) => Err(fault),
@@ -236,6 +243,8 @@ fn take_line<'a>(
     ensures accepted { OnOk result (first (line_faults words.old.schema (length statements.old.items) line.now) ≡ None) }
     ensures taken { OnOk result (statements.new.items ≡ statements.old.items ++ prepend (line_statement words.old.schema line.now) []) }
     ensures refused { IfErr result (λ e. Refuses e (first (line_faults words.old.schema (length statements.old.items) line.now))) }
+    ensures at_once { IsToldAtOnce (faults_at_once words.old.schema (length statements.old.items) line.now) result }
+    ensures note { is_statement line.now ≡ false → IfErr result (λ e. e ≡ LineFault.Memory → ⊥) }
 {
     match said_at_once(alloc, words.schema(), known, statements, line)? {
         None => take_new_line(alloc, words, known, statements, line),
@@ -258,9 +267,10 @@ fn at_line(number: u64, fault: LineFault) -> ScriptFault
     }
 }
 
-/// Reads a script of this schema: its statements, one a line, in their order. The text may hold any bytes. What is
-/// refused is refused for its first fault; `Memory` is the answer where a growth was refused before a fault was met, so never
-/// for a text that is too long.
+/// Reads a script of this schema: its statements, one a line, in their order. The text may hold any bytes. A refused text is
+/// refused for its first fault; `Memory` is the answer where a growth was refused before a fault was met. So it is never the
+/// answer to a text that is too long, nor to one with a fault in a line before its first statement, or in the first word of
+/// that statement.
 pub fn read_script(
     alloc: Global,
     schema: &Schema,
@@ -270,7 +280,7 @@ pub fn read_script(
     ensures statements { IfOk result (λ v. v.items ≡ script schema.now text.now) }
     ensures fitting { IsSound schema.now → IfOk result (λ v. list_all (statement_fits schema.now) v.items ≡ true) }
     ensures refused { IfErr result (λ e. RefusesScript e (refusal schema.now text.now)) }
-    ensures too_long { 1048576 < length text.now → MatchResult result (λ _. ⊥) (λ e. e ≡ ScriptFault.Refused 1 Cause.TooMuch) }
+    ensures at_once { (fault : SeenFault) → first (script_faults_at_once schema.now text.now) ≡ Some fault → MatchResult result (λ _. ⊥) (λ e. e ≡ ScriptFault.Refused fault.line fault.cause) }
 {
     if text.len() > 1_048_576 {
         return Err(ScriptFault::Refused {

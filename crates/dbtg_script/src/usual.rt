@@ -3,11 +3,13 @@
 
 ghost use Rattle.dbtg_schema.specs.Structure.{item_list};
 ghost use Rattle.dbtg_script.specs.Inside.Known.{Says};
+ghost use Rattle.dbtg_script.specs.Inside.Reading.{MayTakeMemory};
 ghost use Rattle.dbtg_script.specs.Lookups.{item_named};
+ghost use Rattle.dbtg_script.specs.Reading.{first_word_faults};
 ghost use Rattle.dbtg_script.specs.StatementGrammar.{fits, value};
 ghost use Rattle.dbtg_script.specs.Tokens.{equals, plain, tokens, view};
 ghost use Rattle.dbtg_script.specs.Inside.Usual.{AreAssigned, AreSaid, IsAssigned, IsGiven, IsOfSet, nothing};
-ghost use Rattle.std.specs.Prelude.{◌≡◌, ◌<◌, ◌∷◌, ℕ, [], IfOk, IfSome, Some, codes, false, true};
+ghost use Rattle.std.specs.Prelude.{◌≡◌, ◌<◌, ◌∷◌, ℕ, [], IfOk, IfSome, OnErr, Some, codes, false, is_err, true};
 
 use crate::automaton::Kind;
 use crate::checks::{is_sorted, key_fault, without_minus};
@@ -283,7 +285,8 @@ fn by_words(
     schema: &Schema,
     left: &mut Tokens,
 ) -> Result<Option<Statement>, AllocError>
-    ensures { IfOk result (λ found. IfSome found (λ s. AreSaid schema.now (tokens false left.old.rest.now) s)) }
+    ensures said { IfOk result (λ found. IfSome found (λ s. AreSaid schema.now (tokens false left.old.rest.now) s)) }
+    ensures wanted { is_err result ≡ true → first_word_faults schema.now (tokens false left.old.rest.now) ≡ [] }
 {
     let Some(word) = plain_word(left) else {
         return Ok(None);
@@ -303,7 +306,8 @@ pub fn usual_statement(
     schema: &Schema,
     line: &[u8],
 ) -> Result<Option<Statement>, AllocError>
-    ensures { IfOk result (λ found. IfSome found (λ s. (count : ℕ) → count < 65535 → Says schema.now count line.now s)) }
+    ensures says { IfOk result (λ found. IfSome found (λ s. (count : ℕ) → count < 65535 → Says schema.now count line.now s)) }
+    ensures memory { OnErr result ((count : ℕ) → count < 65535 → MayTakeMemory schema.now count line.now) }
 {
     if !is_statement(line) {
         return Ok(None);

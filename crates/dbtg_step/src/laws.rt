@@ -34,7 +34,7 @@ pub fn no_run_is_stuck()
 {}
 
 /// A statement that is never blocked and never turns back has `2 + 2a + 3c` events, for the `a` areas and `c` cells that it
-/// takes: it is over after so many steps of its unit, and not before.
+/// takes: it is over after that number of its unit's steps, and not before.
 pub fn statements_have_their_events()
     ensures { (schema : Lists) (capacity : ℕ) → StatementsHaveTheirEvents schema capacity }
 {}

@@ -97,7 +97,7 @@ fn statements_left(runner: &Runner) -> usize
     runner.script.len().saturating_sub(runner.next)
 }
 
-// Whether the unit is between statements, with so many left at most.
+// Whether the unit is between statements, with at most `left` of them to make.
 fn is_done(runner: &Runner, left: usize) -> bool
     ensures { (schema : Lists) (capacity : ℕ) → Decides result (IsDone (network schema capacity) left (unit_state_of schema capacity runner.now)) }
 {

@@ -46,7 +46,7 @@ fn opening_hands(alloc: Global, schema: &Schema, capacity: u16) -> Result<Held, 
     Ok(held)
 }
 
-// So many units before their first statements, numbered from 1.
+// The units before their first statements, numbered from 1.
 fn opening_units(alloc: Global, schema: &Schema, count: u8) -> Result<Vec<Unit>, AllocError>
     ensures { IfOk result (λ units. units.items ≡ map (opening_unit schema.now) (range_with_len 1 count)) }
 {
@@ -160,7 +160,7 @@ impl<'a> Model for WholeDatabase<'a> {
 }
 
 impl<'a> WholeDatabase<'a> {
-    /// The opening database, and so many units, numbered from 1.
+    /// The opening database with its units, numbered from 1.
     pub fn opening(
         alloc: Global,
         schema: &'a Schema,

@@ -17,7 +17,7 @@ lacks r (both f g) = lacks r f && lacks r g
 lacks r (either f g) = lacks r f && lacks r g
 lacks r (many f) = lacks r f
 
--- so many words with this role, or more
+-- at least this many words have this role
 abbrev pub at_least : Role → Form → ℕ
 at_least r nothing = 0
 at_least r (one k q) = cond (number q == number r) 1 0

@@ -26,7 +26,7 @@ few r (both f g) = few r f && few r g
 few r (either f g) = few r f && few r g
 few r (many f) = lacks r f
 
--- no more words with this role than so many
+-- at most this many words have this role
 abbrev pub at_most : Role → Form → ℕ
 at_most r nothing = 0
 at_most r (one k q) = cond (number q == number r) 1 0

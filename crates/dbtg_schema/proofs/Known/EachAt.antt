@@ -1,4 +1,4 @@
--- What is said of each of a list and its place: of none, of one more, of one of them.
+-- What holds of every entry of a list at its place: for the empty list, with one entry more, and for one of the entries.
 use Rattle.std.proofs.Common.{◌≡◌, ℕ, zero, suc, Some, List, [], ◌∷◌, ◌++◌, length, refl, sym, ap, subst, ◌∙◌, inl, inr}
 use Rattle.std.specs.Prelude.{◌⊎◌, slice_get}
 use Rattle.std.proofs.lemmas.Option.{same_Some}
@@ -11,12 +11,12 @@ either_of [] x (suc k) y is = absurd cc
 either_of (z ∷ xs) x zero y is = inl is
 either_of (z ∷ xs) x (suc k) y is = elim (either_of xs x k y is) [ inl h ↦ inl h | inr w ↦ inr (ap suc w.0, w.1) ]
 
--- of none it holds
+-- it holds for the empty list
 pub none_at : {X : Type 0} (is : ℕ → X → Type 0) → EachAt is []
 unfolding EachAt
 none_at is i x at = absurd cc
 
--- of one more
+-- it holds with one entry more
 pub one_more_at : {X : Type 0} (is : ℕ → X → Type 0) (xs : List X) (x : X) (n : ℕ) → length xs ≡ n → EachAt is xs → is n x → EachAt is (xs ++ x ∷ [])
 unfolding EachAt
 one_more_at {X} is xs x n many each more i y at =

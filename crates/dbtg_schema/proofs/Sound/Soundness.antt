@@ -65,7 +65,7 @@ sound_type areas p h =
       calc_once = calc_differs (items_from p) p e c.0 c.1;
     }
 
--- three facts of each
+-- three facts for every entry
 three : (P Q R : List Labelled → Type 0) (es : List (List Labelled)) → AllByRecursion P es → AllByRecursion Q es → AllByRecursion R es → AllByRecursion (λ e. P e × Q e × R e) es
 three P Q R [] p q r = tt
 three P Q R (e ∷ es) p q r = ((p.0, q.0, r.0), three P Q R es p.1 q.1 r.1)

@@ -154,7 +154,7 @@ abbrev pub behind : ℕ → Form → Form
 behind zero f = f
 behind (suc n) f = behind n (right f)
 
--- the first parts of a form together: one more than so many
+-- the first n + 1 parts of a form together
 abbrev pub front : ℕ → Form → Form
 front zero f = left f
 front (suc n) f = both (front n f) (left (behind (suc n) f))

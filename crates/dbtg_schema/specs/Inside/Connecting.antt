@@ -14,6 +14,6 @@ connects_in schema s t = some_and (λ m. is_automatic m.class) (member_clause sc
 unfoldable pub AreConnecting : Lists → ℕ → List Bool → Type 0
 AreConnecting schema t marks = (s : ℕ) → marked marks s ≡ connects_in schema s t
 
--- of each of these record types, from 0 on, so many as there are, they are marked
+-- they are marked for each record type, from number 0 on, as far as the list goes
 abbrev pub AreConnectingOfEach : List (List Bool) → Lists → Type 0
 AreConnectingOfEach each schema = EachAt (AreConnecting schema) each

@@ -22,7 +22,7 @@ touches schema t a = area_of schema t == a || is_home_of schema t a
 abbrev pub marked_in : List (List Bool) → ℕ → ℕ → Bool
 marked_in table x n = marked (slice_index_or table x []) n
 
--- of so many rows of the table, one that is marked has the mark n
+-- among the first `rows` rows of the table, one that is marked has the mark n
 unfoldable pub is_given : List (List Bool) → ℕ → List Bool → ℕ → Bool
 is_given table rows marks n = list_any (λ x. marked marks x && marked_in table x n) (range_with_len 0 rows)
 
@@ -43,6 +43,6 @@ is_touched schema marks a = list_any (λ t. marked marks t && touches schema t a
 abbrev pub AreErased : Lists → ℕ → List Bool → Type 0
 AreErased schema t marks = (a : ℕ) → a < 8 → marked marks a ≡ list_any (λ b. b == a) (erase_areas schema t)
 
--- of each of these record types, from 0 on, so many as there are, they are marked
+-- they are marked for each record type, from number 0 on, as far as the list goes
 abbrev pub AreErasedOfEach : List (List Bool) → Lists → Type 0
 AreErasedOfEach each schema = EachAt (AreErased schema) each

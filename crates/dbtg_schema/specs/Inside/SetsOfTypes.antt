@@ -1,4 +1,4 @@
--- The sets that are kept of each record type: those in which STORE connects its records, and those that it owns.
+-- The sets that are kept for each record type: those in which STORE connects its records, and those that it owns.
 use Rattle.std.specs.Prelude.{ℕ, ◌≡◌, List, [], filter, length}
 use Rattle.dbtg_schema.specs.Lists.{Lists}
 use Rattle.dbtg_schema.specs.Inside.Lookups.{EachAt}
@@ -18,7 +18,7 @@ owned_sets schema t = filter (λ s. owns schema s t) (set_numbers schema)
 abbrev pub AreSetsOf : Lists → ℕ → SetsOfType → Type 0
 AreSetsOf schema t kept = (kept.automatic ≡ automatic_sets schema t) × (kept.owned ≡ owned_sets schema t)
 
--- they are kept of each of so many record types
+-- they are kept for each record type, and `types` is how many there are
 pub record AreSetsOfEach (each : List SetsOfType) (types : ℕ) (sets : List SetType) : Type 0 where
   pub many : length each ≡ types
   pub right : EachAt (AreSetsOf (sets_alone sets)) each

@@ -385,7 +385,7 @@ module _ (schema : Lists) where
       areas : AllByRecursion (IsCurrent schema) u.currency.areas
       kept : AllByRecursion (IsKept schema) u.kept
 
-    -- of each entry, by its number
+    -- the same for each entry, by its number
     abbrev by_number : {X : Type 0} (Q : X → Type 0) (xs : List X) (d : X) → ((i : ℕ) → i < length xs → Q (slice_index_or xs i d)) → AllByRecursion Q xs
     by_number Q [] d each = tt
     by_number Q (x ∷ xs) d each = (each 0 (omega arith), by_number Q xs d (λ i h. each (suc i) (omega (arith, h))))

@@ -102,7 +102,7 @@ clean (l ∷ left) schema ws f t d k =
     (clean left schema (ws ++ labelled x.start.role l.word ∷ []) x.start.rest x.first x.derives x.keywords)
     )
 
-statement_first : KeywordsFirst statement
+pub statement_first : KeywordsFirst statement
 statement_first = (ranked before statement statement_is_told, statement_is_named)
 
 clean_closed : (b : Bool) → b ≡ false → Clean (when b cause.UnexpectedWord)

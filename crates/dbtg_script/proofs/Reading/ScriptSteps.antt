@@ -28,7 +28,7 @@ first_of_map : {X Y : Type 0} (g : X → Y) (xs : List X) (x : X) → first xs �
 first_of_map g [] x h = absurd cc
 first_of_map {X} {Y} g (y ∷ ys) x h = let e : y ≡ x = cc in ap (λ (z : X). Some (g z)) e
 
-none_of_map : {X Y : Type 0} (g : X → Y) (xs : List X) → first xs ≡ None → first (map g xs) ≡ None
+pub none_of_map : {X Y : Type 0} (g : X → Y) (xs : List X) → first xs ≡ None → first (map g xs) ≡ None
 none_of_map g [] h = refl
 none_of_map g (y ∷ ys) h = absurd cc
 

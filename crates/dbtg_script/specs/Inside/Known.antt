@@ -8,7 +8,7 @@ use Rattle.dbtg_script.specs.Lines.{is_statement}
 use Rattle.dbtg_script.specs.StatementFaults.{line_faults}
 use Rattle.dbtg_script.specs.Statements.{line_statement}
 
--- behind so many statements the line has no fault, and says this one
+-- the line has no fault behind `count` statements, and says this one
 pub record Says (schema : Lists) (count : ℕ) (line : List ℕ) (s : Statement) : Type 0 where
   pub faultless : first (line_faults schema count line) ≡ None
   pub said : line_statement schema line ≡ Some s
@@ -19,12 +19,12 @@ pub record IsRead (schema : Lists) (ss : List Statement) (line : List ℕ) (at :
   pub faultless : (count : ℕ) → count < 65535 → first (line_faults schema count line) ≡ None
   pub said : slice_get ss at ≡ line_statement schema line
 
--- of each line that is kept
+-- nothing, or a line that is kept and was read so
 abbrev pub IsReadAt : Lists → List Statement → Option Seen → Type 0
 IsReadAt schema ss None = Unit {0}
 IsReadAt schema ss (Some s) = IsRead schema ss s.line.now s.at
 
--- of all lines that are kept
+-- all lines that are kept were read so
 abbrev pub IsKnown : Lists → List Statement → List (Option Seen) → Type 0
 IsKnown schema ss [] = Unit {0}
 IsKnown schema ss (p ∷ ps) = IsReadAt schema ss p × IsKnown schema ss ps

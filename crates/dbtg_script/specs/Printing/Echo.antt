@@ -1,4 +1,4 @@
--- Answers with their statements beside them. Of each script there are the lines that hold its statements.
+-- Answers with their statements beside them. A script is given as the lines that hold its statements.
 use Rattle.std.specs.Prelude.{ℕ, ◌+◌, ◌-◌, ◌&&◌, nat_le, nat_lt, List, [], ◌∷◌, ◌++◌, length, map, replicate, unwrap_or, slice_get, if◌then◌else◌}
 use Rattle.dbtg_schema.specs.Lists.{Lists}
 use Rattle.dbtg_cells.specs.declared.key.DbKey.{DbKey}
@@ -15,7 +15,7 @@ use Rattle.dbtg_script.specs.Printing.Texts.{answer_text, text_behind}
 abbrev pub lines_for : List (List (List ℕ)) → ℕ → List (List ℕ)
 lines_for scripts u = unwrap_or (slice_get scripts (u - 1)) []
 
--- the line beside an answer that comes behind these: its unit has made so many statements before, and this is the next of its script
+-- the line beside an answer that comes behind these: its unit made the statements among them, and this is the next one of its script
 abbrev pub line_beside : List (List (List ℕ)) → List Entry → Entry → List ℕ
 line_beside scripts before e = unwrap_or (slice_get (lines_for scripts e.unit) (length (entries_of e.unit before))) []
 

@@ -150,7 +150,7 @@ notes_append a b c ms ns p q = record { limit = q.limit ∙ p.limit; noted = λ 
 
 -- THE PARTS IN A TURN
 
--- unit u is on its way from old to now, through the statement behind which it has so many left
+-- unit u is on its way from old to now, through a statement behind which it has n left
 pub record OnTheWay (schema : Lists) (capacity u n : ℕ) (old now : Parts) (before after : Noted) : Type 0 where
   pub well : IsWell schema capacity now
   pub count : length now.runners.items ≡ length old.runners.items

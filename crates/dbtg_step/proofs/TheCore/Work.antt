@@ -52,7 +52,7 @@ pub record Rests (schema : Lists) (capacity : ℕ) (state : UnitState (network s
   pub between : state.progress ≡ None
   pub ended : state.remaining ≡ []
 
--- unit u is at work on its next statement, behind which it has so many left
+-- unit u is at work on its next statement, behind which it has n left
 pub record IsAlone (schema : Lists) (capacity u n : ℕ) (s : State (network schema capacity)) : Type 0 where
   pub work : IsAtWork schema capacity u s
   pub few : length work.state.remaining ≤ suc n
@@ -83,7 +83,7 @@ module _ (schema : Lists) (capacity : ℕ) where
   abbrev pub statements_left : M → ℕ → ℕ
   statements_left s u = left_found (unit_at s.units u)
 
-  -- HOW MUCH IS LEFT, until the unit is between statements with so many left
+  -- HOW MUCH IS LEFT, until the unit is between statements with n of them left
 
   module _ (n : ℕ) where
     -- of a statement that has not begun, where it is to be made
@@ -408,7 +408,7 @@ module _ (schema : Lists) (capacity : ℕ) where
 
 -- OF THE PARTS
 
--- how much unit u has left to do, until it has no more than so many statements left
+-- how much unit u has left to do, until it has at most n statements left
 abbrev pub parts_left : Lists → ℕ → ℕ → ℕ → Parts → ℕ
 parts_left schema capacity n u parts = turn_left schema capacity n (opening_for schema capacity parts) (state_of schema capacity parts) u
 

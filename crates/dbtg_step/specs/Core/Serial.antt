@@ -37,7 +37,7 @@ module _ (D : SequentialDatabase) where
     AtRest : {s : State D} → step D opening s u ≡ IsIdle → IsSteppedOut opening u s s
     Onward : {s t r : State D} → step D opening s u ≡ MovedTo t → IsSteppedOut opening u t r → IsSteppedOut opening u s r
 
-  -- so many units one after another, from unit u on
+  -- units are stepped out one after another, from unit u on; the first number says how many
   unfoldable pub AreSteppedOut : SequentialState D → ℕ → ℕ → State D → State D → Type 0
   AreSteppedOut opening zero u s r = r ≡ s
   AreSteppedOut opening (suc m) u s r = (t : State D) × IsSteppedOut opening u s t × AreSteppedOut opening m (suc u) t r

@@ -17,7 +17,7 @@ use Rattle.dbtg_step.specs.Core.Parts.{CoreState, with_state}
 
 -- WHAT TURNS STAND FOR
 
--- the turns in which a statement is made, where the units have so many left: all but those of a unit that has none
+-- the turns in which a statement is made: all but those of a unit that has none left. `left` has the number that each unit has left
 unfoldable pub made_turns : List ℕ → List ℕ → List ℕ
 made_turns left [] = []
 made_turns left (u ∷ us) = cond (nat_lt 0 (unwrap_or (unit_at left u) 0)) (u ∷ made_turns (with_unit_at left u (unwrap_or (unit_at left u) 0 - 1)) us) (made_turns left us)

@@ -25,7 +25,7 @@ units_from schema capacity n (script ∷ scripts) =
     record { unit = opening_unit schema n; guesses = replicate (length schema.sets) None; script = script; remaining = script; progress = None }
     ∷ units_from schema capacity (suc n) scripts
 
--- the opening database with so many opening units
+-- the opening database with this number of opening units
 abbrev pub opening_of : (schema : Lists) (capacity : ℕ) → ℕ → SequentialState (network schema capacity)
 opening_of schema capacity units = record { database = opening schema; units = map (opening_unit schema) (range_with_len 1 units) }
 

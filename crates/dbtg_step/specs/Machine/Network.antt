@@ -38,7 +38,7 @@ next_need_of guesses Ready = NeedsNothing
 abbrev pub effect_of : Outcome → Effect Database Unit Answer
 effect_of outcome = record { database = outcome.database; unit = outcome.unit; answer = outcome.answer }
 
--- the network database of a schema, with so many numbers for each record type
+-- the network database of a schema; the capacity is how many numbers each record type has
 abbrev pub network : Lists → ℕ → SequentialDatabase
 network schema capacity = record {
   Db = Database;

@@ -1,14 +1,16 @@
-use Rattle.std.proofs.Common.{◌≡◌, ◌∙◌, ◌+◌, ◌++◌, refl, sym, ap, subst, List, ℕ, Option, arith, length}
+use Rattle.std.proofs.Common.{◌≡◌, ◌∙◌, ◌+◌, ◌++◌, refl, sym, ap, subst, List, ℕ, Option, Some, arith, length}
 use Rattle.std.specs.List.{list_all}
 use Rattle.std.proofs.lemmas.List.{append-nil}
+use Rattle.dbtg_schema.specs.Lookups.{first}
 use Rattle.dbtg_unit.specs.Database.Statements.Fits.{fits as statement_fits}
 use Rattle.dbtg_unit.specs.declared.statement.Statement.{Statement}
 use Rattle.dbtg_script.specs.declared.fault.Fault.{Fault}
 use Rattle.dbtg_script.specs.Lines.{lines, trimmed}
 use Rattle.dbtg_script.specs.Inside.Reading.{lines_verdict, at_line}
-use Rattle.dbtg_script.specs.Reading.{RefusesScript}
+use Rattle.dbtg_script.specs.Reading.{RefusesScript, lines_faults_at_once}
 use Rattle.dbtg_script.specs.Statements.{line_statement, script, statements_of}
 use Rattle.dbtg_script.proofs.Fitting.FittingStatements.{script_fits}
+use Rattle.dbtg_script.proofs.Reading.AtOnce.{behind_line, line_told, long_told, none_at_once, none_kept, over, short_told}
 use Rattle.dbtg_script.proofs.Reading.ScriptSteps.{line_passes, line_refused, counted, one_more, short_script, no_lines}
 use Rattle.dbtg_script.proofs.reader.read_script.Goals as goal
 
@@ -23,6 +25,21 @@ returns-in-Err-clause-refused c =
     let refused = rw (c.trimmed.ensures, c.loop-line.invariant.same) at c.in-Err.ensures.refused in
     rw c.at_line.ensures (subst (λ (v : Option Fault). RefusesScript (at_line number c.in-Err.fault) v) (sym whole) (line_refused schema n number line after c.in-Err.fault refused))
 
+pub returns-in-Err-clause-at_once : goal.returns-in-Err-clause-at_once
+returns-in-Err-clause-at_once c = λ f wrong.
+    let schema = c.args.schema.now in
+    let number = c.loop-line.number in
+    let line = c.in-Some.line.now in
+    let now = c.loop-line.invariant.at_once f wrong in
+    let left = subst (λ (ls : List (List ℕ)). first (lines_faults_at_once schema number ls) ≡ Some f) c.in-Some.ensures.found now.1 in
+    let told = rw (c.trimmed.ensures, c.loop-line.invariant.same, now.0) at c.in-Err.ensures.at_once in
+    let note = rw c.trimmed.ensures at c.in-Err.ensures.note in
+    let refused = rw (c.trimmed.ensures, c.loop-line.invariant.same, now.0) at c.in-Err.ensures.refused in
+    rw c.at_line.ensures (line_told schema number line (lines c.next.new.self.rest.now) c.in-Err.fault f told note refused left)
+
+pub returns-then-text-gt1048576-clause-at_once : goal.returns-then-text-gt1048576-clause-at_once
+returns-then-text-gt1048576-clause-at_once c = λ f wrong. long_told c.args.schema.now c.args.text.now f (omega arith) wrong
+
 pub loop-line-init : goal.loop-line-init
 loop-line-init c =
     let none = c.new-statements.ensures.items in
@@ -31,6 +48,7 @@ loop-line-init c =
       reached = rw none refl;
       said = rw none refl;
       known = c.none-known.ensures c.args.schema.now c.new-statements.result.items;
+      at_once = λ f wrong. (none, subst (λ (fs : List Fault). first fs ≡ Some f) (short_told c.args.schema.now c.args.text.now (omega arith)) wrong);
       in_range = omega arith;
     }
 
@@ -53,6 +71,12 @@ loop-line-preserved c =
       said = ap (λ (xs : List Statement). xs ++ statements_of schema after) taken ∙ one_more (line_statement schema (trimmed line)) ss (statements_of schema after)
           ∙ ap (λ (ls : List (List ℕ)). ss ++ statements_of schema ls) (sym found) ∙ c.loop-line.invariant.said;
       known = rw same at c.in_default-take_line.ensures.known;
+      at_once = λ f wrong.
+          let now = c.loop-line.invariant.at_once f wrong in
+          let left = subst (λ (ls : List (List ℕ)). first (lines_faults_at_once schema number ls) ≡ Some f) found now.1 in
+          let clean = none_at_once schema 0 (trimmed line) (rw now.0 at accepted) in
+          let b = behind_line schema number line after f clean left in
+          (taken ∙ none_kept schema (trimmed line) ss b.0 now.0, b.1);
       in_range = omega (arith, c.in-Some.ensures.shorter);
     }
 
@@ -61,6 +85,10 @@ returns-clause-accepted c =
     let schema = c.args.schema.now in
     short_script schema c.args.text.now (omega arith) ∙ sym c.loop-line.invariant.reached
     ∙ no_lines schema (length c.loop-line.statements.items) c.loop-line.number (lines c.loop-line.left.rest.now) c.in_default.ensures.found
+
+pub returns-clause-at_once : goal.returns-clause-at_once
+returns-clause-at_once c = λ f wrong.
+    over c.args.schema.now c.loop-line.number (lines c.loop-line.left.rest.now) f c.in_default.ensures.found (c.loop-line.invariant.at_once f wrong).1
 
 pub returns-clause-fitting : goal.returns-clause-fitting
 returns-clause-fitting c sound =

@@ -1,13 +1,21 @@
 use Rattle.std.proofs.Common.{◌≡◌, ◌<◌, ◌≤◌, ◌+◌, ◌∙◌, sym, ap, subst, take, drop, List, [], ◌++◌, ◌∷◌, length, suc, arith, drop-cons}
 use Rattle.std.proofs.lemmas.List.{take-append-drop, take_all, take_more}
 use Rattle.dbtg_unit.specs.declared.unit.Entry.{Entry}
-use Rattle.dbtg_step.specs.Inside.Audit.{GoesOn}
+use Rattle.dbtg_step.specs.Inside.Audit.{GoesOn, MayStand}
 use Rattle.dbtg_step.specs.Core.Whole.{Making}
-use Rattle.dbtg_step.proofs.MadeWhole.Audits.{joins, not_led, refused_at, stands, match_true}
+use Rattle.dbtg_step.proofs.MadeWhole.Audits.{joins, not_led, refused_at, stands, stands_at, match_true}
 use Rattle.dbtg_step.proofs.auditing.takes_all.Goals as goal
 
 pub takes-requires : goal.takes-requires
-takes-requires c = c.requires.schema ∙ sym (ap (λ (m : Making). m.schema) c.loop-entry.invariant)
+takes-requires c =
+    let old = c.args.database.now in
+    let history = c.args.history.now in
+    let index = c.loop-entry.entry-index in
+    let entry = c.entry-item.result in
+    let below : index < length history = omega arith in
+    let split : take index history ++ entry ∷ drop (suc index) history ≡ history =
+    ap (λ (x : Entry). take index history ++ x ∷ drop (suc index) history) c.entry-item.is ∙ ap (λ (xs : List Entry). take index history ++ xs) (sym (drop-cons history index entry below)) ∙ take-append-drop index history in
+    subst (λ (m : Making). MayStand m.schema m.units (length m.history) entry) (sym c.loop-entry.invariant) (stands_at old.schema old.units history (take index history) (drop (suc index) history) entry split c.requires.may)
 
 pub returns-then-not-branch : goal.returns-then-not-branch
 returns-then-not-branch c =

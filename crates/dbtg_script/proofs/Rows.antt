@@ -1,0 +1,92 @@
+-- The worked rows: statements in which a word can be a keyword or a name. It is a keyword where one fits, else a name.
+-- May use: all definitions, and the law that a line is read with keywords taken.
+-- Promises: each row is a theorem.
+use Rattle.std.proofs.Common.{◌≡◌, List, [], ◌∷◌, inl, inr, refl, false≢true, codes}
+use Rattle.dbtg_schema.specs.Texts.Forms.{labelled, Derives}
+use Rattle.dbtg_script.specs.declared.role.Role.{Role}
+use Rattle.dbtg_script.specs.declared.role.Role.TheVariants as role
+use Rattle.dbtg_script.specs.Derivations.{Derivation, TakesKeywords}
+use Rattle.dbtg_script.specs.StatementGrammar.{Labelled, currents, fits, statement}
+use Rattle.dbtg_script.specs.Tokens.{into, onto, plain, tokens}
+use Rattle.dbtg_script.proofs.Reading.Derived.{takes_keywords}
+use Rattle.dbtg_script.proofs.Reading.NoFault.{statement_first}
+
+-- STORE CUSTOMER SUPPRESS RECORD
+
+-- the last word is the keyword RECORD, or the name of a set
+abbrev with_last : Role → List Labelled
+with_last r =
+    labelled role.Store (plain (codes "STORE")) ∷ labelled role.TypeName (plain (codes "CUSTOMER")) ∷ labelled role.Plain (plain (codes "SUPPRESS"))
+    ∷ labelled r (plain (codes "RECORD")) ∷ []
+
+with_last_derived : (r : Role) → Derives fits currents (labelled r (plain (codes "RECORD")) ∷ []) → Derives fits statement (with_last r)
+with_last_derived r last =
+    let suppressed = (labelled role.Plain (plain (codes "SUPPRESS")) ∷ [], labelled r (plain (codes "RECORD")) ∷ [], refl, (plain (codes "SUPPRESS"), refl, refl), inr (labelled r (plain (codes "RECORD")) ∷ [], [], refl, last, ([], refl, tt))) in
+    inr (inr (inr (inr (inl (
+      labelled role.Store (plain (codes "STORE")) ∷ [],
+      labelled role.TypeName (plain (codes "CUSTOMER")) ∷ labelled role.Plain (plain (codes "SUPPRESS")) ∷ labelled r (plain (codes "RECORD")) ∷ [],
+      refl,
+      (plain (codes "STORE"), refl, refl),
+      (
+        labelled role.TypeName (plain (codes "CUSTOMER")) ∷ [],
+        labelled role.Plain (plain (codes "SUPPRESS")) ∷ labelled r (plain (codes "RECORD")) ∷ [],
+        refl,
+        (plain (codes "CUSTOMER"), refl, refl),
+        ([], labelled role.Plain (plain (codes "SUPPRESS")) ∷ labelled r (plain (codes "RECORD")) ∷ [], refl, ([], refl, tt), inl suppressed),
+      ),
+    )))))
+
+-- both are derived by the grammar
+as_a_keyword : Derives fits statement (with_last role.SuppressTypes)
+as_a_keyword = with_last_derived role.SuppressTypes (inl (plain (codes "RECORD"), refl, refl))
+
+as_a_name : Derives fits statement (with_last role.SuppressSet)
+as_a_name = with_last_derived role.SuppressSet (inr (inr (plain (codes "RECORD"), refl, refl)))
+
+-- with the name no keyword is taken where one fits
+a_name_in_the_place_of_a_keyword : TakesKeywords statement (with_last role.SuppressSet) → ⊥
+a_name_in_the_place_of_a_keyword h =
+    false≢true (h
+    (labelled role.Store (plain (codes "STORE")) ∷ labelled role.TypeName (plain (codes "CUSTOMER")) ∷ labelled role.Plain (plain (codes "SUPPRESS")) ∷ [])
+    (labelled role.SuppressSet (plain (codes "RECORD"))) [] role.SuppressTypes refl refl ([], as_a_keyword))
+
+a_keyword_where_one_fits : (d : Derivation (codes "STORE CUSTOMER SUPPRESS RECORD")) × (d.words ≡ with_last role.SuppressTypes)
+unfolding tokens onto into
+a_keyword_where_one_fits = (
+  record {
+    closed = refl;
+    words = with_last role.SuppressTypes;
+    are_words = refl;
+    derives = as_a_keyword;
+    keywords = takes_keywords (tokens false (codes "STORE CUSTOMER SUPPRESS RECORD")) statement statement_first;
+  },
+  refl,
+)
+
+-- STORE SUPPRESS: behind STORE stands the name of a record type, and no keyword fits
+
+abbrev named_suppress : List Labelled
+named_suppress = labelled role.Store (plain (codes "STORE")) ∷ labelled role.TypeName (plain (codes "SUPPRESS")) ∷ []
+
+named_suppress_derived : Derives fits statement named_suppress
+named_suppress_derived =
+    inr (inr (inr (inr (inl (
+      labelled role.Store (plain (codes "STORE")) ∷ [],
+      labelled role.TypeName (plain (codes "SUPPRESS")) ∷ [],
+      refl,
+      (plain (codes "STORE"), refl, refl),
+      (labelled role.TypeName (plain (codes "SUPPRESS")) ∷ [], [], refl, (plain (codes "SUPPRESS"), refl, refl), ([], [], refl, ([], refl, tt), inr refl)),
+    )))))
+
+a_name_where_no_keyword_fits : (d : Derivation (codes "STORE SUPPRESS")) × (d.words ≡ named_suppress)
+unfolding tokens onto into
+a_name_where_no_keyword_fits = (
+  record {
+    closed = refl;
+    words = named_suppress;
+    are_words = refl;
+    derives = named_suppress_derived;
+    keywords = takes_keywords (tokens false (codes "STORE SUPPRESS")) statement statement_first;
+  },
+  refl,
+)
