@@ -77,7 +77,8 @@ fn told_of(rt: &HostRuntime, fault: &Fault, paths: &Paths, explains: bool) -> Ex
 {
     let status = told(rt, fault);
     if explains {
-        if let Ok(Some(line)) = reason(rt, paths, fault) {
+        let files = Files { reader: rt, paths };
+        if let Ok(Some(line)) = reason(rt.alloc(), &files, fault) {
             let _ = eprintln!(rt; "{line}");
         }
     }

@@ -1,30 +1,17 @@
 -- What the words of the command ask for, of what `clap` finds in them.
 use Rattle.std.specs.Prelude.{ℕ, ◌≡◌, ◌++◌, Bool, true, false, List, [], Option, Some, None, codes, is_some, map, option_map, option_to_list, unwrap_or}
-use Rattle.clap.specs.Matches.{first_value, found_of, matched_of, one_text, raw_values}
-use Rattle.clap.specs.Simple.{App, HasMatchesOf, subcommand_rows_of}
+use Rattle.clap.specs.Matches.{first_value, matched_of, one_text, raw_values}
+use Rattle.clap.specs.Simple.{subcommand_of}
 use Rattle.clap.specs.Walk.{rows_of}
-use Rattle.clap.specs.declared.parser.matches.ArgMatches.{ArgMatches}
 use Rattle.clap.specs.declared.parser.matches.Found.{Found}
 use Rattle.dbtg_command.specs.declared.call.Call.{Call}
 use Rattle.dbtg_command.specs.declared.command.Named.{Named}
-use Rattle.dbtg_command.specs.declared.command.Named.TheVariants as named
 use Rattle.dbtg_command.specs.declared.order.Order.{Order}
 use Rattle.dbtg_command.specs.declared.order.Order.TheVariants as by
 use Rattle.dbtg_command.specs.Capacity.{count_in}
+use Rattle.dbtg_command.specs.Commands.{name_of, program}
 use Rattle.dbtg_command.specs.Explaining.{IsAsked}
 use Rattle.dbtg_command.specs.Sources.{order_map}
-
--- the word that asks for a command
-abbrev pub name_of : Named → List ℕ
-name_of named.Check = codes "check"
-name_of named.Replay = codes "replay"
-name_of named.Turns = codes "turns"
-name_of named.Timeline = codes "timeline"
-name_of named.Outcomes = codes "outcomes"
-name_of named.Threads = codes "threads"
-name_of named.Draw = codes "draw"
-name_of named.Explain = codes "explain"
-name_of named.Shell = codes "shell"
 
 -- the flag is there, or not
 pub record IsFlag (found : Found) (id : List ℕ) (flag : Bool) : Type 0 where
@@ -75,15 +62,8 @@ pub record IsCall (asked : Named) (found : Found) (call : Call) : Type 0 where
   pub scripts : map (λ path. path.now) call.scripts.items ≡ scripts_in found
   pub topic : IsAsked (words_in found (codes "topic")) (Some call.topic)
 
--- the call is that of the command which was met in a parse, with what was found for it
-pub record IsCallIn (matches : ArgMatches) (call : Call) : Type 0 where
-  pub given : ArgMatches
-  pub met : subcommand_rows_of matches ≡ Some (name_of call.named, rows_of (found_of given))
-  pub is_call : IsCall call.named (found_of given) call
-
--- the call is that of what a command takes from these words
+-- the call is that of the command which the words name, and has what `clap` finds for it in the words
 pub record IsCallOf (words : List (List ℕ)) (call : Call) : Type 0 where
-  pub app : App
-  pub matches : ArgMatches
-  pub are_matches : HasMatchesOf app words matches
-  pub is_call : IsCallIn matches call
+  pub found : Found
+  pub met : subcommand_of program words ≡ Some (name_of call.named, rows_of found)
+  pub is_call : IsCall call.named found call

@@ -4,7 +4,10 @@ pub mod Checking
 pub mod Capacity
 pub mod Sources
 pub mod Explaining
+pub mod Commands
 pub mod Calling
 pub mod FaultyWord
+pub mod Saying
+pub mod Reasons
 pub mod Drawing
 pub mod Inside

@@ -1,4 +1,7 @@
 //! What a command can be given: options, files and other words, as `clap` is told of each.
+ghost use Rattle.std.specs.Prelude.{IfOk};
+ghost use Rattle.dbtg_command.specs.Commands.{answers, capacity, echo, explain, file_option, file_word, first, flag, limit, moves, number_option, save_turns, topic, turns_file, turns_option, units, words};
+ghost use Rattle.dbtg_command.specs.Inside.Commands.{IsArg, rule_for};
 
 use clap::{Arg, ArgAction};
 use std::alloc::{AllocError, Global};
@@ -31,14 +34,18 @@ pub const SCRIPTS: &str =
     "Files of the scripts of units 1, 2, ..: 1 to 8 of them; - for standard input, once";
 
 // An option that has no value.
-fn flag<'a>(alloc: Global, name: &'a str, help: &'a str) -> Arg<'a> {
+fn flag<'a>(alloc: Global, name: &'a str, help: &'a str) -> Arg<'a>
+    ensures { IsArg (flag name.entry.now) result }
+{
     Arg::new(alloc, name)
         .long(name)
         .action(ArgAction::SetTrue)
         .help(help)
 }
 
-fn file_option<'a>(alloc: Global, name: &'a str, help: &'a str) -> Arg<'a> {
+fn file_option<'a>(alloc: Global, name: &'a str, help: &'a str) -> Arg<'a>
+    ensures { IsArg (file_option name.entry.now) result }
+{
     Arg::new(alloc, name)
         .long(name)
         .value_name("FILE")
@@ -46,7 +53,9 @@ fn file_option<'a>(alloc: Global, name: &'a str, help: &'a str) -> Arg<'a> {
         .help(help)
 }
 
-fn number_option<'a>(alloc: Global, name: &'a str, usual: &'a str, help: &'a str) -> Arg<'a> {
+fn number_option<'a>(alloc: Global, name: &'a str, usual: &'a str, help: &'a str) -> Arg<'a>
+    ensures { IsArg (number_option name.entry.now usual.entry.now) result }
+{
     Arg::new(alloc, name)
         .long(name)
         .value_name("N")
@@ -56,7 +65,9 @@ fn number_option<'a>(alloc: Global, name: &'a str, usual: &'a str, help: &'a str
 }
 
 // A file that has to be named.
-fn file_word<'a>(alloc: Global, name: &'a str, shown: &'a str, help: &'a str) -> Arg<'a> {
+fn file_word<'a>(alloc: Global, name: &'a str, shown: &'a str, help: &'a str) -> Arg<'a>
+    ensures { IsArg (file_word name.entry.now) result }
+{
     Arg::new(alloc, name)
         .value_name(shown)
         .required(true)
@@ -65,7 +76,9 @@ fn file_word<'a>(alloc: Global, name: &'a str, shown: &'a str, help: &'a str) ->
 }
 
 // Any number of words.
-fn words<'a>(alloc: Global, name: &'a str, shown: &'a str, help: &'a str) -> Arg<'a> {
+fn words<'a>(alloc: Global, name: &'a str, shown: &'a str, help: &'a str) -> Arg<'a>
+    ensures { IsArg (words name.entry.now) result }
+{
     Arg::new(alloc, name)
         .value_name(shown)
         .num_args(0..)
@@ -73,7 +86,9 @@ fn words<'a>(alloc: Global, name: &'a str, shown: &'a str, help: &'a str) -> Arg
         .help(help)
 }
 
-fn answers_option<'a>(alloc: Global) -> Arg<'a> {
+fn answers_option<'a>(alloc: Global) -> Arg<'a>
+    ensures { IsArg answers result }
+{
     flag(
         alloc,
         "answers",
@@ -81,17 +96,23 @@ fn answers_option<'a>(alloc: Global) -> Arg<'a> {
     )
 }
 
-fn capacity_option<'a>(alloc: Global) -> Arg<'a> {
+fn capacity_option<'a>(alloc: Global) -> Arg<'a>
+    ensures { IsArg capacity result }
+{
     let help = "How many numbers each record type has, 1 to 1000";
     number_option(alloc, "capacity", "100", help)
 }
 
-fn echo_option<'a>(alloc: Global) -> Arg<'a> {
+fn echo_option<'a>(alloc: Global) -> Arg<'a>
+    ensures { IsArg echo result }
+{
     let help = "Prints each answer with its statement in front [default: the answers alone]";
     flag(alloc, "echo", help)
 }
 
-fn explain_option<'a>(alloc: Global) -> Arg<'a> {
+fn explain_option<'a>(alloc: Global) -> Arg<'a>
+    ensures { IsArg explain result }
+{
     flag(
         alloc,
         "explain",
@@ -99,7 +120,9 @@ fn explain_option<'a>(alloc: Global) -> Arg<'a> {
     )
 }
 
-fn first_option<'a>(alloc: Global) -> Arg<'a> {
+fn first_option<'a>(alloc: Global) -> Arg<'a>
+    ensures { IsArg first result }
+{
     file_option(
         alloc,
         "first",
@@ -107,12 +130,16 @@ fn first_option<'a>(alloc: Global) -> Arg<'a> {
     )
 }
 
-fn limit_option<'a>(alloc: Global) -> Arg<'a> {
+fn limit_option<'a>(alloc: Global) -> Arg<'a>
+    ensures { IsArg limit result }
+{
     let help = "States to allow, 1 to 1000000000; a million can take 7 GB";
     number_option(alloc, "limit", "1000000", help)
 }
 
-fn moves_option<'a>(alloc: Global) -> Arg<'a> {
+fn moves_option<'a>(alloc: Global) -> Arg<'a>
+    ensures { IsArg moves result }
+{
     file_option(
         alloc,
         "moves",
@@ -120,7 +147,9 @@ fn moves_option<'a>(alloc: Global) -> Arg<'a> {
     )
 }
 
-fn save_turns_option<'a>(alloc: Global) -> Arg<'a> {
+fn save_turns_option<'a>(alloc: Global) -> Arg<'a>
+    ensures { IsArg save_turns result }
+{
     file_option(
         alloc,
         "save-turns",
@@ -128,7 +157,9 @@ fn save_turns_option<'a>(alloc: Global) -> Arg<'a> {
     )
 }
 
-fn topic_words<'a>(alloc: Global) -> Arg<'a> {
+fn topic_words<'a>(alloc: Global) -> Arg<'a>
+    ensures { IsArg topic result }
+{
     words(
         alloc,
         "topic",
@@ -137,7 +168,9 @@ fn topic_words<'a>(alloc: Global) -> Arg<'a> {
     )
 }
 
-fn turns_option<'a>(alloc: Global) -> Result<Arg<'a>, AllocError> {
+fn turns_option<'a>(alloc: Global) -> Result<Arg<'a>, AllocError>
+    ensures { IfOk result (IsArg turns_option) }
+{
     file_option(
         alloc,
         "turns",
@@ -146,17 +179,23 @@ fn turns_option<'a>(alloc: Global) -> Result<Arg<'a>, AllocError> {
     .conflicts_with("moves")
 }
 
-fn turns_word<'a>(alloc: Global) -> Arg<'a> {
+fn turns_word<'a>(alloc: Global) -> Arg<'a>
+    ensures { IsArg turns_file result }
+{
     let help = "The file of the turns; - for standard input";
     file_word(alloc, "turns", "FILE", help)
 }
 
-fn units_option<'a>(alloc: Global) -> Arg<'a> {
+fn units_option<'a>(alloc: Global) -> Arg<'a>
+    ensures { IsArg units result }
+{
     number_option(alloc, "units", "2", "How many units there are, 1 to 8")
 }
 
 /// What `clap` is told of a word.
-pub fn arg_of<'a>(alloc: Global, word: Word<'a>) -> Result<Arg<'a>, AllocError> {
+pub fn arg_of<'a>(alloc: Global, word: Word<'a>) -> Result<Arg<'a>, AllocError>
+    ensures { IfOk result (IsArg (rule_for word.entry)) }
+{
     match word {
         Word::Answers => Ok(answers_option(alloc)),
         Word::Capacity => Ok(capacity_option(alloc)),

@@ -1,10 +1,12 @@
 //! What the words of the command ask for, of what `clap` finds in them.
 ghost use Rattle.std.specs.Prelude.{◌≡◌, ◌≤◌, IfOk, IfSome, codes, map, string_bytes};
 ghost use Rattle.clap.specs.Matches.{first_value, found_of};
-ghost use Rattle.dbtg_command.specs.Calling.{IsCall, IsCallIn, IsCallOf, count_for, name_of, order_in, scripts_in, words_in};
+ghost use Rattle.dbtg_command.specs.Calling.{IsCall, IsCallOf, count_for, order_in, scripts_in, words_in};
 ghost use Rattle.dbtg_command.specs.Capacity.{count_in};
+ghost use Rattle.dbtg_command.specs.Commands.{name_of};
 ghost use Rattle.dbtg_command.specs.Explaining.{IsAsked};
 ghost use Rattle.dbtg_command.specs.Sources.{order_map};
+ghost use Rattle.dbtg_command.specs.Inside.Commands.{IsCallIn};
 
 use crate::capacity::count_of;
 use crate::command::{ALL, Named, command, name_of, refused};

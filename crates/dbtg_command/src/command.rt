@@ -1,6 +1,9 @@
 //! The words of the command, as `clap` is told of them.
-ghost use Rattle.std.specs.Prelude.{◌≡◌};
-ghost use Rattle.dbtg_command.specs.Calling.{name_of};
+ghost use Rattle.std.specs.Prelude.{◌≡◌, IfOk, map};
+ghost use Rattle.clap.specs.Simple.{app_of, with_rule};
+ghost use Rattle.clap.specs.declared.builder.command.Command.TheViews.{out-Command as fields_of};
+ghost use Rattle.dbtg_command.specs.Commands.{name_of, program, rules_for};
+ghost use Rattle.dbtg_command.specs.Inside.Commands.{IsApp, alone, rule_for, with_command};
 
 use crate::arguments::{SCHEMA, SCRIPTS, Word, arg_of};
 use clap::error::ErrorKind;
@@ -12,7 +15,10 @@ fn taking<'a>(
     alloc: Global,
     command: Command<'a>,
     word: Word<'a>,
-) -> Result<Command<'a>, AllocError> {
+) -> Result<Command<'a>, AllocError>
+    ensures app { IfOk result (λ r. app_of r ≡ with_rule (app_of command.entry) (rule_for word.entry)) }
+    ensures local { IfOk result (λ r. (fields_of r).has_globals ≡ (fields_of command.entry).has_globals) }
+{
     match arg_of(alloc, word) {
         Ok(arg) => command.arg(arg),
         Err(refused) => {
@@ -29,7 +35,9 @@ fn described<'a>(
     about: &'a str,
     example: &'a str,
     words: &[Word<'a>],
-) -> Result<Command<'a>, AllocError> {
+) -> Result<Command<'a>, AllocError>
+    ensures { IfOk result (IsApp (alone name.entry.now (map rule_for words.entry.now))) }
+{
     let mut command = Command::new(alloc, name).about(about).after_help(example);
     for word in words {
         command = taking(alloc, command, *word)?;
@@ -38,7 +46,9 @@ fn described<'a>(
 }
 
 // The command `check`, by the name that its usage shows.
-fn check_command<'a>(alloc: Global, name: &'a str) -> Result<Command<'a>, AllocError> {
+fn check_command<'a>(alloc: Global, name: &'a str) -> Result<Command<'a>, AllocError>
+    ensures { IfOk result (IsApp (alone name.entry.now (rules_for Named.Check))) }
+{
     let scripts = "Files of scripts of this schema, any number of them; - for standard input, once";
     described(
         alloc,
@@ -55,7 +65,9 @@ fn check_command<'a>(alloc: Global, name: &'a str) -> Result<Command<'a>, AllocE
 }
 
 // The command `draw`, by the name that its usage shows.
-fn draw_command<'a>(alloc: Global, name: &'a str) -> Result<Command<'a>, AllocError> {
+fn draw_command<'a>(alloc: Global, name: &'a str) -> Result<Command<'a>, AllocError>
+    ensures { IfOk result (IsApp (alone name.entry.now (rules_for Named.Draw))) }
+{
     described(
         alloc,
         name,
@@ -66,7 +78,9 @@ fn draw_command<'a>(alloc: Global, name: &'a str) -> Result<Command<'a>, AllocEr
 }
 
 // The command `explain`, by the name that its usage shows.
-fn explain_command<'a>(alloc: Global, name: &'a str) -> Result<Command<'a>, AllocError> {
+fn explain_command<'a>(alloc: Global, name: &'a str) -> Result<Command<'a>, AllocError>
+    ensures { IfOk result (IsApp (alone name.entry.now (rules_for Named.Explain))) }
+{
     Ok(described(
         alloc,
         name,
@@ -78,7 +92,9 @@ fn explain_command<'a>(alloc: Global, name: &'a str) -> Result<Command<'a>, Allo
 }
 
 // The command `replay`, by the name that its usage shows.
-fn replay_command<'a>(alloc: Global, name: &'a str) -> Result<Command<'a>, AllocError> {
+fn replay_command<'a>(alloc: Global, name: &'a str) -> Result<Command<'a>, AllocError>
+    ensures { IfOk result (IsApp (alone name.entry.now (rules_for Named.Replay))) }
+{
     described(
         alloc,
         name,
@@ -98,7 +114,9 @@ fn replay_command<'a>(alloc: Global, name: &'a str) -> Result<Command<'a>, Alloc
 }
 
 // The command `turns`, by the name that its usage shows.
-fn turns_command<'a>(alloc: Global, name: &'a str) -> Result<Command<'a>, AllocError> {
+fn turns_command<'a>(alloc: Global, name: &'a str) -> Result<Command<'a>, AllocError>
+    ensures { IfOk result (IsApp (alone name.entry.now (rules_for Named.Turns))) }
+{
     described(
         alloc,
         name,
@@ -115,7 +133,9 @@ fn turns_command<'a>(alloc: Global, name: &'a str) -> Result<Command<'a>, AllocE
 }
 
 // The command `timeline`, by the name that its usage shows.
-fn timeline_command<'a>(alloc: Global, name: &'a str) -> Result<Command<'a>, AllocError> {
+fn timeline_command<'a>(alloc: Global, name: &'a str) -> Result<Command<'a>, AllocError>
+    ensures { IfOk result (IsApp (alone name.entry.now (rules_for Named.Timeline))) }
+{
     described(
         alloc,
         name,
@@ -135,7 +155,9 @@ fn timeline_command<'a>(alloc: Global, name: &'a str) -> Result<Command<'a>, All
 }
 
 // The command `outcomes`, by the name that its usage shows.
-fn outcomes_command<'a>(alloc: Global, name: &'a str) -> Result<Command<'a>, AllocError> {
+fn outcomes_command<'a>(alloc: Global, name: &'a str) -> Result<Command<'a>, AllocError>
+    ensures { IfOk result (IsApp (alone name.entry.now (rules_for Named.Outcomes))) }
+{
     described(
         alloc,
         name,
@@ -153,7 +175,9 @@ fn outcomes_command<'a>(alloc: Global, name: &'a str) -> Result<Command<'a>, All
 }
 
 // The command `threads`, by the name that its usage shows.
-fn threads_command<'a>(alloc: Global, name: &'a str) -> Result<Command<'a>, AllocError> {
+fn threads_command<'a>(alloc: Global, name: &'a str) -> Result<Command<'a>, AllocError>
+    ensures { IfOk result (IsApp (alone name.entry.now (rules_for Named.Threads))) }
+{
     let scripts =
         "Files of the scripts of units 1, 2, ..: 1 to 8, a thread each; - for standard input, once";
     described(
@@ -172,7 +196,9 @@ fn threads_command<'a>(alloc: Global, name: &'a str) -> Result<Command<'a>, Allo
 }
 
 // The command `shell`, by the name that its usage shows.
-fn shell_command<'a>(alloc: Global, name: &'a str) -> Result<Command<'a>, AllocError> {
+fn shell_command<'a>(alloc: Global, name: &'a str) -> Result<Command<'a>, AllocError>
+    ensures { IfOk result (IsApp (alone name.entry.now (rules_for Named.Shell))) }
+{
     let schema = "The file of the schema";
     described(
         alloc,
@@ -241,7 +267,9 @@ fn shown_name<'a>(named: Named) -> &'a str {
     }
 }
 
-fn command_of<'a>(alloc: Global, named: Named, name: &'a str) -> Result<Command<'a>, AllocError> {
+fn command_of<'a>(alloc: Global, named: Named, name: &'a str) -> Result<Command<'a>, AllocError>
+    ensures { IfOk result (IsApp (alone name.entry.now (rules_for named))) }
+{
     match named {
         Named::Check => check_command(alloc, name),
         Named::Replay => replay_command(alloc, name),
@@ -260,7 +288,9 @@ fn asked_also<'a>(
     alloc: Global,
     command: Command<'a>,
     named: Named,
-) -> Result<Command<'a>, AllocError> {
+) -> Result<Command<'a>, AllocError>
+    ensures { IfOk result (λ r. app_of r ≡ with_command (app_of command.entry) named) }
+{
     match command_of(alloc, named, name_of(named)) {
         Ok(subcommand) => command.subcommand(subcommand),
         Err(refused) => {
@@ -271,7 +301,9 @@ fn asked_also<'a>(
 }
 
 /// The command with all that it can be asked.
-pub fn command<'a>(alloc: Global) -> Result<Command<'a>, AllocError> {
+pub fn command<'a>(alloc: Global) -> Result<Command<'a>, AllocError>
+    ensures { IfOk result (λ r. app_of r ≡ program) }
+{
     let mut command = Command::new(alloc, "dbtg")
         .version("0.1.0")
         .about(

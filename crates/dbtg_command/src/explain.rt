@@ -33,12 +33,13 @@ mod word;
 pub use causes::CAUSES;
 use dbtg_script::{is_number, number};
 use faults::{MOVES_FAULTS, SCHEMA_FAULTS, SCRIPT_FAULTS, TURNS_FAULTS};
+pub use laid::line_at;
 use row::{next_row, push_form};
 pub use row::{field, row_with};
 pub use schema_word::said_of_schema_word;
 use statuses::STATUSES;
 use std::alloc::{AllocError, Global};
-pub use word::{line_of, said_of_word};
+pub use word::said_of_word;
 
 /// What kind of text has a fault.
 #[derive(Clone, Copy)]

@@ -1,10 +1,11 @@
 //! The second line that `--explain` asks for: where a fault is, and what it means.
-ghost use Rattle.std.specs.Prelude.{◌≡◌, [], IfOk, codes};
-ghost use Rattle.dbtg_command.specs.Explaining.{fault_field};
-ghost use Rattle.dbtg_command.specs.Inside.Reasons.{IsToldIn, place_of, told_at};
+ghost use Rattle.std.specs.Prelude.{◌≡◌, [], IfOk, MatchOption, map, string_bytes};
+ghost use Rattle.dbtg_command.specs.Reasons.{HasNoReason, IsNotRead, IsOther, IsReason, IsReasonLine, IsToldIn, IsToldOfOrder, IsScriptNotRead, IsUnreadLine, SaysOfLine, SaysOfSchema, SaysOfScript, order_path, place_of, script_path, told_at};
+ghost use Rattle.dbtg_command.specs.Sources.{order_map};
 ghost use Rattle.dbtg_command.specs.declared.explain.Kind.TheVariants.{Schema, Script};
+ghost use Rattle.dbtg_command.specs.declared.fault.Fault.TheVariants.{Memory};
 
-use crate::explain::{Kind, advice_for, line_of, meaning_of, said_of_schema_word, said_of_word};
+use crate::explain::{Kind, line_at, meaning_of, said_of_schema_word, said_of_word};
 use crate::fault::Fault;
 use crate::files::{FileReader, Files, Paths, SCRIPT_BYTES, STANDARD_INPUT};
 use crate::order::Order;
@@ -42,7 +43,9 @@ fn is_statement_word(word: &[u8]) -> bool {
 }
 
 /// Says that a file has a text of another kind than is wanted there.
-fn mistaken(kind: Kind, text: &[u8]) -> &'static str {
+fn mistaken(kind: Kind, text: &[u8]) -> &'static str
+    ensures { IsOther kind result.now }
+{
     let word = first_word(text);
     match kind {
         Kind::Schema if is_statement_word(word) => "; this is a script, and a schema is wanted",
@@ -62,22 +65,53 @@ fn reason_of(kind: io::ErrorKind) -> &'static str {
     }
 }
 
-fn unread_line(rt: &HostRuntime, path: &str) -> Result<String, AllocError> {
-    let reason = match rt.read(path, SCRIPT_BYTES) {
+fn unread_line<F: FileReader>(
+    alloc: Global,
+    files: &Files<F>,
+    path: &str,
+) -> Result<Vec<u8>, AllocError>
+    ensures { IfOk result (λ out. IsUnreadLine path.now out.items) }
+{
+    let why = match files.reader.read(path, SCRIPT_BYTES) {
         Ok(_) => "the system could not read it",
         Err(error) => reason_of(error.kind()),
     };
-    format!(in rt.alloc(); "{path}: {reason}")
+    let mut out = Vec::from_slice(alloc, path.as_bytes())?;
+    out.extend_from_slice(b": ")?;
+    out.extend_from_slice(why.as_bytes())?;
+    Ok(out)
 }
 
-/// What is wrong with this file, or nothing where standard input has been read already.
-fn mistaken_file(rt: &HostRuntime, kind: Kind, path: &str) -> &'static str {
+/// The text of a file that is read again; standard input cannot be.
+fn read_again<F: FileReader>(files: &Files<F>, path: &str) -> Option<Vec<u8>>
+    ensures { MatchOption result (IsNotRead (F.lacks files.now.reader.now) path.now) (λ text. F.has files.now.reader.now path.now 1048577 text.items) }
+{
     if path == STANDARD_INPUT {
-        return "";
+        return None;
     }
-    match rt.read(path, SCRIPT_BYTES) {
-        Ok(text) => mistaken(kind, text.as_slice()),
-        Err(_) => "",
+    match files.reader.read(path, SCRIPT_BYTES) {
+        Ok(text) => Some(text),
+        Err(_) => None,
+    }
+}
+
+/// The text of a script that is read again; it is of no use where the schema cannot be.
+fn script_again<F: FileReader>(files: &Files<F>, path: &str) -> Option<Vec<u8>>
+    ensures { MatchOption result (IsScriptNotRead (F.lacks files.now.reader.now) files.now.paths.now.schema.now path.now) (λ text. F.has files.now.reader.now path.now 1048577 text.items) }
+{
+    if files.paths.schema == STANDARD_INPUT {
+        return None;
+    }
+    read_again(files, path)
+}
+
+/// What is wrong with this file as a whole, or nothing where it is not read again.
+fn mistaken_file<F: FileReader>(files: &Files<F>, kind: Kind, path: &str) -> &'static str
+    ensures { IsOther kind result.now }
+{
+    match read_again(files, path) {
+        Some(text) => mistaken(kind, text.as_slice()),
+        None => "",
     }
 }
 
@@ -110,126 +144,117 @@ fn told_at(
     Ok(out)
 }
 
-/// What is said of the word of a script that is at fault; nothing where no single word is, or a file cannot be read again.
-fn word_line(
-    rt: &HostRuntime,
-    paths: &Paths,
-    script: &str,
-    line: u64,
-    number: u8,
-    meaning: &[u8],
-) -> Result<Vec<u8>, AllocError> {
-    let alloc = rt.alloc();
-    if paths.schema == STANDARD_INPUT || script == STANDARD_INPUT {
-        return Ok(Vec::new(alloc));
-    }
-    match rt.read(script, SCRIPT_BYTES) {
-        Ok(text) => word_in(rt, paths, line_of(text.as_slice(), line), number, meaning),
-        Err(_) => Ok(Vec::new(alloc)),
+/// Nothing, where there is no schema; where memory ran out it is not known what is to be said.
+fn nothing_said(alloc: Global, fault: &Fault) -> Result<Vec<u8>, AllocError>
+    ensures { IfOk result (λ said. (said.items ≡ []) × (fault.now ≡ Memory → ⊥)) }
+{
+    match fault {
+        Fault::Memory => Err(AllocError),
+        _ => Ok(Vec::new(alloc)),
     }
 }
 
-/// The same of a line at hand.
-fn word_in(
-    rt: &HostRuntime,
-    paths: &Paths,
+/// What is said of the word of a line that is at fault, by the schema, which is read again.
+fn said_in_line<F: FileReader>(
+    alloc: Global,
+    files: &Files<F>,
     line: &[u8],
     number: u8,
-    meaning: &[u8],
-) -> Result<Vec<u8>, AllocError> {
-    let alloc = rt.alloc();
-    let files = Files { reader: rt, paths };
-    match read_schema(alloc, &files) {
+) -> Result<Vec<u8>, AllocError>
+    ensures { IfOk result (λ said. SaysOfLine (F.has files.now.reader.now) (F.lacks files.now.reader.now) files.now.paths.now.schema.now number line.now said.items) }
+{
+    match read_schema(alloc, files) {
         Ok(known) => {
-            let said = said_of_word(alloc, &known, line, number, meaning);
+            let said = said_of_word(alloc, &known, line, number);
             known.discard();
             said
         }
-        Err(_) => Ok(Vec::new(alloc)),
+        Err(fault) => nothing_said(alloc, &fault),
     }
 }
 
-/// What there is to say of a fault of a script.
-fn script_reason(
-    rt: &HostRuntime,
-    paths: &Paths,
+/// What is said of the word of a script that is at fault; nothing where no single word is, or a file is not read again.
+fn said_in_script<F: FileReader>(
+    alloc: Global,
+    files: &Files<F>,
     path: &str,
     line: u64,
     number: u8,
 ) -> Result<Vec<u8>, AllocError>
-    ensures { IfOk result (λ out. IsToldIn Script path.now line number out.items) }
+    ensures { IfOk result (λ said. SaysOfScript (F.has files.now.reader.now) (F.lacks files.now.reader.now) files.now.paths.now.schema.now path.now line number said.items) }
 {
-    let place = place_of(rt.alloc(), path, ":", line)?;
-    let meaning = meaning_of(Kind::Script, number);
-    let other = mistaken_file(rt, Kind::Script, path);
-    let word = word_line(rt, paths, path, line, number, meaning)?;
-    told_at(
-        rt.alloc(),
-        place.as_slice(),
-        word.as_slice(),
-        meaning,
-        other,
-    )
+    match script_again(files, path) {
+        Some(text) => said_in_line(alloc, files, line_at(text.as_slice(), line), number),
+        None => Ok(Vec::new(alloc)),
+    }
 }
 
-/// What is said of the word of a schema that is at fault; nothing where no single word is, or the file cannot be read again.
-fn schema_word_line(
-    rt: &HostRuntime,
+/// What there is to say of a fault of a script.
+fn script_reason<F: FileReader>(
+    alloc: Global,
+    files: &Files<F>,
+    path: &str,
+    line: u64,
+    number: u8,
+) -> Result<Vec<u8>, AllocError>
+    ensures { IfOk result (λ out. IsToldIn Script (SaysOfScript (F.has files.now.reader.now) (F.lacks files.now.reader.now) files.now.paths.now.schema.now path.now line number) path.now line number out.items) }
+{
+    let place = place_of(alloc, path, ":", line)?;
+    let meaning = meaning_of(Kind::Script, number);
+    let other = mistaken_file(files, Kind::Script, path);
+    let said = said_in_script(alloc, files, path, line, number)?;
+    told_at(alloc, place.as_slice(), said.as_slice(), meaning, other)
+}
+
+/// What is said of the word of the schema that is at fault; nothing where no single word is, or the file is not read again.
+fn said_in_schema<F: FileReader>(
+    alloc: Global,
+    files: &Files<F>,
     path: &str,
     number: u8,
-    meaning: &[u8],
-) -> Result<Vec<u8>, AllocError> {
-    let alloc = rt.alloc();
-    if path == STANDARD_INPUT {
-        return Ok(Vec::new(alloc));
-    }
-    match rt.read(path, SCRIPT_BYTES) {
-        Ok(text) => {
-            let advice = advice_for(Kind::Schema, number);
-            said_of_schema_word(alloc, text.as_slice(), number, meaning, advice)
-        }
-        Err(_) => Ok(Vec::new(alloc)),
+) -> Result<Vec<u8>, AllocError>
+    ensures { IfOk result (λ said. SaysOfSchema (F.has files.now.reader.now) (F.lacks files.now.reader.now) path.now number said.items) }
+{
+    match read_again(files, path) {
+        Some(text) => said_of_schema_word(alloc, text.as_slice(), number),
+        None => Ok(Vec::new(alloc)),
     }
 }
 
 /// What there is to say of the fault of the schema.
-fn schema_reason(rt: &HostRuntime, path: &str, line: u64, number: u8) -> Result<Vec<u8>, AllocError>
-    ensures { IfOk result (λ out. IsToldIn Schema path.now line number out.items) }
+fn schema_reason<F: FileReader>(
+    alloc: Global,
+    files: &Files<F>,
+    path: &str,
+    line: u64,
+    number: u8,
+) -> Result<Vec<u8>, AllocError>
+    ensures { IfOk result (λ out. IsToldIn Schema (SaysOfSchema (F.has files.now.reader.now) (F.lacks files.now.reader.now) path.now number) path.now line number out.items) }
 {
-    let place = place_of(rt.alloc(), path, ":", line)?;
+    let place = place_of(alloc, path, ":", line)?;
     let meaning = meaning_of(Kind::Schema, number);
-    let other = mistaken_file(rt, Kind::Schema, path);
-    let word = schema_word_line(rt, path, number, meaning)?;
-    told_at(
-        rt.alloc(),
-        place.as_slice(),
-        word.as_slice(),
-        meaning,
-        other,
-    )
+    let other = mistaken_file(files, Kind::Schema, path);
+    let said = said_in_schema(alloc, files, path, number)?;
+    told_at(alloc, place.as_slice(), said.as_slice(), meaning, other)
 }
 
 /// What there is to say of a fault of the moves or turns.
 fn order_reason(
-    rt: &HostRuntime,
+    alloc: Global,
     path: &str,
     kind: Kind,
     word: u64,
     number: u8,
 ) -> Result<Vec<u8>, AllocError>
-    ensures { IfOk result (λ out. out.items ≡ told_at (place_of path.now (codes ": word ") word) [] (fault_field kind number 1) []) }
+    ensures { IfOk result (λ out. IsToldOfOrder kind path.now word number out.items) }
 {
-    let place = place_of(rt.alloc(), path, ": word ", word)?;
-    told_at(
-        rt.alloc(),
-        place.as_slice(),
-        &[],
-        meaning_of(kind, number),
-        "",
-    )
+    let place = place_of(alloc, path, ": word ", word)?;
+    told_at(alloc, place.as_slice(), &[], meaning_of(kind, number), "")
 }
 
-fn order_path<'a>(paths: &Paths<'a>) -> &'a str {
+fn order_path<'a>(paths: &Paths<'a>) -> &'a str
+    ensures { result.now ≡ order_path (order_map (λ path. path.now) paths.now.order) }
+{
     match paths.order {
         Order::Serial => "",
         Order::Moves(path) => path,
@@ -237,35 +262,61 @@ fn order_path<'a>(paths: &Paths<'a>) -> &'a str {
     }
 }
 
-fn script_path<'a>(paths: &Paths<'a>, number: usize) -> &'a str {
-    let path = paths.scripts.get(number.wrapping_sub(1));
-    path.copied().unwrap_or("")
+fn script_path<'a>(paths: &Paths<'a>, number: usize) -> &'a str
+    ensures { result.now ≡ script_path (map (λ path. path.now) paths.now.scripts.now) number }
+{
+    if number == 0 {
+        return "";
+    }
+    match paths.scripts.get(number - 1) {
+        Some(path) => *path,
+        None => "",
+    }
 }
 
-/// The second line of a fault, where there is one.
-pub fn reason(
-    rt: &HostRuntime,
-    paths: &Paths,
+/// What the second line of a fault says, where it has one.
+fn told_of<F: FileReader>(
+    alloc: Global,
+    files: &Files<F>,
     fault: &Fault,
-) -> Result<Option<String>, AllocError> {
+) -> Result<Option<Vec<u8>>, AllocError>
+    ensures { IfOk result (λ told. MatchOption told (HasNoReason fault.now) (λ out. IsReason (F.has files.now.reader.now) (F.lacks files.now.reader.now) files.now.paths.now.schema.now (map (λ path. path.now) files.now.paths.now.scripts.now) (order_map (λ path. path.now) files.now.paths.now.order) fault.now out.items)) }
+{
+    let paths = files.paths;
     let told = match fault {
-        Fault::Schema { line, cause } => schema_reason(rt, paths.schema, *line, cause.number())?,
+        Fault::Schema { line, cause } => {
+            schema_reason(alloc, files, paths.schema, *line, cause.number())?
+        }
         Fault::Script {
             number,
             line,
             cause,
         } => {
             let path = script_path(paths, *number);
-            script_reason(rt, paths, path, *line, cause.number())?
+            script_reason(alloc, files, path, *line, cause.number())?
         }
         Fault::Moves { word, cause } => {
-            order_reason(rt, order_path(paths), Kind::Moves, *word, cause.number())?
+            order_reason(alloc, order_path(paths), Kind::Moves, *word, cause.number())?
         }
         Fault::Turns { word, cause } => {
-            order_reason(rt, order_path(paths), Kind::Turns, *word, cause.number())?
+            order_reason(alloc, order_path(paths), Kind::Turns, *word, cause.number())?
         }
-        Fault::Unreadable { path } => return Ok(Some(unread_line(rt, path.as_str())?)),
+        Fault::Unreadable { path } => unread_line(alloc, files, path.as_str())?,
         _ => return Ok(None),
     };
-    Ok(Some(String::from_utf8_lossy(rt.alloc(), told.as_slice())?))
+    Ok(Some(told))
+}
+
+/// The second line of a fault, where there is one. To say it the files are read again.
+pub fn reason<F: FileReader>(
+    alloc: Global,
+    files: &Files<F>,
+    fault: &Fault,
+) -> Result<Option<String>, AllocError>
+    ensures { IfOk result (λ told. MatchOption told (HasNoReason fault.now) (λ line. IsReasonLine (F.has files.now.reader.now) (F.lacks files.now.reader.now) files.now.paths.now.schema.now (map (λ path. path.now) files.now.paths.now.scripts.now) (order_map (λ path. path.now) files.now.paths.now.order) fault.now (string_bytes line))) }
+{
+    match told_of(alloc, files, fault)? {
+        Some(told) => Ok(Some(String::from_utf8_lossy(alloc, told.as_slice())?)),
+        None => Ok(None),
+    }
 }

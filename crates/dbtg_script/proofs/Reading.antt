@@ -4,6 +4,8 @@
 pub mod Accepted
 pub mod AtOnce
 pub mod Derived
+pub mod FaultyRows
+pub mod FaultySteps
 pub mod Firsts
 pub mod Kinds
 pub mod KnownLines

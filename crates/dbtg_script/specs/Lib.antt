@@ -5,6 +5,7 @@ pub mod Labels
 pub mod Lookups
 pub mod Values
 pub mod StatementFaults
+pub mod FaultyWord
 pub mod Reading
 pub mod Statements
 pub mod Moves

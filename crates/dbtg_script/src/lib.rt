@@ -5,6 +5,7 @@ mod automaton;
 mod checks;
 mod echo;
 mod fault;
+mod faulty;
 mod image;
 mod keyword;
 mod known;
@@ -30,6 +31,7 @@ mod words;
 
 pub use echo::statement_lines;
 pub use fault::{Cause, LineFault, ScriptFault};
+pub use faulty::faulty_word;
 pub use image::{image_text, moves_text};
 pub use laws::{
     a_derived_line_is_read, a_derived_script_has_no_fault_of_the_grammar,

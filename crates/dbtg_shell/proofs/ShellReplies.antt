@@ -56,8 +56,8 @@ module _ {E : Type 0} (u : ℕ) (old new : Typed) (line : List ℕ) (result : Re
   pub without_unit : IsNoUnit old.making.units u → IfOk result (IsText (λ out. out ≡ no_unit_text old.making.units)) → TakesLine u old line result new
   without_unit none told = unmade (λ out. out ≡ no_unit_text old.making.units) (λ out h. inl (none, h)) told
 
-  pub with_fault : (cause : Cause) → RefusesLine (Fault cause) old u line → IfOk result (IsText (IsFaultText cause)) → TakesLine u old line result new
-  with_fault cause refused told = unmade (IsFaultText cause) (λ out h. inr (inr (cause, refused, h))) told
+  pub with_fault : (cause : Cause) → RefusesLine (Fault cause) old u line → IfOk result (IsText (IsFaultText old.making.schema line cause)) → TakesLine u old line result new
+  with_fault cause refused told = unmade (IsFaultText old.making.schema line cause) (λ out h. inr (inr (cause, refused, h))) told
 
 -- WHAT A LINE ASKS FOR IS DONE
 

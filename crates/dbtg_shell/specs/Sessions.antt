@@ -26,7 +26,10 @@ use Rattle.dbtg_shell.specs.declared.asked.Asked.TheVariants as asked
 use Rattle.dbtg_shell.specs.declared.commands.Reply.{Reply}
 use Rattle.dbtg_shell.specs.declared.commands.Reply.TheVariants as reply
 use Rattle.dbtg_command.specs.declared.explain.causes.TheConstants.{CAUSES}
-use Rattle.dbtg_command.specs.Explaining.{field, row_of}
+use Rattle.dbtg_command.specs.declared.explain.Kind.TheVariants as kind
+use Rattle.dbtg_command.specs.Explaining.{fault_field, field, row_of}
+use Rattle.dbtg_command.specs.FaultyWord.{line_at}
+use Rattle.dbtg_command.specs.Saying.{IsSaidOfWord}
 use Rattle.dbtg_command.specs.Refusals.{schema_in}
 use Rattle.dbtg_shell.specs.Asking.{asked_of, behind_spaces, turn_after}
 use Rattle.dbtg_replay.specs.Replaying.{IsReplay}
@@ -93,9 +96,16 @@ IsLastAnswer typed out = (before : List Entry) (e : Entry) → typed.making.hist
 abbrev pub no_unit_text : ℕ → List ℕ
 no_unit_text units = codes "there is no such unit: they are numbered from 1 to " ++ decimal units ++ 10 ∷ []
 
--- the line that tells of a fault: its number, and what is said of it
-abbrev pub IsFaultText : Cause → List ℕ → Type 0
-IsFaultText cause out = (said : List ℕ) × (out ≡ codes "fault " ++ decimal (cause_number cause) ++ codes ": " ++ said ++ 10 ∷ [])
+-- what is said of a word, or the meaning where nothing is
+abbrev pub said_or : List ℕ → List ℕ → List ℕ
+said_or meaning said = if length said == 0 then meaning else said
+
+-- the line that tells of a fault of this line: its number, what is said of the word that it is about, or else what it means, and a hint
+abbrev pub IsFaultText : Lists → List ℕ → Cause → List ℕ → Type 0
+IsFaultText schema line cause out =
+    let number = cause_number cause in
+    (said : List ℕ) × (hint : List ℕ) × IsSaidOfWord schema number (line_at 1 line) said
+    × (out ≡ codes "fault " ++ decimal number ++ codes ": " ++ said_or (fault_field kind.Script number 1) said ++ hint ++ 10 ∷ [])
 
 -- the reply is a text, and this is true of it
 abbrev pub IsText : (List ℕ → Type 0) → Reply → Type 0
@@ -125,7 +135,7 @@ abbrev pub IsUnmade : Typed → ℕ → List ℕ → List ℕ → Type 0
 IsUnmade typed u line out =
     (IsNoUnit typed.making.units u × (out ≡ no_unit_text typed.making.units))
     ⊎ ((line_statement typed.making.schema (trimmed line) ≡ None) × (out ≡ []))
-    ⊎ ((cause : Cause) × RefusesLine (Fault cause) typed u line × IsFaultText cause out)
+    ⊎ ((cause : Cause) × RefusesLine (Fault cause) typed u line × IsFaultText typed.making.schema line cause out)
 
 -- a line of unit u: its statement is made, and its answer told; or all is as it was, and why is told. Without memory all is as it was,
 -- and nothing is told

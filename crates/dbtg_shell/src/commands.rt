@@ -141,7 +141,7 @@ impl<'a> Shell<'a> {
     pub fn take_long_line<'b>(&mut self) -> Result<Reply<'b>, AllocError>
         ensures unchanged { self.new.session ≡ self.old.session }
         ensures turn { self.new.turn ≡ self.old.turn }
-        ensures told { IfOk result (IsText (IsFaultText LineNotAllowed)) }
+        ensures told { IfOk result (IsText (IsFaultText self.old.session.making.schema [] LineNotAllowed)) }
     {
         self.tell_fault(b"", Cause::LineNotAllowed)
     }
@@ -170,7 +170,7 @@ impl<'a> Shell<'a> {
     fn tell_fault<'b>(&mut self, line: &[u8], cause: Cause) -> Result<Reply<'b>, AllocError>
         ensures unchanged { self.new.session ≡ self.old.session }
         ensures turn { self.new.turn ≡ self.old.turn }
-        ensures told { IfOk result (IsText (IsFaultText cause)) }
+        ensures told { IfOk result (IsText (IsFaultText self.old.session.making.schema line.now cause)) }
     {
         let told = fault_reply(self.alloc, self.session.schema(), line, cause)?;
         self.last = Last::Fault(cause.number());

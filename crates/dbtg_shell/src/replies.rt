@@ -6,7 +6,7 @@ ghost use Rattle.dbtg_unit.specs.Database.State.Image.{image_of};
 ghost use Rattle.dbtg_shell.specs.Sessions.{IsFaultText, answer_reply, cause_name, no_unit_text};
 
 use crate::session::Session;
-use dbtg_command::explain::{CAUSES, Kind, field, line_of, meaning_of, row_with, said_of_word};
+use dbtg_command::explain::{CAUSES, Kind, field, line_at, meaning_of, row_with, said_of_word};
 use dbtg_schema::Schema;
 use dbtg_script::{
     Cause, image_text, in_front, push_answer, push_named_answer, push_number, push_unit, units_text,
@@ -57,11 +57,11 @@ pub fn fault_reply(
     line: &[u8],
     cause: Cause,
 ) -> Result<Vec<u8>, AllocError>
-    ensures { IfOk result (λ out. IsFaultText cause out.items) }
+    ensures { IfOk result (λ out. IsFaultText schema.now line.now cause out.items) }
 {
     let number = cause.number();
     let meaning = meaning_of(Kind::Script, number);
-    let word = said_of_word(alloc, schema, line_of(line, 1), number, meaning)?;
+    let word = said_of_word(alloc, schema, line_at(line, 1), number)?;
     let mut out = Vec::from_slice(alloc, b"fault ")?;
     push_number(&mut out, number as u64)?;
     out.extend_from_slice(b": ")?;

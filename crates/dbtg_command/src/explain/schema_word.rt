@@ -1,10 +1,16 @@
 //! What is said of the word of a schema at which its fault is, and the names that there are in its place. The reader itself finds
 //! the word: it reads the text again, with each word on a line of its own.
+ghost use Rattle.std.specs.Prelude.{◌≡◌, IfOk};
+ghost use Rattle.dbtg_command.specs.Saying.{IsSaidOfSchemaWord, told_schema_part};
 
 use crate::explain::laid::{fault_line, faulty_word, laid_out};
 use crate::explain::row::behind_all;
-use crate::explain::word::{LONGEST, push_name, push_said, word_at, words_of};
+use crate::explain::word::{push_name, said_by, word_at, words_of};
+use crate::explain::{Kind, advice_for, meaning_of};
 use std::alloc::{AllocError, Global};
+
+// A longer word is not told.
+const LONGEST: usize = 480;
 
 // What is said under a fault's number: 0 is the word, 1 the record type, 2 the names that there are, 4 what to do.
 const FORMS: &str = "\
@@ -116,26 +122,30 @@ fn words_in_front<'a>(
     seen_words(alloc, &laid[..laid.len().saturating_sub(rest.len())])
 }
 
+// No word is told of a byte that is not allowed and of a text that is too long.
+fn told_schema_part(word: &[u8], number: u8) -> &[u8]
+    ensures { result.now ≡ told_schema_part number word.now }
+{
+    if number <= 2 || word.len() > LONGEST {
+        &word[..0]
+    } else {
+        word
+    }
+}
+
 /// What there is to say of the word of a schema's text that is at fault; nothing where no single word is.
-pub fn said_of_schema_word(
-    alloc: Global,
-    text: &[u8],
-    number: u8,
-    meaning: &[u8],
-    advice: &[u8],
-) -> Result<Vec<u8>, AllocError> {
+pub fn said_of_schema_word(alloc: Global, text: &[u8], number: u8) -> Result<Vec<u8>, AllocError>
+    ensures { IfOk result (λ out. IsSaidOfSchemaWord number text.now out.items) }
+{
     let laid = laid_out(alloc, text)?;
     let laid = laid.as_slice();
     let line = fault_line(alloc, laid, number)?;
-    let word = faulty_word(laid, line, number);
-    if word.is_empty() || word.len() > LONGEST || number <= 2 {
-        return Ok(Vec::new(alloc));
-    }
+    let word = told_schema_part(faulty_word(laid, line, number), number);
     let front = words_in_front(alloc, laid, line)?;
     let names = names_wanted(alloc, laid, front.as_slice(), number)?;
     let rtype = type_wanted(front.as_slice());
+    let meaning = meaning_of(Kind::Schema, number);
+    let advice = advice_for(Kind::Schema, number);
     let parts = [word, rtype, names.as_slice(), meaning, advice];
-    let mut out = Vec::new(alloc);
-    push_said(&mut out, FORMS, number, &parts)?;
-    Ok(out)
+    said_by(alloc, FORMS, number, word, &parts)
 }

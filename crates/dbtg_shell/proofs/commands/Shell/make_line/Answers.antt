@@ -1,6 +1,6 @@
-use Rattle.std.proofs.Common.{◌∙◌, Bool, inl, inr, sym, subst}
+use Rattle.std.proofs.Common.{◌∙◌, Bool, IfOk, inl, inr, sym, subst}
 use Rattle.dbtg_shell.proofs.ShellReplies.{with_fault}
-use Rattle.dbtg_shell.specs.Sessions.{HasTyped, IsLastAnswer, MayBeText, Takes, Typed}
+use Rattle.dbtg_shell.specs.Sessions.{HasTyped, IsFaultText, IsLastAnswer, IsText, MayBeText, Takes, Typed}
 use Rattle.dbtg_shell.proofs.commands.Shell.make_line.Goals as goal
 
 pub returns-in-Ok-false-clause-taken : goal.returns-in-Ok-false-clause-taken
@@ -21,4 +21,5 @@ pub returns-in-Err-Fault-clause-taken : goal.returns-in-Err-Fault-clause-taken
 returns-in-Err-Fault-clause-taken c =
     let old = c.args.self.now.session in
     let refused = rw c.in-Err-Fault.field-0-is at c.in-Err-Fault.ensures.refused in
-    with_fault c.args.unit old c.tell_fault.new.self.session c.args.line.now c.tell_fault.result (c.tell_fault.ensures.unchanged ∙ c.in-Err-Fault.ensures.unchanged) c.in-Err-Fault.cause refused c.tell_fault.ensures.told
+    let told = subst (λ (t : Typed). IfOk c.tell_fault.result (IsText (IsFaultText t.making.schema c.args.line.now c.in-Err-Fault.cause))) c.in-Err-Fault.ensures.unchanged c.tell_fault.ensures.told in
+    with_fault c.args.unit old c.tell_fault.new.self.session c.args.line.now c.tell_fault.result (c.tell_fault.ensures.unchanged ∙ c.in-Err-Fault.ensures.unchanged) c.in-Err-Fault.cause refused told

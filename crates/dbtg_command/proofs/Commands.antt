@@ -1,0 +1,49 @@
+-- What `clap` is told of the program.
+use Rattle.std.proofs.Common.{◌≡◌, ◌∙◌, ◌+◌, ◌++◌, ◌==◌, ◌||◌, ◌<◌, Bool, true, false, List, ℕ, [], ◌∷◌, refl, ap, sym, length, map, take, slice_index_or, arith}
+use Rattle.std.specs.Borrow.{Bor}
+use Rattle.std.proofs.lemmas.List.{length-append, map_more}
+use Rattle.clap.proofs.OnLiterals.{clap_on_literals}
+use Rattle.clap.specs.Adds.{AddsConflicts}
+use Rattle.clap.specs.Simple.{App, is_simple, with_rule}
+use Rattle.clap.specs.Walk.{Rule, is_empty, is_free_arg, rule_of}
+use Rattle.clap.specs.declared.builder.arg.Arg.{Arg}
+use Rattle.dbtg_command.specs.Commands.{program}
+use Rattle.dbtg_command.specs.Inside.Commands.{IsArg, alone, rule_for}
+use Rattle.dbtg_command.specs.declared.arguments.Word.{Word}
+
+-- `clap` says what it matches of a program like this one
+pub program_is_simple : is_simple program ≡ true
+program_is_simple = refl
+
+not_free : (a : Arg) → is_empty a.conflicts.items ≡ false → is_free_arg a ≡ false
+not_free a h = by a.exclusive refl
+  where
+    by : (e : Bool) → a.exclusive ≡ e → is_free_arg a ≡ false
+    by true e = rw e refl
+    by false e = rw (e, h) refl
+
+not_empty : {X : Type 0} (xs : List X) (x : X) → is_empty (xs ++ x ∷ []) ≡ false
+not_empty xs x = longer (length (xs ++ x ∷ [])) (length-append xs (x ∷ []))
+  where
+    longer : (n : ℕ) → n ≡ length xs + 1 → (n == 0) ≡ false
+    longer n e = rw e (grind arith)
+
+-- an argument that excludes another is not free
+pub in_conflict : (old new : Arg) (rule : Rule) (id : Bor (List ℕ)) → IsArg rule old → AddsConflicts old new (id ∷ []) → IsArg (record rule { is_free = false }) new
+in_conflict old new rule id is adds =
+    let some : is_empty new.conflicts.items ≡ false = ap is_empty adds.1 ∙ not_empty old.conflicts.items id in
+    let bound : rule_of new ≡ record (rule_of new) { is_free = false } = ap (λ (b : Bool). record (rule_of new) { is_free = b }) (not_free new some) in
+    record {
+      rule_is = bound ∙ ap (λ (a : Arg). record (rule_of a) { is_free = false }) adds.0 ∙ ap (λ (r : Rule). record r { is_free = false }) is.rule_is;
+      local = ap (λ (a : Arg). a.global) adds.0 ∙ is.local;
+    }
+
+-- a command with one word more
+pub word_behind : (name : List ℕ) (words : List Word) (i : ℕ) (d : Word) (old new : App) → i < length words → new ≡ with_rule old (rule_for (slice_index_or words i d)) → old ≡ alone name (map rule_for (take i words))
+    → new ≡ alone name (map rule_for (take (i + 1) words))
+word_behind name words i d old new lt added before =
+    added ∙ ap (λ (a : App). with_rule a (rule_for (slice_index_or words i d))) before ∙ ap (alone name) (sym (map_more rule_for words i d lt))
+
+pub or_false : (a b : Bool) → b ≡ false → (a || b) ≡ a
+or_false true b e = refl
+or_false false b e = e

@@ -1,0 +1,65 @@
+-- Worked rows: what words ask the program for.
+use Rattle.std.proofs.Common.{◌≡◌, ℕ, true, false, List, [], ◌∷◌, ◌++◌, Option, Some, None, refl}
+use Rattle.std.specs.Prelude.{codes, option_and_then, option_map}
+use Rattle.clap.proofs.OnLiterals.{clap_on_literals}
+use Rattle.clap.specs.Simple.{subcommand_of}
+use Rattle.clap.specs.Walk.{Row, all_of, one_of}
+use Rattle.dbtg_command.specs.Commands.{program}
+
+-- the command that words name, behind the program's
+abbrev asked : List (List ℕ) → Option (List ℕ)
+asked words = option_map (λ met. met.0) (subcommand_of program (codes "dbtg" ∷ words))
+
+-- the values of an option or of other words
+abbrev given : List (List ℕ) → List ℕ → Option (List (List ℕ))
+given words id = option_and_then (λ met. all_of id met.1) (subcommand_of program (codes "dbtg" ∷ words))
+
+-- an option that has no value is true or false
+abbrev is_given : List (List ℕ) → List ℕ → Option (List ℕ)
+is_given words id = option_and_then (λ met. one_of id met.1) (subcommand_of program (codes "dbtg" ∷ words))
+
+abbrev meeting : List (List ℕ)
+meeting = codes "replay" ∷ codes "--echo" ∷ codes "--moves" ∷ codes "m" ∷ codes "a.schema" ∷ codes "b" ∷ codes "c" ∷ []
+
+replay_is_asked : asked meeting ≡ Some (codes "replay")
+unfolding clap_on_literals
+replay_is_asked = refl
+
+-- the first word that is no option is the schema, and those behind it are scripts
+schema_is_first : given meeting (codes "schema") ≡ Some (codes "a.schema" ∷ [])
+unfolding clap_on_literals
+schema_is_first = refl
+
+scripts_follow : given meeting (codes "scripts") ≡ Some (codes "b" ∷ codes "c" ∷ [])
+unfolding clap_on_literals
+scripts_follow = refl
+
+moves_are_named : given meeting (codes "moves") ≡ Some (codes "m" ∷ [])
+unfolding clap_on_literals
+moves_are_named = refl
+
+no_turns_are_named : given meeting (codes "turns") ≡ None
+unfolding clap_on_literals
+no_turns_are_named = refl
+
+echo_is_wanted : is_given meeting (codes "echo") ≡ Some (codes "true")
+unfolding clap_on_literals
+echo_is_wanted = refl
+
+nothing_is_explained : is_given meeting (codes "explain") ≡ Some (codes "false")
+unfolding clap_on_literals
+nothing_is_explained = refl
+
+-- where no capacity is given it is 100
+capacity_is_100 : given meeting (codes "capacity") ≡ Some (codes "100" ∷ [])
+unfolding clap_on_literals
+capacity_is_100 = refl
+
+capacity_is_7 : given (codes "shell" ∷ codes "--capacity=7" ∷ codes "a.schema" ∷ []) (codes "capacity") ≡ Some (codes "7" ∷ [])
+unfolding clap_on_literals
+capacity_is_7 = refl
+
+-- the turns of the command turns stand in front of the schema
+turns_are_first : given (codes "turns" ∷ codes "t" ∷ codes "a.schema" ∷ codes "b" ∷ []) (codes "turns") ≡ Some (codes "t" ∷ [])
+unfolding clap_on_literals
+turns_are_first = refl

@@ -1,0 +1,111 @@
+-- What the program can be asked: each command, with its options and its other words, as `clap` is told of them.
+use Rattle.std.specs.Prelude.{ℕ, true, false, List, [], ◌∷◌, Some, codes, map}
+use Rattle.clap.specs.Lexer.{usize_max}
+use Rattle.clap.specs.Simple.{App, Shape, new_rule, new_shape}
+use Rattle.clap.specs.Walk.{Rule}
+use Rattle.clap.specs.declared.builder.action.ArgAction.TheVariants.{Set, Append, SetTrue}
+use Rattle.dbtg_command.specs.declared.command.Named.{Named}
+use Rattle.dbtg_command.specs.declared.command.Named.TheVariants as named
+
+-- an option that has no value
+abbrev pub flag : List ℕ → Rule
+flag name = record (new_rule name) { long = Some name; action = Some SetTrue }
+
+-- an option that names a file
+abbrev pub file_option : List ℕ → Rule
+file_option name = record (new_rule name) { long = Some name; action = Some Set; value_names = 1 }
+
+-- an option that is a number, and this one where it is not given
+abbrev pub number_option : List ℕ → List ℕ → Rule
+number_option name usual = record (file_option name) { defaults = usual ∷ [] }
+
+-- a file that has to be named
+abbrev pub file_word : List ℕ → Rule
+file_word name = record (new_rule name) { action = Some Set; value_names = 1; required = true }
+
+-- any number of words
+abbrev pub words : List ℕ → Rule
+words name = record (new_rule name) { action = Some Append; value_names = 1; range = Some (record { start_inclusive = 0; end_inclusive = usize_max }) }
+
+abbrev pub answers : Rule
+answers = flag (codes "answers")
+
+abbrev pub capacity : Rule
+capacity = number_option (codes "capacity") (codes "100")
+
+abbrev pub echo : Rule
+echo = flag (codes "echo")
+
+abbrev pub explain : Rule
+explain = flag (codes "explain")
+
+abbrev pub first : Rule
+first = file_option (codes "first")
+
+abbrev pub limit : Rule
+limit = number_option (codes "limit") (codes "1000000")
+
+abbrev pub moves : Rule
+moves = file_option (codes "moves")
+
+abbrev pub save_turns : Rule
+save_turns = file_option (codes "save-turns")
+
+abbrev pub schema : Rule
+schema = file_word (codes "schema")
+
+abbrev pub scripts : Rule
+scripts = words (codes "scripts")
+
+abbrev pub svg : Rule
+svg = flag (codes "svg")
+
+abbrev pub topic : Rule
+topic = words (codes "topic")
+
+-- turns as an option, which is not free: it excludes moves
+abbrev pub turns_option : Rule
+turns_option = record (file_option (codes "turns")) { is_free = false }
+
+-- turns that have to be named
+abbrev pub turns_file : Rule
+turns_file = file_word (codes "turns")
+
+abbrev pub units : Rule
+units = number_option (codes "units") (codes "2")
+
+-- the word that asks for a command
+abbrev pub name_of : Named → List ℕ
+name_of named.Check = codes "check"
+name_of named.Replay = codes "replay"
+name_of named.Turns = codes "turns"
+name_of named.Timeline = codes "timeline"
+name_of named.Outcomes = codes "outcomes"
+name_of named.Threads = codes "threads"
+name_of named.Draw = codes "draw"
+name_of named.Explain = codes "explain"
+name_of named.Shell = codes "shell"
+
+-- what a command can be given, in the order of its help; words that are no options stand in this order
+abbrev pub rules_for : Named → List Rule
+rules_for named.Check = first ∷ explain ∷ schema ∷ scripts ∷ []
+rules_for named.Replay = capacity ∷ first ∷ moves ∷ turns_option ∷ echo ∷ explain ∷ schema ∷ scripts ∷ []
+rules_for named.Turns = capacity ∷ explain ∷ turns_file ∷ schema ∷ scripts ∷ []
+rules_for named.Timeline = capacity ∷ first ∷ moves ∷ turns_option ∷ svg ∷ explain ∷ schema ∷ scripts ∷ []
+rules_for named.Outcomes = capacity ∷ limit ∷ answers ∷ explain ∷ schema ∷ scripts ∷ []
+rules_for named.Threads = capacity ∷ save_turns ∷ explain ∷ schema ∷ scripts ∷ []
+rules_for named.Draw = explain ∷ schema ∷ []
+rules_for named.Explain = topic ∷ []
+rules_for named.Shell = capacity ∷ units ∷ schema ∷ []
+
+-- a command of this name that can be given this
+abbrev pub shape_with : List ℕ → List Rule → Shape
+shape_with name rules = record (new_shape name) { rules = rules }
+
+-- all that can be asked: one of the commands has to be named
+abbrev pub program : App
+program = record {
+  top = record (new_shape (codes "dbtg")) { is_leaf = false; has_version = true; propagate_version = true; subcommand_required = true; arg_required_else_help = true };
+  subs = map (λ asked. shape_with (name_of asked) (rules_for asked))
+      (named.Check ∷ named.Replay ∷ named.Turns ∷ named.Timeline ∷ named.Outcomes ∷ named.Threads ∷ named.Draw ∷ named.Explain ∷ named.Shell ∷ []);
+}

@@ -1,0 +1,61 @@
+-- What is said of the word that a fault is about.
+use Rattle.std.specs.Prelude.{ℕ, ◌≡◌, ◌==◌, ◌||◌, List, [], ◌∷◌, ◌++◌, Option, Some, None, codes, length, nat_le, nat_lt, option_map, unwrap_or, if◌then◌else◌}
+use Rattle.dbtg_schema.specs.Lists.{Lists}
+use Rattle.dbtg_schema.specs.Texts.SchemaFaults.{refusal}
+use Rattle.dbtg_script.specs.FaultyWord.{faulty_word as faulty_token}
+use Rattle.dbtg_script.specs.Lines.{trimmed}
+use Rattle.dbtg_script.specs.Printing.Spelling.{in_front}
+use Rattle.dbtg_script.specs.Tokens.{Token, plain, equals, literal}
+use Rattle.dbtg_command.specs.declared.explain.Kind.TheVariants as kind
+use Rattle.dbtg_command.specs.declared.explain.schema_word.TheConstants.{FORMS as SCHEMA_FORMS}
+use Rattle.dbtg_command.specs.declared.explain.word.TheConstants.{FORMS as SCRIPT_FORMS}
+use Rattle.dbtg_command.specs.Explaining.{fault_field, field, filled, row_of}
+use Rattle.dbtg_command.specs.FaultyWord.{faulty_word, laid_out, line_in}
+
+-- the form for a fault of this number, of which part 0 is the word and part 3 what the fault means
+abbrev pub form_for : ℕ → List ℕ → List ℕ
+form_for number forms = unwrap_or (option_map (field 1) (row_of number forms)) (codes "0: 3")
+
+-- the form with these parts; of no word nothing is said
+abbrev pub said_by : List ℕ → List ℕ → List (List ℕ) → List ℕ
+said_by form word parts = if length word == 0 then [] else filled parts form
+
+-- the form for a fault of this number, with the word, a record type, names, and more
+abbrev pub IsSaid : List ℕ → ℕ → List ℕ → List (List ℕ) → List ℕ → Type 0
+IsSaid forms number word more out = (rtype : List ℕ) × (names : List ℕ) × (out ≡ said_by (form_for number forms) word (word ∷ rtype ∷ names ∷ more))
+
+-- a word of a script as it stands in its line
+abbrev pub written : Token → List ℕ
+written (plain text) = text
+written equals = codes "="
+written (literal text) = 34 ∷ text ++ 34 ∷ []
+
+-- the word of a line that its fault is about, if it is about one
+abbrev pub faulty_text : Lists → List ℕ → List ℕ
+faulty_text schema line = unwrap_or (option_map written (faulty_token schema (trimmed line))) []
+
+-- a fault of the line as a whole or of the text is about no word, and that of a key's record type about what names it
+abbrev pub told_part : ℕ → List ℕ → List ℕ
+told_part number text = if number == 1 || number == 14 then [] else (if number == 5 then in_front 58 text else text)
+
+-- the word of a line that is told of a fault of this number
+abbrev pub told_word : Lists → ℕ → List ℕ → List ℕ
+told_word schema number line = told_part number (faulty_text schema line)
+
+-- this is said of the word of a script's line that is at fault
+abbrev pub IsSaidOfWord : Lists → ℕ → List ℕ → List ℕ → Type 0
+IsSaidOfWord schema number line out = IsSaid SCRIPT_FORMS.now number (told_word schema number line) (fault_field kind.Script number 1 ∷ []) out
+
+-- no word is told of a byte that is not allowed and of a text that is too long, nor one of more than 480 bytes
+abbrev pub told_schema_part : ℕ → List ℕ → List ℕ
+told_schema_part number word = if nat_le number 2 || nat_lt 480 (length word) then [] else word
+
+-- the word of a schema's text that is told of a fault of this number
+abbrev pub told_schema_word : ℕ → List ℕ → List ℕ
+told_schema_word number text =
+    let laid = laid_out text in
+    told_schema_part number (faulty_word number (line_in number (refusal laid)) laid)
+
+-- this is said of the word of a schema's text that is at fault
+abbrev pub IsSaidOfSchemaWord : ℕ → List ℕ → List ℕ → Type 0
+IsSaidOfSchemaWord number text out = IsSaid SCHEMA_FORMS.now number (told_schema_word number text) (fault_field kind.Schema number 1 ∷ fault_field kind.Schema number 3 ∷ []) out
