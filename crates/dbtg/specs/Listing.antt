@@ -61,8 +61,8 @@ abbrev pub result_text : Lists → ℕ → OneResult → List Move → Run → L
 result_text lists k one moves given =
     result_line k one ++ worded (codes "turns") (turns_text one.turns) ++ worded (codes "moves") (moves_words_text moves) ++ given_text lists given
 
--- the text tells of a result: its turns stand for these moves, which are no more than a text of moves may have, and behind them
--- stands what they print
+-- the text shows a result: its turns stand for these moves, which are no more than a text of moves may have; what they print
+-- follows
 pub record IsResultText (lists : Lists) (capacity : ℕ) (scripts : List (List Statement)) (k : ℕ) (one : OneResult) (out : List ℕ) : Type 0 where
   pub moves : List Move
   pub given : Run
@@ -88,7 +88,7 @@ pub record AreTold (lists : Lists) (capacity : ℕ) (scripts : List (List Statem
   pub are_texts : AreResultTexts lists capacity scripts 1 all.results.items texts
   pub is_text : out ≡ summary_text all ++ texts
 
--- the text tells of all that can come out
+-- the text shows all that can come out
 pub record IsListing (m : Meeting) (limit : ℕ) (out : List ℕ) : Type 0 where
   pub all : Outcomes
   pub are : AreOutcomes m all

@@ -30,7 +30,7 @@ use std::thread::Threads;
 use threads::{OnThreads, run_on_threads};
 use timeline::timeline;
 
-/// The exit status of a program whose reader has gone away: the one by which a shell tells that the signal SIGPIPE ended it.
+/// The exit status of a program whose reader has gone away: the one with which a shell reports that SIGPIPE ended it.
 const READER_GONE: u8 = 141;
 
 fn told(rt: &HostRuntime, fault: &Fault) -> ExitCode
@@ -48,7 +48,7 @@ fn print_text(rt: &HostRuntime, text: &[u8]) -> ExitCode {
     }
 }
 
-// Where a reader such as `head` has read enough and gone away, that is no fault, and nothing is told.
+// A reader such as `head` may have read enough and gone away. That is no fault, and nothing is printed.
 fn not_written(rt: &HostRuntime, error: &io::Error) -> ExitCode {
     if error.kind() == io::ErrorKind::BrokenPipe {
         return ExitCode::from(READER_GONE);
@@ -57,7 +57,7 @@ fn not_written(rt: &HostRuntime, error: &io::Error) -> ExitCode {
     ExitCode::FAILURE
 }
 
-// The text that a command prints, or its fault, and where it is asked for a second line with where and why.
+// The text that a command prints, or its fault; with `--explain` a second line says where and why.
 fn print_or_tell(
     rt: &HostRuntime,
     given: Result<Vec<u8>, Fault>,
@@ -140,7 +140,7 @@ fn print_threads<R: Threads + Wait + Sync>(rt: &HostRuntime, threads: &R, call: 
     }
 }
 
-// The turns into their file, where one is named, and then what is printed.
+// Writes the turns into their file, if one is named, and then what is printed.
 fn print_saved(rt: &HostRuntime, said: &OnThreads, saved: Option<&str>) -> ExitCode {
     if let Some(path) = saved {
         if write_file(rt, path, said.turns.as_slice()).is_err() {
@@ -207,7 +207,7 @@ fn run_shell(rt: &HostRuntime, call: &Call) -> ExitCode {
     open_shell(rt, &paths, call)
 }
 
-// The fault of the schema is told with its word.
+// A fault of the schema is printed with its word.
 fn open_shell(rt: &HostRuntime, paths: &Paths, call: &Call) -> ExitCode {
     let files = Files { reader: rt, paths };
     match read_schema(rt.alloc(), &files) {

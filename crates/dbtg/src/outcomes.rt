@@ -36,7 +36,7 @@ fn push_orders(out: &mut Vec<u8>, orders: Option<u64>) -> Result<(), AllocError>
     }
 }
 
-// Statuses, each behind a space.
+// Statuses, each after a space.
 fn push_statuses(out: &mut Vec<u8>, statuses: &[u16]) -> Result<(), AllocError>
     requires { list_all (λ s. nat_lt s 10000) statuses.now ≡ true }
     ensures { OnOk result (out.new.items ≡ out.old.items ++ flat_map spaced_status statuses.now) }

@@ -45,7 +45,7 @@ AroundKept schema capacity hands option k gone (Some names) =
 
 -- what is kept while a DELETE of k goes on
 pub record IsCourse (schema : Lists) (capacity : ℕ) (hands : Hands) (option : Erase) (k : DbKey) (course : Course) : Type 0 where
-  -- so many records have all their cells in hand, and have brought those that go with them
+  -- the first `done` records have all their cells in hand, and have brought those that go with them
   pub few : course.done ≤ most_gone schema capacity
   pub within : course.done ≤ length course.gone
   pub gone : course.gone ≡ brought (taken_in schema hands option) course.done 0 (k ∷ [])

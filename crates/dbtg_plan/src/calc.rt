@@ -15,10 +15,7 @@ use std::alloc::{AllocError, Global};
 fn number_of(key: Option<DbKey>) -> Option<u32>
     ensures { result ≡ option_map (λ k. k.number) key }
 {
-    match key {
-        Some(key) => Some(key.number),
-        None => None,
-    }
+    key.map(|key| key.number)
 }
 
 // Does a record in hand of this type have the items with these numbers, other than the one that is left out?

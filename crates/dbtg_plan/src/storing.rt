@@ -108,10 +108,7 @@ fn missing_of_key(schema: &Schema, unit: &Unit, held: &Held, key: &DbKey) -> Opt
 fn new_key(held: &Held, rtype: RecordNo) -> Option<DbKey>
     ensures { result ≡ fresh_key (numbers_in held.now rtype) rtype }
 {
-    match numbers(held, rtype) {
-        Some(extent) => fresh_key(extent, rtype),
-        None => None,
-    }
+    numbers(held, rtype).and_then(|extent| fresh_key(extent, rtype))
 }
 
 fn missing_cell(

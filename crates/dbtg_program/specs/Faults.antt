@@ -131,7 +131,7 @@ sentence_faults text at l = faults_of text at l.words l.paragraph (verb_of l.wor
 
 -- THE FAULTS OF A TEXT
 
--- the faults of a line as a whole, behind so many sentences
+-- the faults of a line as a whole, where `at` sentences stand before it
 abbrev pub whole_faults : ℕ → List ℕ → List ProgramCause
 whole_faults at line =
     when (is_statement line && nat_le 65535 at) (AsInScript cause.TooMuch) ++ when (not (is_allowed line)) (AsInScript cause.LineNotAllowed)
@@ -145,7 +145,7 @@ line_faults text at number line = whole_faults at (trimmed line) ++ (if is_state
 abbrev pub behind_line : ℕ → List ℕ → ℕ
 behind_line at line = if is_statement (trimmed line) then at + 1 else at
 
--- the faults of lines behind so many sentences, the first of this number
+-- the faults of lines, where `at` sentences stand before the first, and its line has this number
 abbrev pub lines_faults : Text → ℕ → ℕ → List (List ℕ) → List Fault
 lines_faults text at number [] = []
 lines_faults text at number (l ∷ ls) = map (λ c. record { line = number; cause = c }) (line_faults text at number l) ++ lines_faults text (behind_line at l) (number + 1) ls

@@ -22,7 +22,7 @@ pub enum ProgramCause {
     CounterName,
     /// 25: a number and a text together, or a text that is added or subtracted
     TwoKinds,
-    /// 26: a counter behind another sentence
+    /// 26: a counter after another sentence
     CounterBehind,
     /// 27: counter 65
     TooManyCounters,

@@ -1,4 +1,4 @@
-//! Programs: run-units that go by what they are told.
+//! Programs: run-units whose next statement depends on the answers to the earlier ones.
 #![tactic(auto)]
 
 mod borrowed;

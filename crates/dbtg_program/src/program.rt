@@ -1,7 +1,7 @@
 //! What a program is, as it was read.
 //!
-//! Its fields are numbered from 0: the items of the record types, type behind type as the schema has them, each named r.i, and its
-//! counters behind them. A text in a program is without the spaces at its end.
+//! Its fields are numbered from 0: first the items of the record types, type by type in the schema's order, each named r.i; then its
+//! counters. A text in a program has no spaces at its end.
 
 use dbtg_cells::Value;
 use dbtg_schema::{Item, Row};
@@ -37,7 +37,7 @@ pub enum Condition {
     },
 }
 
-/// A word of a statement. Where a field stands, the literal of its value is meant.
+/// A word of a statement. A field stands for the literal of its value.
 #[derive(Drop)]
 pub enum Word {
     Plain(Row<u8>),

@@ -17,7 +17,7 @@ use dbtg_script::{LineFault, Token, push_number, read_statement_words};
 use dbtg_unit::Statement;
 use std::alloc::{AllocError, Global};
 
-/// The digits of the number that a word stands for, none where it isn't a field that has one.
+/// The digits of the number that a word stands for, or None if it is no field with a number.
 fn digits_of(alloc: Global, state: &State, word: &Word) -> Result<Row<u8>, AllocError>
     ensures { IfOk result (λ digits. digits ≡ digits_of state.now word.now) }
 {
@@ -89,7 +89,7 @@ pub fn read_said(
     read_statement_words(alloc, schema, tokens.as_slice())
 }
 
-/// The same; none where a value does not fit.
+/// The same, or None if a value does not fit.
 pub fn read_filled(
     alloc: Global,
     schema: &Schema,

@@ -94,7 +94,7 @@ fn count(values: &Vec<Value>) -> usize
     values.len()
 }
 
-/// The number behind that of one of so many sentences.
+/// The number of the next sentence.
 fn behind(at: usize, len: usize) -> usize
     requires { at < len }
     ensures { result ≡ at + 1 }
@@ -102,7 +102,7 @@ fn behind(at: usize, len: usize) -> usize
     at + 1
 }
 
-/// The same of the field that is so many behind the first.
+/// Sets the field that is `behind` places after field `first`.
 fn put_behind(fields: &mut [Value], first: usize, behind: usize, value: Value)
     ensures { fields.new ≡ slice_set fields.old (first + behind) value }
 {

@@ -68,7 +68,7 @@ fn refusals_over<S: Source>(
     Ok(told?)
 }
 
-/// The lines that tell which statements of the last script are refused where it is made first.
+/// The lines that say which statements of the last script are refused when it is made first.
 pub fn refusals_of_first<S: Source>(
     alloc: Global,
     source: &S,

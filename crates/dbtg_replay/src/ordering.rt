@@ -18,7 +18,7 @@ pub struct AllMoves {
     pub before: usize,
 }
 
-/// The elements of a list but for so many in front.
+/// The elements of a list without the first `count`.
 pub fn behind<T>(all: &[T], count: usize) -> &[T]
     ensures { result.now ≡ drop count all.now }
 {
@@ -55,7 +55,7 @@ pub fn units_in_turn(alloc: Global, history: &[Entry]) -> Result<Vec<u8>, AllocE
     history.iter().map(|entry| entry.unit).collect(alloc)
 }
 
-// The turns by which the last script is made, where it is made first.
+// The turns that make the last script, if it is to be made first.
 fn first_turns(
     alloc: Global,
     first: bool,
@@ -74,7 +74,7 @@ fn first_turns(
     Ok(turns)
 }
 
-/// These turns, behind those by which the last script is made, where it is made first.
+/// These turns, after those that make the last script if it is to be made first.
 pub fn turns_behind_first(
     alloc: Global,
     first: bool,
@@ -109,7 +109,7 @@ pub fn moves_of_turns(
     }
 }
 
-/// These moves, behind those by which the last script is made, where it is made first.
+/// These moves, after those that make the last script if it is to be made first.
 pub fn moves_behind_first(
     alloc: Global,
     first: bool,

@@ -44,7 +44,7 @@ pub fn schema_for_run<S: Source>(alloc: Global, source: &S) -> Result<Schema, Fa
     read_schema(alloc, source)
 }
 
-/// Answers, image and units, behind a text; with the scripts' texts the statement of each answer beside it.
+/// Appends answers, image and units to a text. With the scripts' texts, each answer has its statement beside it.
 pub fn push_given(
     alloc: Global,
     out: &mut Vec<u8>,
@@ -76,7 +76,7 @@ fn text_of(
     Ok(out)
 }
 
-// The same, behind the line of what the moves came to, but for so many of them.
+// The same after the line of what the moves came to. That line leaves out the first `before` of them.
 fn text_with_moves(
     alloc: Global,
     schema: &Schema,
@@ -150,7 +150,7 @@ fn turned_text(
     text
 }
 
-// Runs one script after the other; the last one before all others, where it is made first.
+// Runs one script after the other. The last one runs before all others if it is to be made first.
 fn in_turn_text(
     alloc: Global,
     schema: &Schema,
@@ -178,7 +178,7 @@ fn echo_of(echo: bool, texts: &Row<Row<u8>>) -> Option<&[Row<u8>]>
     if echo { Some(texts.as_slice()) } else { None }
 }
 
-/// What is printed of the run of scripts that were read, with their texts, in the order that is told.
+/// What is printed of the run of these scripts in the given order, with their texts.
 fn replay_read<S: Source>(
     alloc: Global,
     source: &S,

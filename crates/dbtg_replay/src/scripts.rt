@@ -20,7 +20,7 @@ pub struct Scripts {
     pub texts: Row<Row<u8>>,
 }
 
-/// Reads the script of this number, and puts it behind those in front.
+/// Reads the script with this number, and appends it to the earlier ones.
 pub fn take_next<S: Source>(
     alloc: Global,
     source: &S,

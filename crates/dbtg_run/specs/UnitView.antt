@@ -24,6 +24,6 @@ pub record BelongsTo (db : Database) (u : UnitView) : Type 0 where
 abbrev pub opening_view : TableId → About → ℕ → UnitView
 opening_view table about number = record { table = table; about = about; unit = opening_unit about.schema.value number; journal = [] }
 
--- so many units, numbered from 1
+-- the units, numbered from 1
 abbrev pub opening_views : TableId → About → ℕ → List UnitView
 opening_views table about units = map (opening_view table about) (range_with_len 1 units)

@@ -16,8 +16,8 @@ use std::sync::Wait;
 use std::thread;
 
 impl Database {
-    /// Makes a statement of the unit, with so many tries more where another unit is in the way. It waits for nobody. Where
-    /// it isn't done, the unit holds nothing, and is as it was.
+    /// Makes a statement of the unit. `tries` says how often it tries again when another unit is in the way; it waits for
+    /// nobody. If the statement is not done, the unit holds nothing and is as it was.
     pub fn execute(
         &self,
         alloc: Global,
@@ -61,7 +61,7 @@ impl Database {
         unit.work.execute(alloc, self, statement, &mut tries, gate)
     }
 
-    // A round of `insist`: makes a statement of the unit, with 64 tries. Says what became of the tries too.
+    // One round of `insist`: a statement of the unit, with 64 tries. Also gives what became of the tries.
     fn round<G: Gate>(
         &self,
         alloc: Global,
@@ -85,7 +85,7 @@ impl Database {
         (outcome, tries)
     }
 
-    /// Makes a statement of the unit, again and again until it is done, spent or out of memory; others go on between.
+    /// Tries a statement of the unit again and again, until it is done, spent or out of memory. Other units go on between tries.
     pub fn insist<R: Wait>(
         &self,
         rt: &R,

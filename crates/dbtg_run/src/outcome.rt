@@ -24,7 +24,7 @@ impl Outcome {
     }
 }
 
-/// Where a gate is passed.
+/// The points at which a gate is passed.
 #[derive(Clone, Copy)]
 pub enum Point {
     /// Directly after the ticket is drawn.

@@ -99,7 +99,7 @@ impl<O: Picked> Play<Option<Cell>, View> for Draw<O> {
     ghost then = { Draws O.statement O.answer O.unit O.held };
 }
 
-/// A load of the counter, by which a seat that has all units learns their history.
+/// Loads the ticket counter. A seat with all units learns their history from it.
 pub struct Learn;
 
 impl Play<Option<Cell>, View> for Learn {

@@ -11,9 +11,9 @@ use dbtg_unit::Statement;
 use std::alloc::{AllocError, Global};
 use std::sync::Wait;
 
-/// The unit makes the statements of a script, one after the other, and insists on each: others go on between its tries. Where its
-/// journal is full it makes no more. The error means that memory was refused: then the unit has made the statements in front of the
-/// one for which it was wanted, holds nothing, and may go on from there.
+/// The unit makes the statements of a script, one after the other, and insists on each; other units go on between its tries. It
+/// stops when its journal is full. The error means that memory was refused: the unit has then made all statements before the one
+/// that wanted it, holds nothing, and may go on from there.
 pub fn run_script<R: Wait, G: Gate>(
     rt: &R,
     alloc: Global,

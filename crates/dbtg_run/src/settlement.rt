@@ -34,7 +34,7 @@ fn join_all(db: &Database, units: Vec<RunUnit>) -> Chair
     seat
 }
 
-// Where as many units have come as there are, they are all, and one history made them.
+// If as many units have come as there are, they are all of them, and one history made them.
 fn learn_all(db: &Database, units: Vec<RunUnit>)
     requires belong { All (BelongsTo db.now) units.items }
     requires all { db.now.about.units ≤ length units.items }
@@ -67,7 +67,7 @@ fn audit_all(
     Ok((history, found))
 }
 
-/// Ends the database, once all its units are handed in, in any order. All memory is taken before a seat is given up: where it is
+/// Ends the database, once all its units are handed in, in any order. All memory is taken before a seat is given up. If memory is
 /// refused, or a unit is missing, the database and the units come back as they were.
 pub fn settle(alloc: Global, db: Database, units: Vec<RunUnit>) -> Result<Settled, Unsettled>
     requires belong { All (BelongsTo db) units.items }

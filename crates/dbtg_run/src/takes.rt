@@ -42,7 +42,7 @@ fn is_ready(wanted: &Need) -> bool
     matches!(wanted, Need::Ready)
 }
 
-// Lets go of what is settled of the needs.
+// Forgets what is settled of the needs.
 fn forget(course: &mut Option<Course>)
     ensures { course.new ≡ None }
 {

@@ -33,7 +33,7 @@ impl Model for RunUnit {
 }
 
 impl RunUnit {
-    // Of a unit at work that holds nothing.
+    // The run-unit of a unit at work, which holds nothing.
     pub(crate) fn of(alloc: Global, work: Work) -> Result<Self, AllocError>
         requires idle { (work.held.areas ≡ []) × (work.held.cells ≡ []) }
         requires work { IsAtWork work }

@@ -5,7 +5,6 @@ mod automaton;
 mod build;
 mod checks;
 mod connecting;
-mod copies;
 mod entries;
 mod erasing;
 mod fault;

@@ -24,7 +24,6 @@ ghost use Rattle.dbtg_schema.specs.Structure.{place_of, owner_type, is_system, o
 
 use crate::build::{areas, sets, text_of, types};
 use crate::connecting::{SetMarks, connects_in, sets_connecting_each};
-use crate::copies::copy_all;
 use crate::entries::front;
 use crate::erasing::{AreaSet, areas_of_each};
 use crate::fault::SchemaFault;
@@ -129,6 +128,24 @@ fn look_ups(
     let sets_of_types = sets_of_each(alloc, sets, types.len() as u8)?;
     let index = SchemaIndex::of(alloc, areas, types, sets)?;
     Ok((index, sets_of_types))
+}
+
+fn copy_areas(areas: &Row<Area>) -> Result<Row<Area>, AllocError>
+    ensures { IfOk result (λ copy. copy ≡ areas.now) }
+{
+    areas.clone()
+}
+
+fn copy_types(types: &Row<RecordType>) -> Result<Row<RecordType>, AllocError>
+    ensures { IfOk result (λ copy. copy ≡ types.now) }
+{
+    types.clone()
+}
+
+fn copy_sets(sets: &Row<SetType>) -> Result<Row<SetType>, AllocError>
+    ensures { IfOk result (λ copy. copy ≡ sets.now) }
+{
+    sets.clone()
 }
 
 /// The schema of these lists, with the indexes of its names and what is worked out of it.
@@ -386,9 +403,9 @@ impl Schema {
         ensures { IfOk result (λ s. s ≡ self.now) }
     {
         let name = self.name.copy(alloc)?;
-        let areas = Row::of(copy_all(alloc, self.areas.as_slice())?);
-        let types = Row::of(copy_all(alloc, self.types.as_slice())?);
-        let sets = Row::of(copy_all(alloc, self.sets.as_slice())?);
+        let areas = copy_areas(&self.areas)?;
+        let types = copy_types(&self.types)?;
+        let sets = copy_sets(&self.sets)?;
         of_lists(alloc, name, areas, types, sets)
     }
 

@@ -11,24 +11,24 @@ pub enum Picture {
     Text(u8),
 }
 
-#[derive(Drop)]
+#[derive(Clone, Drop)]
 pub struct Area {
     pub name: Row<u8>,
 }
 
-#[derive(Drop)]
+#[derive(Clone, Drop)]
 pub struct Item {
     pub name: Row<u8>,
     pub picture: Picture,
 }
 
-#[derive(Drop)]
+#[derive(Clone, Drop)]
 pub struct Calc {
     pub items: Row<ItemNo>,
     pub duplicates_allowed: bool,
 }
 
-#[derive(Drop)]
+#[derive(Clone, Drop)]
 pub struct RecordType {
     pub name: Row<u8>,
     pub area: AreaNo,
@@ -70,7 +70,7 @@ pub struct Member {
     pub key: Option<ItemNo>,
 }
 
-#[derive(Drop)]
+#[derive(Clone, Drop)]
 pub struct SetType {
     pub name: Row<u8>,
     pub order: Order,

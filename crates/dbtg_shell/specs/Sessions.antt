@@ -57,7 +57,7 @@ abbrev pub Takes : Typed → ℕ → List ℕ → Bool → Typed → Type 0
 Takes old u line true new = HasTyped old u line new
 Takes old u line false new = (new ≡ old) × (line_statement old.making.schema (trimmed line) ≡ None)
 
--- the line has this fault behind so many statements, or it is too long behind a script of so many bytes
+-- the line has this fault after `count` statements, or it is too long after a script of `size` bytes
 abbrev pub RefusesBehind : Refusal → Lists → ℕ → ℕ → List ℕ → Type 0
 RefusesBehind Memory schema count size line = Unit {0}
 RefusesBehind (Fault cause) schema count size line =
@@ -92,7 +92,7 @@ answer_reply schema e =
 abbrev pub IsLastAnswer : Typed → List ℕ → Type 0
 IsLastAnswer typed out = (before : List Entry) (e : Entry) → typed.making.history ≡ before ++ e ∷ [] → out ≡ answer_reply typed.making.schema e
 
--- the line that tells that there is no such unit
+-- the line that says there is no such unit
 abbrev pub no_unit_text : ℕ → List ℕ
 no_unit_text units = codes "there is no such unit: they are numbered from 1 to " ++ decimal units ++ 10 ∷ []
 
@@ -100,7 +100,7 @@ no_unit_text units = codes "there is no such unit: they are numbered from 1 to "
 abbrev pub said_or : List ℕ → List ℕ → List ℕ
 said_or meaning said = if length said == 0 then meaning else said
 
--- the line that tells of a fault of this line: its number, what is said of the word that it is about, or else what it means, and a hint
+-- the line that reports a fault of this line: its number; what is said of the word that it is about, or else what it means; a hint
 abbrev pub IsFaultText : Lists → List ℕ → Cause → List ℕ → Type 0
 IsFaultText schema line cause out =
     let number = cause_number cause in
@@ -129,16 +129,16 @@ MayBeText Is reply.Quit = ⊥
 abbrev pub IsNoUnit : ℕ → ℕ → Type 0
 IsNoUnit units u = (u ≡ 0) ⊎ (units < u)
 
--- why this line of unit u comes to nothing, and what is told of it: there is no such unit; the line holds no statement, and nothing
--- is told; or it has a fault
+-- why this line of unit u comes to nothing, and what is said: there is no such unit; or the line holds no statement, and nothing is
+-- said; or the line has a fault
 abbrev pub IsUnmade : Typed → ℕ → List ℕ → List ℕ → Type 0
 IsUnmade typed u line out =
     (IsNoUnit typed.making.units u × (out ≡ no_unit_text typed.making.units))
     ⊎ ((line_statement typed.making.schema (trimmed line) ≡ None) × (out ≡ []))
     ⊎ ((cause : Cause) × RefusesLine (Fault cause) typed u line × IsFaultText typed.making.schema line cause out)
 
--- a line of unit u: its statement is made, and its answer told; or all is as it was, and why is told. Without memory all is as it was,
--- and nothing is told
+-- a line of unit u: its statement is made and its answer shown, or all is as it was and the reason is shown. Without memory all is as
+-- it was, and nothing is shown
 abbrev pub TakesLine : {E : Type 0} → ℕ → Typed → List ℕ → Result Reply E → Typed → Type 0
 TakesLine u old line (Ok told) new =
     (HasTyped old u line new × MayBeText (IsLastAnswer new) told) ⊎ ((new ≡ old) × IsText (IsUnmade old u line) told)

@@ -126,7 +126,7 @@ impl<'a> Shell<'a> {
         Ok(Reply::Text(Vec::from_slice(self.alloc, text.as_bytes())?))
     }
 
-    /// What a line comes to, and whose turn it is then. Without memory the session and the turn stay as they were.
+    /// Answers a line, and says whose turn it is then. Without memory the session and the turn stay as they were.
     pub fn take_line<'b>(&mut self, line: &'b [u8]) -> Result<Reply<'b>, AllocError>
         ensures { Answers line.now self.old.turn self.old.session result self.new.turn self.new.session }
     {
@@ -177,7 +177,7 @@ impl<'a> Shell<'a> {
         Ok(Reply::Text(told))
     }
 
-    // A statement of the unit of this number, where there is one.
+    // A statement of the unit with this number, if there is one.
     fn make_for<'b>(&mut self, unit: u64, line: &[u8]) -> Result<Reply<'b>, AllocError>
         ensures taken { TakesLine unit self.old.session line.now result self.new.session }
         ensures turn { self.new.turn ≡ self.old.turn }
@@ -258,7 +258,7 @@ impl<'a> Shell<'a> {
         }
     }
 
-    // The unit that `.unit` names; without a number that whose turn it is.
+    // The unit that `.unit` names, or the unit whose turn it is if it names none.
     fn unit_named(&self, rest: &[u8]) -> Option<u8>
         ensures low { IfSome result (λ unit. 0 < unit) }
         ensures high { IfSome result (λ unit. unit ≤ self.now.session.making.units) }

@@ -8,7 +8,7 @@ use std::alloc::AllocError;
 use std::fs::File;
 use std::io::{self, BufRead, BufReader, Input, IsTerminal, Read, Write};
 
-// Of a longer line no more is kept: a statement has at most 1,000 bytes.
+// A longer line is cut here. A statement has at most 1,000 bytes.
 const LINE_BYTES: u64 = 8192;
 
 const WANT_OF_MEMORY: &str = "want of memory\n";
@@ -29,7 +29,7 @@ fn take_front<B: BufRead>(input: &mut B, line: &mut Vec<u8>) -> io::Result<usize
     Read::by_ref(input).take(LINE_BYTES).read_until(b'\n', line)
 }
 
-// Reads a line, without its line feed; none where the input is at its end. The last line need not have a line feed.
+// Reads a line, without its line feed; None at the end of the input. The last line need not have a line feed.
 fn next_line<B: BufRead>(input: &mut B, line: &mut Vec<u8>) -> io::Result<Option<Kept>> {
     line.clear();
     let count = take_front(input, line)?;
@@ -180,7 +180,7 @@ fn opened(rt: &HostRuntime, path: &str) -> io::Result<(BufReader<File>, Vec<u8>)
     Ok((input, line))
 }
 
-// Tells of a file that cannot be read.
+// Reports a file that cannot be read.
 fn write_unread(rt: &HostRuntime, path: &str, error: &io::Error) -> Result<(), Broken> {
     if error.kind() != io::ErrorKind::OutOfMemory {
         if let Ok(told) = format!(in rt.alloc(); "cannot read {path}\n") {
@@ -190,7 +190,7 @@ fn write_unread(rt: &HostRuntime, path: &str, error: &io::Error) -> Result<(), B
     write(rt, WANT_OF_MEMORY.as_bytes())
 }
 
-// Takes the lines of a file, and tells where it cannot be read; whether the dialogue goes on.
+// Takes the lines of a file, and reports if it cannot be read. Says whether the dialogue goes on.
 fn load(
     rt: &HostRuntime,
     shell: &mut Shell<'_>,

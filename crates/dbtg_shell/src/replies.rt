@@ -41,7 +41,7 @@ pub fn push_answer_reply(
     }
 }
 
-// What is meant where a command is typed without its period.
+// The command that was meant, if it was typed without its period.
 fn hint_for(line: &[u8]) -> &'static [u8] {
     match in_front(in_front(line, b'\r'), b' ') {
         b"quit" | b"exit" | b"QUIT" | b"EXIT" | b"q" => b"; .quit ends the shell",
@@ -75,7 +75,7 @@ pub fn fault_reply(
     Ok(out)
 }
 
-/// The line that tells that there is no such unit among so many.
+/// The line that says which numbers units have, for a number that no unit has.
 pub fn no_unit_reply(alloc: Global, units: usize) -> Result<Vec<u8>, AllocError>
     ensures { IfOk result (λ out. out.items ≡ no_unit_text units) }
 {

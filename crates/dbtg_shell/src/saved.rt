@@ -5,7 +5,7 @@ use crate::writing::write_file;
 use std::alloc::AllocError;
 use std::fs;
 
-// What comes of writing a file: nothing to tell, or the line that tells that it cannot be written.
+// What comes of writing a file: nothing to say, or the line that says it cannot be written.
 fn written(rt: &HostRuntime, path: &str, bytes: &[u8]) -> Result<Option<String>, AllocError> {
     match write_file(rt, path, bytes) {
         Ok(()) => Ok(None),
@@ -103,7 +103,7 @@ fn push_script(
     push_path(told, path.as_str())
 }
 
-// The command that makes the statements of so many saved scripts again.
+// The command that makes the statements of the saved scripts again.
 fn command_for(
     rt: &HostRuntime,
     count: usize,
@@ -123,7 +123,7 @@ fn command_for(
     Ok(told)
 }
 
-// Tells of a file that is there.
+// Reports a file that is there.
 fn if_there(rt: &HostRuntime, path: &str) -> Result<Option<String>, AllocError> {
     if fs::metadata(rt, path).is_err() {
         return Ok(None);
@@ -134,7 +134,7 @@ fn if_there(rt: &HostRuntime, path: &str) -> Result<Option<String>, AllocError> 
     Ok(Some(told))
 }
 
-/// The first file that saving a session in a directory would write over, if there is one, and what is told of it.
+/// The first file that saving a session in a directory would overwrite, if there is one, and what is said of it.
 pub fn first_there(
     rt: &HostRuntime,
     session: &Session<'_>,

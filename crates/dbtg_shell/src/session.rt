@@ -63,7 +63,7 @@ impl Script {
         }
     }
 
-    /// Puts a line behind the others. Where no room is found the script stays as it was.
+    /// Appends a line. If no room is found, the script stays as it was.
     fn push_line(&mut self, line: &[u8]) -> Result<(), AllocError>
         requires { self.old.count < 65535 }
         ensures taken { OnOk result (self.new.text.items ≡ self.old.text.items ++ line.now ++ 10 ∷ []) }
@@ -81,7 +81,7 @@ impl Script {
         Ok(())
     }
 
-    /// Puts a line behind the others, if a script may be so long.
+    /// Appends a line, unless the script would become too long.
     fn enter(&mut self, line: &[u8]) -> Result<(), Refusal>
         requires { self.old.count < 65535 }
         ensures entered { OnOk result (HasEntered self.old line.now self.new) }
@@ -96,7 +96,7 @@ impl Script {
         Ok(())
     }
 
-    /// Drops the last line, which begins behind so many bytes.
+    /// Drops the last line, which begins at byte `before`.
     fn drop_line(&mut self, before: usize)
         requires { 0 < self.old.count }
         ensures text { self.new.text.items ≡ take before self.old.text.items }
@@ -107,7 +107,7 @@ impl Script {
     }
 }
 
-// So many scripts without statements.
+// A number of scripts without statements.
 fn empty_scripts(alloc: Global, count: u8) -> Result<Vec<Script>, AllocError>
     ensures many { IfOk result (λ scripts. length scripts.items ≡ count) }
     ensures texts { IfOk result (λ scripts. map (λ s. s.text.items) scripts.items ≡ replicate count []) }
@@ -150,7 +150,7 @@ fn make_and_enter(
     }
 }
 
-// Reads a line behind a script; makes and enters the statement that it holds, and says whether it holds one.
+// Reads the next line of a script. Makes and enters the statement that it holds, and says whether it holds one.
 fn take_line(
     alloc: Global,
     schema: &Schema,
@@ -201,7 +201,7 @@ impl<'a> Model for Session<'a> {
 }
 
 impl<'a> Session<'a> {
-    /// The opening database, and so many units.
+    /// The opening database, and its units before their first statements.
     pub fn opening(
         alloc: Global,
         schema: &'a Schema,
@@ -221,7 +221,7 @@ impl<'a> Session<'a> {
         })
     }
 
-    /// Lets go of the session, and of its memory.
+    /// Drops the session.
     pub fn discard(self) {
         self.database.discard();
         drop(self.scripts);

@@ -1,4 +1,4 @@
-//! Writing a file so that an error which would come as it is closed is told.
+//! Writing a file so that an error at closing it is reported.
 
 use std::fs::{File, OpenFile};
 use std::io::{self, ErrorKind, Write};

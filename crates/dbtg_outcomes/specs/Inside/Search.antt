@@ -1,4 +1,4 @@
--- What a search among orders holds after so many statements of all scripts.
+-- What a search among orders holds after n statements of all scripts.
 -- m is a meeting, o an order, u a unit, w an order with a weight, n how many statements are made.
 use Rattle.std.specs.Prelude.{ℕ, ◌≡◌, ◌<◌, ◌≤◌, ◌⊎◌, List, [], ◌∷◌, ⊤, Some, length, Contains}
 use Rattle.std.specs.List.{range_with_len}
@@ -21,27 +21,27 @@ use Rattle.dbtg_outcomes.specs.Results.{Meeting, state_key}
 abbrev pub layer : Meeting → ℕ → List (List (ℕ × Statement) × ℕ)
 layer m n = groups (state_key m) (completed m.scripts n [])
 
--- a group stands for an order, and weighs so much
+-- group g stands for the order w.0, and counts as many orders as w.1 says
 pub record IsHeld (m : Meeting) (g : Group) (w : List (ℕ × Statement) × ℕ) : Type 0 where
   pub order_is : statements_of g.history ≡ w.0
   pub history_of : IsHistoryOf m.schema m.capacity (length m.scripts) g.history
   pub orders_are : g.orders ≡ counted w.1
 
--- each group stands for its order
+-- the groups stand for these orders, each for one
 abbrev pub AreHeld : Meeting → List Group → List (List (ℕ × Statement) × ℕ) → Type 0
 AreHeld m [] [] = ⊤
 AreHeld m [] (w ∷ ws) = ⊥
 AreHeld m (g ∷ gs) [] = ⊥
 AreHeld m (g ∷ gs) (w ∷ ws) = IsHeld m g w × AreHeld m gs ws
 
--- and has its key
+-- the same, and each group is kept under the key of its order
 abbrev pub Stand : Meeting → (List (ℕ × Statement) → List ℕ) → List (List ℕ × Group) → List (List (ℕ × Statement) × ℕ) → Type 0
 Stand m key [] [] = ⊤
 Stand m key [] (w ∷ ws) = ⊥
 Stand m key (g ∷ gs) [] = ⊥
 Stand m key (g ∷ gs) (w ∷ ws) = ((g.0 ≡ key w.0) × IsHeld m g.1 w) × Stand m key gs ws
 
--- groups by a key hold the orders that were seen, with their weights
+-- groups under keys stand for the orders that were seen: one group for all orders with the same key, and their weights together
 abbrev pub Hold : Meeting → (List (ℕ × Statement) → List ℕ) → List (List ℕ × Group) → List (List (ℕ × Statement) × ℕ) → Type 0
 Hold m key gs seen = Stand m key gs (gathered key [] seen)
 

@@ -28,11 +28,12 @@ with_each o us = map (λ u. (o, u)) us
 abbrev pub nexts : Meeting → List Group → List (List (ℕ × Statement) × ℕ)
 nexts m gs = flat_map (λ g. with_each (statements_of g.history) (units_of m)) gs
 
--- what comes of orders by one statement more, each of the same weight
+-- the orders with one statement more; each has the weight of the order that it extends
 abbrev pub next_orders : Meeting → List (List (ℕ × Statement) × ℕ) → List (List (ℕ × Statement) × ℕ)
 next_orders m ws = flat_map (λ w. each_of w.1 (extended m.scripts w.0 (units_of m))) ws
 
--- a group goes on with the next statement of each of these units that has one: groups hold these orders too, and their statements are noted
+-- group g goes on with the next statement of each of these units that has one: afterwards the groups stand for these orders too, and the
+-- statuses of these statements are noted
 pub record Extends (m : Meeting) (g : Group) (us : List ℕ) (old new : List (List ℕ × Group)) (before after : List Note) : Type 0 where
   pub holds : (seen : List (List (ℕ × Statement) × ℕ)) (w : List (ℕ × Statement) × ℕ) → IsHeld m g w → Hold m (state_key m) old seen → Hold m (state_key m) new (seen ++ each_of w.1 (extended m.scripts w.0 us))
   pub noted : AreNoted m (with_each (statements_of g.history) us) before after
@@ -42,7 +43,7 @@ pub record ExtendsAll (m : Meeting) (gs : List Group) (new : List (List ℕ × G
   pub holds : (ws : List (List (ℕ × Statement) × ℕ)) → AreHeld m gs ws → Hold m (state_key m) new (next_orders m ws)
   pub noted : AreNoted m (nexts m gs) before after
 
--- by one statement more, groups lead to more states than so many
+-- with one statement more, the groups lead to more than `most` states
 abbrev pub LeadToMore : Meeting → List Group → ℕ → Type 0
 LeadToMore m gs most = (ws : List (List (ℕ × Statement) × ℕ)) → AreHeld m gs ws → most < length (gathered (state_key m) [] (next_orders m ws))
 
@@ -53,22 +54,22 @@ pub record IsUnderWay (m : Meeting) (s : given.Search) : Type 0 where
   pub made : ℕ
   pub at : IsAt m made s
 
--- it goes on by so many statements
+-- the search goes on by k statements
 pub record Advances (m : Meeting) (k : ℕ) (old new : given.Search) : Type 0 where
   pub at : (n : ℕ) → IsAt m n old → IsAt m (n + k) new
   pub limit_is : new.limit ≡ old.limit
 
--- by so many statements more it would come to more states than its limit
+-- with k statements more, the search would come to more states than its limit
 abbrev pub IsOver : Meeting → ℕ → given.Search → Type 0
 IsOver m k s = (n : ℕ) → IsAt m n s → s.limit < states_within m (n + k)
 
 -- RESULTS
 
--- a group goes into the group of its result
+-- group g is put into the group of its result
 pub record Joins (m : Meeting) (g : Group) (old new : List (List ℕ × Group)) : Type 0 where
   pub holds : (seen : List (List (ℕ × Statement) × ℕ)) (w : List (ℕ × Statement) × ℕ) → IsHeld m g w → Hold m (result_text m) old seen → Hold m (result_text m) new (seen ++ w ∷ [])
 
--- groups by results hold these groups' orders
+-- groups under results stand for the orders of these groups
 pub record HoldAll (m : Meeting) (gs : List Group) (new : List (List ℕ × Group)) : Type 0 where
   pub holds : (ws : List (List (ℕ × Statement) × ℕ)) → AreHeld m gs ws → Hold m (result_text m) new ws
 

@@ -12,14 +12,12 @@ use dbtg_schema::RecordNo;
 pub(crate) fn key_of(extent: &Extent, rtype: RecordNo, number: Option<u32>) -> Option<DbKey>
     ensures { result ≡ option_map (key_of extent.now.numbers rtype) number }
 {
-    match number {
-        Some(number) => Some(DbKey {
-            rtype,
-            number,
-            generation: extent.generation(number),
-        }),
-        None => None,
-    }
+    let number = number?;
+    Some(DbKey {
+        rtype,
+        number,
+        generation: extent.generation(number),
+    })
 }
 
 // Keys of the bound's type lie behind it above its number, and at it where the number was used again.

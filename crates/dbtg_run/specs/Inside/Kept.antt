@@ -219,7 +219,7 @@ Draws x a unit held st me found after =
     × ((m : Member) → after.0.members ≡ m ∷ [] → Recorded me.0.about m)
     × TellsReal after.0
 
--- so many units before their first statement, from this place on
+-- n units before their first statements, numbered from this place on
 abbrev pub numbered : (about : About) → ℕ → ℕ → List Member
 numbered about place zero = []
 numbered about place (suc n) = record { place = place; unit = opening_unit about.schema.value (suc place); journal = []; exclusive = false; areas = []; held = [] } ∷ numbered about (suc place) n

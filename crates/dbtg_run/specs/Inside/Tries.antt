@@ -6,9 +6,9 @@ use Rattle.dbtg_unit.specs.Hands.Guesses.{with_owners}
 use Rattle.dbtg_unit.specs.Hands.Hands.{Hands}
 use Rattle.dbtg_run.specs.declared.tries.Tries.{Tries}
 
--- WHAT USES A TRY: a look in vain at what the statement needs next. An area or a cell that another unit has, and an area whose word
--- another unit changed meanwhile, leave in hand what was there. Where guesses were wrong the statement turns back: its cells go home,
--- and the true owners are noted, also where no try is left
+-- WHAT USES A TRY: a look in vain at what the statement needs next. If another unit has the area or the cell, or changed the area's
+-- word meanwhile, what is held stays. If guesses were wrong, the statement turns back: its cells go home, and the true owners are
+-- noted, even if no try is left
 abbrev pub IsVain : Need → Hands → Hands → Type 0
 IsVain Ready old new = ⊥
 IsVain (Area a) old new = new ≡ old

@@ -26,7 +26,7 @@ pub record IsAtWork (w : Work) : Type 0 where
   pub real : IsReal w.about w.unit w.journal.items w.held
   pub rings : HaveRings w.about.schema.value w.about.capacity w.held.guesses
 
--- in a database of one unit: what was met left the guesses; else they were stale, and are no more
+-- in a database of one unit: either the need was met and the guesses stayed, or they were stale and are now right
 abbrev pub KnowsBetter : Statement → Work → Work → Bool → Type 0
 KnowsBetter x old new true = new.held.guesses ≡ old.held.guesses
 KnowsBetter x old new false =

@@ -56,7 +56,7 @@ abbrev pub MakesLine : Lists → Making → Script → ℕ → List ℕ → Bool
 MakesLine schema old one u line true new next = HasMadeLine schema old one u line new next
 MakesLine schema old one u line false new next = (new ≡ old) × IsAsBefore one next × (line_statement schema (trimmed line) ≡ None)
 
--- the script has no room for a line, with which it would have so many bytes, unless memory ran out
+-- the script has no room for a line that would bring it to `size` bytes, unless memory ran out
 abbrev pub HasNoRoom : Refusal → ℕ → Type 0
 HasNoRoom Memory size = Unit {0}
 HasNoRoom (Fault cause) size = (cause ≡ TooMuch) × (1048576 ≤ size)

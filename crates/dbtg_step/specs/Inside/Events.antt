@@ -9,6 +9,7 @@ use Rattle.dbtg_schema.specs.Sound.{IsSound}
 use Rattle.dbtg_cells.specs.CellNumbers.{cell_count, is_cell}
 use Rattle.dbtg_cells.specs.Names.{name_below}
 use Rattle.dbtg_cells.specs.declared.key.Owner.{Owner}
+use Rattle.dbtg_cells.specs.declared.name.CellName.{CellName}
 use Rattle.dbtg_unit.specs.declared.held.Need.{Need}
 use Rattle.dbtg_unit.specs.declared.held.Need.TheVariants.{Stale}
 use Rattle.dbtg_unit.specs.declared.statement.Statement.{Statement}
@@ -21,7 +22,7 @@ use Rattle.dbtg_step.specs.declared.parts.Runner.{Runner}
 use Rattle.dbtg_step.specs.declared.parts.Stage.{Stage}
 use Rattle.dbtg_unit.specs.declared.moves.Stepped.{Stepped}
 use Rattle.dbtg_unit.specs.declared.moves.Stepped.TheVariants.{Moved, Blocked, Idle, NoMemory}
-use Rattle.dbtg_step.specs.Machine.SequentialDatabase.{unit_at}
+use Rattle.dbtg_step.specs.Machine.SequentialDatabase.{NextNeed, unit_at}
 use Rattle.dbtg_step.specs.Machine.Machine.{UnitState, State, SequentialState, replay}
 use Rattle.dbtg_step.specs.Machine.Step.{next_need, quit, step, MovedTo, IsBlocked, IsIdle}
 use Rattle.dbtg_step.specs.Machine.Lawful.{Lawful}
@@ -33,12 +34,18 @@ use Rattle.dbtg_step.specs.Core.Parts.{stage_of, unit_state_of}
 use Rattle.dbtg_step.specs.Inside.Parts.{state_of}
 use Rattle.dbtg_step.specs.Core.Events.{WantsMemory}
 
--- between statements a unit holds nothing; it has a guess for each set; of a statement without a ticket, what is kept of its course is
--- right of what it has in hand
+-- while its statement has no ticket, what a runner keeps of the statement's needs is right of what it has in hand
+abbrev pub CourseFits : Lists → ℕ → Runner → Type 0
+CourseFits schema capacity r =
+    (w : Stage) → r.stage ≡ Some w → w.ticket ≡ None
+    → (x : Statement) → slice_get r.script r.next ≡ Some x
+    → IsCourseKept schema capacity r.held r.unit x r.course
+
+-- between statements a runner holds nothing; it has a guess for each set
 pub record RunnerFits (schema : Lists) (capacity : ℕ) (r : Runner) : Type 0 where
   pub settled : r.stage ≡ None → (r.held.areas ≡ []) × (r.held.cells ≡ [])
   pub guesses : length r.held.guesses ≡ length schema.sets
-  pub course : (w : Stage) → r.stage ≡ Some w → w.ticket ≡ None → (x : Statement) → slice_get r.script r.next ≡ Some x → IsCourseKept schema capacity r.held r.unit x r.course
+  pub course : CourseFits schema capacity r
 
 -- so it is with each of these units
 abbrev pub RunnersFit : Lists → ℕ → List Runner → Type 0
@@ -70,9 +77,15 @@ abbrev pub owners_fit : Lists → Need → Type 0
 owners_fit schema (Stale owners) = length owners ≡ length schema.sets
 owners_fit schema _ = ⊤
 
--- what unit u needs next, on the database of the history, with the statement x in this stage
+-- what the machine says that this runner needs next, with the statement x in this stage
+abbrev pub machine_need : (schema : Lists) (capacity : ℕ) → Parts → Runner → Statement → Stage → NextNeed CellName (List (Option Owner))
+machine_need schema capacity parts r x w =
+    let D = network schema capacity in
+    next_need D (opening_for schema capacity parts) (state_of schema capacity parts) (unit_state_of schema capacity r) (stage_of schema capacity r.held w) x
+
+-- the runner needs n next, with the statement x in this stage: so says the machine, on the database of the history
 pub record IsNext (schema : Lists) (capacity : ℕ) (parts : Parts) (r : Runner) (x : Statement) (w : Stage) (n : Need) : Type 0 where
-  pub is : next_need (network schema capacity) (opening_for schema capacity parts) (state_of schema capacity parts) (unit_state_of schema capacity r) (stage_of schema capacity r.held w) x ≡ next_need_of r.held.guesses n
+  pub is : machine_need schema capacity parts r x w ≡ next_need_of r.held.guesses n
   pub owners : owners_fit schema n
   -- and on every other that agrees with what is held
   pub everywhere : (db : Database) → Agrees schema capacity db r.held r.unit → n ≡ need schema capacity db r.unit r.held x

@@ -6,6 +6,7 @@ use Rattle.dbtg_schema.specs.Lists.{Lists}
 use Rattle.dbtg_cells.specs.declared.cell.Cell.{Cell}
 use Rattle.dbtg_cells.specs.declared.name.CellName.{CellName}
 use Rattle.dbtg_unit.specs.declared.statement.Statement.{Statement}
+use Rattle.dbtg_unit.specs.declared.unit.Answer.{Answer}
 use Rattle.dbtg_unit.specs.declared.unit.Entry.{Entry}
 use Rattle.dbtg_unit.specs.declared.unit.Unit.{Unit}
 use Rattle.dbtg_unit.specs.Database.State.Base.{Database}
@@ -40,20 +41,48 @@ pub record IsLeftAlone (table after : List Place) (old new : Hands) : Type 0 whe
   pub after_is : after ≡ table
   pub held : new ≡ old
 
--- a cell was taken out of the table, where it was at home; else nothing is changed
+-- cell n is with some unit
+abbrev pub IsAway : List Place → ℕ → Type 0
+IsAway table n = (w : ℕ) × (slice_get table n ≡ Some (WithUnit w))
+
+-- cell n is at home
+abbrev pub IsHome : List Place → ℕ → Type 0
+IsHome table n = (x : Cell) × (slice_get table n ≡ Some (AtHome x))
+
+-- cell c is taken out of the table; or nothing changes, because a unit has it, or because memory was refused while it was at home
 abbrev pub IsTaken : ℕ → ℕ → CellName → List Place → List Place → Hands → Hands → Stepped → Type 0
 IsTaken u n c table after old new Moved = IsMovedOut u n c table after old new
-IsTaken u n c table after old new Blocked = IsLeftAlone table after old new × ((w : ℕ) × (slice_get table n ≡ Some (WithUnit w)))
-IsTaken u n c table after old new NoMemory = IsLeftAlone table after old new × ((x : Cell) × (slice_get table n ≡ Some (AtHome x)))
+IsTaken u n c table after old new Blocked = IsLeftAlone table after old new × IsAway table n
+IsTaken u n c table after old new NoMemory = IsLeftAlone table after old new × IsHome table n
 IsTaken u n c table after old new Idle = ⊥
 
--- the statement x drew the next ticket
-pub record IsDrawn (schema : Lists) (capacity : ℕ) (db : Database) (x : Statement) (u : ℕ) (w : Stage) (history after : List Entry) (old new : Runner) : Type 0 where
-  pub history_is : after ≡ history ++ record { ticket = length history; unit = u; statement = x; answer = (effect schema capacity db old.unit x).answer } ∷ []
-  pub made : IsMadeOn schema capacity db old.unit old.held x (seen (effect schema capacity db old.unit x).answer new.unit new.held)
-  pub rest : new ≡ record { unit = new.unit; held = new.held; script = old.script; next = old.next + 1; stage = stage_while_held new.held.areas new.held.cells (Some (record { exclusive = w.exclusive; turning_back = false; ticket = Some (length history); linked = 0 })); course = None }
+-- the answer of statement x of this unit
+abbrev pub answer_of : Lists → ℕ → Database → Unit → Statement → Answer
+answer_of schema capacity db unit x = (effect schema capacity db unit x).answer
 
--- room alone may differ, and nothing is kept of how far the statement had come
+-- the stage behind ticket t, before the first link
+abbrev pub ticketed : Stage → ℕ → Stage
+ticketed w t = record { exclusive = w.exclusive; turning_back = false; ticket = Some t; linked = 0 }
+
+-- the runner behind ticket t, with this unit and these hands: its next statement is due, and nothing is kept of the needs. It is
+-- in mid-statement while it holds anything
+abbrev pub behind_ticket : Runner → Stage → ℕ → Unit → Hands → Runner
+behind_ticket old w t unit hands = record {
+  unit = unit;
+  held = hands;
+  script = old.script;
+  next = old.next + 1;
+  stage = stage_while_held hands.areas hands.cells (Some (ticketed w t));
+  course = None;
+}
+
+-- the statement x drew the next ticket: its entry joins the history, and unit and hands are as its effect makes them
+pub record IsDrawn (schema : Lists) (capacity : ℕ) (db : Database) (x : Statement) (u : ℕ) (w : Stage) (history after : List Entry) (old new : Runner) : Type 0 where
+  pub history_is : after ≡ history ++ record { ticket = length history; unit = u; statement = x; answer = answer_of schema capacity db old.unit x } ∷ []
+  pub made : IsMadeOn schema capacity db old.unit old.held x (seen (answer_of schema capacity db old.unit x) new.unit new.held)
+  pub rest : new ≡ behind_ticket old w (length history) new.unit new.held
+
+-- no ticket was drawn, for want of memory: what the unit holds shows the same, and nothing is kept of how far the statement had come
 pub record IsUnmade (old new : Runner) : Type 0 where
   pub rest : new ≡ record old { held = new.held; course = None }
   pub shows : ShowsTheSame old.held new.held
