@@ -1,6 +1,6 @@
 -- What `outcomes` prints: statuses have four digits, the texts of results stand one behind another, and what was read is told as the
 -- texts say.
-use Rattle.std.proofs.Common.{◌≡◌, ℕ, Bool, true, ◌+◌, ◌-◌, ◌<◌, ◌≤◌, ◌⊎◌, inl, inr, zero, suc, List, [], ◌∷◌, ◌++◌, take, map, length, refl, sym, ap, ◌∙◌, subst, arith, get_or}
+use Rattle.std.proofs.Common.{◌≡◌, ℕ, Bool, true, ◌+◌, ◌-◌, ◌<◌, ◌≤◌, ◌⊎◌, inl, inr, zero, suc, List, [], ◌∷◌, ◌++◌, take, drop, map, length, Option, None, refl, sym, ap, ◌∙◌, subst, arith, get_or}
 use Rattle.std.specs.Prelude.{Contains, codes, nat_lt}
 use Rattle.std.proofs.lemmas.Bool.{and_from, lt-ltb}
 use Rattle.std.proofs.lemmas.List.{append-nil, append_assoc, length-take-le, take_more}
@@ -21,14 +21,17 @@ use Rattle.dbtg_outcomes.specs.Results.{Meeting}
 use Rattle.dbtg_script.specs.Statements.{script}
 use Rattle.dbtg_script.specs.Printing.WordTexts.{moves_words_text, turns_text}
 use Rattle.dbtg_step.specs.declared.results.Run.{Run}
-use Rattle.dbtg_step.specs.Core.Turns.{IsRunByTurns}
+use Rattle.dbtg_step.specs.Core.Turns.{AreGiven, IsRunByTurns}
 use Rattle.dbtg_unit.specs.declared.moves.Move.{Move}
 use Rattle.dbtg_command.specs.declared.fault.Fault.{Fault}
 use Rattle.dbtg_command.specs.declared.fault.Fault.TheVariants.{Memory, MovesOver}
 use Rattle.dbtg_command.specs.declared.order.Order.TheVariants.{Serial}
 use Rattle.dbtg_command.specs.declared.place.Place.{Place}
-use Rattle.dbtg.specs.Listing.{AreResultTexts, AreTold, IsListing, IsLong, IsOver, IsResultText, OutcomesHeld, ToldOfOutcomes, result_line, result_text, summary_text, worded}
-use Rattle.dbtg.specs.Inside.Listing.{IsUntold, are_short}
+use Rattle.dbtg.specs.declared.outcomes.Front.{Front}
+use Rattle.dbtg.specs.declared.outcomes.ListingOptions.{ListingOptions}
+use Rattle.dbtg.specs.Listing.{AreResultTexts, IsListing, IsLong, IsOver, IsResultText, OutcomesHeld, ToldOfOutcomes, meeting_of, result_line, result_text, summary_text, worded}
+use Rattle.dbtg.specs.Inside.Listing.{IsFront, IsUntold, are_short}
+use Rattle.dbtg_replay.specs.Ordering.{first_turns}
 use Rattle.dbtg_replay.specs.Replaying.{given_text}
 use Rattle.dbtg_command.specs.Refusals.{is_count}
 use Rattle.dbtg_command.specs.Sources.{ReadSchema, ReadScripts}
@@ -88,81 +91,84 @@ all_short m all are = all_of are_short all.answered.items (λ a among. all_of (�
 -- TEXTS OF RESULTS
 
 -- one more behind the others
-pub one_more : (lists : Lists) (capacity : ℕ) (scripts : List (List Statement)) (k : ℕ) (ones : List OneResult) (one : OneResult) (out text : List ℕ)
-    → AreResultTexts lists capacity scripts k ones out → IsResultText lists capacity scripts (k + length ones) one text → AreResultTexts lists capacity scripts k (ones ++ one ∷ []) (out ++ text)
-one_more lists capacity scripts k [] one out text e is =
+pub one_more : (m : Meeting) (k : ℕ) (ones : List OneResult) (one : OneResult) (out text : List ℕ)
+    → AreResultTexts m k ones out → IsResultText m (k + length ones) one text → AreResultTexts m k (ones ++ one ∷ []) (out ++ text)
+one_more m k [] one out text e is =
     let same : k + 0 ≡ k = omega arith in
-    (text, [], ap (λ o. o ++ text) e ∙ sym (append-nil text), subst (λ n. IsResultText lists capacity scripts n one text) same is, refl)
-one_more lists capacity scripts k (o ∷ ones) one out text are is =
+    (text, [], ap (λ o. o ++ text) e ∙ sym (append-nil text), subst (λ n. IsResultText m n one text) same is, refl)
+one_more m k (o ∷ ones) one out text are is =
     let same : k + length (o ∷ ones) ≡ k + 1 + length ones = omega arith in
-    (are.0, are.1 ++ text, ap (λ t. t ++ text) are.2 ∙ append_assoc are.0 are.1 text, are.3, one_more lists capacity scripts (k + 1) ones one are.1 text are.4 (subst (λ n. IsResultText lists capacity scripts n one text) same is))
+    (are.0, are.1 ++ text, ap (λ t. t ++ text) are.2 ∙ append_assoc are.0 are.1 text, are.3, one_more m (k + 1) ones one are.1 text are.4 (subst (λ n. IsResultText m n one text) same is))
 
 -- four texts behind one
 texts_behind : (old a b c d : List ℕ) → old ++ a ++ b ++ c ++ d ≡ old ++ (a ++ b ++ c ++ d)
 texts_behind old a b c d = ap (λ x. x ++ c ++ d) (append_assoc old a b) ∙ ap (λ x. x ++ d) (append_assoc old (a ++ b) c) ∙ append_assoc old (a ++ b ++ c) d
 
-module _ (lists : Lists) (capacity : ℕ) (scripts copies : List (List Statement)) (k : ℕ) (one : OneResult) (turns : List ℕ) (moves said shown : List Move) (given : Run)
-    (copied : copies ≡ scripts) (turns_are : turns ≡ one.turns) (said_is : said ≡ moves) (shown_is : shown ≡ said) (few : length moves ≤ 1000000) (run : IsRunByTurns lists capacity copies turns moves given) where
-  abbrev turned_text : List ℕ → List ℕ → List Move → List ℕ
-  turned_text line us ms = line ++ worded (codes "turns") (turns_text us) ++ worded (codes "moves") (moves_words_text ms) ++ given_text lists given
+-- of a result that is made by its turns
+module _ (m : Meeting) (one : OneResult) (moves : List Move) (given : Run) (run : IsRunByTurns m.schema m.capacity m.scripts one.turns moves given) where
+  -- the text, where so many turns and moves in front are left out
+  pub result_told : (front : Front) (k : ℕ) (shown : List Move) (old new : List ℕ) → IsFront m front → shown ≡ moves → length moves ≤ 1000000
+      → new ≡ old ++ result_line k one ++ worded (codes "turns") (turns_text (drop front.turns one.turns)) ++ worded (codes "moves") (moves_words_text (drop front.moves shown)) ++ given_text m.schema given
+      → (text : List ℕ) × (new ≡ old ++ text) × IsResultText m k one text
+  result_told front k shown old new is_front shown_is few new_is =
+      let left : List ℕ = drop (length (first_turns m.first m.scripts)) one.turns in
+      let rest : List Move = drop (length is_front.before) moves in
+      let turns : drop front.turns one.turns ≡ left = ap (λ n. drop n one.turns) is_front.turns_are in
+      let behind : drop front.moves shown ≡ rest = (λ i. drop (is_front.moves_are i) (shown_is i)) in (
+        result_text m.schema k one left rest given,
+        new_is
+            ∙ (λ i. old ++ result_line k one ++ worded (codes "turns") (turns_text (turns i)) ++ worded (codes "moves") (moves_words_text (behind i)) ++ given_text m.schema given)
+            ∙ texts_behind old (result_line k one) (worded (codes "turns") (turns_text left)) (worded (codes "moves") (moves_words_text rest)) (given_text m.schema given),
+        record { moves = moves; given = given; by_turns = run; few = few; before = is_front.before; are_first = is_front.are_first; is_text = refl },
+      )
 
-  pub result_told : (old line new : List ℕ) → line ≡ old ++ result_line k one → new ≡ line ++ worded (codes "turns") (turns_text turns) ++ worded (codes "moves") (moves_words_text shown) ++ given_text lists given
-      → (text : List ℕ) × (new ≡ old ++ text) × IsResultText lists capacity scripts k one text
-  result_told old line new line_is new_is = (
-    result_text lists k one moves given,
-    new_is ∙ ap (λ l. turned_text l turns shown) line_is ∙ ap (λ us. turned_text (old ++ result_line k one) us shown) turns_are ∙ ap (turned_text (old ++ result_line k one) one.turns) (shown_is ∙ said_is)
-        ∙ texts_behind old (result_line k one) (worded (codes "turns") (turns_text one.turns)) (worded (codes "moves") (moves_words_text moves)) (given_text lists given),
-    record {
-      moves = moves;
-      given = given;
-      by_turns = subst (λ us. IsRunByTurns lists capacity scripts us moves given) turns_are (subst (λ ss. IsRunByTurns lists capacity ss turns moves given) copied run);
-      few = few;
-      is_text = refl;
-    },
-  )
+  -- where its moves are not given it is too long
+  pub long_told : (said : Option (List Move)) → AreGiven 1000000 moves said → (told : Fault) → (told ≡ Memory) ⊎ ((told ≡ MovesOver) × (said ≡ None)) → (told ≡ Memory) ⊎ ((told ≡ MovesOver) × IsLong m one)
+  long_told said are told (inl e) = inl e
+  long_told said are told (inr h) = inr (h.0, record { moves = moves; stand = (given, run); many = subst (AreGiven 1000000 moves) h.1 are })
 
 -- the next of the results that can come out
-module _ (lists : Lists) (capacity : ℕ) (scripts : List (List Statement)) (all : Outcomes) (i : ℕ) (one : OneResult) (below : i < length all.results.items) (at : one ≡ get_or all.results.items i one) where
+module _ (m : Meeting) (all : Outcomes) (i : ℕ) (one : OneResult) (below : i < length all.results.items) (at : one ≡ get_or all.results.items i one) where
   -- with its text the texts are those of one more
-  pub one_more_taken : (out new texts text : List ℕ) (k : ℕ) → k ≡ i + 1 → out ≡ summary_text all ++ texts → AreResultTexts lists capacity scripts 1 (take i all.results.items) texts
-      → new ≡ out ++ text → IsResultText lists capacity scripts k one text
-      → (ts : List ℕ) × (new ≡ summary_text all ++ ts) × AreResultTexts lists capacity scripts 1 (take (i + 1) all.results.items) ts
+  pub one_more_taken : (out new texts text : List ℕ) (k : ℕ) → k ≡ i + 1 → out ≡ summary_text all ++ texts → AreResultTexts m 1 (take i all.results.items) texts
+      → new ≡ out ++ text → IsResultText m k one text
+      → (ts : List ℕ) × (new ≡ summary_text all ++ ts) × AreResultTexts m 1 (take (i + 1) all.results.items) ts
   one_more_taken out new texts text k k_is out_is are new_is is =
       let taken = length-take-le i all.results.items (omega arith) in
       let many : k ≡ 1 + length (take i all.results.items) = omega arith in
       let next : take i all.results.items ++ one ∷ [] ≡ take (i + 1) all.results.items = ap (λ (o : OneResult). take i all.results.items ++ o ∷ []) at ∙ sym (take_more all.results.items i one below) in (
         texts ++ text,
         new_is ∙ ap (λ o. o ++ text) out_is ∙ append_assoc (summary_text all) texts text,
-        subst (λ ones. AreResultTexts lists capacity scripts 1 ones (texts ++ text)) next
-            (one_more lists capacity scripts 1 (take i all.results.items) one texts text are (subst (λ n. IsResultText lists capacity scripts n one text) many is)),
+        subst (λ ones. AreResultTexts m 1 ones (texts ++ text)) next
+            (one_more m 1 (take i all.results.items) one texts text are (subst (λ n. IsResultText m n one text) many is)),
       )
 
   -- it may be too long
-  pub untold_of : (told : Fault) → (told ≡ Memory) ⊎ ((told ≡ MovesOver) × IsLong lists capacity scripts one) → IsUntold lists capacity scripts all told
+  pub untold_of : (told : Fault) → (told ≡ Memory) ⊎ ((told ≡ MovesOver) × IsLong m one) → IsUntold m all told
   untold_of told (inl e) = inl e
   untold_of told (inr long) = inr (long.0, one, (i, below, sym at), long.1)
 
 -- WHAT WAS READ
 
 -- a result that is too long is one of those that can come out
-pub untold : (m : Meeting) (all : Outcomes) (limit : ℕ) (fault : Fault) → AreOutcomes m all → IsUntold m.schema m.capacity m.scripts all fault → IsOver m limit fault
+pub untold : (m : Meeting) (all : Outcomes) (limit : ℕ) (fault : Fault) → AreOutcomes m all → IsUntold m all fault → IsOver m limit fault
 untold m all limit fault are (inl e) = subst (IsOver m limit) (sym e) tt
 untold m all limit fault are (inr long) = subst (IsOver m limit) (sym long.0) (record { all = all; are = are; one = long.1; among = long.2; long = long.3 })
 
-module _ (holds : Place → List ℕ → Type 0) (lists : Lists) (count capacity : ℕ) (answers : Bool) (limit : ℕ) (right : is_count count ≡ true) (read : ReadSchema holds lists) (scripts : ReadScripts holds lists count)
+module _ (holds : Place → List ℕ → Type 0) (lists : Lists) (count : ℕ) (options : ListingOptions) (right : is_count count ≡ true) (read : ReadSchema holds lists) (scripts : ReadScripts holds lists count)
     (statements : List (List Statement)) (same : statements ≡ map (script lists) scripts.texts) where
-  of_texts : (Of : Meeting → Type 0) → Of (record { schema = lists; capacity = capacity; scripts = statements; tells = answers }) → Of (record { schema = lists; capacity = capacity; scripts = map (script lists) scripts.texts; tells = answers })
-  of_texts Of of = subst (λ (ss : List (List Statement)). Of (record { schema = lists; capacity = capacity; scripts = ss; tells = answers })) same of
+  of_texts : (Of : Meeting → Type 0) → Of (meeting_of lists statements options) → Of (meeting_of lists (map (script lists) scripts.texts) options)
+  of_texts Of of = subst (λ (ss : List (List Statement)). Of (meeting_of lists ss options)) same of
 
-  pub listed : (out : List ℕ) → IsListing (record { schema = lists; capacity = capacity; scripts = statements; tells = answers }) limit out → OutcomesHeld holds count capacity answers limit out
+  pub listed : (out : List ℕ) → IsListing (meeting_of lists statements options) options.limit out → OutcomesHeld holds count options out
   listed out listing = (
     read_texts holds lists count read scripts Serial tt,
     record {
       count = ap is_count scripts.many ∙ right;
       texts = all_accepted holds lists count read scripts;
-      listing = subst (λ (s : Lists). IsListing (record { schema = s; capacity = capacity; scripts = map (script s) scripts.texts; tells = answers }) limit out) read.says (of_texts (λ m. IsListing m limit out) listing);
+      listing = subst (λ (s : Lists). IsListing (meeting_of s (map (script s) scripts.texts) options) options.limit out) read.says (of_texts (λ m. IsListing m options.limit out) listing);
     },
   )
 
-  pub over : (fails : Place → Fault → Type 0) (fault : Fault) → IsOver (record { schema = lists; capacity = capacity; scripts = statements; tells = answers }) limit fault → ToldOfOutcomes holds fails fault count capacity answers limit
-  over fails fault is = inr (record { lists = lists; right = right; schema = read; scripts = scripts; over = of_texts (λ m. IsOver m limit fault) is })
+  pub over : (fails : Place → Fault → Type 0) (fault : Fault) → IsOver (meeting_of lists statements options) options.limit fault → ToldOfOutcomes holds fails fault count options
+  over fails fault is = inr (record { lists = lists; right = right; schema = read; scripts = scripts; over = of_texts (λ m. IsOver m options.limit fault) is })

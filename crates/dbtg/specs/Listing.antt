@@ -1,7 +1,8 @@
 -- What `outcomes` prints: how many orders and results there are, each statement that has more than one status, and then, result by
 -- result, the first order that leads to it and what its moves print.
--- text and scripts are bytes, lists the schema that a text says, all is what can come out, one is a result and k its number.
-use Rattle.std.specs.Prelude.{ℕ, ◌≡◌, ◌<◌, ◌≤◌, ◌+◌, ◌++◌, ◌∷◌, ◌⊎◌, nat_lt, Bool, true, List, [], Option, Some, None, Contains, codes, decimal, length, map, if◌then◌else◌}
+-- text and scripts are bytes, lists the schema that a text says, m is a meeting, all is what can come out, one is a result and k its
+-- number; options are those of the command.
+use Rattle.std.specs.Prelude.{ℕ, ◌≡◌, ◌<◌, ◌≤◌, ◌+◌, ◌++◌, ◌∷◌, ◌⊎◌, nat_lt, true, List, [], Option, Some, None, Contains, codes, decimal, drop, length, map, if◌then◌else◌}
 use Rattle.std.specs.List.{flat_map}
 use Rattle.dbtg_schema.specs.Lists.{Lists}
 use Rattle.dbtg_unit.specs.declared.moves.Move.{Move}
@@ -20,7 +21,8 @@ use Rattle.dbtg_command.specs.declared.fault.Fault.{Fault}
 use Rattle.dbtg_command.specs.declared.fault.Fault.TheVariants as fault
 use Rattle.dbtg_command.specs.declared.order.OrderKind.TheVariants as kind
 use Rattle.dbtg_command.specs.declared.place.Place.{Place}
-use Rattle.dbtg_replay.specs.Ordering.{StandFor}
+use Rattle.dbtg_replay.specs.Ordering.{AreFirstMoves, StandFor, first_turns}
+use Rattle.dbtg.specs.declared.outcomes.ListingOptions.{ListingOptions}
 use Rattle.dbtg_command.specs.Refusals.{AcceptsTexts, is_count, schema_in}
 use Rattle.dbtg_replay.specs.Replaying.{given_text}
 use Rattle.dbtg_command.specs.Sources.{ReadSchema, ReadScripts, Texts, ToldOfRun}
@@ -56,36 +58,38 @@ worded word (c ∷ line) = word ++ 32 ∷ c ∷ line
 abbrev pub result_line : ℕ → OneResult → List ℕ
 result_line k one = codes "result " ++ decimal k ++ codes ", orders " ++ orders_text one.orders ++ 10 ∷ []
 
--- a result: its line, the turns and the moves of its first order, and what is printed after them
-abbrev pub result_text : Lists → ℕ → OneResult → List Move → Run → List ℕ
-result_text lists k one moves given =
-    result_line k one ++ worded (codes "turns") (turns_text one.turns) ++ worded (codes "moves") (moves_words_text moves) ++ given_text lists given
+-- a result: its line, these turns and moves of its first order, and what is printed after them
+abbrev pub result_text : Lists → ℕ → OneResult → List ℕ → List Move → Run → List ℕ
+result_text lists k one turns moves given =
+    result_line k one ++ worded (codes "turns") (turns_text turns) ++ worded (codes "moves") (moves_words_text moves) ++ given_text lists given
 
 -- the text shows a result: its turns stand for these moves, which are no more than a text of moves may have; what they print
--- follows
-pub record IsResultText (lists : Lists) (capacity : ℕ) (scripts : List (List Statement)) (k : ℕ) (one : OneResult) (out : List ℕ) : Type 0 where
+-- follows. The turns and moves of the script that is made first are left out
+pub record IsResultText (m : Meeting) (k : ℕ) (one : OneResult) (out : List ℕ) : Type 0 where
   pub moves : List Move
   pub given : Run
-  pub by_turns : IsRunByTurns lists capacity scripts one.turns moves given
+  pub by_turns : IsRunByTurns m.schema m.capacity m.scripts one.turns moves given
   pub few : length moves ≤ 1000000
-  pub is_text : out ≡ result_text lists k one moves given
+  pub before : List Move
+  pub are_first : AreFirstMoves m.first m.schema m.capacity m.scripts before
+  pub is_text : out ≡ result_text m.schema k one (drop (length (first_turns m.first m.scripts)) one.turns) (drop (length before) moves) given
 
 -- the texts of results, one behind another, the first of them number k
-abbrev pub AreResultTexts : Lists → ℕ → List (List Statement) → ℕ → List OneResult → List ℕ → Type 0
-AreResultTexts lists capacity scripts k [] out = out ≡ []
-AreResultTexts lists capacity scripts k (one ∷ rest) out =
-    (front : List ℕ) × (back : List ℕ) × (out ≡ front ++ back) × IsResultText lists capacity scripts k one front × AreResultTexts lists capacity scripts (k + 1) rest back
+abbrev pub AreResultTexts : Meeting → ℕ → List OneResult → List ℕ → Type 0
+AreResultTexts m k [] out = out ≡ []
+AreResultTexts m k (one ∷ rest) out =
+    (front : List ℕ) × (back : List ℕ) × (out ≡ front ++ back) × IsResultText m k one front × AreResultTexts m (k + 1) rest back
 
 -- the turns of a result stand for more moves than a text of moves may have
-pub record IsLong (lists : Lists) (capacity : ℕ) (scripts : List (List Statement)) (one : OneResult) : Type 0 where
+pub record IsLong (m : Meeting) (one : OneResult) : Type 0 where
   pub moves : List Move
-  pub stand : StandFor lists capacity scripts one.turns moves
+  pub stand : StandFor m.schema m.capacity m.scripts one.turns moves
   pub many : 1000000 < length moves
 
 -- the text is the summary of what comes out, and then that of each result
-pub record AreTold (lists : Lists) (capacity : ℕ) (scripts : List (List Statement)) (all : Outcomes) (out : List ℕ) : Type 0 where
+pub record AreTold (m : Meeting) (all : Outcomes) (out : List ℕ) : Type 0 where
   pub texts : List ℕ
-  pub are_texts : AreResultTexts lists capacity scripts 1 all.results.items texts
+  pub are_texts : AreResultTexts m 1 all.results.items texts
   pub is_text : out ≡ summary_text all ++ texts
 
 -- the text shows all that can come out
@@ -93,7 +97,7 @@ pub record IsListing (m : Meeting) (limit : ℕ) (out : List ℕ) : Type 0 where
   pub all : Outcomes
   pub are : AreOutcomes m all
   pub within : count_states m ≤ limit
-  pub told : AreTold m.schema m.capacity m.scripts all out
+  pub told : AreTold m all out
 
 -- one of the results is too long
 pub record HasLongResult (m : Meeting) : Type 0 where
@@ -101,7 +105,7 @@ pub record HasLongResult (m : Meeting) : Type 0 where
   pub are : AreOutcomes m all
   pub one : OneResult
   pub among : Contains all.results.items one
-  pub long : IsLong m.schema m.capacity m.scripts one
+  pub long : IsLong m one
 
 -- there are more states than the limit, or a result has too many moves, and the fault says so, unless memory ran out
 abbrev pub IsOver : Meeting → ℕ → Fault → Type 0
@@ -115,28 +119,28 @@ IsOver m limit (fault.Turns word cause) = ⊥
 IsOver m limit (fault.Unreadable path) = ⊥
 IsOver m limit fault.ScriptCount = ⊥
 
--- the scripts that these texts say
-abbrev pub meeting_in : List ℕ → List (List ℕ) → ℕ → Bool → Meeting
-meeting_in text scripts capacity answers = record { schema = schema_in text; capacity = capacity; scripts = map (script (schema_in text)) scripts; tells = answers }
+-- the meeting of these scripts that the options ask for
+abbrev pub meeting_of : Lists → List (List Statement) → ListingOptions → Meeting
+meeting_of lists scripts options = record { schema = lists; capacity = options.capacity; scripts = scripts; first = options.first; tells = options.answers }
 
 -- 1 to 8 scripts, nothing is refused, and the text tells of all that can come out when the scripts run at the same time
-pub record IsOutcomesText (text : List ℕ) (scripts : List (List ℕ)) (capacity : ℕ) (answers : Bool) (limit : ℕ) (out : List ℕ) : Type 0 where
+pub record IsOutcomesText (text : List ℕ) (scripts : List (List ℕ)) (options : ListingOptions) (out : List ℕ) : Type 0 where
   pub count : is_count (length scripts) ≡ true
   pub texts : AcceptsTexts text scripts
-  pub listing : IsListing (meeting_in text scripts capacity answers) limit out
+  pub listing : IsListing (meeting_of (schema_in text) (map (script (schema_in text)) scripts) options) options.limit out
 
 -- what `outcomes` prints of texts that are held
-abbrev pub OutcomesHeld : (Place → List ℕ → Type 0) → ℕ → ℕ → Bool → ℕ → List ℕ → Type 0
-OutcomesHeld holds count capacity answers limit out = (texts : Texts holds count kind.Serial) × IsOutcomesText texts.schema texts.scripts capacity answers limit out
+abbrev pub OutcomesHeld : (Place → List ℕ → Type 0) → ℕ → ListingOptions → List ℕ → Type 0
+OutcomesHeld holds count options out = (texts : Texts holds count kind.Serial) × IsOutcomesText texts.schema texts.scripts options out
 
 -- all texts are held and accepted, and the fault tells of too many states or moves
-pub record ToldOfListing (holds : Place → List ℕ → Type 0) (fault : Fault) (count capacity : ℕ) (answers : Bool) (limit : ℕ) : Type 0 where
+pub record ToldOfListing (holds : Place → List ℕ → Type 0) (fault : Fault) (count : ℕ) (options : ListingOptions) : Type 0 where
   pub lists : Lists
   pub right : is_count count ≡ true
   pub schema : ReadSchema holds lists
   pub scripts : ReadScripts holds lists count
-  pub over : IsOver (record { schema = lists; capacity = capacity; scripts = map (script lists) scripts.texts; tells = answers }) limit fault
+  pub over : IsOver (meeting_of lists (map (script lists) scripts.texts) options) options.limit fault
 
 -- what `outcomes` tells: a fault of a run, or of its listing
-abbrev pub ToldOfOutcomes : (Place → List ℕ → Type 0) → (Place → Fault → Type 0) → Fault → ℕ → ℕ → Bool → ℕ → Type 0
-ToldOfOutcomes holds fails fault count capacity answers limit = ToldOfRun holds fails fault count kind.Serial ⊎ ToldOfListing holds fault count capacity answers limit
+abbrev pub ToldOfOutcomes : (Place → List ℕ → Type 0) → (Place → Fault → Type 0) → Fault → ℕ → ListingOptions → Type 0
+ToldOfOutcomes holds fails fault count options = ToldOfRun holds fails fault count kind.Serial ⊎ ToldOfListing holds fault count options

@@ -21,7 +21,7 @@ use dbtg_replay::replay::{check_count, replay};
 use dbtg_replay::{moves_for_turns, refusals_of_first};
 use dbtg_schema::Schema;
 use dbtg_shell::{Broken, Session, converse, write_file};
-use outcomes::print_outcomes;
+use outcomes::{ListingOptions, print_outcomes};
 use std::env;
 use std::io::{self, Write};
 use std::process::ExitCode;
@@ -103,15 +103,28 @@ fn print_files(rt: &HostRuntime, call: &Call) -> ExitCode {
         paths: &paths,
     };
     let given = printed(rt, &files, call);
+    print_run(rt, given, &files, call)
+}
+
+// The text of a run, or its fault; beside the text, which statements of the script that is made first were refused.
+fn print_run(
+    rt: &HostRuntime,
+    given: Result<Vec<u8>, Fault>,
+    files: &Files<HostRuntime>,
+    call: &Call,
+) -> ExitCode {
     if given.is_ok() {
-        tell_refusals(rt, &files, call);
+        tell_refusals(rt, files, call);
     }
-    print_or_tell(rt, given, &paths, call.explains)
+    print_or_tell(rt, given, files.paths, call.explains)
 }
 
 // Does a run begin with a script that can be read again? Standard input cannot.
 fn begins_with_file(call: &Call) -> bool {
-    let runs = matches!(call.named, Named::Replay | Named::Timeline);
+    let runs = matches!(
+        call.named,
+        Named::Outcomes | Named::Replay | Named::Timeline
+    );
     runs && call.first && call.schema != "-" && call.scripts.last().is_some_and(|path| *path != "-")
 }
 
@@ -179,8 +192,14 @@ fn tell_outcomes(rt: &HostRuntime, call: &Call) -> ExitCode {
         reader: rt,
         paths: &paths,
     };
-    let given = print_outcomes(rt.alloc(), &files, call.capacity, call.answers, call.limit);
-    print_or_tell(rt, given, &paths, call.explains)
+    let options = ListingOptions {
+        capacity: call.capacity,
+        first: call.first,
+        answers: call.answers,
+        limit: call.limit,
+    };
+    let given = print_outcomes(rt.alloc(), &files, options);
+    print_run(rt, given, &files, call)
 }
 
 fn paths_of<'a>(schema: &'a str, scripts: &'a [&'a str], order: Order<&'a str>) -> Paths<'a> {

@@ -1,12 +1,12 @@
 //! All that can come out when scripts run at the same time, as text.
-ghost use Rattle.std.specs.Prelude.{◌≡◌, ℕ, ◌≤◌, ◌++◌, ◌⊎◌, codes, nat_lt, IfErr, IfOk, List, None, OnOk, Some, true, length};
+ghost use Rattle.std.specs.Prelude.{◌≡◌, ℕ, ◌++◌, ◌⊎◌, codes, nat_lt, IfErr, IfOk, List, None, OnOk, Some, true, drop};
 ghost use Rattle.std.specs.List.{flat_map, list_all};
 ghost use Rattle.dbtg_schema.specs.Sound.{IsSound};
 ghost use Rattle.dbtg_unit.specs.declared.moves.Move.{Move};
-ghost use Rattle.dbtg_step.specs.Laws.{scripts_fit};
+ghost use Rattle.dbtg_outcomes.specs.Outcomes.{IsMeeting};
 ghost use Rattle.dbtg_script.specs.Printing.WordTexts.{moves_words_text, turns_text};
 ghost use Rattle.dbtg.specs.Listing.{AreTold, IsListing, IsLong, IsOver, IsResultText, OutcomesHeld, ToldOfOutcomes, count_text, differing_text, orders_text, result_line, spaced_status, summary_text, worded};
-ghost use Rattle.dbtg.specs.Inside.Listing.{IsUntold, are_short};
+ghost use Rattle.dbtg.specs.Inside.Listing.{IsFront, IsUntold, are_short};
 ghost use Rattle.dbtg_command.specs.Refusals.{is_count};
 ghost use Rattle.dbtg_replay.specs.Replaying.{given_text};
 ghost use Rattle.dbtg_command.specs.Sources.{ReadSchema};
@@ -14,17 +14,37 @@ ghost use Rattle.dbtg_command.specs.declared.fault.Fault.TheVariants.{Memory, Mo
 ghost use Rattle.dbtg_command.specs.declared.order.OrderKind.TheVariants.{Serial};
 
 use dbtg_command::{Fault, Source, copy_scripts};
-use dbtg_outcomes::{Answered, OneResult, Outcomes, Stop, all_outcomes};
+use dbtg_outcomes::{Answered, Meeting, OneResult, Outcomes, Stop, all_outcomes};
 use dbtg_replay::read_scripts;
+use dbtg_replay::{behind, first_turns, moves_behind_first};
 use dbtg_replay::replay::{push_given, schema_for_run};
-use dbtg_schema::{Row, Schema};
+use dbtg_schema::Schema;
 use dbtg_script::{moves_words_text, push_number, push_status, turns_text};
 use dbtg_step::{Run, Turned, run_turns};
-use dbtg_unit::{Move, Statement};
+use dbtg_unit::Move;
 use std::alloc::{AllocError, Global};
 
 // So many moves a text of moves may have.
 const MOST_MOVES: usize = 1_000_000;
+
+/// What a listing is asked for.
+#[derive(Clone, Copy)]
+pub struct ListingOptions {
+    pub capacity: u16,
+    /// The last script is made before all others.
+    pub first: bool,
+    /// Results are also told apart by the answers that units get.
+    pub answers: bool,
+    /// How many states may come.
+    pub limit: u64,
+}
+
+/// How many turns and moves make the script that is made first. They stand in front, and are not printed.
+#[derive(Clone, Copy)]
+pub struct Front {
+    pub turns: usize,
+    pub moves: usize,
+}
 
 // A number of orders; it may be above what a `u64` can count.
 fn push_orders(out: &mut Vec<u8>, orders: Option<u64>) -> Result<(), AllocError>
@@ -132,16 +152,18 @@ fn push_turned(
     Ok(())
 }
 
-// The number of a result, how many orders lead to it, the first of them as turns and as moves, and what these moves printed.
+// The number of a result, how many orders lead to it, the first of them as turns and as moves, and what these moves printed. The turns
+// and moves in front are left out.
 fn push_made(
     alloc: Global,
     out: &mut Vec<u8>,
     schema: &Schema,
+    front: Front,
     number: u64,
     one: &OneResult,
     turned: &Turned,
 ) -> Result<(), Fault>
-    ensures done { OnOk result ((moves : List Move) × (turned.now.moves ≡ Some moves) × (out.new.items ≡ out.old.items ++ result_line number one.now ++ worded (codes "turns") (turns_text one.now.turns) ++ worded (codes "moves") (moves_words_text moves) ++ given_text schema.now turned.now.run)) }
+    ensures done { OnOk result ((moves : List Move) × (turned.now.moves ≡ Some moves) × (out.new.items ≡ out.old.items ++ result_line number one.now ++ worded (codes "turns") (turns_text (drop front.turns one.now.turns)) ++ worded (codes "moves") (moves_words_text (drop front.moves moves)) ++ given_text schema.now turned.now.run)) }
     ensures refused { IfErr result (λ fault. (fault ≡ Memory) ⊎ ((fault ≡ MovesOver) × (turned.now.moves ≡ None))) }
 {
     let Some(moves) = &turned.moves else {
@@ -152,8 +174,8 @@ fn push_made(
         alloc,
         out,
         schema,
-        one.turns.as_slice(),
-        moves.as_slice(),
+        behind(one.turns.as_slice(), front.turns),
+        behind(moves.as_slice(), front.moves),
         &turned.run,
     )?;
     Ok(())
@@ -163,74 +185,76 @@ fn push_made(
 fn push_result(
     alloc: Global,
     out: &mut Vec<u8>,
-    schema: &Schema,
-    capacity: u16,
-    scripts: &[Row<Statement>],
+    meeting: &Meeting,
+    front: Front,
     number: u64,
     one: &OneResult,
 ) -> Result<(), Fault>
-    requires sound { IsSound schema.now }
-    requires units { length scripts.now ≤ 255 }
-    requires fit { scripts_fit schema.now scripts.now ≡ true }
-    ensures done { OnOk result ((text : List ℕ) × (out.new.items ≡ out.old.items ++ text) × IsResultText schema.now capacity scripts.now number one.now text) }
-    ensures refused { IfErr result (λ fault. (fault ≡ Memory) ⊎ ((fault ≡ MovesOver) × IsLong schema.now capacity scripts.now one.now)) }
+    requires meeting { IsMeeting meeting.now }
+    requires front { IsFront meeting.now front }
+    ensures done { OnOk result ((text : List ℕ) × (out.new.items ≡ out.old.items ++ text) × IsResultText meeting.now number one.now text) }
+    ensures refused { IfErr result (λ fault. (fault ≡ Memory) ⊎ ((fault ≡ MovesOver) × IsLong meeting.now one.now)) }
 {
-    let copies = copy_scripts(alloc, scripts)?;
+    let copies = copy_scripts(alloc, meeting.scripts)?;
     let turned = run_turns(
         alloc,
-        schema,
-        capacity,
+        meeting.schema,
+        meeting.capacity,
         copies,
         one.turns.as_slice(),
         MOST_MOVES,
     )?;
-    let pushed = push_made(alloc, out, schema, number, one, &turned);
+    let pushed = push_made(alloc, out, meeting.schema, front, number, one, &turned);
     turned.discard();
     pushed
 }
 
-// The summary, and then result by result.
-fn outcomes_text(
-    alloc: Global,
-    schema: &Schema,
-    capacity: u16,
-    scripts: &[Row<Statement>],
-    all: &Outcomes,
-) -> Result<Vec<u8>, Fault>
-    requires sound { IsSound schema.now }
-    requires units { length scripts.now ≤ 255 }
-    requires fit { scripts_fit schema.now scripts.now ≡ true }
-    requires short { list_all are_short all.now.answered.items ≡ true }
-    ensures done { IfOk result (λ out. AreTold schema.now capacity scripts.now all.now out.items) }
-    ensures refused { IfErr result (λ fault. IsUntold schema.now capacity scripts.now all.now fault) }
+// How many turns and moves make the script that is made first.
+fn front_of(alloc: Global, meeting: &Meeting) -> Result<Front, AllocError>
+    requires { IsMeeting meeting.now }
+    ensures { IfOk result (IsFront meeting.now) }
 {
+    let turns = first_turns(alloc, meeting.first, meeting.scripts)?;
+    let all = moves_behind_first(
+        alloc,
+        meeting.first,
+        meeting.schema,
+        meeting.capacity,
+        meeting.scripts,
+        Vec::new(alloc),
+    )?;
+    Ok(Front {
+        turns: turns.len(),
+        moves: all.before,
+    })
+}
+
+// The summary, and then result by result.
+fn outcomes_text(alloc: Global, meeting: &Meeting, all: &Outcomes) -> Result<Vec<u8>, Fault>
+    requires meeting { IsMeeting meeting.now }
+    requires short { list_all are_short all.now.answered.items ≡ true }
+    ensures done { IfOk result (λ out. AreTold meeting.now all.now out.items) }
+    ensures refused { IfErr result (λ fault. IsUntold meeting.now all.now fault) }
+{
+    let front = front_of(alloc, meeting)?;
     let mut out = Vec::new(alloc);
     push_summary(&mut out, all)?;
     let mut number = 0;
     for one in &all.results {
         number += 1;
-        push_result(alloc, &mut out, schema, capacity, scripts, number, one)?;
+        push_result(alloc, &mut out, meeting, front, number, one)?;
     }
     Ok(out)
 }
 
-// What `outcomes` prints of scripts that were read, over a schema that was read.
-fn print_known(
-    alloc: Global,
-    schema: &Schema,
-    capacity: u16,
-    scripts: &[Row<Statement>],
-    answers: bool,
-    limit: u64,
-) -> Result<Vec<u8>, Fault>
-    requires sound { IsSound schema.now }
-    requires units { length scripts.now ≤ 255 }
-    requires fit { scripts_fit schema.now scripts.now ≡ true }
-    ensures done { IfOk result (λ out. IsListing (record { schema = schema.now; capacity = capacity; scripts = scripts.now; tells = answers }) limit out.items) }
-    ensures refused { IfErr result (λ fault. IsOver (record { schema = schema.now; capacity = capacity; scripts = scripts.now; tells = answers }) limit fault) }
+// What `outcomes` prints of a meeting.
+fn print_meeting(alloc: Global, meeting: &Meeting, limit: u64) -> Result<Vec<u8>, Fault>
+    requires { IsMeeting meeting.now }
+    ensures done { IfOk result (λ out. IsListing meeting.now limit out.items) }
+    ensures refused { IfErr result (λ fault. IsOver meeting.now limit fault) }
 {
-    match all_outcomes(alloc, schema, capacity, scripts, answers, limit as usize) {
-        Ok(all) => outcomes_text(alloc, schema, capacity, scripts, &all),
+    match all_outcomes(alloc, meeting, limit as usize) {
+        Ok(all) => outcomes_text(alloc, meeting, &all),
         Err(Stop::Memory) => Err(Fault::Memory),
         Err(Stop::States) => Err(Fault::StatesOver { limit }),
     }
@@ -241,19 +265,24 @@ fn outcomes_known<S: Source>(
     alloc: Global,
     source: &S,
     known: &Schema,
-    capacity: u16,
-    answers: bool,
-    limit: u64,
+    options: ListingOptions,
 ) -> Result<Vec<u8>, Fault>
     requires counted { is_count (S.count source.now) ≡ true }
     requires serial { S.order source.now ≡ Serial }
     requires read { ReadSchema (S.holds source.now) known.now }
     requires sound { IsSound known.now }
-    ensures done { IfOk result (λ out. OutcomesHeld (S.holds source.now) (S.count source.now) capacity answers limit out.items) }
-    ensures refused { IfErr result (λ fault. ToldOfOutcomes (S.holds source.now) (S.fails source.now) fault (S.count source.now) capacity answers limit) }
+    ensures done { IfOk result (λ out. OutcomesHeld (S.holds source.now) (S.count source.now) options out.items) }
+    ensures refused { IfErr result (λ fault. ToldOfOutcomes (S.holds source.now) (S.fails source.now) fault (S.count source.now) options) }
 {
     let scripts = read_scripts(alloc, source, known)?;
-    print_known(alloc, known, capacity, scripts.as_slice(), answers, limit)
+    let meeting = Meeting {
+        schema: known,
+        capacity: options.capacity,
+        scripts: scripts.as_slice(),
+        first: options.first,
+        tells_answers: options.answers,
+    };
+    print_meeting(alloc, &meeting, options.limit)
 }
 
 /// What `outcomes` prints of the schema and the scripts that a source gives, or the first fault. Above the limit of states it gives
@@ -261,16 +290,14 @@ fn outcomes_known<S: Source>(
 pub fn print_outcomes<S: Source>(
     alloc: Global,
     source: &S,
-    capacity: u16,
-    answers: bool,
-    limit: u64,
+    options: ListingOptions,
 ) -> Result<Vec<u8>, Fault>
     requires { S.order source.now ≡ Serial }
-    ensures done { IfOk result (λ out. OutcomesHeld (S.holds source.now) (S.count source.now) capacity answers limit out.items) }
-    ensures refused { IfErr result (λ fault. ToldOfOutcomes (S.holds source.now) (S.fails source.now) fault (S.count source.now) capacity answers limit) }
+    ensures done { IfOk result (λ out. OutcomesHeld (S.holds source.now) (S.count source.now) options out.items) }
+    ensures refused { IfErr result (λ fault. ToldOfOutcomes (S.holds source.now) (S.fails source.now) fault (S.count source.now) options) }
 {
     let known = schema_for_run(alloc, source)?;
-    let said = outcomes_known(alloc, source, &known, capacity, answers, limit);
+    let said = outcomes_known(alloc, source, &known, options);
     known.discard();
     said
 }

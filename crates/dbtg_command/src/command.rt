@@ -165,6 +165,7 @@ fn outcomes_command<'a>(alloc: Global, name: &'a str) -> Result<Command<'a>, All
         "Example: dbtg outcomes shop.schema unit1.script unit2.script\nWith a small --capacity it is several times as fast, and takes less memory",
         &[
             Word::Capacity,
+            Word::First,
             Word::Limit,
             Word::Answers,
             Word::Explain,

@@ -3,6 +3,7 @@
 -- Promises: `SameStates`: what a search may put together; `Results`, `ComesOut`: what is given out is all that can come out.
 pub mod ComesOut
 pub mod Entered
+pub mod First
 pub mod Histories
 pub mod Layers
 pub mod Noted

@@ -1,6 +1,6 @@
 -- What the orders are, and the law of the machine of events and the outcomes: every run comes out as one of the results.
 -- m is a meeting of scripts, u a unit.
-use Rattle.std.specs.Prelude.{ℕ, ◌≡◌, ◌<◌, ◌≤◌, ◌==◌, List, [], ◌∷◌, ◌++◌, ⊤, Some, None, map, filter, length, flat_map, Contains, if◌then◌else◌}
+use Rattle.std.specs.Prelude.{ℕ, ◌≡◌, ◌<◌, ◌≤◌, ◌==◌, Bool, List, [], ◌∷◌, ◌++◌, ⊤, Some, None, map, filter, length, flat_map, Contains, if◌then◌else◌}
 use Rattle.dbtg_schema.specs.Lists.{Lists}
 use Rattle.dbtg_script.specs.Printing.Texts.{answers_text, run_text}
 use Rattle.dbtg_unit.specs.declared.moves.Move.{Move}
@@ -15,7 +15,7 @@ use Rattle.dbtg_step.specs.Machine.Machine.{State, UnitState}
 use Rattle.dbtg_step.specs.Machine.Network.{network}
 use Rattle.dbtg_step.specs.Machine.Headline.{RunIs, machine_after}
 use Rattle.dbtg_outcomes.specs.Groups.{groups}
-use Rattle.dbtg_outcomes.specs.Orders.{orders}
+use Rattle.dbtg_outcomes.specs.Orders.{made_first, orders}
 use Rattle.dbtg_outcomes.specs.Outcomes.{Comes}
 use Rattle.dbtg_outcomes.specs.Results.{Meeting, by_unit, result_text, units_of, untimed}
 
@@ -46,11 +46,16 @@ abbrev pub AreInOrder : List (List (ℕ × Statement)) → Type 0
 AreInOrder [] = ⊤
 AreInOrder (o ∷ os) = ((p : List (ℕ × Statement)) → Contains os p → IsBefore (turns o) (turns p)) × AreInOrder os
 
--- they are all merges of the scripts, each once, as a dictionary has them
-pub record AreAllMerges (scripts : List (List Statement)) : Type 0 where
-  pub all : (o : List (ℕ × Statement)) → IsMerge scripts o → Contains (orders scripts) o
-  pub only : (o : List (ℕ × Statement)) → Contains (orders scripts) o → IsMerge scripts o
-  pub in_order : AreInOrder (orders scripts)
+-- an order begins with these statements
+abbrev pub BeginsWith : List (ℕ × Statement) → List (ℕ × Statement) → Type 0
+BeginsWith front o = (rest : List (ℕ × Statement)) × (front ++ rest ≡ o)
+
+-- they are all merges of the scripts that begin with the script that is made first, each once, as a dictionary has them
+pub record AreAllMerges (first : Bool) (scripts : List (List Statement)) : Type 0 where
+  pub all : (o : List (ℕ × Statement)) → IsMerge scripts o → BeginsWith (made_first first scripts) o → Contains (orders first scripts) o
+  pub merges : (o : List (ℕ × Statement)) → Contains (orders first scripts) o → IsMerge scripts o
+  pub begun : (o : List (ℕ × Statement)) → Contains (orders first scripts) o → BeginsWith (made_first first scripts) o
+  pub in_order : AreInOrder (orders first scripts)
 
 -- RUNS
 
@@ -71,12 +76,13 @@ text_of_run m run =
 -- a run makes the statements in one of the orders, and has the text of one of the results; the status of each of its statements is
 -- one of those that come
 pub record ComesOut (m : Meeting) (run : Run) : Type 0 where
-  pub is_order : Contains (orders m.scripts) (statements_of run.history)
+  pub is_order : Contains (orders m.first m.scripts) (statements_of run.history)
   pub result : List (ℕ × Statement) × ℕ
-  pub is_result : Contains (groups (result_text m) (orders m.scripts)) result
+  pub is_result : Contains (groups (result_text m) (orders m.first m.scripts)) result
   pub text_is : text_of_run m run ≡ result_text m result.0
   pub statuses : (before rest : List Entry) (e : Entry) → run.history ≡ before ++ e ∷ rest → Comes m e.unit (length (entries_of e.unit before)) (status_code e.statement e.answer.status)
 
--- whatever the moves, if at their end all scripts are at their end, and no unit is in mid-statement
+-- whatever the moves, if at their end all scripts are at their end, and no unit is in mid-statement, and the script that is made first
+-- has drawn its tickets before all others
 abbrev pub EveryRunComesOut : Meeting → Type 0
-EveryRunComesOut m = (moves : List Move) (run : Run) → IsAtEnd m.schema m.capacity (machine_after m.schema m.capacity m.scripts moves) → RunIs m.schema m.capacity m.scripts moves run → ComesOut m run
+EveryRunComesOut m = (moves : List Move) (run : Run) → IsAtEnd m.schema m.capacity (machine_after m.schema m.capacity m.scripts moves) → RunIs m.schema m.capacity m.scripts moves run → BeginsWith (made_first m.first m.scripts) (statements_of run.history) → ComesOut m run

@@ -1,6 +1,7 @@
 -- The orders in which the statements of scripts can be made: each unit makes those of its script in their order.
--- an order is a list of statements, each with the unit that makes it; u is a unit.
-use Rattle.std.specs.Prelude.{ℕ, zero, suc, ◌+◌, ◌==◌, List, [], ◌∷◌, ◌++◌, Option, filter, length, option_and_then, option_map, option_to_list, slice_get, flat_map}
+-- an order is a list of statements, each with the unit that makes it; u is a unit; first says whether the last of the scripts is made
+-- before all others.
+use Rattle.std.specs.Prelude.{ℕ, zero, suc, ◌+◌, ◌-◌, ◌==◌, Bool, true, false, List, [], ◌∷◌, ◌++◌, Option, filter, flat_map, length, map, option_and_then, option_map, option_to_list, slice_get, take, unwrap_or}
 use Rattle.std.specs.List.{range_with_len}
 use Rattle.dbtg_unit.specs.declared.statement.Statement.{Statement}
 use Rattle.dbtg_step.specs.Machine.SequentialDatabase.{unit_at}
@@ -31,6 +32,32 @@ abbrev pub count_statements : List (List Statement) → ℕ
 count_statements [] = 0
 count_statements (script ∷ scripts) = length script + count_statements scripts
 
--- all orders, as a dictionary has them by their units
-abbrev pub orders : List (List Statement) → List (List (ℕ × Statement))
-orders scripts = completed scripts (count_statements scripts) []
+-- THE SCRIPT THAT IS MADE FIRST
+
+-- the last of the scripts
+abbrev pub last_of : List (List Statement) → List Statement
+last_of scripts = unwrap_or (slice_get scripts (length scripts - 1)) []
+
+-- it is made first, or nothing is
+abbrev pub first_script : Bool → List (List Statement) → List Statement
+first_script false scripts = []
+first_script true scripts = last_of scripts
+
+-- as its unit, the last one, makes it
+abbrev pub made_first : Bool → List (List Statement) → List (ℕ × Statement)
+made_first first scripts = map (λ x. (length scripts, x)) (first_script first scripts)
+
+-- the scripts that are left behind it
+abbrev pub others : Bool → List (List Statement) → List (List Statement)
+others false scripts = scripts
+others true scripts = take (length scripts - 1) scripts
+
+-- ALL ORDERS
+
+-- those that begin with it, up to so many statements of the others
+abbrev pub orders_after : Bool → List (List Statement) → ℕ → List (List (ℕ × Statement))
+orders_after first scripts n = completed scripts n (made_first first scripts)
+
+-- with all statements of the others, as a dictionary has them by their units
+abbrev pub orders : Bool → List (List Statement) → List (List (ℕ × Statement))
+orders first scripts = orders_after first scripts (count_statements (others first scripts))

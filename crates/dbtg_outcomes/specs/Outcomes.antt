@@ -13,7 +13,7 @@ use Rattle.dbtg_outcomes.specs.declared.outcomes.OneResult.{OneResult}
 use Rattle.dbtg_outcomes.specs.declared.outcomes.Outcomes as given
 use Rattle.dbtg_outcomes.specs.Counted.{counted}
 use Rattle.dbtg_outcomes.specs.Groups.{groups}
-use Rattle.dbtg_outcomes.specs.Orders.{completed, count_statements, made, orders}
+use Rattle.dbtg_outcomes.specs.Orders.{count_statements, made, orders, orders_after, others}
 use Rattle.dbtg_outcomes.specs.Results.{Meeting, result_text, state_key, state_of}
 
 -- scripts of a sound schema, few enough that each unit has a number
@@ -39,7 +39,7 @@ pub record Comes (m : Meeting) (u i code : ℕ) : Type 0 where
   pub before : List (ℕ × Statement)
   pub statement : Statement
   pub rest : List (ℕ × Statement)
-  pub is_order : Contains (orders m.scripts) (before ++ (u, statement) ∷ rest)
+  pub is_order : Contains (orders m.first m.scripts) (before ++ (u, statement) ∷ rest)
   pub place_is : made u before ≡ i
   pub status : HasStatus m before u statement code
 
@@ -65,9 +65,9 @@ places_from u (script ∷ scripts) = map (λ i. (u, i)) (range_with_len 1 (lengt
 
 -- STATES
 
--- how many different states there are after so many statements
+-- how many different states there are after so many statements, behind the script that is made first
 abbrev pub states_after : Meeting → ℕ → ℕ
-states_after m n = length (groups (state_key m) (completed m.scripts n []))
+states_after m n = length (groups (state_key m) (orders_after m.first m.scripts n))
 
 -- and after that many and fewer
 abbrev pub states_within : Meeting → ℕ → ℕ
@@ -76,13 +76,13 @@ states_within m (suc n) = states_within m n + states_after m (suc n)
 
 -- on all orders
 abbrev pub count_states : Meeting → ℕ
-count_states m = states_within m (count_statements m.scripts)
+count_states m = states_within m (count_statements (others m.first m.scripts))
 
 -- ALL THAT CAN COME OUT
 
 -- all results, each once, with the number of its orders, in the order of their first orders; and all statements with their statuses
 pub record AreOutcomes (m : Meeting) (all : given.Outcomes) : Type 0 where
-  pub orders_are : all.orders ≡ counted (length (orders m.scripts))
-  pub results_are : all.results.items ≡ map result_of (groups (result_text m) (orders m.scripts))
+  pub orders_are : all.orders ≡ counted (length (orders m.first m.scripts))
+  pub results_are : all.results.items ≡ map result_of (groups (result_text m) (orders m.first m.scripts))
   pub places_are : map place_of all.answered.items ≡ places_from 1 m.scripts
   pub statuses_are : (a : Answered) → Contains all.answered.items a → AreStatuses m a

@@ -12,11 +12,13 @@ use Rattle.dbtg_unit.specs.Database.Laws.Replay.{State, after_outcome, entries_o
 use Rattle.dbtg_outcomes.specs.Orders.{made}
 use Rattle.dbtg_outcomes.specs.Spelling.{image_numbers, list_numbers, one_number, unit_numbers}
 
--- scripts that run at the same time, a unit for each, and whether the answers that units get tell results apart
+-- scripts that run at the same time, a unit for each; whether the last of them is made before all others; and whether the answers
+-- that units get tell results apart
 pub record Meeting : Type 0 where
   pub schema : Lists
   pub capacity : ℕ
   pub scripts : List (List Statement)
+  pub first : Bool
   pub tells : Bool
 
 -- the units, by number

@@ -3,6 +3,7 @@
 
 mod answered;
 mod count;
+mod first;
 mod groups;
 mod laws;
 mod meeting;
@@ -15,5 +16,6 @@ mod told;
 
 pub use answered::Answered;
 pub use laws::{every_run_comes_out, orders_are_all_merges};
+pub use meeting::Meeting;
 pub use outcomes::{OneResult, Outcomes, all_outcomes};
 pub use search::Stop;

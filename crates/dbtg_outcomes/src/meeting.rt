@@ -17,12 +17,15 @@ use dbtg_unit::{Entry, Statement};
 use std::alloc::{AllocError, Global};
 use std::marker::Model;
 
-/// The scripts, a unit for each, and whether the answers that units get tell results apart.
+/// Scripts that run at the same time, a unit for each.
 #[derive(Drop)]
 pub struct Meeting<'a> {
     pub schema: &'a Schema,
     pub capacity: u16,
     pub scripts: &'a [Row<Statement>],
+    /// The last script is made whole before all others.
+    pub first: bool,
+    /// The answers that units get tell results apart too.
     pub tells_answers: bool,
 }
 
@@ -31,7 +34,7 @@ impl<'a> Model for Meeting<'a> {
 
     ghost Value = { MeetingOfScripts };
 
-    ghost view = { λ m. record { schema = m.schema.now; capacity = m.capacity; scripts = m.scripts.now; tells = m.tells_answers } };
+    ghost view = { λ m. record { schema = m.schema.now; capacity = m.capacity; scripts = m.scripts.now; first = m.first; tells = m.tells_answers } };
 }
 
 /// How many statements the unit has made.
@@ -64,7 +67,7 @@ fn as_numbers(alloc: Global, bytes: &[u8]) -> Result<Vec<u64>, AllocError>
 }
 
 // Has a unit of the database make a copy of the statement.
-fn make_copy(
+pub(crate) fn make_copy(
     alloc: Global,
     database: &mut WholeDatabase,
     unit: u8,
@@ -80,7 +83,7 @@ fn make_copy(
 
 impl<'a> Meeting<'a> {
     /// How many units there are.
-    pub fn units(&self) -> u8
+    pub(crate) fn units(&self) -> u8
         requires { IsMeeting self.now }
         ensures { result ≡ length self.now.scripts }
     {
@@ -108,7 +111,7 @@ impl<'a> Meeting<'a> {
     }
 
     /// What comes of a history.
-    pub fn replayed(&self, alloc: Global, history: &[Entry]) -> Result<Run, AllocError>
+    pub(crate) fn replayed(&self, alloc: Global, history: &[Entry]) -> Result<Run, AllocError>
         requires meeting { IsMeeting self.now }
         requires history { IsHistoryOf self.now.schema self.now.capacity (length self.now.scripts) history.now }
         ensures { IfOk result (IsRunOf self.now (statements_of history.now)) }
@@ -117,7 +120,7 @@ impl<'a> Meeting<'a> {
     }
 
     /// What comes of a history with one statement more, and the status of that.
-    pub fn extended(
+    pub(crate) fn extended(
         &self,
         alloc: Global,
         history: &[Entry],
@@ -161,7 +164,7 @@ impl<'a> Meeting<'a> {
     }
 
     /// The state to which a history leads, as numbers: all that what comes after it depends on.
-    pub fn state_key(&self, alloc: Global, run: &Run) -> Result<Vec<u64>, AllocError>
+    pub(crate) fn state_key(&self, alloc: Global, run: &Run) -> Result<Vec<u64>, AllocError>
         requires meeting { IsMeeting self.now }
         requires run { IsRunOf self.now (statements_of run.now.history) run.now }
         ensures { IfOk result (λ key. key.items ≡ state_key self.now (statements_of run.now.history)) }
@@ -195,7 +198,11 @@ impl<'a> Meeting<'a> {
     }
 
     /// The text of the result to which a run leads, byte by byte, and the run's history.
-    pub fn result_key(&self, alloc: Global, run: Run) -> Result<(Vec<u64>, Row<Entry>), AllocError>
+    pub(crate) fn result_key(
+        &self,
+        alloc: Global,
+        run: Run,
+    ) -> Result<(Vec<u64>, Row<Entry>), AllocError>
         requires meeting { IsMeeting self.now }
         requires run { IsRunOf self.now (statements_of run.history) run }
         ensures key { IfOk result (λ told. told.0.items ≡ result_text self.now (statements_of run.history)) }

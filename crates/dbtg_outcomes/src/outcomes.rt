@@ -1,10 +1,8 @@
 //! All that can come out when scripts run at the same time.
-ghost use Rattle.std.specs.Prelude.{◌≡◌, ◌≤◌, ◌<◌, Some, true, length, map, All, IfErr, IfOk, MatchResult, OnOk};
-ghost use Rattle.dbtg_schema.specs.Sound.{IsSound};
-ghost use Rattle.dbtg_step.specs.Laws.{scripts_fit};
+ghost use Rattle.std.specs.Prelude.{◌≡◌, ◌≤◌, ◌<◌, Some, map, All, IfErr, IfOk, MatchResult, OnOk};
 ghost use Rattle.dbtg_outcomes.specs.declared.search.Stop.TheVariants.{States};
 ghost use Rattle.dbtg_outcomes.specs.Inside.Given.{all_orders, one_result};
-ghost use Rattle.dbtg_outcomes.specs.Orders.{count_statements};
+ghost use Rattle.dbtg_outcomes.specs.Orders.{count_statements, others};
 ghost use Rattle.dbtg_outcomes.specs.Outcomes.{AreOutcomes, IsMeeting, count_states};
 ghost use Rattle.dbtg_outcomes.specs.Inside.Search.{IsAt};
 ghost use Rattle.dbtg_outcomes.specs.Inside.Steps.{AreByResult, HasHistory, Joins};
@@ -14,8 +12,8 @@ use crate::count::together;
 use crate::groups::{Group, Groups};
 use crate::meeting::Meeting;
 use crate::search::{Search, Stop};
-use dbtg_schema::{Row, Schema};
-use dbtg_unit::{Entry, Statement};
+use dbtg_schema::Row;
+use dbtg_unit::Entry;
 use std::alloc::{AllocError, Global};
 
 /// A result: the first order that leads to it, by the units whose turn it is, and how many orders lead to it; none where these are
@@ -35,21 +33,16 @@ pub struct Outcomes {
 }
 
 // The states after all statements.
-fn search_all(
-    alloc: Global,
-    meeting: &Meeting,
-    scripts: &[Row<Statement>],
-    limit: usize,
-) -> Result<Search, Stop>
-    requires meeting { IsMeeting meeting.now }
-    requires scripts { scripts.now ≡ meeting.now.scripts }
-    ensures at { IfOk result (IsAt meeting.now (count_statements meeting.now.scripts)) }
+fn search_all(alloc: Global, meeting: &Meeting, limit: usize) -> Result<Search, Stop>
+    requires { IsMeeting meeting.now }
+    ensures at { IfOk result (IsAt meeting.now (count_statements (others meeting.now.first meeting.now.scripts))) }
     ensures limit { IfOk result (λ search. search.limit ≡ limit) }
     ensures stopped { IfErr result (λ stop. stop ≡ States → limit < count_states meeting.now) }
     ensures at_once { limit ≡ 0 → MatchResult result (λ _. ⊥) (λ stop. stop ≡ States) }
 {
+    let left = meeting.others();
     let mut search = Search::begin(alloc, meeting, limit)?;
-    search.pass(alloc, meeting, scripts)?;
+    search.pass(alloc, meeting, left)?;
     Ok(search)
 }
 
@@ -120,20 +113,14 @@ fn all_orders(groups: &[Group]) -> Option<u64>
 }
 
 // What a search comes to that has made all statements.
-fn outcomes_of(
-    alloc: Global,
-    meeting: &Meeting,
-    scripts: &[Row<Statement>],
-    search: &Search,
-) -> Result<Outcomes, AllocError>
+fn outcomes_of(alloc: Global, meeting: &Meeting, search: &Search) -> Result<Outcomes, AllocError>
     requires meeting { IsMeeting meeting.now }
-    requires scripts { scripts.now ≡ meeting.now.scripts }
-    requires at { IsAt meeting.now (count_statements meeting.now.scripts) search.now }
+    requires at { IsAt meeting.now (count_statements (others meeting.now.first meeting.now.scripts)) search.now }
     ensures { IfOk result (AreOutcomes meeting.now) }
 {
     let groups = by_result(alloc, meeting, search.layer.as_slice())?;
     let results = results_of(alloc, groups.as_slice())?;
-    let answered = answered_by(alloc, scripts, search.notes.as_slice())?;
+    let answered = answered_by(alloc, meeting.scripts, search.notes.as_slice())?;
     Ok(Outcomes {
         orders: all_orders(groups.as_slice()),
         results,
@@ -141,31 +128,17 @@ fn outcomes_of(
     })
 }
 
-/// All that can come out when these scripts run at the same time, a unit for each. It stops where there are more states than
-/// the limit; at a limit of 0 at once, without memory.
-pub fn all_outcomes(
-    alloc: Global,
-    schema: &Schema,
-    capacity: u16,
-    scripts: &[Row<Statement>],
-    tells_answers: bool,
-    limit: usize,
-) -> Result<Outcomes, Stop>
-    requires sound { IsSound schema.now }
-    requires few { length scripts.now ≤ 255 }
-    requires fit { scripts_fit schema.now scripts.now ≡ true }
-    ensures outcomes { IfOk result (AreOutcomes (record { schema = schema.now; capacity = capacity; scripts = scripts.now; tells = tells_answers })) }
-    ensures within { IfOk result (λ all. count_states (record { schema = schema.now; capacity = capacity; scripts = scripts.now; tells = tells_answers }) ≤ limit) }
-    ensures stopped { IfErr result (λ stop. stop ≡ States → limit < count_states (record { schema = schema.now; capacity = capacity; scripts = scripts.now; tells = tells_answers })) }
+/// All that can come out when these scripts run at the same time, a unit for each; where the last script is made first, behind it.
+/// The turns of a result are those of all units, the first script's in front. It stops where there are more states than the limit; at a
+/// limit of 0 at once, without memory.
+pub fn all_outcomes(alloc: Global, meeting: &Meeting, limit: usize) -> Result<Outcomes, Stop>
+    requires { IsMeeting meeting.now }
+    ensures outcomes { IfOk result (AreOutcomes meeting.now) }
+    ensures within { IfOk result (λ all. count_states meeting.now ≤ limit) }
+    ensures stopped { IfErr result (λ stop. stop ≡ States → limit < count_states meeting.now) }
     ensures at_once { limit ≡ 0 → MatchResult result (λ _. ⊥) (λ stop. stop ≡ States) }
 {
-    let meeting = Meeting {
-        schema,
-        capacity,
-        scripts,
-        tells_answers,
-    };
-    let search = search_all(alloc, &meeting, scripts, limit)?;
-    let outcomes = outcomes_of(alloc, &meeting, scripts, &search)?;
+    let search = search_all(alloc, meeting, limit)?;
+    let outcomes = outcomes_of(alloc, meeting, &search)?;
     Ok(outcomes)
 }

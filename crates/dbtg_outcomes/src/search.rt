@@ -174,8 +174,9 @@ pub struct Search {
 }
 
 impl Search {
-    /// Before the first statement there is one state.
+    /// Behind the script that is made first there is one state.
     pub fn begin(alloc: Global, meeting: &Meeting, limit: usize) -> Result<Search, Stop>
+        requires meeting { IsMeeting meeting.now }
         ensures at { IfOk result (IsAt meeting.now 0) }
         ensures limit { IfOk result (λ search. search.limit ≡ limit) }
         ensures stopped { IfErr result (λ stop. stop ≡ States → limit < states_within meeting.now 0) }
@@ -184,16 +185,18 @@ impl Search {
         if limit == 0 {
             return Err(Stop::States);
         }
+        let mut notes = Vec::new(alloc);
+        let history = meeting.first_run(alloc, &mut notes)?.into_history();
         let mut layer = Vec::new(alloc);
         layer.push(Group {
-            history: Row::of(Vec::new(alloc)),
+            history,
             orders: Some(1),
         })?;
         Ok(Search {
             layer,
             states: 1,
             limit,
-            notes: Vec::new(alloc),
+            notes,
         })
     }
 

@@ -10,7 +10,8 @@ mod turns;
 
 pub use first::refusals_of_first;
 pub use ordering::{
-    AllMoves, moves_behind_first, moves_of_turns, serial_turns, turns_behind_first, units_in_turn,
+    AllMoves, behind, first_turns, moves_behind_first, moves_of_turns, serial_turns,
+    turns_behind_first, units_in_turn,
 };
 pub use scripts::{Scripts, read_scripts, read_scripts_with_texts};
 pub use turns::moves_for_turns;

@@ -55,8 +55,8 @@ pub fn units_in_turn(alloc: Global, history: &[Entry]) -> Result<Vec<u8>, AllocE
     history.iter().map(|entry| entry.unit).collect(alloc)
 }
 
-// The turns that make the last script, if it is to be made first.
-fn first_turns(
+/// The turns that make the last script, if it is to be made first.
+pub fn first_turns(
     alloc: Global,
     first: bool,
     scripts: &[Row<Statement>],

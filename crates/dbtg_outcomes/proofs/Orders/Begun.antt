@@ -1,6 +1,6 @@
 -- Orders that are begun: their first statements, and what is left.
 -- o, p are orders, s a statement with its unit, u, v are units, x is a statement, n how many statements are made, k how many are left.
-use Rattle.std.proofs.Common.{◌≡◌, refl, sym, ◌∙◌, ap, subst, ℕ, zero, suc, ◌+◌, ◌-◌, ◌<◌, ◌≤◌, Bool, true, false, List, [], ◌∷◌, ◌++◌, length, Option, Some, None, inl, inr, arith, append_assoc, append-nil}
+use Rattle.std.proofs.Common.{◌≡◌, refl, sym, ◌∙◌, ap, subst, ℕ, zero, suc, ◌+◌, ◌-◌, ◌<◌, ◌≤◌, Bool, true, false, List, [], ◌∷◌, ◌++◌, length, Option, Some, None, inl, inr, ◌⊎◌, arith, append_assoc, append-nil}
 use Rattle.std.specs.Prelude.{◌==◌, filter, flat_map, option_and_then, option_map, option_to_list, slice_get, if◌then◌else◌}
 use Rattle.std.specs.List.{range_with_len}
 use Rattle.std.proofs.lemmas.Bool.{cases_lt, eq-eqb, ne_eqb}
@@ -139,9 +139,9 @@ module _ (scripts : List (List Statement)) where
   abbrev pub ext : List (ℕ × Statement) → List (List (ℕ × Statement))
   ext o = extended scripts o (range_with_len 1 (length scripts))
 
-  -- the first n statements of all orders
-  abbrev pub begun : ℕ → List (List (ℕ × Statement))
-  begun n = completed scripts n []
+  -- all orders that begin so, up to n statements more
+  abbrev pub begun : List (ℕ × Statement) → ℕ → List (List (ℕ × Statement))
+  begun first n = completed scripts n first
 
   -- s is a unit's next statement
   pub record IsNext (o : List (ℕ × Statement)) (s : ℕ × Statement) : Type 0 where
@@ -202,39 +202,39 @@ module _ (scripts : List (List Statement)) where
         },
       )
 
-  none_begun : (o : List (ℕ × Statement)) → In o (completed scripts zero []) → left 1 scripts o + 0 ≡ count_statements scripts
+  none_begun : (first o : List (ℕ × Statement)) → In o (completed scripts zero first) → left 1 scripts o + 0 ≡ left 1 scripts first
   unfolding completed
-  none_begun o (inl e) = let all = left_nil 1 scripts in let is : left 1 scripts o ≡ left 1 scripts [] = ap (left 1 scripts) (sym e) in omega arith
-  none_begun o (inr e) = absurd e
+  none_begun first o (inl e) = let is : left 1 scripts o ≡ left 1 scripts first = ap (left 1 scripts) (sym e) in omega arith
+  none_begun first o (inr e) = absurd e
 
-  pub begun_left : (n : ℕ) (o : List (ℕ × Statement)) → In o (begun n) → left 1 scripts o + n ≡ count_statements scripts
-  begun_left zero o i = none_begun o i
-  begun_left (suc n) o i =
-      let at = of_flat_map ext o (begun n) (subst (λ (l : List (List (ℕ × Statement))). In o l) (completed_last n []) i) in
-      let before = begun_left n at.0 at.1 in
+  pub begun_left : (first : List (ℕ × Statement)) (n : ℕ) (o : List (ℕ × Statement)) → In o (begun first n) → left 1 scripts o + n ≡ left 1 scripts first
+  begun_left first zero o i = none_begun first o i
+  begun_left first (suc n) o i =
+      let at = of_flat_map ext o (begun first n) (subst (λ (l : List (List (ℕ × Statement))). In o l) (completed_last n first) i) in
+      let before = begun_left first n at.0 at.1 in
       let last = of_ext at.0 o at.2 in
       let more = next_left at.0 last.0.0 last.0.1 last.1.next in
       let is : left 1 scripts (at.0 ++ last.0 ∷ []) ≡ left 1 scripts o = ap (left 1 scripts) last.2 in
       omega arith
 
-  pub begun_more : (n : ℕ) (o : List (ℕ × Statement)) (s : ℕ × Statement) → In o (begun n) → IsNext o s → In (o ++ s ∷ []) (begun (suc n))
-  begun_more n o s i h = subst (λ (l : List (List (ℕ × Statement))). In (o ++ s ∷ []) l) (sym (completed_last n [])) (in_flat_map ext o (o ++ s ∷ []) (begun n) i (in_ext o s h))
+  pub begun_more : (first : List (ℕ × Statement)) (n : ℕ) (o : List (ℕ × Statement)) (s : ℕ × Statement) → In o (begun first n) → IsNext o s → In (o ++ s ∷ []) (begun first (suc n))
+  begun_more first n o s i h = subst (λ (l : List (List (ℕ × Statement))). In (o ++ s ∷ []) l) (sym (completed_last n first)) (in_flat_map ext o (o ++ s ∷ []) (begun first n) i (in_ext o s h))
 
   -- an order that is begun goes on to the end of all scripts
-  pub record IsCompleted (o : List (ℕ × Statement)) (n : ℕ) : Type 0 where
+  pub record IsCompleted (first o : List (ℕ × Statement)) (n : ℕ) : Type 0 where
     pub rest : List (ℕ × Statement)
-    pub begun_with : In (o ++ rest) (completed scripts n [])
+    pub begun_with : In (o ++ rest) (completed scripts n first)
 
-  pub completes : (k n : ℕ) (o : List (ℕ × Statement)) → left 1 scripts o ≡ k → In o (begun n) → IsCompleted o (k + n)
-  completes zero n o e i =
+  pub completes : (first : List (ℕ × Statement)) (k n : ℕ) (o : List (ℕ × Statement)) → left 1 scripts o ≡ k → In o (begun first n) → IsCompleted first o (k + n)
+  completes first zero n o e i =
       let count : n ≡ 0 + n = omega arith in
-      record { rest = []; begun_with = subst (λ (c : ℕ). In (o ++ []) (completed scripts c [])) count (subst (λ (p : List (ℕ × Statement)). In p (completed scripts n [])) (sym (append-nil o)) i) }
-  completes (suc k) n o e i =
+      record { rest = []; begun_with = subst (λ (c : ℕ). In (o ++ []) (completed scripts c first)) count (subst (λ (p : List (ℕ × Statement)). In p (completed scripts n first)) (sym (append-nil o)) i) }
+  completes first (suc k) n o e i =
       let next = next_some o k e in
       let more = next_left o next.0.0 next.0.1 next.1.next in
-      let further = completes k (suc n) (o ++ next.0 ∷ []) (omega arith) (begun_more n o next.0 i next.1) in
+      let further = completes first k (suc n) (o ++ next.0 ∷ []) (omega arith) (begun_more first n o next.0 i next.1) in
       let count : k + suc n ≡ suc k + n = omega arith in
-      record { rest = next.0 ∷ further.rest; begun_with = subst (λ (c : ℕ). In (o ++ next.0 ∷ further.rest) (completed scripts c [])) count (subst (λ (p : List (ℕ × Statement)). In p (completed scripts (k + suc n) [])) (append_assoc o (next.0 ∷ []) further.rest) further.begun_with) }
+      record { rest = next.0 ∷ further.rest; begun_with = subst (λ (c : ℕ). In (o ++ next.0 ∷ further.rest) (completed scripts c first)) count (subst (λ (p : List (ℕ × Statement)). In p (completed scripts (k + suc n) first)) (append_assoc o (next.0 ∷ []) further.rest) further.begun_with) }
 
   pub completed_begins : (k : ℕ) (o e : List (ℕ × Statement)) → In e (completed scripts k o) → (r : List (ℕ × Statement)) × (o ++ r ≡ e)
   unfolding completed
@@ -250,6 +250,18 @@ module _ (scripts : List (List Statement)) where
   pub record IsAmid (o p : List (ℕ × Statement)) (s : ℕ × Statement) : Type 0 where
     pub before : In (o ++ p) (completed scripts (length p) o)
     pub next : IsNext (o ++ p) s
+
+  -- in an order that begins so, a statement stands among the first ones or behind them
+  pub front_or_amid : (first r before rest : List (ℕ × Statement)) (s : ℕ × Statement) → first ++ r ≡ before ++ s ∷ rest → ((q : List (ℕ × Statement)) × (first ≡ before ++ s ∷ q)) ⊎ ((p : List (ℕ × Statement)) × (first ++ p ≡ before))
+  front_or_amid [] r before rest s e = inr (before, refl)
+  front_or_amid (t ∷ first) r [] rest s e = let same : t ≡ s = cc in inl (first, ap (λ (u : ℕ × Statement). u ∷ first) same)
+  front_or_amid (t ∷ first) r (b ∷ before) rest s e =
+      let same : t ≡ b = cc in
+      let tail : first ++ r ≡ before ++ s ∷ rest = cc in
+      elim (front_or_amid first r before rest s tail) [
+        | inl h ↦ inl (h.0, λ i. same i ∷ h.1 i)
+        | inr h ↦ inr (h.0, λ i. same i ∷ h.1 i)
+      ]
 
   longer : (o : List (ℕ × Statement)) (t : ℕ × Statement) (r : List (ℕ × Statement)) → o ≡ o ++ (t ∷ r) → ⊥
   longer [] t r e = cc

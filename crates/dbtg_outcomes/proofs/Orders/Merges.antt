@@ -9,11 +9,11 @@ use Rattle.std.proofs.lemmas.List.Concat.{flat_map-append}
 use Rattle.dbtg_unit.specs.declared.statement.Statement.{Statement}
 use Rattle.dbtg_unit.proofs.Public.{In, of_append, of_flat_map, of_range}
 use Rattle.dbtg_step.specs.Machine.SequentialDatabase.{unit_at}
-use Rattle.dbtg_outcomes.specs.Laws.{AreAllMerges, AreInOrder, IsBefore, IsMerge, turns}
-use Rattle.dbtg_outcomes.specs.Orders.{completed, count_statements, extended, extended_by, made, next_of, orders}
+use Rattle.dbtg_outcomes.specs.Laws.{AreAllMerges, AreInOrder, BeginsWith, IsBefore, IsMerge, turns}
+use Rattle.dbtg_outcomes.specs.Orders.{completed, count_statements, extended, extended_by, made, made_first, next_of, orders, others}
 use Rattle.dbtg_outcomes.proofs.Orders.Begun.{IsNext, all_made, begun, begun_left, by_next, completed_begins, completed_last, ext, left, of_ext}
 use Rattle.dbtg_outcomes.proofs.Lists.Members.{contains_in, in_contains}
-use Rattle.dbtg_outcomes.proofs.Orders.Mixed.{Begins, mixed_is_order, own, own_append, own_first}
+use Rattle.dbtg_outcomes.proofs.Orders.Mixed.{Begins, first_begins, first_left, mixed_is_order, own, own_append, own_first}
 
 -- LISTS
 
@@ -66,21 +66,22 @@ module _ (scripts : List (List Statement)) where
         let last : own u (p ++ s ∷ []) ≡ own u p ++ s.1 ∷ [] = own_append u p (s ∷ []) ∙ ap (λ (l : List Statement). own u p ++ l) (ap (λ v. own v (s ∷ [])) (sym e) ∙ own_first s []) in
         (rest.0, ap (λ (l : List Statement). l ++ rest.0) last ∙ append_assoc (own u p) (s.1 ∷ []) rest.0 ∙ ap (λ (l : List Statement). own u p ++ l) (sym rest.1) ∙ before.1)
 
-  begun_begins : (n : ℕ) (o : List (ℕ × Statement)) → In o (begun scripts n) → Begins scripts o
+  begun_begins : (first : List (ℕ × Statement)) → Begins scripts first → (n : ℕ) (o : List (ℕ × Statement)) → In o (begun scripts first n) → Begins scripts o
   unfolding completed
-  begun_begins zero o (inl e) = subst (λ (q : List (ℕ × Statement)). Begins scripts q) e (record { of_units = λ s i. absurd i; of_scripts = λ u script at. (script, refl) })
-  begun_begins zero o (inr e) = absurd e
-  begun_begins (suc n) o i =
-      let at = of_flat_map (ext scripts) o (begun scripts n) (subst (λ (l : List (List (ℕ × Statement))). In o l) (completed_last scripts n []) i) in
+  begun_begins first h zero o (inl e) = subst (λ (q : List (ℕ × Statement)). Begins scripts q) e h
+  begun_begins first h zero o (inr e) = absurd e
+  begun_begins first h (suc n) o i =
+      let at = of_flat_map (ext scripts) o (begun scripts first n) (subst (λ (l : List (List (ℕ × Statement))). In o l) (completed_last scripts n first) i) in
       let last = of_ext scripts at.0 o at.2 in
-      subst (λ (q : List (ℕ × Statement)). Begins scripts q) last.2 (begins_more at.0 last.0 (begun_begins n at.0 at.1) last.1)
+      subst (λ (q : List (ℕ × Statement)). Begins scripts q) last.2 (begins_more at.0 last.0 (begun_begins first h n at.0 at.1) last.1)
 
   -- an order has all of each script
-  whole_script : (o : List (ℕ × Statement)) → In o (orders scripts) → (u : ℕ) (script : List Statement) → unit_at scripts u ≡ Some script → length script ≤ made u o
+  whole_script : (first : Bool) (o : List (ℕ × Statement)) → In o (orders first scripts) → (u : ℕ) (script : List Statement) → unit_at scripts u ≡ Some script → length script ≤ made u o
   unfolding unit_at
-  whole_script o i zero script at = absurd (cc)
-  whole_script o i (suc j) script at =
-      let sum = begun_left scripts (count_statements scripts) o i in
+  whole_script first o i zero script at = absurd (cc)
+  whole_script first o i (suc j) script at =
+      let sum = begun_left scripts (made_first first scripts) (count_statements (others first scripts)) o i in
+      let behind = first_left scripts first in
       let none : left 1 scripts o ≡ 0 = omega arith in
       let u : made (1 + j) o ≡ made (suc j) o = ap (λ v. made v o) (omega arith) in
       let all = all_made j 1 scripts o script none at in
@@ -90,21 +91,21 @@ module _ (scripts : List (List Statement)) where
   nothing_more xs [] script e most = sym (append-nil xs) ∙ e
   nothing_more xs (y ∷ rest) script e most = let long = ap (λ (l : List Statement). length l) e in absurd (omega (arith, length-append xs (y ∷ rest)))
 
-  is_merge : (o : List (ℕ × Statement)) → In o (orders scripts) → IsMerge scripts o
-  is_merge o i =
-      let begins = begun_begins (count_statements scripts) o i in
+  is_merge : (first : Bool) (o : List (ℕ × Statement)) → In o (orders first scripts) → IsMerge scripts o
+  is_merge first o i =
+      let begins = begun_begins (made_first first scripts) (first_begins scripts first) (count_statements (others first scripts)) o i in
       record {
         of_units = λ s c. begins.of_units s (contains_in o s c);
         of_scripts = λ u script at.
             let rest = begins.of_scripts u script at in
-            let most = whole_script o i u script at in
+            let most = whole_script first o i u script at in
             let count : made u o ≡ length (own u o) = sym (length-map (filter (λ (t : ℕ × Statement). t.0 == u) o) (λ (t : ℕ × Statement). t.1)) in
             nothing_more (own u o) rest.0 script rest.1 (omega arith);
       }
 
-  of_merge : (o : List (ℕ × Statement)) → IsMerge scripts o → In o (orders scripts)
-  of_merge o h =
-      mixed_is_order scripts o (record { of_units = λ s i. h.of_units s (in_contains o s i); of_scripts = λ u script at. ([], append-nil (own u o) ∙ h.of_scripts u script at) })
+  of_merge : (first : Bool) (o : List (ℕ × Statement)) → IsMerge scripts o → BeginsWith (made_first first scripts) o → In o (orders first scripts)
+  of_merge first o h front =
+      mixed_is_order scripts first o front.0 front.1 (record { of_units = λ s i. h.of_units s (in_contains o s i); of_scripts = λ u script at. ([], append-nil (own u o) ∙ h.of_scripts u script at) })
       (λ u script at. sym (length-map (filter (λ (t : ℕ × Statement). t.0 == u) o) (λ (t : ℕ × Statement). t.1)) ∙ ap (λ (l : List Statement). length l) (h.of_scripts u script at))
 
   -- AS A DICTIONARY HAS THEM
@@ -166,9 +167,10 @@ module _ (scripts : List (List Statement)) where
   completed_in_order zero o = ((λ p c. absurd (contains_in [] p c)), tt)
   completed_in_order (suc k) o = units_in_order k o (length scripts) 1 (completed_in_order k)
 
-  pub all_merges : AreAllMerges scripts
-  all_merges = record {
-    all = λ o h. in_contains (orders scripts) o (of_merge o h);
-    only = λ o c. is_merge o (contains_in (orders scripts) o c);
-    in_order = completed_in_order (count_statements scripts) [];
+  pub all_merges : (first : Bool) → AreAllMerges first scripts
+  all_merges first = record {
+    all = λ o h front. in_contains (orders first scripts) o (of_merge first o h front);
+    merges = λ o c. is_merge first o (contains_in (orders first scripts) o c);
+    begun = λ o c. completed_begins scripts (count_statements (others first scripts)) (made_first first scripts) o (contains_in (orders first scripts) o c);
+    in_order = completed_in_order (count_statements (others first scripts)) (made_first first scripts);
   }

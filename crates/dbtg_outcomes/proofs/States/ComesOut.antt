@@ -24,8 +24,8 @@ use Rattle.dbtg_step.specs.Machine.Headline.{IsSequential, RunIs, entry_of, mach
 use Rattle.dbtg_step.specs.Laws.{scripts_fit}
 use Rattle.dbtg_step.proofs.Public.{came_from, machine_stays_lawful, network_is_sequential, run_keeps_scripts, scripts_opening, statements_same}
 use Rattle.dbtg_outcomes.specs.Groups.{groups}
-use Rattle.dbtg_outcomes.specs.Laws.{ComesOut, IsAtEnd, answers_of_run, text_of_run}
-use Rattle.dbtg_outcomes.specs.Orders.{orders}
+use Rattle.dbtg_outcomes.specs.Laws.{BeginsWith, ComesOut, IsAtEnd, answers_of_run, text_of_run}
+use Rattle.dbtg_outcomes.specs.Orders.{made_first, orders}
 use Rattle.dbtg_outcomes.specs.Outcomes.{Comes, IsMeeting}
 use Rattle.dbtg_outcomes.specs.Results.{Meeting, answers_told, by_unit, result_text, state_of, units_of}
 use Rattle.dbtg_outcomes.proofs.States.Histories.{made_is, map_units, units_within}
@@ -87,7 +87,7 @@ module _ (schema : Lists) (capacity : ℕ) where
 
 -- RESULTS
 
-module _ (m : Meeting) (run : Run) (sequential : IsSequential m.schema m.capacity m.scripts run.history run.image run.units) (made_all : (u : ℕ) (script : List Statement) → unit_at m.scripts u ≡ Some script → map (λ (e : Entry). e.statement) (entries_of u run.history) ≡ script) where
+module _ (m : Meeting) (run : Run) (sequential : IsSequential m.schema m.capacity m.scripts run.history run.image run.units) (made_all : (u : ℕ) (script : List Statement) → unit_at m.scripts u ≡ Some script → map (λ (e : Entry). e.statement) (entries_of u run.history) ≡ script) (front : BeginsWith (made_first m.first m.scripts) (statements_of run.history)) where
   begins : Begins m.scripts (statements_of run.history)
   begins = record {
     of_units = λ s i.
@@ -102,8 +102,8 @@ module _ (m : Meeting) (run : Run) (sequential : IsSequential m.schema m.capacit
     of_scripts = λ u script e. ([], append-nil (own u (statements_of run.history)) ∙ own_is u run.history ∙ made_all u script e);
   }
 
-  order : In (statements_of run.history) (orders m.scripts)
-  order = mixed_is_order m.scripts (statements_of run.history) begins (λ u script e.
+  order : In (statements_of run.history) (orders m.first m.scripts)
+  order = mixed_is_order m.scripts m.first (statements_of run.history) front.0 front.1 begins (λ u script e.
       sym (made_is u run.history) ∙ sym (length-map (entries_of u run.history) (λ (e : Entry). e.statement)) ∙ ap (λ (l : List Statement). length l) (made_all u script e))
 
   text : text_of_run m run ≡ result_text m (statements_of run.history)
@@ -122,23 +122,23 @@ module _ (m : Meeting) (run : Run) (sequential : IsSequential m.schema m.capacit
         before = statements_of before;
         statement = e.statement;
         rest = statements_of rest;
-        is_order = in_contains (orders m.scripts) _ (subst (λ (o : List (ℕ × Statement)). In o (orders m.scripts)) split order);
+        is_order = in_contains (orders m.first m.scripts) _ (subst (λ (o : List (ℕ × Statement)). In o (orders m.first m.scripts)) split order);
         place_is = sym (made_is e.unit before);
         status = record { outcome = has.outcome; outcome_is = has.outcome_is; code_is = ap (λ (a : Answer). status_code e.statement a.status) (sym has.answer_is) };
       }
 
   pub comes_out : ComesOut m run
   comes_out =
-      let has = has_group (result_text m) (orders m.scripts) (statements_of run.history) order in
+      let has = has_group (result_text m) (orders m.first m.scripts) (statements_of run.history) order in
       record {
-        is_order = in_contains (orders m.scripts) (statements_of run.history) order;
+        is_order = in_contains (orders m.first m.scripts) (statements_of run.history) order;
         result = has.group;
-        is_result = in_contains (groups (result_text m) (orders m.scripts)) has.group has.is_in;
+        is_result = in_contains (groups (result_text m) (orders m.first m.scripts)) has.group has.is_in;
         text_is = text ∙ sym has.key_is;
         statuses = status_comes;
       }
 
-pub every_run : (m : Meeting) → IsMeeting m → (moves : List Move) (run : Run) → IsAtEnd m.schema m.capacity (machine_after m.schema m.capacity m.scripts moves) → RunIs m.schema m.capacity m.scripts moves run → ComesOut m run
-every_run m meets moves run end is =
+pub every_run : (m : Meeting) → IsMeeting m → (moves : List Move) (run : Run) → IsAtEnd m.schema m.capacity (machine_after m.schema m.capacity m.scripts moves) → RunIs m.schema m.capacity m.scripts moves run → BeginsWith (made_first m.first m.scripts) (statements_of run.history) → ComesOut m run
+every_run m meets moves run end is front =
     comes_out m run is.sequential (λ u script e.
-    ap (λ (es : List Entry). map (λ (f : Entry). f.statement) (entries_of u es)) is.history_is ∙ all_made m.schema m.capacity m.scripts meets.sound meets.fit moves end u script e)
+    ap (λ (es : List Entry). map (λ (f : Entry). f.statement) (entries_of u es)) is.history_is ∙ all_made m.schema m.capacity m.scripts meets.sound meets.fit moves end u script e) front

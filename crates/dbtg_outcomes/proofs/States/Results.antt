@@ -16,7 +16,7 @@ use Rattle.dbtg_outcomes.specs.Inside.Gathered.{gathered}
 use Rattle.dbtg_outcomes.specs.Inside.Given.{all_orders, one_result}
 use Rattle.dbtg_outcomes.specs.Inside.Grouped.{IsAdded, sum_of}
 use Rattle.dbtg_outcomes.specs.Groups.{groups}
-use Rattle.dbtg_outcomes.specs.Orders.{count_statements, orders}
+use Rattle.dbtg_outcomes.specs.Orders.{count_statements, orders, others}
 use Rattle.dbtg_outcomes.specs.Outcomes.{AreOutcomes, IsMeeting, result_of}
 use Rattle.dbtg_outcomes.specs.Inside.Outcomes.{IsRunOf}
 use Rattle.dbtg_outcomes.specs.Results.{Meeting, result_text}
@@ -94,16 +94,16 @@ module _ (m : Meeting) where
       orders_given gs ws (sum_of n g.orders) (k + w.1) h.1 (sum_counted n g.orders k w.1 e h.0.orders_are) ∙ ap counted both
 
   -- of a search that has made all statements
-  pub are_outcomes : IsMeeting m → (s : Search) (seen last : List Group) (notes : List Note) (all : given.Outcomes) → IsAt m (count_statements m.scripts) s → seen ≡ s.layer.items → notes ≡ s.notes.items → AreByResult m seen last → all.orders ≡ all_orders (Some 0) last → all.results.items ≡ map one_result last → AreAllAnswered notes m.scripts all.answered.items → AreOutcomes m all
+  pub are_outcomes : IsMeeting m → (s : Search) (seen last : List Group) (notes : List Note) (all : given.Outcomes) → IsAt m (count_statements (others m.first m.scripts)) s → seen ≡ s.layer.items → notes ≡ s.notes.items → AreByResult m seen last → all.orders ≡ all_orders (Some 0) last → all.results.items ≡ map one_result last → AreAllAnswered notes m.scripts all.answered.items → AreOutcomes m all
   are_outcomes meets s seen last notes all at same noted by number results answers =
-      let of : gathered (result_text m) [] (layer m (count_statements m.scripts)) ≡ groups (result_text m) (orders m.scripts) = gathered_is (result_text m) (layer m (count_statements m.scripts)) ∙ layer_last m meets.sound meets.fit (count_statements m.scripts) in
-      let first : AreHeld m seen (layer m (count_statements m.scripts)) = subst (λ (gs : List Group). AreHeld m gs (layer m (count_statements m.scripts))) (sym same) at.held in
-      let held : AreHeld m last (groups (result_text m) (orders m.scripts)) = subst (λ (ws : List (List (ℕ × Statement) × ℕ)). AreHeld m last ws) of (by.held (layer m (count_statements m.scripts)) first) in
-      let weighs : total (groups (result_text m) (orders m.scripts)) ≡ length (orders m.scripts) = total_groups (result_text m) (orders m.scripts) in
-      let sum : 0 + total (groups (result_text m) (orders m.scripts)) ≡ length (orders m.scripts) = omega arith in
+      let of : gathered (result_text m) [] (layer m (count_statements (others m.first m.scripts))) ≡ groups (result_text m) (orders m.first m.scripts) = gathered_is (result_text m) (layer m (count_statements (others m.first m.scripts))) ∙ layer_last m meets.sound meets.fit (count_statements (others m.first m.scripts)) in
+      let first : AreHeld m seen (layer m (count_statements (others m.first m.scripts))) = subst (λ (gs : List Group). AreHeld m gs (layer m (count_statements (others m.first m.scripts)))) (sym same) at.held in
+      let held : AreHeld m last (groups (result_text m) (orders m.first m.scripts)) = subst (λ (ws : List (List (ℕ × Statement) × ℕ)). AreHeld m last ws) of (by.held (layer m (count_statements (others m.first m.scripts))) first) in
+      let weighs : total (groups (result_text m) (orders m.first m.scripts)) ≡ length (orders m.first m.scripts) = total_groups (result_text m) (orders m.first m.scripts) in
+      let sum : 0 + total (groups (result_text m) (orders m.first m.scripts)) ≡ length (orders m.first m.scripts) = omega arith in
       record {
-        orders_are = number ∙ orders_given last (groups (result_text m) (orders m.scripts)) (Some 0) 0 held refl ∙ ap counted sum;
-        results_are = results ∙ results_given last (groups (result_text m) (orders m.scripts)) held;
+        orders_are = number ∙ orders_given last (groups (result_text m) (orders m.first m.scripts)) (Some 0) 0 held refl ∙ ap counted sum;
+        results_are = results ∙ results_given last (groups (result_text m) (orders m.first m.scripts)) held;
         places_are = answers.places_are;
         statuses_are = λ a c. all_statuses m s at a (subst (λ (ns : List Note). AreOfNotes ns a.unit (a.place - 1) a.statuses.items) noted (answers.each a c));
       }

@@ -13,7 +13,7 @@ use Rattle.dbtg_unit.proofs.Public.{opening_length, statements_determine}
 use Rattle.dbtg_step.specs.declared.results.Run.{Run}
 use Rattle.dbtg_step.specs.Core.Whole.{HasMade, IsMadeRun, Making, state_now}
 use Rattle.dbtg_outcomes.specs.Outcomes.{HasStatus}
-use Rattle.dbtg_outcomes.specs.Inside.Outcomes.{IsRunOf}
+use Rattle.dbtg_outcomes.specs.Inside.Outcomes.{IsMaking, IsRunOf}
 use Rattle.dbtg_outcomes.specs.Results.{Meeting, state_of}
 use Rattle.dbtg_outcomes.proofs.States.Histories.{as_many}
 
@@ -22,18 +22,13 @@ pub four_behind : {X : Type 0} (k a b c d l1 l2 l3 l4 : List X) → k ≡ [] →
 four_behind k a b c d l1 l2 l3 l4 z e f g h = h ∙ ap (λ l. l ++ d) (g ∙ ap (λ l. l ++ c) (f ∙ ap (λ l. l ++ b) (e ∙ ap (λ l. l ++ a) z))) ∙ simp append_assoc
 
 module _ (m : Meeting) where
-  -- a database of this meeting, after these statements
-  pub record IsMaking (o : List (ℕ × Statement)) (making : Making) : Type 0 where
-    pub same : making ≡ record { schema = m.schema; capacity = m.capacity; units = length m.scripts; history = making.history }
-    pub made : statements_of making.history ≡ o
-
-  run_state_is : (o : List (ℕ × Statement)) (making : Making) → IsMaking o making → state_now making ≡ state_of m o
+  run_state_is : (o : List (ℕ × Statement)) (making : Making) → IsMaking m o making → state_now making ≡ state_of m o
   run_state_is o making h =
       ap state_now h.same
       ∙ (statements_determine m.schema m.capacity (opening_state m.schema (length m.scripts)) making.history).state_is
       ∙ ap (state_of m) h.made
 
-  pub run_of : (o : List (ℕ × Statement)) (making : Making) (run : Run) → IsMaking o making → IsMadeRun making run → IsRunOf m o run
+  pub run_of : (o : List (ℕ × Statement)) (making : Making) (run : Run) → IsMaking m o making → IsMadeRun making run → IsRunOf m o run
   run_of o making run h r =
       let own : IsMadeRun (record { schema = m.schema; capacity = m.capacity; units = length m.scripts; history = making.history }) run = subst (λ (k : Making). IsMadeRun k run) h.same r in
       let state : replay m.schema m.capacity (opening_state m.schema (length m.scripts)) making.history ≡ state_of m o = (statements_determine m.schema m.capacity (opening_state m.schema (length m.scripts)) making.history).state_is ∙ ap (state_of m) h.made in
@@ -44,7 +39,7 @@ module _ (m : Meeting) where
         units_are = own.units_are ∙ ap (λ (s : State). s.units) state;
       }
 
-  pub made_more : (o : List (ℕ × Statement)) (u : ℕ) (x : Statement) (old new : Making) → IsMaking o old → HasMade old u x new → IsMaking (o ++ (u, x) ∷ []) new
+  pub made_more : (o : List (ℕ × Statement)) (u : ℕ) (x : Statement) (old new : Making) → IsMaking m o old → HasMade old u x new → IsMaking m (o ++ (u, x) ∷ []) new
   made_more o u x old new h g =
       let entry : Entry = record { ticket = length old.history; unit = u; statement = x; answer = g.outcome.answer } in
       let history : new.history ≡ old.history ++ entry ∷ [] = ap (λ (k : Making). k.history) g.new_is in
@@ -53,7 +48,7 @@ module _ (m : Meeting) where
         made = ap statements_of history ∙ map-append {B = ℕ × Statement} (λ (e : Entry). (e.unit, e.statement)) old.history (entry ∷ []) ∙ ap (λ l. l ++ (u, x) ∷ []) h.made;
       }
 
-  pub status_of : (o : List (ℕ × Statement)) (u : ℕ) (x : Statement) (old new : Making) (entry : Entry) → IsMaking o old → HasMade old u x new → entry ≡ get_or new.history (length old.history) entry → HasStatus m o u x (status_code entry.statement entry.answer.status)
+  pub status_of : (o : List (ℕ × Statement)) (u : ℕ) (x : Statement) (old new : Making) (entry : Entry) → IsMaking m o old → HasMade old u x new → entry ≡ get_or new.history (length old.history) entry → HasStatus m o u x (status_code entry.statement entry.answer.status)
   status_of o u x old new entry h g e =
       let last : Entry = record { ticket = length old.history; unit = u; statement = x; answer = g.outcome.answer } in
       let is : entry ≡ last = e ∙ ap (λ (k : Making). get_or k.history (length old.history) entry) g.new_is ∙ get_or-append_seam old.history last [] entry in

@@ -10,7 +10,8 @@ use Rattle.std.proofs.lemmas.Bool.{cases_lt}
 use Rattle.dbtg_unit.specs.declared.statement.Statement.{Statement}
 use Rattle.dbtg_unit.specs.Database.Statements.Codes.{status_code}
 use Rattle.dbtg_unit.specs.Database.Statements.Effect.{Outcome}
-use Rattle.dbtg_unit.specs.Database.Laws.Replay.{AnswersHold, State, outcome_of}
+use Rattle.dbtg_unit.specs.declared.unit.Entry.{Entry}
+use Rattle.dbtg_unit.specs.Database.Laws.Replay.{IsHistoryOf, State, outcome_of}
 use Rattle.dbtg_unit.specs.Database.Laws.Replaying.{statements_of}
 use Rattle.dbtg_unit.proofs.Public.{In, in_flat_map, in_map, of_flat_map, of_map}
 use Rattle.dbtg_step.specs.Machine.SequentialDatabase.{unit_at}
@@ -18,14 +19,15 @@ use Rattle.dbtg_outcomes.specs.declared.groups.Group.{Group}
 use Rattle.dbtg_outcomes.specs.declared.notes.Note.{Note}
 use Rattle.dbtg_outcomes.specs.declared.search.Search as given
 use Rattle.dbtg_outcomes.specs.Inside.Gathered.{gathered}
-use Rattle.dbtg_outcomes.specs.Orders.{completed, count_statements, made, next_of, orders}
+use Rattle.dbtg_outcomes.specs.Orders.{completed, count_statements, made, made_first, next_of, orders, orders_after, others}
 use Rattle.dbtg_outcomes.specs.Outcomes.{AreStatuses, Comes, IsMeeting, count_states, states_within}
 use Rattle.dbtg_outcomes.specs.Results.{Meeting, state_key, units_of}
-use Rattle.dbtg_outcomes.specs.Inside.Search.{AreHeld, HasNote, IsAt, IsHeld, IsNextNote, IsNote, layer}
+use Rattle.dbtg_outcomes.specs.Inside.Search.{AreHeld, AreNotedOf, HasNote, IsAt, IsHeld, IsNextNote, IsNote, IsNoteIn, layer}
 use Rattle.dbtg_outcomes.specs.Inside.Steps.{Advances, ExtendsAll, HasHistory, IsOver, IsUnderWay, LeadToMore, next_orders, nexts, with_each}
 use Rattle.dbtg_outcomes.specs.declared.answered.Answered.{Answered}
 use Rattle.dbtg_outcomes.specs.Inside.Statuses.{AreOfNotes}
-use Rattle.dbtg_outcomes.proofs.Orders.Begun.{IsNext, amid, begun_left, begun_more, completes, next_left}
+use Rattle.dbtg_outcomes.proofs.Orders.Begun.{IsNext, amid, begun_left, begun_more, completed_begins, completes, front_or_amid, left, next_left}
+use Rattle.dbtg_outcomes.proofs.Orders.Mixed.{first_left, nothing_begun}
 use Rattle.dbtg_outcomes.proofs.Lists.Gathered.{gathered_is}
 use Rattle.dbtg_outcomes.proofs.States.Layers.{stand_alone, stand_length}
 use Rattle.dbtg_outcomes.proofs.Lists.Members.{contains_in, in_contains}
@@ -98,19 +100,20 @@ module _ (m : Meeting) where
   next_moves o p u same i = ap (λ k. option_and_then (λ (script : List Statement). slice_get script k) (unit_at m.scripts u)) (same.made_same u i)
 
   -- what is noted of an order that is begun comes
-  pub noted_comes : (n : ℕ) (o : List (ℕ × Statement)) (u : ℕ) (x : Statement) (note : Note) → In o (completed m.scripts n []) → In u (units_of m) → next_of m.scripts o u ≡ Some x → IsNote m o u x note → Comes m note.unit note.place note.status
+  pub noted_comes : (n : ℕ) (o : List (ℕ × Statement)) (u : ℕ) (x : Statement) (note : Note) → In o (orders_after m.first m.scripts n) → In u (units_of m) → next_of m.scripts o u ≡ Some x → IsNote m o u x note → Comes m note.unit note.place note.status
   noted_comes n o u x note i j e h =
       let next : IsNext m.scripts o (u, x) = record { unit = j; next = e } in
-      let more = begun_more m.scripts n o (u, x) i next in
-      let left_is = begun_left m.scripts (suc n) (o ++ (u, x) ∷ []) more in
-      let whole = completes m.scripts _ (suc n) (o ++ (u, x) ∷ []) refl more in
-      let is : In ((o ++ (u, x) ∷ []) ++ whole.rest) (orders m.scripts) = subst (λ (c : ℕ). In ((o ++ (u, x) ∷ []) ++ whole.rest) (completed m.scripts c [])) left_is whole.begun_with in
-      let order : In (o ++ (u, x) ∷ whole.rest) (orders m.scripts) = subst (λ (l : List (ℕ × Statement)). In l (orders m.scripts)) (append_assoc o ((u, x) ∷ []) whole.rest) is in
+      let front = made_first m.first m.scripts in
+      let more = begun_more m.scripts front n o (u, x) i next in
+      let left_is = begun_left m.scripts front (suc n) (o ++ (u, x) ∷ []) more ∙ first_left m.scripts m.first in
+      let whole = completes m.scripts front _ (suc n) (o ++ (u, x) ∷ []) refl more in
+      let is : In ((o ++ (u, x) ∷ []) ++ whole.rest) (orders m.first m.scripts) = subst (λ (c : ℕ). In ((o ++ (u, x) ∷ []) ++ whole.rest) (completed m.scripts c front)) left_is whole.begun_with in
+      let order : In (o ++ (u, x) ∷ whole.rest) (orders m.first m.scripts) = subst (λ (l : List (ℕ × Statement)). In l (orders m.first m.scripts)) (append_assoc o ((u, x) ∷ []) whole.rest) is in
       subst (λ (v : ℕ). Comes m v note.place note.status) (sym h.unit_is) (record {
         before = o;
         statement = x;
         rest = whole.rest;
-        is_order = in_contains (orders m.scripts) (o ++ (u, x) ∷ whole.rest) order;
+        is_order = in_contains (orders m.first m.scripts) (o ++ (u, x) ∷ whole.rest) order;
         place_is = sym h.place_is;
         status = h.status;
       })
@@ -121,20 +124,38 @@ module _ (m : Meeting) where
   unfolding completed
   first_states = refl
 
-  first_weight : (k : List ℕ) → length {A = List (ℕ × Statement)} (if bytes_eq k k then [] ∷ [] else []) ≡ 1
-  first_weight k = rw ((bytes_eq-Decides k k).1 refl) refl
+  first_weight : (k : List ℕ) (o : List (ℕ × Statement)) → length {A = List (ℕ × Statement)} (if bytes_eq k k then o ∷ [] else []) ≡ 1
+  first_weight k o = rw ((bytes_eq-Decides k k).1 refl) refl
 
-  first_held : AreHeld m (record { history = []; orders = Some 1 } ∷ []) (layer m 0)
-  unfolding completed AnswersHold
-  first_held = (record { order_is = refl; history_of = record { tickets = refl; fitting = refl; answers_hold = tt }; orders_are = ap counted (sym (first_weight (state_key m []))) }, tt)
+  first_held : (es : List Entry) → statements_of es ≡ made_first m.first m.scripts → IsHistoryOf m.schema m.capacity (length m.scripts) es → AreHeld m (record { history = es; orders = Some 1 } ∷ []) (layer m 0)
+  unfolding completed
+  first_held es e h = (record { order_is = e; history_of = h; orders_are = ap counted (sym (first_weight (state_key m (made_first m.first m.scripts)) (made_first m.first m.scripts))) }, tt)
 
-  pub at_first : (s : given.Search) → s.layer.items ≡ record { history = []; orders = Some 1 } ∷ [] → s.states ≡ 1 → 0 < s.limit → s.notes.items ≡ [] → IsAt m 0 s
-  at_first s layer_is states_is some none = record {
-    held = subst (λ (gs : List Group). AreHeld m gs (layer m 0)) (sym layer_is) first_held;
+  -- what is noted of the script that is made first comes
+  first_comes : (note : Note) → IsNoteIn m (made_first m.first m.scripts) note → Comes m note.unit note.place note.status
+  first_comes note h =
+      let front = made_first m.first m.scripts in
+      let whole = completes m.scripts front _ 0 front refl (nothing_begun m.scripts front) in
+      let none : left 1 m.scripts front + 0 ≡ left 1 m.scripts front = omega arith in
+      let is : In (front ++ whole.rest) (orders m.first m.scripts) = subst (λ (c : ℕ). In (front ++ whole.rest) (completed m.scripts c front)) (none ∙ first_left m.scripts m.first) whole.begun_with in
+      let split : front ++ whole.rest ≡ h.before ++ (h.unit, h.statement) ∷ (h.rest ++ whole.rest) = ap (λ (l : List (ℕ × Statement)). l ++ whole.rest) h.order_is ∙ append_assoc h.before ((h.unit, h.statement) ∷ h.rest) whole.rest in
+      subst (λ (v : ℕ). Comes m v note.place note.status) (sym h.is.unit_is) (record {
+        before = h.before;
+        statement = h.statement;
+        rest = h.rest ++ whole.rest;
+        is_order = in_contains (orders m.first m.scripts) (h.before ++ (h.unit, h.statement) ∷ (h.rest ++ whole.rest)) (subst (λ (o : List (ℕ × Statement)). In o (orders m.first m.scripts)) split is);
+        place_is = sym h.is.place_is;
+        status = h.is.status;
+      })
+
+  pub at_first : (s : given.Search) (es : List Entry) → s.layer.items ≡ record { history = es; orders = Some 1 } ∷ [] → s.states ≡ 1 → 0 < s.limit → statements_of es ≡ made_first m.first m.scripts → IsHistoryOf m.schema m.capacity (length m.scripts) es → AreNotedOf m (made_first m.first m.scripts) s.notes.items → IsAt m 0 s
+  at_first s es layer_is states_is some order history noted = record {
+    held = subst (λ (gs : List Group). AreHeld m gs (layer m 0)) (sym layer_is) (first_held es order history);
     states_are = states_is ∙ sym first_states;
     within = omega arith;
+    first = noted.all;
     all = λ k low. absurd (omega arith);
-    only = λ note c. absurd (contains_in [] note (subst (λ (l : List Note). Contains l note) none c));
+    only = λ note c. first_comes note (noted.only note c);
   }
 
   -- ONE STATEMENT MORE
@@ -161,12 +182,12 @@ module _ (m : Meeting) where
         subst (λ (k : ℕ). old.limit < states_within m k) next over
 
     module _ (new : given.Search) (next : List (List ℕ × Group)) (h : IsNextSearch old new next) where
-      new_all : (o : List (ℕ × Statement)) (u : ℕ) (x : Statement) → Contains (completed m.scripts n []) o → Contains (units_of m) u → next_of m.scripts o u ≡ Some x → HasNote m new.notes.items o u x
+      new_all : (o : List (ℕ × Statement)) (u : ℕ) (x : Statement) → Contains (orders_after m.first m.scripts n) o → Contains (units_of m) u → next_of m.scripts o u ≡ Some x → HasNote m new.notes.items o u x
       new_all o u x c d e =
-          let has = has_group (state_key m) (completed m.scripts n []) o (contains_in (completed m.scripts n []) o c) in
+          let has = has_group (state_key m) (orders_after m.first m.scripts n) o (contains_in (orders_after m.first m.scripts n) o c) in
           let held = held_of old.layer.items (layer m n) has.group at.held has.is_in in
           let unit = contains_in (units_of m) u d in
-          let same = same_state m meets.sound meets.fit n n has.group.0 o has.of (contains_in (completed m.scripts n []) o c) has.key_is in
+          let same = same_state m meets.sound meets.fit n n has.group.0 o has.of (contains_in (orders_after m.first m.scripts n) o c) has.key_is in
           let noted = h.all.noted.all (statements_of held.group.history, u) x (in_contains (nexts m old.layer.items) (statements_of held.group.history, u) (in_nexts old.layer.items held.group u held.is_in unit)) (ap (λ (q : List (ℕ × Statement)). next_of m.scripts q u) held.is.order_is ∙ next_moves has.group.0 o u same unit ∙ e) in
           note_moves has.group.0 o u x new.notes.items same unit (subst (λ (q : List (ℕ × Statement)). HasNote m new.notes.items q u x) held.is.order_is noted)
 
@@ -177,7 +198,7 @@ module _ (m : Meeting) where
           let order : p.0 ≡ held.weighted.0 = ap (λ (q : List (ℕ × Statement) × ℕ). q.0) (sym of.is) ∙ held.is.order_is in
           let unit : of.unit ≡ p.1 = ap (λ (q : List (ℕ × Statement) × ℕ). q.1) of.is in
           noted_comes n p.0 p.1 is.statement note
-          (subst (λ (q : List (ℕ × Statement)). In q (completed m.scripts n [])) (sym order) (group_of (state_key m) (completed m.scripts n []) held.weighted held.is_in))
+          (subst (λ (q : List (ℕ × Statement)). In q (orders_after m.first m.scripts n)) (sym order) (group_of (state_key m) (orders_after m.first m.scripts n) held.weighted held.is_in))
           (subst (λ (v : ℕ). In v (units_of m)) unit of.unit_in) is.next_is is.is
 
       pub at_next : IsAt m (suc n) new
@@ -188,10 +209,11 @@ module _ (m : Meeting) where
             held = subst (λ (gs : List Group). AreHeld m gs (layer m (suc n))) (sym h.layer_is) (subst (λ (ws : List (List (ℕ × Statement) × ℕ)). AreHeld m (map (λ g. g.1) next) ws) gathers (stand_alone m (state_key m) next _ stands));
             states_are = h.states_are ∙ (λ i. at.states_are i + long i);
             within = let few = h.few in let before = at.within in let now = h.states_are in let same = h.limit_is in omega arith;
+            first = λ before s rest e. let noted = at.first before s rest e in record { note = noted.note; is = noted.is; noted = h.all.noted.kept noted.note noted.noted };
             all = λ k low o u x c d e.
                 elim (cases_lt k n) [
                   | inl below ↦ let before = at.all k below o u x c d e in record { note = before.note; is = before.is; noted = h.all.noted.kept before.note before.noted }
-                  | inr above ↦ let same : k ≡ n = omega arith in new_all o u x (subst (λ (j : ℕ). Contains (completed m.scripts j []) o) same c) d e
+                  | inr above ↦ let same : k ≡ n = omega arith in new_all o u x (subst (λ (j : ℕ). Contains (orders_after m.first m.scripts j) o) same c) d e
                 ];
             only = λ note c. ⊎_elim (λ d. at.only note d) (λ r. new_only note r.0 r.1 r.2) (h.all.noted.only note c);
           }
@@ -252,13 +274,13 @@ module _ (m : Meeting) where
   -- so it is over at the end
   pub over_first : (limit : ℕ) → limit < states_within m 0 → limit < count_states m
   over_first limit over =
-      let all : 0 + count_statements m.scripts ≡ count_statements m.scripts = omega arith in
-      let grown : states_within m 0 ≤ count_states m = subst (λ (n : ℕ). states_within m 0 ≤ states_within m n) all (states_grow (count_statements m.scripts) 0) in
+      let all : 0 + count_statements (others m.first m.scripts) ≡ count_statements (others m.first m.scripts) = omega arith in
+      let grown : states_within m 0 ≤ count_states m = subst (λ (n : ℕ). states_within m 0 ≤ states_within m n) all (states_grow (count_statements (others m.first m.scripts)) 0) in
       omega arith
 
-  pub over_all : (scripts : List (List Statement)) (s : given.Search) (limit : ℕ) → scripts ≡ m.scripts → s.limit ≡ limit → IsAt m 0 s → IsOver m (count_statements scripts) s → limit < count_states m
+  pub over_all : (scripts : List (List Statement)) (s : given.Search) (limit : ℕ) → scripts ≡ others m.first m.scripts → s.limit ≡ limit → IsAt m 0 s → IsOver m (count_statements scripts) s → limit < count_states m
   over_all scripts s limit same is at over =
-      let all : 0 + count_statements scripts ≡ count_statements m.scripts = omega (arith, ap count_statements same) in
+      let all : 0 + count_statements scripts ≡ count_statements (others m.first m.scripts) = omega (arith, ap count_statements same) in
       subst (λ (k : ℕ). k < count_states m) is (subst (λ (n : ℕ). s.limit < states_within m n) all (over 0 at))
 
   -- the histories of what is held
@@ -268,17 +290,34 @@ module _ (m : Meeting) where
   held_histories (g ∷ gs) (w ∷ ws) h = (h.0.history_of, held_histories gs ws h.1)
 
   -- the statuses that are noted at the end are just those that come
-  pub all_statuses : (s : given.Search) → IsAt m (count_statements m.scripts) s → (a : Answered) → AreOfNotes s.notes.items a.unit (a.place - 1) a.statuses.items → AreStatuses m a
+  pub all_statuses : (s : given.Search) → IsAt m (count_statements (others m.first m.scripts)) s → (a : Answered) → AreOfNotes s.notes.items a.unit (a.place - 1) a.statuses.items → AreStatuses m a
   all_statuses s at a h = record {
     rising = h.rising;
     come = λ code c. at.only (record { unit = a.unit; place = a.place - 1; status = code }) (h.noted code c);
     all = λ code comes.
-        let middle = amid m.scripts comes.before (a.unit, comes.statement) comes.rest (count_statements m.scripts) [] _ (contains_in (orders m.scripts) _ comes.is_order) refl in
-        let left_is = begun_left m.scripts (length comes.before) comes.before middle.before in
-        let more = next_left m.scripts comes.before a.unit comes.statement middle.next.next in
-        let has = at.all (length comes.before) (omega arith) comes.before a.unit comes.statement (in_contains (completed m.scripts (length comes.before) []) comes.before middle.before) (in_contains (units_of m) a.unit middle.next.unit) middle.next.next in
+        let has = has_note comes in
         h.all code (subst (λ (k : Note). Contains s.notes.items k) (is_note comes has) has.noted);
   } where
+    -- a statement that comes is among those that are made first, or behind them
+    has_note : {code : ℕ} (comes : Comes m a.unit (a.place - 1) code) → HasNote m s.notes.items comes.before a.unit comes.statement
+    has_note {code} comes =
+        let front = made_first m.first m.scripts in
+        let order = comes.before ++ (a.unit, comes.statement) ∷ comes.rest in
+        let is = contains_in (orders m.first m.scripts) order comes.is_order in
+        let behind = completed_begins m.scripts (count_statements (others m.first m.scripts)) front order is in
+        elim (front_or_amid m.scripts front behind.0 comes.before comes.rest (a.unit, comes.statement) behind.1) [
+          | inl among ↦ at.first comes.before (a.unit, comes.statement) among.0 among.1
+          | inr split ↦
+              let p = split.0 in
+              let here : order ≡ front ++ (p ++ (a.unit, comes.statement) ∷ comes.rest) = ap (λ (l : List (ℕ × Statement)). l ++ (a.unit, comes.statement) ∷ comes.rest) (sym split.1) ∙ append_assoc front p ((a.unit, comes.statement) ∷ comes.rest) in
+              let middle = amid m.scripts p (a.unit, comes.statement) comes.rest (count_statements (others m.first m.scripts)) front order is here in
+              let left_is = begun_left m.scripts front (length p) (front ++ p) middle.before in
+              let more = next_left m.scripts (front ++ p) a.unit comes.statement middle.next.next in
+              let all = first_left m.scripts m.first in
+              subst (λ (o : List (ℕ × Statement)). HasNote m s.notes.items o a.unit comes.statement) split.1
+              (at.all (length p) (omega arith) (front ++ p) a.unit comes.statement (in_contains (orders_after m.first m.scripts (length p)) (front ++ p) middle.before) (in_contains (units_of m) a.unit middle.next.unit) middle.next.next)
+        ]
+
     is_note : {code : ℕ} (comes : Comes m a.unit (a.place - 1) code) (has : HasNote m s.notes.items comes.before a.unit comes.statement) → has.note ≡ record { unit = a.unit; place = a.place - 1; status = code }
     is_note {code} comes has =
         let outcomes : Some has.is.status.outcome ≡ Some comes.status.outcome = sym has.is.status.outcome_is ∙ comes.status.outcome_is in

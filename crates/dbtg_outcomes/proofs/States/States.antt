@@ -19,9 +19,10 @@ use Rattle.dbtg_unit.proofs.Public.{In, all_at, element_at, in_map, of_flat_map,
 use Rattle.dbtg_outcomes.specs.Inside.Gathered.{each_of}
 use Rattle.dbtg_outcomes.specs.Groups.{among, firsts, groups}
 use Rattle.dbtg_outcomes.specs.Inside.Search.{layer}
-use Rattle.dbtg_outcomes.specs.Orders.{completed}
+use Rattle.dbtg_outcomes.specs.Orders.{completed, made_first, orders_after}
 use Rattle.dbtg_outcomes.specs.Results.{Meeting, result_text, state_key, state_of}
 use Rattle.dbtg_outcomes.proofs.Orders.Begun.{IsNext, begun, completed_last, ext, next_of_unit, of_ext}
+use Rattle.dbtg_outcomes.proofs.Orders.Mixed.{first_begun}
 use Rattle.dbtg_outcomes.proofs.Lists.Gathered.{Each, each_append, regrouped, spread, spread_self}
 use Rattle.dbtg_outcomes.proofs.States.SameStates.{SameState, next_states, result_same, same_key}
 use Rattle.dbtg_outcomes.proofs.Lists.Weights.{collected, collected_ones}
@@ -98,18 +99,24 @@ module _ (m : Meeting) where
         let at = next_of_unit m.scripts o s.0 s.1 h.next in
         all_at (fits m.schema) s.1 at.1 (all_at (list_all (fits m.schema)) at.1 m.scripts fit (element_at m.scripts at.0 at.1 at.3)) (element_at at.1 _ s.1 at.4)
 
-    begun_fits : (n : ℕ) (o : List (ℕ × Statement)) → In o (completed m.scripts n []) → list_all (λ (s : ℕ × Statement). fits m.schema s.1) o ≡ true
+    begun_fits : (first : List (ℕ × Statement)) → list_all (λ (s : ℕ × Statement). fits m.schema s.1) first ≡ true → (n : ℕ) (o : List (ℕ × Statement)) → In o (completed m.scripts n first) → list_all (λ (s : ℕ × Statement). fits m.schema s.1) o ≡ true
     unfolding completed
-    begun_fits zero o (inl e) = ap (list_all (λ (s : ℕ × Statement). fits m.schema s.1)) (sym e)
-    begun_fits zero o (inr e) = absurd e
-    begun_fits (suc n) o i =
-        let at = of_flat_map (ext m.scripts) o (begun m.scripts n) (subst (λ (l : List (List (ℕ × Statement))). In o l) (completed_last m.scripts n []) i) in
-        let before = begun_fits n at.0 at.1 in
+    begun_fits first h zero o (inl e) = ap (list_all (λ (s : ℕ × Statement). fits m.schema s.1)) (sym e) ∙ h
+    begun_fits first h zero o (inr e) = absurd e
+    begun_fits first h (suc n) o i =
+        let at = of_flat_map (ext m.scripts) o (begun m.scripts first n) (subst (λ (l : List (List (ℕ × Statement))). In o l) (completed_last m.scripts n first) i) in
+        let before = begun_fits first h n at.0 at.1 in
         let last = of_ext m.scripts at.0 o at.2 in
         let one : list_all (λ (s : ℕ × Statement). fits m.schema s.1) (last.0 ∷ []) ≡ true = and_from _ true (next_fits at.0 last.0 last.1) refl in
         ap (list_all (λ (s : ℕ × Statement). fits m.schema s.1)) (sym last.2)
         ∙ list_all-append (λ (s : ℕ × Statement). fits m.schema s.1) at.0 (last.0 ∷ [])
         ∙ and_from _ _ before one
+
+    -- so do all that are behind the script that is made first
+    orders_fit : (n : ℕ) (o : List (ℕ × Statement)) → In o (orders_after m.first m.scripts n) → list_all (λ (s : ℕ × Statement). fits m.schema s.1) o ≡ true
+    orders_fit n o i =
+        let front = made_first m.first m.scripts in
+        begun_fits front (begun_fits [] refl (length front) front (first_begun m.scripts m.first)) n o i
 
     -- an order as a history, whatever its answers
     as_history : List (ℕ × Statement) → List Entry
@@ -125,29 +132,29 @@ module _ (m : Meeting) where
     fits_back [] = refl
     fits_back (s ∷ o) = ap (λ b. fits m.schema s.1 && b) (fits_back o)
 
-    pub begun_legal : (n : ℕ) (o : List (ℕ × Statement)) → In o (completed m.scripts n []) → Legal m.schema m.capacity (state_of m o).database
+    pub begun_legal : (n : ℕ) (o : List (ℕ × Statement)) → In o (orders_after m.first m.scripts n) → Legal m.schema m.capacity (state_of m o).database
     begun_legal n o i =
         let opening : State = opening_state m.schema (length m.scripts) in
         let is : replay m.schema m.capacity opening (as_history o) ≡ state_of m o = (statements_determine m.schema m.capacity opening (as_history o)).state_is ∙ ap (state_of m) (statements_back o) in
-        subst (λ (z : State). Legal m.schema m.capacity z.database) is (replay_keeps_legal m.schema m.capacity opening (as_history o) sound (opening_is_legal m.schema m.capacity (length m.scripts)) (fits_back o ∙ begun_fits n o i)).legal
+        subst (λ (z : State). Legal m.schema m.capacity z.database) is (replay_keeps_legal m.schema m.capacity opening (as_history o) sound (opening_is_legal m.schema m.capacity (length m.scripts)) (fits_back o ∙ orders_fit n o i)).legal
 
-    pub same_state : (n k : ℕ) (o p : List (ℕ × Statement)) → In o (completed m.scripts n []) → In p (completed m.scripts k []) → state_key m o ≡ state_key m p → SameState m o p
+    pub same_state : (n k : ℕ) (o p : List (ℕ × Statement)) → In o (orders_after m.first m.scripts n) → In p (orders_after m.first m.scripts k) → state_key m o ≡ state_key m p → SameState m o p
     same_state n k o p i j e = same_key m o p (begun_legal n o i) (begun_legal k p j) e
 
     -- a layer leads to the next
     pub layer_next : (n : ℕ) → collected (state_key m) (spread (ext m.scripts) (layer m n)) ≡ layer m (suc n)
     layer_next n =
-        let os = completed m.scripts n [] in
+        let os = orders_after m.first m.scripts n in
         ap (λ l. collected (state_key m) (spread (ext m.scripts) l)) (sym (collected_ones (state_key m) os))
         ∙ regrouped (state_key m) (state_key m) (ext m.scripts) (λ o. In o os) (λ o p i j e. next_states m o p (same_state n n o p i j e)) (each_of 1 os) (each_in (λ o. In o os) 1 os (λ o i. i))
         ∙ ap (collected (state_key m)) (spread_each (ext m.scripts) os)
         ∙ collected_ones (state_key m) (flat_map (ext m.scripts) os)
-        ∙ ap (groups (state_key m)) (sym (completed_last m.scripts n []))
+        ∙ ap (groups (state_key m)) (sym (completed_last m.scripts n (made_first m.first m.scripts)))
 
     -- and the last one to the results
-    pub layer_last : (n : ℕ) → collected (result_text m) (layer m n) ≡ groups (result_text m) (completed m.scripts n [])
+    pub layer_last : (n : ℕ) → collected (result_text m) (layer m n) ≡ groups (result_text m) (orders_after m.first m.scripts n)
     layer_last n =
-        let os = completed m.scripts n [] in
+        let os = orders_after m.first m.scripts n in
         ap (collected (result_text m)) (sym (spread_self (layer m n)))
         ∙ ap (λ l. collected (result_text m) (spread (λ o. o ∷ []) l)) (sym (collected_ones (state_key m) os))
         ∙ regrouped (state_key m) (result_text m) (λ o. o ∷ []) (λ o. In o os) (λ o p i j e. ap (λ k. k ∷ []) (result_same m o p (same_state n n o p i j e))) (each_of 1 os) (each_in (λ o. In o os) 1 os (λ o i. i))

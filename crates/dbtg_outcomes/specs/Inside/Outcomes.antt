@@ -1,11 +1,14 @@
--- A word beside `Outcomes` that private functions and lemmas use.
-use Rattle.std.specs.Prelude.{ℕ, ◌≡◌, List, length}
+-- Words beside `Outcomes` that private functions and lemmas use.
+use Rattle.std.specs.Prelude.{ℕ, ◌≡◌, ◌++◌, ◌∷◌, [], List, length}
 use Rattle.dbtg_unit.specs.declared.statement.Statement.{Statement}
 use Rattle.dbtg_unit.specs.Database.State.Image.{image_of}
 use Rattle.dbtg_unit.specs.Database.Laws.Replay.{IsHistoryOf}
 use Rattle.dbtg_unit.specs.Database.Laws.Replaying.{statements_of}
 use Rattle.dbtg_step.specs.declared.results.Run.{Run}
+use Rattle.dbtg_step.specs.Core.Whole.{Making}
+use Rattle.dbtg_outcomes.specs.declared.notes.Note.{Note}
 use Rattle.dbtg_outcomes.specs.Results.{Meeting, state_of}
+use Rattle.dbtg_outcomes.specs.Inside.Search.{AreNotedOf}
 
 -- what comes of an order of statements
 pub record IsRunOf (m : Meeting) (o : List (ℕ × Statement)) (run : Run) : Type 0 where
@@ -13,3 +16,13 @@ pub record IsRunOf (m : Meeting) (o : List (ℕ × Statement)) (run : Run) : Typ
   pub history_of : IsHistoryOf m.schema m.capacity (length m.scripts) run.history
   pub image_is : run.image ≡ image_of m.schema m.capacity (state_of m o).database
   pub units_are : run.units ≡ (state_of m o).units
+
+-- a database of this meeting, after these statements
+pub record IsMaking (m : Meeting) (o : List (ℕ × Statement)) (making : Making) : Type 0 where
+  pub same : making ≡ record { schema = m.schema; capacity = m.capacity; units = length m.scripts; history = making.history }
+  pub made : statements_of making.history ≡ o
+
+-- whatever statements were made and noted, one more is made and noted
+pub record MakesNoted (m : Meeting) (u : ℕ) (x : Statement) (old new : Making) (before after : List Note) : Type 0 where
+  pub made : (o : List (ℕ × Statement)) → IsMaking m o old → IsMaking m (o ++ (u, x) ∷ []) new
+  pub noted : (o : List (ℕ × Statement)) → IsMaking m o old → AreNotedOf m o before → AreNotedOf m (o ++ (u, x) ∷ []) after

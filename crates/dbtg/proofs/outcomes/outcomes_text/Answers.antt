@@ -8,7 +8,7 @@ pub returns-in_err-push_result-clause-refused : goal.returns-in_err-push_result-
 returns-in_err-push_result-clause-refused c =
     let at = subst (λ (xs : List OneResult). c.one-item.result ≡ get_or xs c.loop-one.one-index c.one-item.result) c.deref-one-items.ensures.value c.one-item.is in
     let told = err_from_is_err_and c.from_residual-in_err-push_result.result c.from_residual-in_err-push_result.ensures.1 in
-    rw (told.1, told.2) (untold_of c.args.schema.now c.args.capacity c.args.scripts.now c.args.all.now c.loop-one.one-index c.one-item.result (omega (arith, c.loop-one-test.true)) at _ c.in_err-push_result.ensures.refused)
+    rw (told.1, told.2) (untold_of c.args.meeting.now c.args.all.now c.loop-one.one-index c.one-item.result (omega (arith, c.loop-one-test.true)) at _ c.in_err-push_result.ensures.refused)
 
 pub loop-one-preserved : goal.loop-one-preserved
 loop-one-preserved c =
@@ -18,5 +18,5 @@ loop-one-preserved c =
     let next : c.loop-one.number + 1 ≡ c.loop-one.one-index + 1 = ap (λ n. n + 1) c.loop-one.invariant.number in
     record {
       number = next;
-      told = one_more_taken c.args.schema.now c.args.capacity c.args.scripts.now c.args.all.now c.loop-one.one-index c.one-item.result (omega (arith, c.loop-one-test.true)) at c.loop-one.out.items _ told.0 new.0 _ next told.1 told.2 new.1 new.2;
+      told = one_more_taken c.args.meeting.now c.args.all.now c.loop-one.one-index c.one-item.result (omega (arith, c.loop-one-test.true)) at c.loop-one.out.items _ told.0 new.0 _ next told.1 told.2 new.1 new.2;
     }

@@ -1,6 +1,6 @@
 use Rattle.std.proofs.Common.{◌≡◌, ◌+◌, ◌∙◌, ℕ, ap, subst, arith}
 use Rattle.std.proofs.lemmas.Result.{err_from_is_err_and}
-use Rattle.dbtg_outcomes.specs.Orders.{count_statements}
+use Rattle.dbtg_outcomes.specs.Orders.{count_statements, others}
 use Rattle.dbtg_outcomes.specs.Inside.Search.{IsAt}
 use Rattle.dbtg_outcomes.proofs.States.Searched.{over_all, over_first}
 use Rattle.dbtg_outcomes.proofs.outcomes.search_all.Goals as goal
@@ -16,12 +16,12 @@ returns-in_err-search-clause-stopped c =
 pub returns-in_err-pass-clause-stopped : goal.returns-in_err-pass-clause-stopped
 returns-in_err-pass-clause-stopped c =
     let told = err_from_is_err_and c.from_residual-in_err-pass.result c.from_residual-in_err-pass.ensures.1 in
-    rw (told.1, told.2) (λ e. over_all c.args.meeting.now c.args.scripts.now c.in_ok-search.search c.args.limit c.requires.scripts c.in_ok-search.ensures.limit c.in_ok-search.ensures.at (c.in_err-pass.ensures.stopped e))
+    rw (told.1, told.2) (λ e. over_all c.args.meeting.now c.others-left.result.now c.in_ok-search.search c.args.limit c.others-left.ensures c.in_ok-search.ensures.limit c.in_ok-search.ensures.at (c.in_err-pass.ensures.stopped e))
 
 pub returns-clause-at : goal.returns-clause-at
 returns-clause-at c =
     let m = c.args.meeting.now in
-    let all : 0 + count_statements c.args.scripts.now ≡ count_statements m.scripts = omega (arith, ap count_statements c.requires.scripts) in
+    let all : 0 + count_statements c.others-left.result.now ≡ count_statements (others m.first m.scripts) = omega (arith, ap count_statements c.others-left.ensures) in
     subst (λ (n : ℕ). IsAt m n c.pass.new.self) all (c.in_ok-pass.ensures.advances.at 0 c.in_ok-search.ensures.at)
 
 pub returns-clause-limit : goal.returns-clause-limit

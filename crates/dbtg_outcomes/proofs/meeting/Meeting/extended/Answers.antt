@@ -2,7 +2,8 @@ use Rattle.std.proofs.Common.{◌≡◌, ◌∙◌, sym, subst, length, get_or}
 use Rattle.dbtg_unit.specs.Database.Laws.Replaying.{statements_of}
 use Rattle.dbtg_step.specs.Core.Whole.{HasMade}
 use Rattle.dbtg_outcomes.specs.Outcomes.{HasStatus}
-use Rattle.dbtg_outcomes.proofs.States.Runs.{IsMaking, made_more, run_of, status_of}
+use Rattle.dbtg_outcomes.specs.Inside.Outcomes.{IsMaking}
+use Rattle.dbtg_outcomes.proofs.States.Runs.{made_more, run_of, status_of}
 use Rattle.dbtg_outcomes.proofs.meeting.Meeting.extended.Goals as goal
 
 pub returns-in_ok-into_run-in-Ok-clause-run : goal.returns-in_ok-into_run-in-Ok-clause-run

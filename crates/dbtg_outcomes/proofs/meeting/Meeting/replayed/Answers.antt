@@ -1,6 +1,7 @@
 use Rattle.std.proofs.lemmas.Result.{IfOk-weaker}
 use Rattle.dbtg_unit.specs.Database.Laws.Replaying.{statements_of}
-use Rattle.dbtg_outcomes.proofs.States.Runs.{IsMaking, run_of}
+use Rattle.dbtg_outcomes.specs.Inside.Outcomes.{IsMaking}
+use Rattle.dbtg_outcomes.proofs.States.Runs.{run_of}
 use Rattle.dbtg_outcomes.proofs.meeting.Meeting.replayed.Goals as goal
 
 pub returns : goal.returns

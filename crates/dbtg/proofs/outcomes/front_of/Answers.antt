@@ -1,0 +1,10 @@
+use Rattle.std.proofs.Common.{◌∙◌, ap, length, subst}
+use Rattle.dbtg_outcomes.specs.Results.{Meeting}
+use Rattle.dbtg.specs.Inside.Listing.{IsFront}
+use Rattle.dbtg.proofs.outcomes.front_of.Goals as goal
+
+pub returns : goal.returns
+returns c =
+    let all = c.in_ok-all.ensures in
+    subst (λ (m : Meeting). IsFront m (record { turns = c.len.result; moves = c.in_ok-all.all.before })) c.meeting.view_is
+    (record { turns_are = c.len.ensures ∙ ap length c.in_ok-turns.ensures; before = all.0; are_first = all.1; moves_are = all.3 })

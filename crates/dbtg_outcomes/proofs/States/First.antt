@@ -1,0 +1,84 @@
+-- The script that is made first, statement by statement.
+-- m is a meeting, o is an order, u is a unit, x is a statement.
+use Rattle.std.proofs.Common.{◌≡◌, refl, sym, ◌∙◌, ap, subst, ℕ, suc, ◌+◌, ◌-◌, ◌<◌, ◌≤◌, Bool, true, false, List, [], ◌∷◌, ◌++◌, length, map, take, get_or, Some, arith, slice_get}
+use Rattle.std.specs.Prelude.{unwrap_or}
+use Rattle.std.specs.List.{list_all}
+use Rattle.std.proofs.lemmas.List.{map-append, take_more}
+use Rattle.std.proofs.lemmas.Option.{slice_get_read}
+use Rattle.dbtg_cells.proofs.Public.{there_is}
+use Rattle.dbtg_unit.specs.declared.statement.Statement.{Statement}
+use Rattle.dbtg_unit.specs.declared.unit.Entry.{Entry}
+use Rattle.dbtg_unit.specs.Database.Statements.Codes.{status_code}
+use Rattle.dbtg_unit.specs.Database.Statements.Fits.{fits}
+use Rattle.dbtg_unit.specs.Database.Laws.Replay.{entries_of}
+use Rattle.dbtg_unit.specs.Database.Laws.Replaying.{statements_of}
+use Rattle.dbtg_unit.proofs.Public.{all_at, element_at}
+use Rattle.dbtg_step.specs.Core.Whole.{HasMade, Making}
+use Rattle.dbtg_outcomes.specs.declared.notes.Note.{Note}
+use Rattle.dbtg_outcomes.specs.Inside.Outcomes.{IsMaking, MakesNoted}
+use Rattle.dbtg_outcomes.specs.Inside.Search.{AreNotedOf}
+use Rattle.dbtg_outcomes.specs.Inside.Statuses.{HasNoted}
+use Rattle.dbtg_outcomes.specs.Orders.{first_script, last_of, made, made_first}
+use Rattle.dbtg_outcomes.specs.Results.{Meeting}
+use Rattle.dbtg_outcomes.proofs.Orders.Mixed.{by_one}
+use Rattle.dbtg_outcomes.proofs.States.Histories.{made_is}
+use Rattle.dbtg_outcomes.proofs.States.Noted.{none_noted_of, noted_of_more}
+use Rattle.dbtg_outcomes.proofs.States.Runs.{made_more, status_of}
+
+-- where there is a statement to be made first, there is a unit
+pub first_has_unit : (first : Bool) (scripts : List (List Statement)) (i : ℕ) → i < length (first_script first scripts) → 0 < length scripts
+first_has_unit false scripts i low = absurd (omega arith)
+first_has_unit true [] i low = absurd (omega arith)
+first_has_unit true (s ∷ scripts) i low = omega arith
+
+-- they fit
+pub first_fits : (p : Statement → Bool) (first : Bool) (scripts : List (List Statement)) → list_all (list_all p) scripts ≡ true → list_all p (first_script first scripts) ≡ true
+first_fits p false scripts h = refl
+first_fits p true [] h = refl
+first_fits p true (s ∷ scripts) h =
+    let at = there_is (s ∷ scripts) (length (s ∷ scripts) - 1) (omega arith) in
+    let last : last_of (s ∷ scripts) ≡ at.0 = ap (λ f. unwrap_or f []) at.1 in
+    subst (λ (l : List Statement). list_all p l ≡ true) (sym last) (all_at (list_all p) at.0 (s ∷ scripts) h (element_at (s ∷ scripts) (length (s ∷ scripts) - 1) at.0 at.1))
+
+pub fits_at : (p : Statement → Bool) (xs : List Statement) (i : ℕ) (x : Statement) → list_all p xs ≡ true → i < length xs → x ≡ get_or xs i x → p x ≡ true
+fits_at p xs i x h low at = all_at p x xs h (element_at xs i x (slice_get_read xs (length xs) i x refl low at))
+
+module _ (m : Meeting) where
+  -- a statement is made and noted
+  pub makes_noted : (u : ℕ) (x : Statement) (old new : Making) (entry : Entry) (place status : ℕ) (before after : List Note) → HasMade old u x new → entry ≡ get_or new.history (length old.history) entry → place ≡ length (entries_of u old.history) → status ≡ status_code entry.statement entry.answer.status → HasNoted before (record { unit = u; place = place; status = status }) after → MakesNoted m u x old new before after
+  makes_noted u x old new entry place status before after has at p s noted = record {
+    made = λ o h. made_more m o u x old new h has;
+    noted = λ o h are.
+        noted_of_more m o u x (record { unit = u; place = place; status = status }) before after
+        (record {
+          status = let is = status_of m o u x old new entry h has at in record { outcome = is.outcome; outcome_is = is.outcome_is; code_is = s ∙ is.code_is };
+          unit_is = refl;
+          place_is = p ∙ made_is u old.history ∙ ap (made u) h.made;
+        })
+        noted are;
+  }
+
+  -- a script of which so many statements are made and noted
+  pub record IsBegun (u : ℕ) (script : List Statement) (making : Making) (notes : List Note) : Type 0 where
+    pub at : IsMaking m (by_one u script) making
+    pub noted : AreNotedOf m (by_one u script) notes
+
+  pub none_begun : (u : ℕ) (making : Making) (notes : List Note) → IsMaking m [] making → notes ≡ [] → IsBegun u [] making notes
+  none_begun u making notes h none = record { at = h; noted = subst (λ (l : List Note). AreNotedOf m [] l) (sym none) (none_noted_of m) }
+
+  -- the next one
+  pub next_begun : (u : ℕ) (script : List Statement) (i : ℕ) (x : Statement) (old new : Making) (before after : List Note) → i < length script → x ≡ get_or script i x → IsBegun u (take i script) old before → MakesNoted m u x old new before after → IsBegun u (take (i + 1) script) new after
+  next_begun u script i x old new before after low at h more =
+      let next : take i script ++ x ∷ [] ≡ take (i + 1) script = ap (λ (y : Statement). take i script ++ y ∷ []) at ∙ sym (take_more script i x low) in
+      let order : by_one u (take i script) ++ (u, x) ∷ [] ≡ by_one u (take (i + 1) script) = sym (map-append {B = ℕ × Statement} (λ y. (u, y)) (take i script) (x ∷ [])) ∙ ap (by_one u) next in
+      record {
+        at = subst (λ (o : List (ℕ × Statement)). IsMaking m o new) order (more.made _ h.at);
+        noted = subst (λ (o : List (ℕ × Statement)). AreNotedOf m o after) order (more.noted _ h.at h.noted);
+      }
+
+-- the opening database of a meeting, by its parts
+pub opening_making : (m n : Meeting) (units : ℕ) (making : Making) → n ≡ m → units ≡ length m.scripts → making ≡ record { schema = n.schema; capacity = n.capacity; units = units; history = [] } → IsMaking m [] making
+opening_making m n units making same count is = record {
+  same = is ∙ (λ i. record { schema = (same i).schema; capacity = (same i).capacity; units = count i; history = (sym is i).history });
+  made = ap (λ (k : Making). statements_of k.history) is;
+}
