@@ -3,53 +3,58 @@ use Rattle.std.proofs.Common.{◌≡◌, ℕ, Bool, true, List, ◌++◌, map, a
 use Rattle.dbtg_schema.specs.Lists.{Lists}
 use Rattle.dbtg_unit.specs.declared.moves.Move.{Move}
 use Rattle.dbtg_unit.specs.declared.statement.Statement.{Statement}
-use Rattle.dbtg_script.specs.Lines.{statement_lines}
 use Rattle.dbtg_script.specs.Statements.{script}
-use Rattle.dbtg_timeline.specs.Watching.{events_of_run}
+use Rattle.dbtg_step.specs.declared.results.Run.{Run}
+use Rattle.dbtg_step.specs.Core.Turns.{IsRunByTurns}
 use Rattle.dbtg_command.specs.declared.place.Place.{Place}
 use Rattle.dbtg_command.specs.declared.order.Order.{Order}
 use Rattle.dbtg_command.specs.declared.order.Order.TheVariants.{Moves, Serial, Turns}
 use Rattle.dbtg_command.specs.declared.order.OrderKind.TheVariants as kind
+use Rattle.dbtg.specs.declared.timeline.Form.{Form}
 use Rattle.dbtg_replay.specs.Ordering.{AreFirstMoves, StandFor, first_turns, serial_turns}
 use Rattle.dbtg.specs.Picturing.{AreInOrder, IsPictured, TimelineHeld, picture}
 use Rattle.dbtg_command.specs.Refusals.{AcceptsOrder, is_count, turns_in}
 use Rattle.dbtg_command.specs.Sources.{HoldsOrder, ReadMoves, ReadSchema, ReadScripts, ReadTurns, kind_of}
 use Rattle.dbtg_command.proofs.Public.{all_accepted, read_texts}
 
-pictures : (holds : Place → List ℕ → Type 0) (lists : Lists) (count : ℕ) (order : Order (List ℕ)) (first svg : Bool) (capacity : ℕ) (out : List ℕ)
+-- these moves are those of a run by turns
+pub stands_for : (lists : Lists) (capacity : ℕ) (scripts : List (List Statement)) (turns : List ℕ) (moves said : List Move) (given : Run) → said ≡ moves → IsRunByTurns lists capacity scripts turns moves given → StandFor lists capacity scripts turns said
+stands_for lists capacity scripts turns moves said given e run = (given, subst (λ ms. IsRunByTurns lists capacity scripts turns ms given) (sym e) run)
+
+pictures : (holds : Place → List ℕ → Type 0) (lists : Lists) (count : ℕ) (order : Order (List ℕ)) (first : Bool) (form : Form) (capacity : ℕ) (out : List ℕ)
     → is_count count ≡ true → ReadSchema holds lists → (scripts : ReadScripts holds lists count) → HoldsOrder holds order → AcceptsOrder order
-    → IsPictured lists capacity (map (script lists) scripts.texts) scripts.texts svg (AreInOrder first lists capacity (map (script lists) scripts.texts) order) out
-    → TimelineHeld holds count (kind_of order) first capacity svg out
-pictures holds lists count order first svg capacity out right read scripts held accepted pictured = (
+    → IsPictured lists capacity (map (script lists) scripts.texts) scripts.texts form (AreInOrder first lists capacity (map (script lists) scripts.texts) order) out
+    → TimelineHeld holds count (kind_of order) first capacity form out
+pictures holds lists count order first form capacity out right read scripts held accepted pictured = (
   read_texts holds lists count read scripts order held,
   record {
     count = ap is_count scripts.many ∙ right;
     texts = all_accepted holds lists count read scripts;
     order_too = accepted;
-    pictured = subst (λ (s : Lists). IsPictured s capacity (map (script s) scripts.texts) scripts.texts svg (AreInOrder first s capacity (map (script s) scripts.texts) order) out) read.says pictured;
+    pictured = subst (λ (s : Lists). IsPictured s capacity (map (script s) scripts.texts) scripts.texts form (AreInOrder first s capacity (map (script s) scripts.texts) order) out) read.says pictured;
   },
 )
 
 -- the same of what was read: nothing that says the order, moves, or turns
-module _ (holds : Place → List ℕ → Type 0) (lists : Lists) (count capacity : ℕ) (first svg : Bool) (out : List ℕ) (right : is_count count ≡ true) (read : ReadSchema holds lists) (scripts : ReadScripts holds lists count)
+module _ (holds : Place → List ℕ → Type 0) (lists : Lists) (count capacity : ℕ) (first : Bool) (form : Form) (out : List ℕ) (right : is_count count ≡ true) (read : ReadSchema holds lists) (scripts : ReadScripts holds lists count)
     (statements : List (List Statement)) (same : statements ≡ map (script lists) scripts.texts) (texts : List (List ℕ)) (are : texts ≡ scripts.texts) where
-  pictures_in : (order : Order (List ℕ)) → HoldsOrder holds order → AcceptsOrder order → IsPictured lists capacity statements texts svg (AreInOrder first lists capacity statements order) out → TimelineHeld holds count (kind_of order) first capacity svg out
+  pictures_in : (order : Order (List ℕ)) → HoldsOrder holds order → AcceptsOrder order → IsPictured lists capacity statements texts form (AreInOrder first lists capacity statements order) out → TimelineHeld holds count (kind_of order) first capacity form out
   pictures_in order held accepted pictured =
-      let of_all = subst (λ ss. IsPictured lists capacity ss texts svg (AreInOrder first lists capacity ss order) out) same pictured in
-      pictures holds lists count order first svg capacity out right read scripts held accepted
-      (subst (λ ts. IsPictured lists capacity (map (script lists) scripts.texts) ts svg (AreInOrder first lists capacity (map (script lists) scripts.texts) order) out) are of_all)
+      let of_all = subst (λ ss. IsPictured lists capacity ss texts form (AreInOrder first lists capacity ss order) out) same pictured in
+      pictures holds lists count order first form capacity out right read scripts held accepted
+      (subst (λ ts. IsPictured lists capacity (map (script lists) scripts.texts) ts form (AreInOrder first lists capacity (map (script lists) scripts.texts) order) out) are of_all)
 
-  pub pictures_serially : (turns : List ℕ) → turns ≡ first_turns first statements ++ serial_turns 1 statements → IsPictured lists capacity statements texts svg (StandFor lists capacity statements turns) out
-      → TimelineHeld holds count kind.Serial first capacity svg out
-  pictures_serially turns e pictured = pictures_in Serial tt tt (subst (λ us. IsPictured lists capacity statements texts svg (StandFor lists capacity statements us) out) e pictured)
+  pub pictures_serially : (turns : List ℕ) → turns ≡ first_turns first statements ++ serial_turns 1 statements → IsPictured lists capacity statements texts form (StandFor lists capacity statements turns) out
+      → TimelineHeld holds count kind.Serial first capacity form out
+  pictures_serially turns e pictured = pictures_in Serial tt tt (subst (λ us. IsPictured lists capacity statements texts form (StandFor lists capacity statements us) out) e pictured)
 
   pub pictures_moves : (moves before used : List Move) → ReadMoves holds moves → AreFirstMoves first lists capacity statements before → used ≡ before ++ moves
-      → out ≡ picture svg (map statement_lines texts) (events_of_run lists capacity statements used) → TimelineHeld holds count kind.Moves first capacity svg out
+      → out ≡ picture form lists capacity statements texts used → TimelineHeld holds count kind.Moves first capacity form out
   pictures_moves moves before used by are_first e is_text =
       pictures_in (Moves by.text) by.held by.accepted (record { moves = used; are = (before, are_first, e ∙ ap (λ (ms : List Move). before ++ ms) by.says); is_text = is_text })
 
-  pub pictures_turns : (turns given used : List ℕ) → ReadTurns holds turns → given ≡ turns → used ≡ first_turns first statements ++ given → IsPictured lists capacity statements texts svg (StandFor lists capacity statements used) out
-      → TimelineHeld holds count kind.Turns first capacity svg out
+  pub pictures_turns : (turns given used : List ℕ) → ReadTurns holds turns → given ≡ turns → used ≡ first_turns first statements ++ given → IsPictured lists capacity statements texts form (StandFor lists capacity statements used) out
+      → TimelineHeld holds count kind.Turns first capacity form out
   pictures_turns turns given used by same_turns e pictured =
       let says : used ≡ first_turns first statements ++ turns_in by.text = e ∙ ap (λ (us : List ℕ). first_turns first statements ++ us) (same_turns ∙ by.says) in
-      pictures_in (Turns by.text) by.held by.accepted (subst (λ us. IsPictured lists capacity statements texts svg (StandFor lists capacity statements us) out) says pictured)
+      pictures_in (Turns by.text) by.held by.accepted (subst (λ us. IsPictured lists capacity statements texts form (StandFor lists capacity statements us) out) says pictured)

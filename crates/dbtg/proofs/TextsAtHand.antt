@@ -1,5 +1,5 @@
 -- What is printed of texts at hand is what a source that gives them has printed.
-use Rattle.std.proofs.Common.{◌≡◌, ℕ, false, List, length, subst}
+use Rattle.std.proofs.Common.{◌≡◌, ℕ, false, List, length, ◌∙◌, subst}
 use Rattle.dbtg_command.specs.declared.order.Order.{Order}
 use Rattle.dbtg_command.specs.declared.order.Order.TheVariants.{Serial}
 use Rattle.dbtg_command.specs.declared.order.OrderKind.{OrderKind}

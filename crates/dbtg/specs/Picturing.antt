@@ -1,27 +1,32 @@
--- What `timeline` prints: the picture of the events that moves make. Without moves or turns these are the moves of the serial run.
+-- What `timeline` and `page` print: the picture of the events that moves make, or the page of their run. Without moves or turns these
+-- are the moves of the serial run.
 -- text, scripts and order are bytes, lists the schema that a text says.
-use Rattle.std.specs.Prelude.{ℕ, ◌≡◌, Bool, true, false, List, ◌++◌, length, map}
+use Rattle.std.specs.Prelude.{ℕ, ◌≡◌, Bool, true, List, ◌++◌, length, map}
 use Rattle.dbtg_schema.specs.Lists.{Lists}
 use Rattle.dbtg_unit.specs.declared.moves.Move.{Move}
 use Rattle.dbtg_unit.specs.declared.statement.Statement.{Statement}
 use Rattle.dbtg_script.specs.Lines.{statement_lines}
 use Rattle.dbtg_script.specs.Statements.{script}
-use Rattle.dbtg_timeline.specs.declared.event.Event.{Event}
 use Rattle.dbtg_timeline.specs.Svg.{timeline_svg}
 use Rattle.dbtg_timeline.specs.Text.{timeline_text}
 use Rattle.dbtg_timeline.specs.Watching.{events_of_run}
+use Rattle.dbtg_page.specs.Rows.{page_text}
+use Rattle.dbtg_command.specs.declared.explain.causes.TheConstants.{CAUSES}
 use Rattle.dbtg_command.specs.declared.order.Order.{Order}
 use Rattle.dbtg_command.specs.declared.order.Order.TheVariants.{Moves, Serial, Turns}
 use Rattle.dbtg_command.specs.declared.order.OrderKind.{OrderKind}
 use Rattle.dbtg_command.specs.declared.place.Place.{Place}
+use Rattle.dbtg.specs.declared.timeline.Form.{Form}
+use Rattle.dbtg.specs.declared.timeline.Form.TheVariants.{Page, Svg, Text}
 use Rattle.dbtg_replay.specs.Ordering.{AreFirstMoves, StandFor, first_turns, serial_turns}
 use Rattle.dbtg_command.specs.Refusals.{AcceptsOrder, AcceptsTexts, is_count, moves_in, schema_in, turns_in}
 use Rattle.dbtg_command.specs.Sources.{Texts}
 
--- as SVG, or as plain text
-abbrev pub picture : Bool → List (List (List ℕ)) → List Event → List ℕ
-picture true scripts events = timeline_svg scripts events
-picture false scripts events = timeline_text scripts events
+-- the run of these moves: as plain text, as SVG, or as a page
+abbrev pub picture : Form → Lists → ℕ → List (List Statement) → List (List ℕ) → List Move → List ℕ
+picture Text lists capacity scripts texts moves = timeline_text (map statement_lines texts) (events_of_run lists capacity scripts moves)
+picture Svg lists capacity scripts texts moves = timeline_svg (map statement_lines texts) (events_of_run lists capacity scripts moves)
+picture Page lists capacity scripts texts moves = page_text lists capacity scripts (map statement_lines texts) CAUSES.now moves
 
 -- these moves say the order, or its turns stand for them; where one script is made first, its moves or turns stand before them
 abbrev pub AreInOrder : Bool → Lists → ℕ → List (List Statement) → Order (List ℕ) → List Move → Type 0
@@ -29,19 +34,19 @@ AreInOrder first lists capacity scripts Serial moves = StandFor lists capacity s
 AreInOrder first lists capacity scripts (Moves text) moves = (before : List Move) × AreFirstMoves first lists capacity scripts before × (moves ≡ before ++ moves_in text)
 AreInOrder first lists capacity scripts (Turns text) moves = StandFor lists capacity scripts (first_turns first scripts ++ turns_in text) moves
 
--- the text is the picture of the events of such moves
-pub record IsPictured (lists : Lists) (capacity : ℕ) (scripts : List (List Statement)) (texts : List (List ℕ)) (svg : Bool) (Are : List Move → Type 0) (out : List ℕ) : Type 0 where
+-- the text shows the run of such moves
+pub record IsPictured (lists : Lists) (capacity : ℕ) (scripts : List (List Statement)) (texts : List (List ℕ)) (form : Form) (Are : List Move → Type 0) (out : List ℕ) : Type 0 where
   pub moves : List Move
   pub are : Are moves
-  pub is_text : out ≡ picture svg (map statement_lines texts) (events_of_run lists capacity scripts moves)
+  pub is_text : out ≡ picture form lists capacity scripts texts moves
 
--- 1 to 8 scripts, nothing is refused, and the text is the picture of the run of what the texts say
-pub record IsTimeline (first : Bool) (text : List ℕ) (scripts : List (List ℕ)) (order : Order (List ℕ)) (capacity : ℕ) (svg : Bool) (out : List ℕ) : Type 0 where
+-- 1 to 8 scripts, nothing is refused, and the text shows the run of what the texts say
+pub record IsTimeline (first : Bool) (text : List ℕ) (scripts : List (List ℕ)) (order : Order (List ℕ)) (capacity : ℕ) (form : Form) (out : List ℕ) : Type 0 where
   pub count : is_count (length scripts) ≡ true
   pub texts : AcceptsTexts text scripts
   pub order_too : AcceptsOrder order
-  pub pictured : IsPictured (schema_in text) capacity (map (script (schema_in text)) scripts) scripts svg (AreInOrder first (schema_in text) capacity (map (script (schema_in text)) scripts) order) out
+  pub pictured : IsPictured (schema_in text) capacity (map (script (schema_in text)) scripts) scripts form (AreInOrder first (schema_in text) capacity (map (script (schema_in text)) scripts) order) out
 
--- what `timeline` prints of texts that are held
-abbrev pub TimelineHeld : (Place → List ℕ → Type 0) → ℕ → OrderKind → Bool → ℕ → Bool → List ℕ → Type 0
-TimelineHeld holds count which first capacity svg out = (texts : Texts holds count which) × IsTimeline first texts.schema texts.scripts texts.order capacity svg out
+-- what `timeline` and `page` print of texts that are held
+abbrev pub TimelineHeld : (Place → List ℕ → Type 0) → ℕ → OrderKind → Bool → ℕ → Form → List ℕ → Type 0
+TimelineHeld holds count which first capacity form out = (texts : Texts holds count which) × IsTimeline first texts.schema texts.scripts texts.order capacity form out

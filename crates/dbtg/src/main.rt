@@ -28,7 +28,7 @@ use std::process::ExitCode;
 use std::sync::Wait;
 use std::thread::Threads;
 use threads::{OnThreads, run_on_threads};
-use timeline::timeline;
+use timeline::{Form, timeline};
 
 /// The exit status of a program whose reader has gone away: the one with which a shell reports that SIGPIPE ended it.
 const READER_GONE: u8 = 141;
@@ -85,13 +85,18 @@ fn told_of(rt: &HostRuntime, fault: &Fault, paths: &Paths, explains: bool) -> Ex
     status
 }
 
+fn form_of(call: &Call) -> Form {
+    if call.svg { Form::Svg } else { Form::Text }
+}
+
 // What a command prints that is asked of files, whatever says their order.
 fn printed(rt: &HostRuntime, files: &Files<HostRuntime>, call: &Call) -> Result<Vec<u8>, Fault> {
     let alloc = rt.alloc();
     match call.named {
         Named::Draw => draw(alloc, files),
         Named::Replay => replay(alloc, files, call.capacity, call.echo, call.first),
-        Named::Timeline => timeline(alloc, files, call.capacity, call.svg, call.first),
+        Named::Timeline => timeline(alloc, files, call.capacity, form_of(call), call.first),
+        Named::Page => timeline(alloc, files, call.capacity, Form::Page, call.first),
         _ => check(alloc, files),
     }
 }
@@ -123,7 +128,7 @@ fn print_run(
 fn begins_with_file(call: &Call) -> bool {
     let runs = matches!(
         call.named,
-        Named::Outcomes | Named::Replay | Named::Timeline
+        Named::Outcomes | Named::Page | Named::Replay | Named::Timeline
     );
     runs && call.first && call.schema != "-" && call.scripts.last().is_some_and(|path| *path != "-")
 }

@@ -15,9 +15,8 @@ ghost use Rattle.dbtg_command.specs.declared.order.OrderKind.TheVariants.{Serial
 
 use dbtg_command::{Fault, Source, copy_scripts};
 use dbtg_outcomes::{Answered, Meeting, OneResult, Outcomes, Stop, all_outcomes};
-use dbtg_replay::read_scripts;
-use dbtg_replay::{behind, first_turns, moves_behind_first};
 use dbtg_replay::replay::{push_given, schema_for_run};
+use dbtg_replay::{behind, first_turns, moves_behind_first, read_scripts};
 use dbtg_schema::Schema;
 use dbtg_script::{moves_words_text, push_number, push_status, turns_text};
 use dbtg_step::{Run, Turned, run_turns};
@@ -224,7 +223,7 @@ fn front_of(alloc: Global, meeting: &Meeting) -> Result<Front, AllocError>
         Vec::new(alloc),
     )?;
     Ok(Front {
-        turns: turns.len(),
+        turns: turns.as_slice().len(),
         moves: all.before,
     })
 }

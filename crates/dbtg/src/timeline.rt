@@ -1,15 +1,16 @@
-//! The picture of an interleaving.
+//! A run, shown as a picture of its interleaving or as a page.
 ghost use Rattle.std.specs.Prelude.{◌≡◌, ◌≤◌, IfErr, IfOk, length, map, true};
 ghost use Rattle.dbtg_schema.specs.Sound.{IsSound};
 ghost use Rattle.dbtg_script.specs.Lines.{statement_lines};
 ghost use Rattle.dbtg_step.specs.Laws.{scripts_fit};
-ghost use Rattle.dbtg_timeline.specs.Watching.{events_of_run};
 ghost use Rattle.dbtg_replay.specs.Ordering.{StandFor};
 ghost use Rattle.dbtg.specs.Picturing.{IsPictured, TimelineHeld, picture};
 ghost use Rattle.dbtg_command.specs.Refusals.{is_count};
 ghost use Rattle.dbtg_command.specs.Sources.{ReadSchema, ToldOfRun};
 
+use dbtg_command::explain::CAUSES;
 use dbtg_command::{Fault, OrderKind, Source, copy_scripts, read_moves, read_turns};
+use dbtg_page::{Told, page_text};
 use dbtg_replay::replay::schema_for_run;
 use dbtg_replay::{
     Scripts, moves_behind_first, moves_of_turns, read_scripts_with_texts, serial_turns,
@@ -17,9 +18,17 @@ use dbtg_replay::{
 };
 use dbtg_schema::{Row, Schema};
 use dbtg_script::statement_lines;
-use dbtg_timeline::{Event, timeline_svg, timeline_text, watch};
+use dbtg_timeline::{timeline_svg, timeline_text, watch};
 use dbtg_unit::{Move, Statement};
 use std::alloc::{AllocError, Global};
+
+/// In what form a run is shown.
+#[derive(Clone, Copy)]
+pub enum Form {
+    Text,
+    Svg,
+    Page,
+}
 
 // The texts of the statements of each script.
 fn texts_of_statements(alloc: Global, texts: &[Row<u8>]) -> Result<Vec<Row<Row<u8>>>, AllocError>
@@ -49,58 +58,57 @@ fn copies_of(alloc: Global, lines: &[&[u8]]) -> Result<Row<Row<u8>>, AllocError>
     Ok(Row::of(copies))
 }
 
-fn picture(
-    alloc: Global,
-    svg: bool,
-    scripts: &[Row<Row<u8>>],
-    events: &[Event],
-) -> Result<Vec<u8>, AllocError>
-    ensures { IfOk result (λ out. out.items ≡ picture svg scripts.now events.now) }
-{
-    if svg {
-        timeline_svg(alloc, scripts, events)
-    } else {
-        timeline_text(alloc, scripts, events)
-    }
-}
-
-// The picture of these moves.
+// The run of these moves.
 fn picture_of_moves(
     alloc: Global,
     schema: &Schema,
     capacity: u16,
     scripts: Scripts,
-    svg: bool,
+    form: Form,
     moves: &[Move],
 ) -> Result<Vec<u8>, AllocError>
     requires sound { IsSound schema.now }
     requires units { length scripts.statements ≤ 255 }
     requires fit { scripts_fit schema.now scripts.statements ≡ true }
-    ensures { IfOk result (λ out. out.items ≡ picture svg (map statement_lines scripts.texts) (events_of_run schema.now capacity scripts.statements moves.now)) }
+    ensures { IfOk result (λ out. out.items ≡ picture form schema.now capacity scripts.statements scripts.texts moves.now) }
 {
     let Scripts { statements, texts } = scripts;
     let lines = texts_of_statements(alloc, texts.as_slice())?;
-    let events = watch(alloc, schema, capacity, statements, moves)?;
-    picture(alloc, svg, lines.as_slice(), events.as_slice())
+    let scripts = lines.as_slice();
+    match form {
+        Form::Text => {
+            let events = watch(alloc, schema, capacity, statements, moves)?;
+            timeline_text(alloc, scripts, events.as_slice())
+        }
+        Form::Svg => {
+            let events = watch(alloc, schema, capacity, statements, moves)?;
+            timeline_svg(alloc, scripts, events.as_slice())
+        }
+        Form::Page => {
+            let causes = CAUSES.as_bytes();
+            let told = Told { scripts, causes };
+            page_text(alloc, schema, capacity, statements, &told, moves)
+        }
+    }
 }
 
-// The picture of the moves that these turns stand for.
+// The run of the moves that these turns stand for.
 fn picture_of_turns(
     alloc: Global,
     schema: &Schema,
     capacity: u16,
     scripts: Scripts,
-    svg: bool,
+    form: Form,
     turns: &[u8],
 ) -> Result<Vec<u8>, AllocError>
     requires sound { IsSound schema.now }
     requires units { length scripts.statements ≤ 255 }
     requires fit { scripts_fit schema.now scripts.statements ≡ true }
-    ensures { IfOk result (λ out. IsPictured schema.now capacity scripts.statements scripts.texts svg (StandFor schema.now capacity scripts.statements turns.now) out.items) }
+    ensures { IfOk result (λ out. IsPictured schema.now capacity scripts.statements scripts.texts form (StandFor schema.now capacity scripts.statements turns.now) out.items) }
 {
     let copies = copy_scripts(alloc, scripts.statements.as_slice())?;
     let moves = moves_of_turns(alloc, schema, capacity, copies, turns)?;
-    picture_of_moves(alloc, schema, capacity, scripts, svg, moves.as_slice())
+    picture_of_moves(alloc, schema, capacity, scripts, form, moves.as_slice())
 }
 
 fn timeline_known<S: Source>(
@@ -108,13 +116,13 @@ fn timeline_known<S: Source>(
     source: &S,
     known: &Schema,
     capacity: u16,
-    svg: bool,
+    form: Form,
     first: bool,
 ) -> Result<Vec<u8>, Fault>
     requires counted { is_count (S.count source.now) ≡ true }
     requires read { ReadSchema (S.holds source.now) known.now }
     requires sound { IsSound known.now }
-    ensures done { IfOk result (λ out. TimelineHeld (S.holds source.now) (S.count source.now) (S.order source.now) first capacity svg out.items) }
+    ensures done { IfOk result (λ out. TimelineHeld (S.holds source.now) (S.count source.now) (S.order source.now) first capacity form out.items) }
     ensures refused { IfErr result (λ fault. ToldOfRun (S.holds source.now) (S.fails source.now) fault (S.count source.now) (S.order source.now)) }
 {
     let scripts = read_scripts_with_texts(alloc, source, known)?;
@@ -123,35 +131,35 @@ fn timeline_known<S: Source>(
         OrderKind::Serial => {
             let serial = serial_turns(alloc, statements)?;
             let turns = turns_behind_first(alloc, first, statements, serial.as_slice())?;
-            Ok(picture_of_turns(alloc, known, capacity, scripts, svg, turns.as_slice())?)
+            Ok(picture_of_turns(alloc, known, capacity, scripts, form, turns.as_slice())?)
         }
         OrderKind::Moves => {
             let moves = read_moves(alloc, source)?;
             let all = moves_behind_first(alloc, first, known, capacity, statements, moves)?;
-            Ok(picture_of_moves(alloc, known, capacity, scripts, svg, all.moves.as_slice())?)
+            Ok(picture_of_moves(alloc, known, capacity, scripts, form, all.moves.as_slice())?)
         }
         OrderKind::Turns => {
             let given = read_turns(alloc, source)?;
             let turns = turns_behind_first(alloc, first, statements, given.as_slice())?;
-            Ok(picture_of_turns(alloc, known, capacity, scripts, svg, turns.as_slice())?)
+            Ok(picture_of_turns(alloc, known, capacity, scripts, form, turns.as_slice())?)
         }
     }
 }
 
-/// What `timeline` prints of the schema, the scripts and the moves or turns that a source gives, or the first fault. Without moves and
+/// What `timeline` or `page` prints of the schema, the scripts and the moves or turns that a source gives, or the first fault. Without moves and
 /// turns one script is made after the other. Before all others the last script is made, where it is made first.
 pub fn timeline<S: Source>(
     alloc: Global,
     source: &S,
     capacity: u16,
-    svg: bool,
+    form: Form,
     first: bool,
 ) -> Result<Vec<u8>, Fault>
-    ensures done { IfOk result (λ out. TimelineHeld (S.holds source.now) (S.count source.now) (S.order source.now) first capacity svg out.items) }
+    ensures done { IfOk result (λ out. TimelineHeld (S.holds source.now) (S.count source.now) (S.order source.now) first capacity form out.items) }
     ensures refused { IfErr result (λ fault. ToldOfRun (S.holds source.now) (S.fails source.now) fault (S.count source.now) (S.order source.now)) }
 {
     let known = schema_for_run(alloc, source)?;
-    let said = timeline_known(alloc, source, &known, capacity, svg, first);
+    let said = timeline_known(alloc, source, &known, capacity, form, first);
     known.discard();
     said
 }

@@ -80,6 +80,7 @@ name_of named.Check = codes "check"
 name_of named.Replay = codes "replay"
 name_of named.Turns = codes "turns"
 name_of named.Timeline = codes "timeline"
+name_of named.Page = codes "page"
 name_of named.Outcomes = codes "outcomes"
 name_of named.Threads = codes "threads"
 name_of named.Draw = codes "draw"
@@ -92,7 +93,8 @@ rules_for named.Check = first ∷ explain ∷ schema ∷ scripts ∷ []
 rules_for named.Replay = capacity ∷ first ∷ moves ∷ turns_option ∷ echo ∷ explain ∷ schema ∷ scripts ∷ []
 rules_for named.Turns = capacity ∷ explain ∷ turns_file ∷ schema ∷ scripts ∷ []
 rules_for named.Timeline = capacity ∷ first ∷ moves ∷ turns_option ∷ svg ∷ explain ∷ schema ∷ scripts ∷ []
-rules_for named.Outcomes = capacity ∷ limit ∷ answers ∷ explain ∷ schema ∷ scripts ∷ []
+rules_for named.Page = capacity ∷ first ∷ moves ∷ turns_option ∷ explain ∷ schema ∷ scripts ∷ []
+rules_for named.Outcomes = capacity ∷ first ∷ limit ∷ answers ∷ explain ∷ schema ∷ scripts ∷ []
 rules_for named.Threads = capacity ∷ save_turns ∷ explain ∷ schema ∷ scripts ∷ []
 rules_for named.Draw = explain ∷ schema ∷ []
 rules_for named.Explain = topic ∷ []
@@ -107,5 +109,5 @@ abbrev pub program : App
 program = record {
   top = record (new_shape (codes "dbtg")) { is_leaf = false; has_version = true; propagate_version = true; subcommand_required = true; arg_required_else_help = true };
   subs = map (λ asked. shape_with (name_of asked) (rules_for asked))
-      (named.Check ∷ named.Replay ∷ named.Turns ∷ named.Timeline ∷ named.Outcomes ∷ named.Threads ∷ named.Draw ∷ named.Explain ∷ named.Shell ∷ []);
+      (named.Check ∷ named.Replay ∷ named.Turns ∷ named.Timeline ∷ named.Page ∷ named.Outcomes ∷ named.Threads ∷ named.Draw ∷ named.Explain ∷ named.Shell ∷ []);
 }

@@ -154,6 +154,27 @@ fn timeline_command<'a>(alloc: Global, name: &'a str) -> Result<Command<'a>, All
     )
 }
 
+// The command `page`, by the name that its usage shows.
+fn page_command<'a>(alloc: Global, name: &'a str) -> Result<Command<'a>, AllocError>
+    ensures { IfOk result (IsApp (alone name.entry.now (rules_for Named.Page))) }
+{
+    described(
+        alloc,
+        name,
+        "Prints a page for a browser, in which one steps through a run: statements, records, sets and what is current",
+        "Example: dbtg page --moves shop.moves shop.schema unit1.script unit2.script > run.html",
+        &[
+            Word::Capacity,
+            Word::First,
+            Word::Moves,
+            Word::TurnsOption,
+            Word::Explain,
+            Word::Schema(SCHEMA),
+            Word::Scripts(SCRIPTS),
+        ],
+    )
+}
+
 // The command `outcomes`, by the name that its usage shows.
 fn outcomes_command<'a>(alloc: Global, name: &'a str) -> Result<Command<'a>, AllocError>
     ensures { IfOk result (IsApp (alone name.entry.now (rules_for Named.Outcomes))) }
@@ -217,6 +238,7 @@ pub enum Named {
     Replay,
     Turns,
     Timeline,
+    Page,
     Outcomes,
     Threads,
     Draw,
@@ -224,11 +246,12 @@ pub enum Named {
     Shell,
 }
 
-pub const ALL: [Named; 9] = [
+pub const ALL: [Named; 10] = [
     Named::Check,
     Named::Replay,
     Named::Turns,
     Named::Timeline,
+    Named::Page,
     Named::Outcomes,
     Named::Threads,
     Named::Draw,
@@ -245,6 +268,7 @@ pub fn name_of<'a>(named: Named) -> &'a str
         Named::Replay => "replay",
         Named::Turns => "turns",
         Named::Timeline => "timeline",
+        Named::Page => "page",
         Named::Outcomes => "outcomes",
         Named::Threads => "threads",
         Named::Draw => "draw",
@@ -260,6 +284,7 @@ fn shown_name<'a>(named: Named) -> &'a str {
         Named::Replay => "dbtg replay",
         Named::Turns => "dbtg turns",
         Named::Timeline => "dbtg timeline",
+        Named::Page => "dbtg page",
         Named::Outcomes => "dbtg outcomes",
         Named::Threads => "dbtg threads",
         Named::Draw => "dbtg draw",
@@ -276,6 +301,7 @@ fn command_of<'a>(alloc: Global, named: Named, name: &'a str) -> Result<Command<
         Named::Replay => replay_command(alloc, name),
         Named::Turns => turns_command(alloc, name),
         Named::Timeline => timeline_command(alloc, name),
+        Named::Page => page_command(alloc, name),
         Named::Outcomes => outcomes_command(alloc, name),
         Named::Threads => threads_command(alloc, name),
         Named::Draw => draw_command(alloc, name),

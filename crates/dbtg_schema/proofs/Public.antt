@@ -70,3 +70,9 @@ pub use Rattle.dbtg_schema.proofs.Options.{or_none}
 pub use Rattle.dbtg_schema.proofs.Options.{some_from_none}
 -- it is something: what it is
 pub use Rattle.dbtg_schema.proofs.Options.{some_is}
+-- NAMES AND PLACES
+
+-- the first place in a list with one more at its end
+pub use Rattle.dbtg_schema.proofs.Known.Positions.{position_more}
+-- what is found among entries with one more behind them
+pub use Rattle.dbtg_schema.proofs.Known.NameIndexes.{lookup_more}

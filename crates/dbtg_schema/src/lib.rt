@@ -25,7 +25,9 @@ mod shape;
 
 pub use erasing::AreaSet;
 pub use fault::{Cause, SchemaFault};
+pub use names::is_name;
 pub use numbers::{AreaNo, ItemNo, RecordNo, SetNo};
+pub use pictures::spelled_picture;
 pub use row::Row;
 pub use schema::Schema;
 pub use shape::{Area, Calc, Class, Duplicates, Item, Member, Order, Picture, RecordType, SetType};

@@ -1,12 +1,13 @@
 -- The worked rows: statements in which a word can be a keyword or a name. It is a keyword where one fits, else a name.
 -- May use: all definitions, and the law that a line is read with keywords taken.
 -- Promises: each row is a theorem.
-use Rattle.std.proofs.Common.{◌≡◌, List, [], ◌∷◌, inl, inr, refl, false≢true, codes}
+use Rattle.std.proofs.Common.{◌≡◌, false, List, [], ◌∷◌, inl, inr, refl, codes}
+use Rattle.std.proofs.lemmas.Bool.{false≢true}
 use Rattle.dbtg_schema.specs.Texts.Forms.{labelled, Derives}
 use Rattle.dbtg_script.specs.declared.role.Role.{Role}
 use Rattle.dbtg_script.specs.declared.role.Role.TheVariants as role
 use Rattle.dbtg_script.specs.Derivations.{Derivation, TakesKeywords}
-use Rattle.dbtg_script.specs.StatementGrammar.{Labelled, currents, fits, statement}
+use Rattle.dbtg_script.specs.StatementGrammar.{Labelled, currents, fits, statement, suppress}
 use Rattle.dbtg_script.specs.Tokens.{into, onto, plain, tokens}
 use Rattle.dbtg_script.proofs.Reading.Derived.{takes_keywords}
 use Rattle.dbtg_script.proofs.Reading.NoFault.{statement_first}
@@ -21,7 +22,8 @@ with_last r =
 
 with_last_derived : (r : Role) → Derives fits currents (labelled r (plain (codes "RECORD")) ∷ []) → Derives fits statement (with_last r)
 with_last_derived r last =
-    let suppressed = (labelled role.Plain (plain (codes "SUPPRESS")) ∷ [], labelled r (plain (codes "RECORD")) ∷ [], refl, (plain (codes "SUPPRESS"), refl, refl), inr (labelled r (plain (codes "RECORD")) ∷ [], [], refl, last, ([], refl, tt))) in
+    let suppressed : Derives fits suppress (labelled role.Plain (plain (codes "SUPPRESS")) ∷ labelled r (plain (codes "RECORD")) ∷ []) =
+    (labelled role.Plain (plain (codes "SUPPRESS")) ∷ [], labelled r (plain (codes "RECORD")) ∷ [], refl, (plain (codes "SUPPRESS"), refl, refl), inr (labelled r (plain (codes "RECORD")) ∷ [], [], refl, last, ([], refl, tt))) in
     inr (inr (inr (inr (inl (
       labelled role.Store (plain (codes "STORE")) ∷ [],
       labelled role.TypeName (plain (codes "CUSTOMER")) ∷ labelled role.Plain (plain (codes "SUPPRESS")) ∷ labelled r (plain (codes "RECORD")) ∷ [],

@@ -51,7 +51,8 @@ impl<'a> Lines<'a> {
     }
 }
 
-fn without_last(line: &[u8], c: u8) -> &[u8]
+/// The line without its last byte, where that is c.
+pub fn without_last(line: &[u8], c: u8) -> &[u8]
     ensures { result.now ≡ without_last c line.now }
 {
     let n = line.len();

@@ -1,3 +1,4 @@
 mod HistoryShown
 mod LinesGrow
 mod ThreeParts
+pub mod Public

@@ -10,7 +10,7 @@ mod svg;
 mod text;
 mod watching;
 
-pub use event::{Event, Mark};
+pub use event::{Event, Mark, letter};
 pub use svg::timeline_svg;
 pub use text::timeline_text;
-pub use watching::watch;
+pub use watching::{watch, watch_move};

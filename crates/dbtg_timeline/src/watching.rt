@@ -171,8 +171,8 @@ fn shown(
     }
 }
 
-// Makes one move, and tells what it was.
-fn watch_move(core: &mut Core, one: Move) -> Result<Event, AllocError>
+/// Makes one move, and tells what it was.
+pub fn watch_move(core: &mut Core, one: Move) -> Result<Event, AllocError>
     ensures core { OnOk result (machine core.new ≡ after_move (machine core.old) one) }
     ensures event { IfOk result (λ event. event ≡ event_of_move (machine core.old) one) }
 {

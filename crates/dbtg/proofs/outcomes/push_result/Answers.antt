@@ -18,8 +18,8 @@ returns-clause-done c =
     let front : IsFront m c.args.front = subst (λ (n : Meeting). IsFront n c.args.front) (sym c.meeting.view_is) c.requires.front in
     IfOk-weaker c.push_made-pushed.result _ _ (λ _ made.
     let given = subst (AreGiven 1000000 turned.moves) made.1 turned.given_moves in
-    subst (λ (n : Meeting). (text : List ℕ) × (c.push_made.new.out.items ≡ c.args.out.now.items ++ text) × IsResultText n c.args.number one text) c.meeting.view_is
-    (result_told m one turned.moves c.in_ok-turned.turned.run run c.args.front c.args.number made.0 c.args.out.now.items c.push_made.new.out.items front given.0 given.1 made.2)) c.push_made-pushed.ensures.done
+    subst (λ (n : Meeting). (text : List ℕ) × (c.push_made-pushed.new.out.items ≡ c.args.out.now.items ++ text) × IsResultText n c.args.number one text) c.meeting.view_is
+    (result_told m one turned.moves c.in_ok-turned.turned.run run c.args.front c.args.number made.0 c.args.out.now.items c.push_made-pushed.new.out.items front given.0 given.1 made.2)) c.push_made-pushed.ensures.done
 
 pub returns-clause-refused : goal.returns-clause-refused
 returns-clause-refused c =

@@ -1,0 +1,3 @@
+mod CoreShown
+mod UnitsShown
+mod Rows

@@ -1,0 +1,88 @@
+//! What stands in front of a page's data: its parts, and how they look, on a light or a dark ground as the reader's browser asks.
+
+pub static MARKUP: &str = "\
+<!DOCTYPE html>
+<html lang='en'>
+<head>
+<meta charset='utf-8'>
+<meta name='viewport' content='width=device-width'>
+<title>A run, step by step</title>
+<style>
+:root {
+  color-scheme: light dark;
+  --ground: #fff; --panel: #f4f6f8; --line: #c9d1d9; --text: #1f2328; --faint: #59636e;
+  --done: #067a06; --refused: #c00; --waits: #a85400; --chosen: #0b57b0; --now: #fff3c4;
+}
+@media (prefers-color-scheme: dark) {
+  :root {
+    --ground: #161b22; --panel: #1f262e; --line: #444c56; --text: #dde3ea; --faint: #9aa5b1;
+    --done: #5fd35f; --refused: #ff7b72; --waits: #f0a050; --chosen: #79b8ff; --now: #4a3f10;
+  }
+}
+* { box-sizing: border-box; }
+body { margin: 0; height: 100vh; display: flex; flex-direction: column; background: var(--ground); color: var(--text); font: 14px system-ui, sans-serif; }
+header { display: flex; gap: 6px; align-items: center; padding: 8px 12px; border-bottom: 1px solid var(--line); background: var(--panel); }
+button { font: inherit; color: inherit; background: var(--ground); border: 1px solid var(--line); border-radius: 5px; padding: 3px 9px; cursor: pointer; }
+button:disabled { color: var(--faint); cursor: default; }
+#slider { flex: 1; min-width: 100px; margin: 0 8px; }
+#place { min-width: 118px; text-align: right; color: var(--faint); }
+#told { padding: 7px 12px; border-bottom: 1px solid var(--line); min-height: 58px; line-height: 21px; }
+#told p { margin: 0; }
+main { flex: 1; display: flex; min-height: 0; }
+#left { width: 430px; flex: none; display: flex; flex-direction: column; border-right: 1px solid var(--line); min-height: 0; }
+#lanes { flex: 1; display: grid; grid-auto-flow: column; grid-auto-columns: minmax(140px, 1fr); overflow: auto; min-height: 0; }
+.lane + .lane { border-left: 1px solid var(--line); }
+.lane h2 { position: sticky; top: 0; margin: 0; padding: 5px 8px; font-size: 14px; background: var(--panel); border-bottom: 1px solid var(--line); cursor: pointer; }
+.lane h2 small { display: block; font-weight: normal; color: var(--faint); }
+.lane h2.chosen { color: var(--chosen); }
+.lane h2 .waits { color: var(--waits); font-weight: bold; }
+.lane ol { margin: 0; padding: 0; list-style: none; font: 12px ui-monospace, monospace; }
+.lane li { padding: 4px 8px; border-left: 4px solid transparent; color: var(--faint); }
+.lane li.made { color: var(--text); }
+.lane li.open { border-color: var(--chosen); color: var(--text); }
+.lane li.now { background: var(--now); }
+.status { display: block; color: var(--done); font-weight: bold; }
+.status.refused { color: var(--refused); text-decoration: underline; }
+#current { flex: none; max-height: 38%; overflow: auto; border-top: 1px solid var(--line); padding: 6px 8px; font-size: 13px; }
+#current h2 { margin: 0 0 3px; font-size: 14px; color: var(--chosen); }
+#current table { border-collapse: collapse; }
+#current th { text-align: left; font-weight: normal; color: var(--faint); padding: 0 12px 0 0; vertical-align: top; }
+#current td { font: 12px ui-monospace, monospace; }
+#right { flex: 1; overflow: auto; padding: 4px; }
+#areas, #sets { padding: 4px 8px; color: var(--faint); font-size: 13px; }
+#areas b { color: var(--text); }
+#sets button { padding: 0 7px; margin-right: 5px; border-width: 2px; font-size: 12px; }
+#sets .hidden { opacity: 0.45; text-decoration: line-through; }
+svg { display: block; }
+svg text { font: 12px ui-monospace, monospace; fill: var(--text); white-space: pre; }
+svg .key { font-weight: bold; }
+svg .box { fill: var(--panel); stroke: var(--faint); }
+svg .run { stroke: var(--chosen); stroke-width: 3; }
+svg .changed { fill: var(--now); }
+svg .ring { fill: none; stroke-width: 1.7; }
+svg .back { stroke-dasharray: 5 4; stroke-width: 1.2; }
+svg .mark, svg .name { font: bold 11px system-ui, sans-serif; paint-order: stroke; stroke: var(--ground); stroke-width: 4px; }
+svg .name { font-style: italic; }
+details { padding: 4px 8px; font-size: 13px; color: var(--faint); }
+pre { font: 12px ui-monospace, monospace; color: var(--text); white-space: pre-wrap; }
+</style>
+</head>
+<body>
+<header>
+<button id='first' title='Home'>first</button>
+<button id='ticket-back' title='Arrow up'>&larr; ticket</button>
+<button id='event-back' title='Arrow left'>&larr; event</button>
+<button id='event-on' title='Arrow right'>event &rarr;</button>
+<button id='ticket-on' title='Arrow down'>ticket &rarr;</button>
+<button id='last' title='End'>last</button>
+<input id='slider' type='range' min='0' aria-label='event'>
+<span id='place'></span>
+</header>
+<div id='told'></div>
+<main>
+<div id='left'><div id='lanes'></div><div id='current'></div></div>
+<div id='right'><div id='areas'></div><div id='sets'></div><div id='picture'></div><details><summary>As replay prints it</summary><pre id='printed'></pre></details></div>
+</main>
+<noscript>The page is drawn by a script of its own, which this browser does not run.</noscript>
+<script type='application/json' id='run'>[
+";

@@ -1,0 +1,301 @@
+//! The page of a run. The core is stepped move by move; behind each ticket stands what it leads to.
+ghost use Rattle.std.specs.Prelude.{◌≡◌, ◌++◌, ◌∷◌, ◌≤◌, [], true, length, map, IfOk, OnOk, codes};
+ghost use Rattle.std.specs.List.{flat_map};
+ghost use Rattle.dbtg_schema.specs.Sound.{IsSound};
+ghost use Rattle.dbtg_script.specs.Printing.Texts.{units_text};
+ghost use Rattle.dbtg_step.specs.Core.Core.{state_now};
+ghost use Rattle.dbtg_step.specs.Core.CoreSteps.{after_move};
+ghost use Rattle.dbtg_step.specs.Core.Parts.{machine};
+ghost use Rattle.dbtg_step.specs.Laws.{scripts_fit};
+ghost use Rattle.dbtg_step.specs.Machine.SequentialDatabase.{unit_at};
+ghost use Rattle.std.specs.Option.{option_to_list};
+ghost use Rattle.dbtg_unit.specs.Database.State.Image.{image_of};
+ghost use Rattle.dbtg_timeline.specs.Watching.{opening_core};
+ghost use Rattle.dbtg_page.specs.Json.{row};
+ghost use Rattle.dbtg_page.specs.Rows.{core_row, event_row, front_rows, move_rows, newest_answer, page_text, rows_of_moves, run_rows, state_row, ticket_row};
+
+use crate::json::{push_row, push_row_of_three};
+use crate::markup::MARKUP;
+use crate::script::SCRIPT;
+use dbtg_schema::{Area, RecordType, Row, Schema, SetType};
+use dbtg_script::{image_text, push_answer, push_unit};
+use dbtg_step::Core;
+use dbtg_timeline::{Event, Mark, letter, watch_move};
+use dbtg_unit::{Entry, Image, Move, Statement};
+use itoa::Buffer;
+use std::alloc::{AllocError, Global};
+
+/// What a page shows beside a run: the text of each statement, by its script and its place there, and what each cause of a refusal
+/// means, a line each.
+#[derive(Clone, Copy)]
+pub struct Told<'a> {
+    pub scripts: &'a [Row<Row<u8>>],
+    pub causes: &'a [u8],
+}
+
+/// What stays as it is along a run.
+#[derive(Clone, Copy)]
+struct Known<'a> {
+    alloc: Global,
+    schema: &'a Schema,
+    units: u8,
+}
+
+// ---- in front of the run
+
+fn names_of_types(alloc: Global, types: &[RecordType]) -> Result<Vec<Row<u8>>, AllocError>
+    ensures { IfOk result (λ names. names.items ≡ map (λ t. t.name) types.now) }
+{
+    let mut names = Vec::new(alloc);
+    for rtype in types {
+        names.push(rtype.name.copy(alloc)?)?;
+    }
+    Ok(names)
+}
+
+fn names_of_sets(alloc: Global, sets: &[SetType]) -> Result<Vec<Row<u8>>, AllocError>
+    ensures { IfOk result (λ names. names.items ≡ map (λ s. s.name) sets.now) }
+{
+    let mut names = Vec::new(alloc);
+    for set in sets {
+        names.push(set.name.copy(alloc)?)?;
+    }
+    Ok(names)
+}
+
+fn names_of_areas(alloc: Global, areas: &[Area]) -> Result<Vec<Row<u8>>, AllocError>
+    ensures { IfOk result (λ names. names.items ≡ map (λ a. a.name) areas.now) }
+{
+    let mut names = Vec::new(alloc);
+    for area in areas {
+        names.push(area.name.copy(alloc)?)?;
+    }
+    Ok(names)
+}
+
+fn push_scripts(out: &mut Vec<u8>, scripts: &[Row<Row<u8>>]) -> Result<(), AllocError>
+    ensures { OnOk result (out.new.items ≡ out.old.items ++ flat_map (row (codes "SCRIPT")) scripts.now) }
+{
+    for script in scripts {
+        push_row(out, b"SCRIPT", script.as_slice())?;
+    }
+    Ok(())
+}
+
+fn push_causes(alloc: Global, out: &mut Vec<u8>, causes: &[u8]) -> Result<(), AllocError>
+    ensures { OnOk result (out.new.items ≡ out.old.items ++ row (codes "CAUSES") (causes.now ∷ [])) }
+{
+    let mut fields = Vec::new(alloc);
+    fields.push(Row::of(Vec::from_slice(alloc, causes)?))?;
+    push_row(out, b"CAUSES", fields.as_slice())
+}
+
+#[tactic(auto, unfolding(crate::specs::Rows::front_rows))]
+fn push_front(
+    alloc: Global,
+    out: &mut Vec<u8>,
+    schema: &Schema,
+    told: &Told<'_>,
+) -> Result<(), AllocError>
+    ensures { OnOk result (out.new.items ≡ out.old.items ++ front_rows schema.now told.now.causes.now told.now.scripts.now) }
+{
+    let types = names_of_types(alloc, schema.types())?;
+    let sets = names_of_sets(alloc, schema.sets())?;
+    let areas = names_of_areas(alloc, schema.areas())?;
+    push_row(out, b"TYPES", types.as_slice())?;
+    push_row(out, b"SETS", sets.as_slice())?;
+    push_row(out, b"AREAS", areas.as_slice())?;
+    push_causes(alloc, out, told.causes)?;
+    push_scripts(out, told.scripts)
+}
+
+// ---- the run
+
+fn push_unit_of(
+    out: &mut Vec<u8>,
+    known: &Known<'_>,
+    core: &Core,
+    number: u8,
+) -> Result<(), AllocError>
+    ensures { OnOk result (out.new.items ≡ out.old.items ++ units_text known.now.schema.now (option_to_list (unit_at (state_now core.now).units number))) }
+{
+    match core.unit(number) {
+        Some(unit) => push_unit(out, known.schema, unit),
+        None => Ok(()),
+    }
+}
+
+fn units_of(known: &Known<'_>, core: &Core) -> Result<Vec<u8>, AllocError>
+    requires { length core.now.runners ≡ known.now.units }
+    ensures { IfOk result (λ text. text.items ≡ units_text known.now.schema.now (state_now core.now).units) }
+{
+    core.is_core();
+    let mut text = Vec::new(known.alloc);
+    for before in 0..known.units {
+        push_unit_of(&mut text, known, core, before + 1)?;
+    }
+    Ok(text)
+}
+
+fn newest_answer(known: &Known<'_>, history: &[Entry]) -> Result<Vec<u8>, AllocError>
+    ensures { IfOk result (λ text. text.items ≡ newest_answer known.now.schema.now history.now) }
+{
+    let mut text = Vec::new(known.alloc);
+    if let Some(entry) = history.last() {
+        push_answer(&mut text, known.schema, entry)?;
+    }
+    Ok(text)
+}
+
+// What the history of a core leads to, behind this answer.
+#[tactic(auto, unfolding(crate::specs::Rows::state_row))]
+fn push_state(
+    out: &mut Vec<u8>,
+    known: &Known<'_>,
+    core: &Core,
+    answer: &[u8],
+) -> Result<(), AllocError>
+    requires schema { core.now.schema ≡ known.now.schema.now }
+    requires units { length core.now.runners ≡ known.now.units }
+    ensures { OnOk result (out.new.items ≡ out.old.items ++ state_row core.now.schema answer.now (image_of core.now.schema core.now.capacity (state_now core.now).database) (state_now core.now).units) }
+{
+    let image = core.image(known.alloc)?;
+    let database = image_text(known.alloc, known.schema, &image)?;
+    let units = units_of(known, core)?;
+    push_row_of_three(out, b"STATE", answer, database.as_slice(), units.as_slice())
+}
+
+#[tactic(auto, unfolding(crate::specs::Rows::event_row))]
+fn push_event(out: &mut Vec<u8>, event: &Event) -> Result<(), AllocError>
+    ensures { OnOk result (out.new.items ≡ out.old.items ++ event_row event.now) }
+{
+    let mut unit = Buffer::new();
+    let mut place = Buffer::new();
+    let letters = [letter(event.mark)];
+    push_row_of_three(
+        out,
+        b"EVENT",
+        unit.format(event.unit).as_bytes(),
+        &letters,
+        place.format(event.place).as_bytes(),
+    )
+}
+
+// Behind a ticket, what it leads to.
+#[tactic(auto, using(crate::proofs::CoreShown::ticket_shown))]
+fn push_ticket(
+    out: &mut Vec<u8>,
+    known: &Known<'_>,
+    core: &Core,
+    mark: Mark,
+) -> Result<(), AllocError>
+    requires schema { core.now.schema ≡ known.now.schema.now }
+    requires units { length core.now.runners ≡ known.now.units }
+    ensures { OnOk result (out.new.items ≡ out.old.items ++ ticket_row (machine core.now) mark) }
+{
+    match mark {
+        Mark::Ticket { .. } => {
+            let answer = newest_answer(known, core.history())?;
+            push_state(out, known, core, answer.as_slice())
+        }
+        _ => Ok(()),
+    }
+}
+
+// Makes one move, and shows it.
+#[tactic(auto, using(crate::proofs::CoreShown::same_schema, crate::proofs::CoreShown::same_count))]
+fn push_move(
+    out: &mut Vec<u8>,
+    known: &Known<'_>,
+    core: &mut Core,
+    one: Move,
+) -> Result<(), AllocError>
+    requires schema { core.old.schema ≡ known.now.schema.now }
+    requires units { length core.old.runners ≡ known.now.units }
+    ensures core { OnOk result (machine core.new ≡ after_move (machine core.old) one) }
+    ensures text { OnOk result (out.new.items ≡ out.old.items ++ move_rows (machine core.old) one) }
+{
+    let event = watch_move(core, one)?;
+    push_event(out, &event)?;
+    push_ticket(out, known, core, event.mark)
+}
+
+#[tactic(auto, using(crate::proofs::CoreShown::same_schema, crate::proofs::CoreShown::same_count))]
+fn push_moves(
+    out: &mut Vec<u8>,
+    known: &Known<'_>,
+    core: &mut Core,
+    moves: &[Move],
+) -> Result<(), AllocError>
+    requires schema { core.old.schema ≡ known.now.schema.now }
+    requires units { length core.old.runners ≡ known.now.units }
+    ensures { OnOk result (out.new.items ≡ out.old.items ++ rows_of_moves (machine core.old) moves.now) }
+{
+    for one in moves {
+        push_move(out, known, core, *one)?;
+    }
+    Ok(())
+}
+
+#[tactic(auto, using(crate::proofs::CoreShown::row_shown))]
+fn push_run(
+    out: &mut Vec<u8>,
+    known: &Known<'_>,
+    core: &mut Core,
+    moves: &[Move],
+) -> Result<(), AllocError>
+    requires schema { core.old.schema ≡ known.now.schema.now }
+    requires units { length core.old.runners ≡ known.now.units }
+    ensures { OnOk result (out.new.items ≡ out.old.items ++ run_rows (machine core.old) moves.now) }
+{
+    push_state(out, known, core, b"")?;
+    push_moves(out, known, core, moves)
+}
+
+// The run of these moves, from the opening database on.
+#[tactic(auto, using(crate::proofs::CoreShown::begun_schema, crate::proofs::CoreShown::begun_count))]
+fn push_whole_run(
+    out: &mut Vec<u8>,
+    known: &Known<'_>,
+    capacity: u16,
+    statements: Row<Row<Statement>>,
+    moves: &[Move],
+) -> Result<(), AllocError>
+    requires sound { IsSound known.now.schema.now }
+    requires units { length statements ≡ known.now.units }
+    requires few { length statements ≤ 255 }
+    requires fit { scripts_fit known.now.schema.now statements ≡ true }
+    ensures { OnOk result (out.new.items ≡ out.old.items ++ run_rows (opening_core known.now.schema.now capacity statements) moves.now) }
+{
+    let mut core = Core::new(known.alloc, known.schema, capacity, statements)?;
+    let ran = push_run(out, known, &mut core, moves);
+    core.discard();
+    ran
+}
+
+/// The page of the run of these moves, from the opening database on, with a unit for each script. A step that finds no memory ends it.
+#[tactic(auto, unfolding(crate::specs::Rows::page_text))]
+pub fn page_text(
+    alloc: Global,
+    schema: &Schema,
+    capacity: u16,
+    statements: Row<Row<Statement>>,
+    told: &Told<'_>,
+    moves: &[Move],
+) -> Result<Vec<u8>, AllocError>
+    requires sound { IsSound schema.now }
+    requires units { length statements ≤ 255 }
+    requires fit { scripts_fit schema.now statements ≡ true }
+    ensures { IfOk result (λ text. text.items ≡ page_text schema.now capacity statements told.now.scripts.now told.now.causes.now moves.now) }
+{
+    let known = Known {
+        alloc,
+        schema,
+        units: statements.len() as u8,
+    };
+    let mut out = Vec::from_slice(alloc, MARKUP.as_bytes())?;
+    push_front(alloc, &mut out, schema, told)?;
+    push_whole_run(&mut out, &known, capacity, statements, moves)?;
+    out.extend_from_slice(SCRIPT.as_bytes())?;
+    Ok(out)
+}
