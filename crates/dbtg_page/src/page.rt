@@ -215,7 +215,7 @@ fn push_move(
     ensures core { OnOk result (machine core.new ≡ after_move (machine core.old) one) }
     ensures text { OnOk result (out.new.items ≡ out.old.items ++ move_rows (machine core.old) one) }
 {
-    let event = watch_move(core, one)?;
+    let event = watch_move(known.alloc, core, one)?;
     push_event(out, &event)?;
     push_ticket(out, known, core, event.mark)
 }

@@ -19,4 +19,5 @@ pub mod PositionsShown
 pub mod QuitShown
 pub mod RangePushes
 pub mod RunsShown
+pub mod WaitingShown
 pub mod Work

@@ -14,4 +14,5 @@ pub mod Positions
 pub mod Runs
 pub mod Serial
 pub mod Turns
+pub mod Waiting
 pub mod Whole

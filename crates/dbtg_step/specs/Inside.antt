@@ -13,4 +13,5 @@ pub mod SequentialDatabase
 pub mod Stands
 pub mod Step
 pub mod Turns
+pub mod Waiting
 pub mod Whole

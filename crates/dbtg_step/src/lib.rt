@@ -19,6 +19,7 @@ mod statements;
 mod stepping;
 mod table;
 mod taking_turns;
+mod waiting;
 mod watching;
 mod whole;
 
@@ -36,5 +37,6 @@ pub use results::Run;
 pub use running::{make_move, run, run_serial};
 pub use statements::{next_need, prepare};
 pub use taking_turns::{Turned, run_turns};
+pub use waiting::{Awaited, Blocking};
 pub use watching::{Position, Progress};
 pub use whole::WholeDatabase;

@@ -15,6 +15,7 @@ ghost use Rattle.dbtg_step.specs.Core.Parts.{machine};
 ghost use Rattle.dbtg_step.specs.Core.Positions.{position_at};
 ghost use Rattle.dbtg_step.specs.Core.Runs.{IsHandedOut};
 ghost use Rattle.dbtg_step.specs.Core.Turns.{AllBetween, HaveTurned};
+ghost use Rattle.dbtg_step.specs.Core.Waiting.{TellsOfBlocked, blocking_of};
 
 use crate::imaging::{CellSource, read_image};
 use crate::opening_parts::{opening_runners, opening_table};
@@ -24,6 +25,7 @@ use crate::results::Run;
 use crate::runner::units_of;
 use crate::stepping::step;
 use crate::taking_turns::{Noted, take_turns};
+use crate::waiting::{Blocking, blocking_of};
 use crate::watching::{Position, position_of};
 use dbtg_schema::{Row, Schema};
 use dbtg_unit::{Entry, Image, Statement, Stepped, Unit};
@@ -212,6 +214,22 @@ impl Core {
 }
 
 impl Core {
+    /// The schema of its database.
+    pub fn schema(&self) -> &Schema
+        ensures { result.now ≡ (machine self.now).schema }
+    {
+        &self.schema
+    }
+
+    /// For what the unit with this number waits, and which others have it in hand: just where its step is blocked. It takes memory for
+    /// the list of these units alone.
+    pub fn blocking(&self, alloc: Global, unit: u8) -> Result<Option<Blocking>, AllocError>
+        ensures found { IfOk result (λ found. found ≡ blocking_of (machine self.now) unit) }
+        ensures blocked { IfOk result (λ found. TellsOfBlocked (machine self.now) unit found) }
+    {
+        blocking_of(alloc, &self.schema, self.capacity, &self.parts, unit)
+    }
+
     /// The image, also in mid-statement: that of the database to which the history leads, one statement after another.
     pub fn image(&self, alloc: Global) -> Result<Image, AllocError>
         ensures { IfOk result (λ image. image ≡ image_of self.now.schema self.now.capacity (replay self.now.schema self.now.capacity (opening_state self.now.schema (length self.now.runners)) self.now.history).database) }

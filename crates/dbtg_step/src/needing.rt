@@ -85,7 +85,8 @@ fn need_now(
     )
 }
 
-fn holds_against(runner: &Runner, exclusive: bool, area: AreaNo) -> bool
+/// The unit holds the area in a way that conflicts.
+pub fn holds_against(runner: &Runner, exclusive: bool, area: AreaNo) -> bool
     ensures { result ≡ holds_against exclusive area runner.now }
 {
     match runner.stage {
@@ -103,8 +104,8 @@ fn any_holds_against(runners: &[Runner], exclusive: bool, area: AreaNo) -> bool
         .any(|runner| holds_against(runner, exclusive, area))
 }
 
-// Some unit but this one does.
-fn other_holds_against(runners: &[Runner], unit: u8, exclusive: bool, area: AreaNo) -> bool
+/// Some unit but this one does.
+pub fn other_holds_against(runners: &[Runner], unit: u8, exclusive: bool, area: AreaNo) -> bool
     requires numbered { 0 < unit }
     requires within { unit ≤ length runners.now }
     ensures { result ≡ list_any (holds_against exclusive area) (take (unit - 1) runners.now) || list_any (holds_against exclusive area) (drop unit runners.now) }

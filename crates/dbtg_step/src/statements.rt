@@ -156,6 +156,48 @@ pub fn next_need(
     }
 }
 
+// What is needed by a statement that no check without cells refuses, but for a DELETE that has its areas.
+fn need_of_passed(
+    schema: &Schema,
+    capacity: u16,
+    unit: &Unit,
+    statement: &Statement,
+    held: &Held,
+) -> Option<Need>
+    requires fits { fits schema.now statement.now ≡ true }
+    requires of_schema { IsUnitOf schema.now unit.now }
+    requires within { IsWithin capacity unit.now }
+    requires passed { refused_at_once schema.now capacity unit.now statement.now ≡ None }
+    ensures { MatchOption result (HasItsAreas schema.now unit.now held.now statement.now) (λ n. (db : Database) → Agrees schema.now capacity db held.now unit.now → n ≡ need schema.now capacity db unit.now held.now statement.now) }
+{
+    match next_area(schema, unit, statement, held) {
+        Some(area) => Some(Need::Area(area)),
+        None => match delete_option(statement) {
+            Some(_) => None,
+            None => Some(dbtg_plan::need_with_areas(schema, capacity, unit, statement, held)),
+        },
+    }
+}
+
+/// What the statement needs next, asked from the beginning. It takes no memory, and so tells nothing of a DELETE that has its areas.
+pub fn need_unless_delete(
+    schema: &Schema,
+    capacity: u16,
+    unit: &Unit,
+    statement: &Statement,
+    held: &Held,
+) -> Option<Need>
+    requires fits { fits schema.now statement.now ≡ true }
+    requires of_schema { IsUnitOf schema.now unit.now }
+    requires within { IsWithin capacity unit.now }
+    ensures { MatchOption result (HasItsAreas schema.now unit.now held.now statement.now) (λ n. (db : Database) → Agrees schema.now capacity db held.now unit.now → n ≡ need schema.now capacity db unit.now held.now statement.now) }
+{
+    match refused_at_once(schema, capacity, unit, statement) {
+        Some(_cause) => Some(Need::Ready),
+        None => need_of_passed(schema, capacity, unit, statement, held),
+    }
+}
+
 /// Makes every growth of the statement, and fixes its outcome.
 pub fn prepare(
     alloc: Global,

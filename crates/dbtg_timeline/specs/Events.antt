@@ -13,9 +13,11 @@ use Rattle.dbtg_step.specs.Machine.Headline.{entry_of}
 use Rattle.dbtg_step.specs.Machine.Network.{network}
 use Rattle.dbtg_step.specs.Core.Parts.{CoreState}
 use Rattle.dbtg_step.specs.Core.Positions.{position_at}
+use Rattle.dbtg_step.specs.Core.Waiting.{blocking_of}
 use Rattle.dbtg_timeline.specs.declared.event.Event.{Event}
 use Rattle.dbtg_timeline.specs.declared.event.Mark.{Mark}
 use Rattle.dbtg_timeline.specs.declared.event.Mark.TheVariants.{Begin, TakeArea, TakeCell, TurnBack, Return, Ticket, Link, PutBack, LeaveArea, Quit, Blocked, Idle}
+use Rattle.dbtg_timeline.specs.Waiting.{waiting_text}
 
 -- ---- a unit that may not be there
 
@@ -90,18 +92,26 @@ has_ticket (Some w) = if w.has_ticket then 1 else 0
 abbrev pub place_of : Option Position → ℕ
 place_of p = made_in p - has_ticket (progress_in p)
 
--- the event of a move: its unit, its mark, its statement, and whether the unit is in mid-statement after it
-abbrev pub shown : Move → Stepped → Option Position → Option Position → List Entry → Event
-shown m stepped before after history = record { unit = unit_in m; mark = mark_of m stepped before after history; place = place_of before; midway = is_some (progress_in after) }
+-- the event of a move: its unit, its mark, its statement, whether the unit is in mid-statement after it, and for what it waits
+abbrev pub shown : Move → Stepped → Option Position → Option Position → List Entry → List ℕ → Event
+shown m stepped before after history wait = record { unit = unit_in m; mark = mark_of m stepped before after history; place = place_of before; midway = is_some (progress_in after); wait = wait }
 
 -- where the machine has unit u
 abbrev pub place_in : CoreState → ℕ → Option Position
 place_in c u = position_at (network c.schema c.capacity) c.state u
 
+-- for what unit u waits in the machine c, where its move was blocked
+abbrev pub wait_after : CoreState → ℕ → Stepped → List ℕ
+wait_after c u Moved = []
+wait_after c u IsBlocked = waiting_text c.schema (blocking_of c u)
+wait_after c u IsIdle = []
+wait_after c u NoMemory = []
+
 -- what move m makes of the machine c
 abbrev pub event_of_move : CoreState → Move → Event
 event_of_move c m =
     shown m (result_of_move c m) (place_in c (unit_in m)) (place_in (after_move c m) (unit_in m)) (map entry_of (after_move c m).state.history)
+    (wait_after (after_move c m) (unit_in m) (result_of_move c m))
 
 -- what these moves make of it, one after another
 abbrev pub events_of : CoreState → List Move → List Event

@@ -4,5 +4,6 @@ pub mod Strips
 pub mod Columns
 pub mod Text
 pub mod Svg
+pub mod Waiting
 pub mod Events
 pub mod Watching

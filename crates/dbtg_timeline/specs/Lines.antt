@@ -60,6 +60,20 @@ drawn_in (e ∷ es) = or_later (drawn_by e.mark) (drawn_in es)
 abbrev pub drawn : Line → Option Drawn
 drawn l = drawn_in (l.head ∷ l.more)
 
+-- the first text, or the later one where it is empty
+abbrev pub or_later_text : List ℕ → List ℕ → List ℕ
+or_later_text [] later = later
+or_later_text (b ∷ bs) later = b ∷ bs
+
+-- for what the first of these events waits that is blocked
+abbrev pub wait_in : List Event → List ℕ
+wait_in [] = []
+wait_in (e ∷ es) = or_later_text e.wait (wait_in es)
+
+-- for what the unit waits in a line
+abbrev pub wait_of : Line → List ℕ
+wait_of l = wait_in (l.head ∷ l.more)
+
 -- the text of the statement at a place of a script, a dash where there is none
 abbrev pub label_in : List (List ℕ) → ℕ → List ℕ
 label_in script place = unwrap_or (slice_get script place) (45 ∷ [])

@@ -4,7 +4,7 @@ use Rattle.std.specs.List.{flat_map, range_with_len}
 use Rattle.dbtg_timeline.specs.declared.lines.Line.{Line}
 use Rattle.dbtg_timeline.specs.declared.strips.Front.{Front}
 use Rattle.dbtg_timeline.specs.declared.strips.Strip.{Strip}
-use Rattle.dbtg_timeline.specs.Lines.{drawn, label, last_of, letters}
+use Rattle.dbtg_timeline.specs.Lines.{drawn, label, last_of, letters, wait_of}
 use Rattle.dbtg_timeline.specs.Marks.{is_begin}
 
 -- ---- folding
@@ -58,9 +58,13 @@ larger m n = if nat_lt m n then n else m
 abbrev pub strips_by : Line → List (List ℕ) → List (List ℕ) → List Strip
 strips_by l letters words = map (strip_at l letters words) (range_with_len 0 (larger (length letters) (length words)))
 
--- the strips of a line: 32 letters and 42 bytes of the statement are next to each other
+-- the statement of a line, and below it for what the unit waits
+abbrev pub words_of : List (List (List ℕ)) → Line → List (List ℕ)
+words_of scripts l = folded 42 (label scripts l.head.unit l.head.place) ++ folded 42 (wait_of l)
+
+-- the strips of a line: 32 letters and 42 bytes of words are next to each other
 abbrev pub strips_of : List (List (List ℕ)) → Line → List Strip
-strips_of scripts l = strips_by l (folded 32 (letters l)) (folded 42 (label scripts l.head.unit l.head.place))
+strips_of scripts l = strips_by l (folded 32 (letters l)) (words_of scripts l)
 
 -- those of all lines
 abbrev pub strips : List (List (List ℕ)) → List Line → List Strip

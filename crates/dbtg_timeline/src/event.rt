@@ -1,6 +1,9 @@
 //! What a move of a run came to, as the picture shows it.
-ghost use Rattle.std.specs.Prelude.{◌≡◌};
+ghost use Rattle.std.specs.Prelude.{◌≡◌, IfOk};
 ghost use Rattle.dbtg_timeline.specs.Marks.{is_begin, is_idle, letter, ticket_letter};
+
+use dbtg_schema::Row;
+use std::alloc::{AllocError, Global};
 
 /// The event that a move made, or why it made none. A ticket is shown with its number and the statement's status.
 #[derive(Clone, Copy, Debug, PartialEq, Eq)]
@@ -22,13 +25,28 @@ pub enum Mark {
 }
 
 /// A move: its mark, its unit, the place in the unit's script of the statement that the unit is in or before, from 0, and whether
-/// the unit is in mid-statement afterwards.
-#[derive(Clone, Copy, Debug, PartialEq, Eq)]
+/// the unit is in mid-statement afterwards; and for what it waits, where it is blocked.
+#[derive(Drop)]
 pub struct Event {
     pub unit: u8,
     pub mark: Mark,
     pub place: usize,
     pub midway: bool,
+    pub wait: Row<u8>,
+}
+
+impl Event {
+    pub fn copy(&self, alloc: Global) -> Result<Event, AllocError>
+        ensures { IfOk result (λ event. event ≡ self.now) }
+    {
+        Ok(Event {
+            unit: self.unit,
+            mark: self.mark,
+            place: self.place,
+            midway: self.midway,
+            wait: self.wait.copy(alloc)?,
+        })
+    }
 }
 
 /// The letter of a ticket: refused statements have another.

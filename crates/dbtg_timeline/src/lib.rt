@@ -8,6 +8,7 @@ mod lines;
 mod strips;
 mod svg;
 mod text;
+mod waiting;
 mod watching;
 
 pub use event::{Event, Mark, letter};

@@ -1,6 +1,6 @@
 //! The lines of a picture: each has events of one unit in one statement that come one directly behind another.
 ghost use Rattle.std.specs.Prelude.{◌≡◌, ◌++◌, ◌≤◌, ◌+◌, [], IfOk, length};
-ghost use Rattle.dbtg_timeline.specs.Lines.{begun, drawn, drawn_by, drawn_in, goes_on, joins, label, label_in, last_of, letters, lines, lines_from};
+ghost use Rattle.dbtg_timeline.specs.Lines.{begun, drawn, drawn_by, drawn_in, goes_on, wait_in, wait_of, joins, label, label_in, last_of, letters, lines, lines_from};
 
 use crate::event::{Event, Mark, is_idle, letter};
 use dbtg_schema::Row;
@@ -76,6 +76,30 @@ impl Line {
             None => drawn_in(self.more.as_slice()),
         }
     }
+
+    /// For what the unit waits, nothing where no event of the line is blocked.
+    pub fn wait(&self) -> &[u8]
+        ensures { result.now ≡ wait_of self.now }
+    {
+        let wait = self.head.wait.as_slice();
+        if wait.is_empty() {
+            wait_in(self.more.as_slice())
+        } else {
+            wait
+        }
+    }
+}
+
+fn wait_in(events: &[Event]) -> &[u8]
+    ensures { result.now ≡ wait_in events.now }
+{
+    for event in events {
+        let wait = event.wait.as_slice();
+        if !wait.is_empty() {
+            return wait;
+        }
+    }
+    b""
 }
 
 fn drawn_by(mark: Mark) -> Option<Drawn>
@@ -107,10 +131,11 @@ fn lines_behind(alloc: Global, first: Line, events: &[Event]) -> Result<Vec<Line
     let mut all = Vec::new(alloc);
     let mut line = first;
     for event in events {
+        let copy = event.copy(alloc)?;
         if line.goes_on(event) {
-            line.more.push(*event)?;
+            line.more.push(copy)?;
         } else {
-            let next = Line::begun(alloc, line.first + 1 + line.more.len(), *event);
+            let next = Line::begun(alloc, line.first + 1 + line.more.len(), copy);
             all.push(line)?;
             line = next;
         }
@@ -125,7 +150,10 @@ pub fn lines_of(alloc: Global, events: &[Event]) -> Result<Vec<Line>, AllocError
 {
     match events.split_first() {
         None => Ok(Vec::new(alloc)),
-        Some((head, rest)) => lines_behind(alloc, Line::begun(alloc, 1, *head), rest),
+        Some((head, rest)) => {
+            let first = Line::begun(alloc, 1, head.copy(alloc)?);
+            lines_behind(alloc, first, rest)
+        }
     }
 }
 

@@ -1,6 +1,6 @@
 //! A line is printed in strips, one below another: the letters are folded, and so is the text of the statement.
 ghost use Rattle.std.specs.Prelude.{◌≡◌, ◌++◌, IfOk, OnOk};
-ghost use Rattle.dbtg_timeline.specs.Strips.{ends, folded, front_of, larger, part_at, strip_at, strips, strips_by, strips_of};
+ghost use Rattle.dbtg_timeline.specs.Strips.{ends, folded, front_of, larger, part_at, strip_at, strips, strips_by, strips_of, words_of};
 
 use crate::event::is_begin;
 use crate::lines::{Drawn, Line, label};
@@ -35,10 +35,14 @@ fn ends(width: usize, count: usize, next: u8, left: usize) -> bool
 }
 
 // The parts of a text, none of more bytes than this.
-fn folded(alloc: Global, width: usize, text: &[u8]) -> Result<Row<Row<u8>>, AllocError>
-    ensures { IfOk result (λ parts. parts ≡ folded width text.now) }
+fn push_folded(
+    alloc: Global,
+    parts: &mut Vec<Row<u8>>,
+    width: usize,
+    text: &[u8],
+) -> Result<(), AllocError>
+    ensures { OnOk result (parts.new.items ≡ parts.old.items ++ folded width text.now) }
 {
-    let mut parts = Vec::new(alloc);
     let mut part = Vec::new(alloc);
     for (i, byte) in text.iter().enumerate() {
         if ends(width, part.len(), *byte, text.len() - i) {
@@ -50,7 +54,7 @@ fn folded(alloc: Global, width: usize, text: &[u8]) -> Result<Row<Row<u8>>, Allo
     if !part.is_empty() {
         parts.push(Row::of(part))?;
     }
-    Ok(Row::of(parts))
+    Ok(())
 }
 
 fn part_at(alloc: Global, parts: &[Row<u8>], index: usize) -> Result<Row<u8>, AllocError>
@@ -115,6 +119,20 @@ fn push_strips_by(
     Ok(())
 }
 
+// The statement of a line, and below it for what the unit waits.
+fn push_words_of(
+    alloc: Global,
+    words: &mut Vec<Row<u8>>,
+    scripts: &[Row<Row<u8>>],
+    line: &Line,
+) -> Result<(), AllocError>
+    ensures { OnOk result (words.new.items ≡ words.old.items ++ words_of scripts.now line.now) }
+{
+    let statement = label(scripts, line.head.unit, line.head.place);
+    push_folded(alloc, words, 42, statement)?;
+    push_folded(alloc, words, 42, line.wait())
+}
+
 fn push_strips_of(
     alloc: Global,
     strips: &mut Vec<Strip>,
@@ -124,8 +142,10 @@ fn push_strips_of(
     ensures { OnOk result (strips.new.items ≡ strips.old.items ++ strips_of scripts.now line.now) }
 {
     let all = line.letters(alloc)?;
-    let letters = folded(alloc, 32, all.as_slice())?;
-    let words = folded(alloc, 42, label(scripts, line.head.unit, line.head.place))?;
+    let mut letters = Vec::new(alloc);
+    push_folded(alloc, &mut letters, 32, all.as_slice())?;
+    let mut words = Vec::new(alloc);
+    push_words_of(alloc, &mut words, scripts, line)?;
     push_strips_by(alloc, strips, line, letters.as_slice(), words.as_slice())
 }
 

@@ -4,10 +4,11 @@ ghost use Rattle.dbtg_schema.specs.Sound.{IsSound};
 ghost use Rattle.dbtg_step.specs.Core.CoreSteps.{after_move};
 ghost use Rattle.dbtg_step.specs.Laws.{scripts_fit};
 ghost use Rattle.dbtg_step.specs.Core.Parts.{machine};
-ghost use Rattle.dbtg_timeline.specs.Events.{areas_in, cells_in, ended_mark, event_of_move, events_of, in_statement_mark, made_in, mark_of, moved_mark, needed_mark, place_of, progress_in, shown, ticket_mark, unit_in};
+ghost use Rattle.dbtg_timeline.specs.Events.{areas_in, cells_in, ended_mark, event_of_move, events_of, in_statement_mark, made_in, mark_of, moved_mark, needed_mark, place_of, progress_in, shown, ticket_mark, unit_in, wait_after};
 ghost use Rattle.dbtg_timeline.specs.Watching.{events_of_run};
 
 use crate::event::{Event, Mark};
+use crate::waiting::push_waiting;
 use dbtg_schema::{Row, Schema};
 use dbtg_step::{Core, Position, Progress, make_move};
 use dbtg_unit::{Entry, Move, Statement, Stepped};
@@ -160,26 +161,45 @@ fn shown(
     before: Option<Position>,
     after: Option<Position>,
     history: &[Entry],
+    wait: Row<u8>,
 ) -> Event
-    ensures { result ≡ shown one stepped before after history.now }
+    ensures { result ≡ shown one stepped before after history.now wait }
 {
     Event {
         unit: unit_in(one),
         mark: mark_of(one, stepped, before, after, history),
         place: place_of(before),
         midway: progress_in(after).is_some(),
+        wait,
     }
 }
 
+// For what the unit waits, where its move was blocked.
+fn wait_after(alloc: Global, core: &Core, unit: u8, stepped: Stepped) -> Result<Row<u8>, AllocError>
+    ensures { IfOk result (λ wait. wait ≡ wait_after (machine core.now) unit stepped) }
+{
+    let mut wait = Vec::new(alloc);
+    match stepped {
+        Stepped::Blocked => {
+            let blocking = core.blocking(alloc, unit)?;
+            push_waiting(&mut wait, core.schema(), &blocking)?;
+        }
+        Stepped::Moved | Stepped::Idle | Stepped::NoMemory => {}
+    }
+    Ok(Row::of(wait))
+}
+
 /// Makes one move, and tells what it was.
-pub fn watch_move(core: &mut Core, one: Move) -> Result<Event, AllocError>
+pub fn watch_move(alloc: Global, core: &mut Core, one: Move) -> Result<Event, AllocError>
     ensures core { OnOk result (machine core.new ≡ after_move (machine core.old) one) }
     ensures event { IfOk result (λ event. event ≡ event_of_move (machine core.old) one) }
 {
     let unit = unit_in(one);
     let before = core.position(unit);
     let stepped = make_move(core, one)?;
-    Ok(shown(one, stepped, before, core.position(unit), core.history()))
+    let wait = wait_after(alloc, core, unit, stepped)?;
+    let after = core.position(unit);
+    Ok(shown(one, stepped, before, after, core.history(), wait))
 }
 
 fn watch_moves(alloc: Global, core: &mut Core, moves: &[Move]) -> Result<Vec<Event>, AllocError>
@@ -187,7 +207,7 @@ fn watch_moves(alloc: Global, core: &mut Core, moves: &[Move]) -> Result<Vec<Eve
 {
     let mut events = Vec::with_capacity(alloc, moves.len())?;
     for one in moves {
-        events.push(watch_move(core, *one)?)?;
+        events.push(watch_move(alloc, core, *one)?)?;
     }
     Ok(events)
 }

@@ -52,7 +52,7 @@ or_grouped true b c = refl
 or_grouped false b c = refl
 
 module _ (schema : Lists) (capacity : ℕ) (exclusive : Bool) (a : ℕ) where
-  conflict_is : (r : Runner) → conflicts (network schema capacity) exclusive a (unit_state_of schema capacity r) ≡ holds_against exclusive a r
+  pub conflict_is : (r : Runner) → conflicts (network schema capacity) exclusive a (unit_state_of schema capacity r) ≡ holds_against exclusive a r
   unfolding conflicts held_areas holds_exclusively
   conflict_is r = by r.stage
     where
@@ -143,7 +143,7 @@ module _ (schema : Lists) (capacity u : ℕ) (old : Parts) (r : Runner) (well : 
 
   -- an area
   module _ (a : ℕ) (needs : NeedsNext schema capacity old u w (Area a)) where
-    area_step : (b : Bool) → list_any (holds_against w.exclusive a) (take (u - 1) old.runners.items) || list_any (holds_against w.exclusive a) (drop u old.runners.items) ≡ b →
+    pub area_step : (b : Bool) → list_any (holds_against w.exclusive a) (take (u - 1) old.runners.items) || list_any (holds_against w.exclusive a) (drop u old.runners.items) ≡ b →
         step (network schema capacity) (opening_for schema capacity old) (state_of schema capacity old) u ≡ takes_area (network schema capacity) (state_of schema capacity old) u (unit_state_of schema capacity r) (stage_of schema capacity r.held w) a b
     unfolding state_from
     area_step b e =

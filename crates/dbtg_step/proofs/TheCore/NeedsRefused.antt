@@ -27,7 +27,8 @@ use Rattle.dbtg_step.specs.declared.parts.Parts.{Parts}
 use Rattle.dbtg_step.specs.declared.parts.Runner.{Runner}
 use Rattle.dbtg_step.specs.declared.parts.Stage.{Stage}
 use Rattle.dbtg_step.specs.Machine.SequentialDatabase.{NeedsArea, StaleGuesses}
-use Rattle.dbtg_step.specs.Machine.Step.{next_need}
+use Rattle.dbtg_step.specs.Machine.Machine.{State}
+use Rattle.dbtg_step.specs.Machine.Step.{MovedTo, next_need, step}
 use Rattle.dbtg_step.specs.Inside.NeverStuck.{InTurn}
 use Rattle.dbtg_step.specs.Machine.Network.{is_delete, network, next_need_of}
 use Rattle.dbtg_step.specs.Core.Parts.{held_cells_of, progress_of, stage_of, unit_state_of}
@@ -89,9 +90,11 @@ delete_goes_onward schema capacity db unit hands x deletes others =
     (is_stale schema capacity db unit hands.guesses x) (stale_owners schema capacity db unit hands.guesses x) (delete_is_not_stale schema capacity db unit hands.guesses x deletes)
 
 module _ (schema : Lists) (capacity u : ℕ) (old : Parts) (r : Runner) (well : IsWell schema capacity old) (numbered : 0 < u) (at : slice_get old.runners.items (u - 1) ≡ Some r) (w : Stage) (s : StandsNeeding r w) where
-  pub need_refused : ((x : Statement) → slice_get r.script r.next ≡ Some x → HasItsAreas schema r.unit r.held x) → IsStepped schema capacity u NoMemory old old
+  -- a DELETE that has its areas waits for nobody
+  pub delete_moves : ((x : Statement) → slice_get r.script r.next ≡ Some x → HasItsAreas schema r.unit r.held x) →
+      (after : State (network schema capacity)) × (step (network schema capacity) (opening_for schema capacity old) (state_of schema capacity old) u ≡ MovedTo after)
   unfolding next_need
-  need_refused f =
+  delete_moves f =
       let x = statement schema capacity u old r well numbered at w s in
       let has = f x.0 x.1 in
       let opening = opening_for schema capacity old in
@@ -107,7 +110,16 @@ module _ (schema : Lists) (capacity u : ℕ) (old : Parts) (r : Runner) (well : 
       let db = database_now schema capacity u old r well numbered at in
       let moves = exclusive_moves (network schema capacity) (network_is_sequential schema capacity well.sound) opening name_below names_are_ordered (state_of schema capacity old) well.lawful order u state progress here is x.0 (drop (suc r.next) r.script)
       s.before.ticket remaining (λ t. ap held_cells_of (s.turned t)) alone (next_need_of r.held.guesses (need schema capacity db r.unit r.held x.0)) (ap (next_need_of r.held.guesses) (need_of_holding schema capacity db r.unit x.0 r.held)) (no_area_needed schema capacity db r.unit r.held x.0 has) in
-      let wanting = wants schema capacity u old r well numbered at w s moves.after moves.event (next_need_of r.held.guesses (need schema capacity db r.unit r.held x.0)) (ap (next_need_of r.held.guesses) (need_of_holding schema capacity db r.unit x.0 r.held)) (delete_goes_onward schema capacity db r.unit r.held x.0 has.deletes) in
+      (moves.after, moves.event)
+
+  pub need_refused : ((x : Statement) → slice_get r.script r.next ≡ Some x → HasItsAreas schema r.unit r.held x) → IsStepped schema capacity u NoMemory old old
+  unfolding next_need
+  need_refused f =
+      let x = statement schema capacity u old r well numbered at w s in
+      let has = f x.0 x.1 in
+      let db = database_now schema capacity u old r well numbered at in
+      let moves = delete_moves f in
+      let wanting = wants schema capacity u old r well numbered at w s moves.0 moves.1 (next_need_of r.held.guesses (need schema capacity db r.unit r.held x.0)) (ap (next_need_of r.held.guesses) (need_of_holding schema capacity db r.unit x.0 r.held)) (delete_goes_onward schema capacity db r.unit r.held x.0 has.deletes) in
       refused_is schema capacity u old r well numbered at w s wanting old r refl refl (sym (set_same_at old.runners.items (u - 1) r at)) refl (well.runners (u - 1) r at)
 
 -- what follows from what an Err has

@@ -1,0 +1,239 @@
+//! For what a unit waits whose step is blocked, and which other units have that in hand.
+ghost use Rattle.std.specs.Prelude.{◌≡◌, ◌≤◌, ◌<◌, ◌-◌, ℕ, IfOk, MatchOption, None, Some, if◌then◌else◌, length, slice_get, true};
+ghost use Rattle.std.specs.List.{list_any};
+ghost use Rattle.dbtg_cells.specs.Names.{name_eq};
+ghost use Rattle.dbtg_schema.specs.Lists.{Lists};
+ghost use Rattle.dbtg_unit.specs.declared.held.Need.{Need};
+ghost use Rattle.dbtg_unit.specs.declared.statement.Statement.{Statement};
+ghost use Rattle.dbtg_unit.specs.Database.State.Base.{Database};
+ghost use Rattle.dbtg_unit.specs.Database.State.Belongs.{IsUnitOf, IsWithin};
+ghost use Rattle.dbtg_unit.specs.Database.Statements.Fits.{fits};
+ghost use Rattle.dbtg_unit.specs.Hands.Local.{Agrees};
+ghost use Rattle.dbtg_unit.specs.Hands.Needs.{need};
+ghost use Rattle.dbtg_step.specs.declared.parts.Runner.{Runner};
+ghost use Rattle.dbtg_step.specs.declared.waiting.Awaited.{Awaited};
+ghost use Rattle.dbtg_step.specs.Machine.NeedOrder.{HasItsAreas};
+ghost use Rattle.dbtg_step.specs.Core.Parts.{location_at};
+ghost use Rattle.dbtg_step.specs.Core.Waiting.{TellsOfBlocked, blocking_of};
+ghost use Rattle.dbtg_step.specs.Inside.Events.{IsWell, NeedsNext};
+ghost use Rattle.dbtg_step.specs.Inside.Parts.{core_of};
+ghost use Rattle.dbtg_step.specs.Inside.Stands.{StandsNeeding};
+ghost use Rattle.dbtg_step.specs.Inside.Waiting.{IsAwaited, has_awaited, is_with_unit, numbers_from};
+
+use crate::needing::{holds_against, other_holds_against};
+use crate::parts::{Parts, Place, Runner, Stage};
+use crate::runner::{Standing, statement_of, where_it_stands};
+use crate::statements::need_unless_delete;
+use dbtg_cells::{CellName, cell_number};
+use dbtg_schema::{AreaNo, Row, Schema};
+use dbtg_unit::{Held, Need};
+use std::alloc::{AllocError, Global};
+
+/// What a unit waits for: an area that it wants to share, or wants exclusively, or a cell.
+#[derive(Clone, Copy, Debug, PartialEq, Eq)]
+pub enum Awaited {
+    Area { area: AreaNo, exclusive: bool },
+    Cell(CellName),
+}
+
+/// What a unit waits for, and the numbers of the units that have it in hand, ascending.
+#[derive(Drop)]
+pub struct Blocking {
+    pub awaited: Awaited,
+    pub holders: Row<usize>,
+}
+
+// What the unit's statement needs next, unless it is a DELETE that has its areas.
+fn need_of_runner(schema: &Schema, capacity: u16, runner: &Runner) -> Option<Need>
+    requires left { runner.now.next < length runner.now.script }
+    requires fits { (x : Statement) → slice_get runner.now.script runner.now.next ≡ Some x → fits schema.now x ≡ true }
+    requires of_schema { IsUnitOf schema.now runner.now.unit }
+    requires within { IsWithin capacity runner.now.unit }
+    ensures { MatchOption result ((x : Statement) → slice_get runner.now.script runner.now.next ≡ Some x → HasItsAreas schema.now runner.now.unit runner.now.held x) (λ n. (x : Statement) (db : Database) → slice_get runner.now.script runner.now.next ≡ Some x → Agrees schema.now capacity db runner.now.held runner.now.unit → n ≡ need schema.now capacity db runner.now.unit runner.now.held x) }
+{
+    let statement = statement_of(runner);
+    need_unless_delete(schema, capacity, &runner.unit, statement, &runner.held)
+}
+
+#[tactic(auto, unfolding(crate::specs::Core::Parts::location_at))]
+fn is_with_unit(schema: &Schema, capacity: u16, table: &[Place], name: &CellName) -> bool
+    ensures { result ≡ is_with_unit (location_at schema.now capacity table.now name.now) }
+{
+    match cell_number(schema, capacity, name) {
+        Some(number) => match table.get(number) {
+            Some(Place::HeldBy(_)) => true,
+            Some(Place::Home(_)) => false,
+            None => false,
+        },
+        None => false,
+    }
+}
+
+fn awaited_cell(name: CellName) -> Awaited
+    ensures { result ≡ Awaited.Cell name }
+{
+    Awaited::Cell(name)
+}
+
+fn where_held(is_held: bool, awaited: Awaited) -> Option<Awaited>
+    ensures { result ≡ (if is_held then Some awaited else None) }
+{
+    if is_held { Some(awaited) } else { None }
+}
+
+// An area is waited for where another unit holds it in a way that conflicts.
+fn awaits_area(parts: &Parts, unit: u8, stage: Stage, area: AreaNo) -> Option<Awaited>
+    requires numbered { 0 < unit }
+    requires within { unit ≤ length parts.now.runners.items }
+    requires stands { (r : Runner) → slice_get parts.now.runners.items (unit - 1) ≡ Some r → StandsNeeding r stage }
+    ensures { (schema : Lists) (capacity : ℕ) → IsWell schema capacity parts.now → NeedsNext schema capacity parts.now unit stage (Need.Area area) → IsAwaited (core_of schema capacity parts.now) unit result }
+{
+    let exclusive = stage.exclusive;
+    let is_held = other_holds_against(&parts.runners, unit, exclusive, area);
+    where_held(is_held, Awaited::Area { area, exclusive })
+}
+
+// A cell is waited for where a unit has it.
+fn awaits_cell(
+    schema: &Schema,
+    capacity: u16,
+    parts: &Parts,
+    unit: u8,
+    stage: Stage,
+    name: CellName,
+) -> Option<Awaited>
+    requires numbered { 0 < unit }
+    requires within { unit ≤ length parts.now.runners.items }
+    requires well { IsWell schema.now capacity parts.now }
+    requires stands { (r : Runner) → slice_get parts.now.runners.items (unit - 1) ≡ Some r → StandsNeeding r stage }
+    requires needs { NeedsNext schema.now capacity parts.now unit stage (Need.Take name) }
+    ensures { IsAwaited (core_of schema.now capacity parts.now) unit result }
+{
+    // Used by the contract alone.
+    let _ = stage.linked;
+    let _ = unit;
+    let is_held = is_with_unit(schema, capacity, parts.table.as_slice(), &name);
+    where_held(is_held, awaited_cell(name))
+}
+
+// What the unit waits for, by what it needs next.
+fn awaited_by_need(
+    schema: &Schema,
+    capacity: u16,
+    parts: &Parts,
+    unit: u8,
+    stage: Stage,
+    need: Need,
+) -> Option<Awaited>
+    requires numbered { 0 < unit }
+    requires within { unit ≤ length parts.now.runners.items }
+    requires well { IsWell schema.now capacity parts.now }
+    requires stands { (r : Runner) → slice_get parts.now.runners.items (unit - 1) ≡ Some r → StandsNeeding r stage }
+    requires needs { NeedsNext schema.now capacity parts.now unit stage need }
+    ensures { IsAwaited (core_of schema.now capacity parts.now) unit result }
+{
+    match need {
+        Need::Area(area) => awaits_area(parts, unit, stage, area),
+        Need::Take(name) => awaits_cell(schema, capacity, parts, unit, stage, name),
+        Need::Stale(owners) => {
+            drop(owners);
+            None
+        }
+        Need::Ready => None,
+    }
+}
+
+// The same of a unit that follows its needs. A DELETE that has its areas waits for nobody.
+fn awaited_by_needing(
+    schema: &Schema,
+    capacity: u16,
+    parts: &Parts,
+    unit: u8,
+    stage: Stage,
+) -> Option<Awaited>
+    requires numbered { 0 < unit }
+    requires within { unit ≤ length parts.now.runners.items }
+    requires well { IsWell schema.now capacity parts.now }
+    requires stands { (r : Runner) → slice_get parts.now.runners.items (unit - 1) ≡ Some r → StandsNeeding r stage }
+    ensures { IsAwaited (core_of schema.now capacity parts.now) unit result }
+{
+    match need_of_runner(schema, capacity, &parts.runners[unit as usize - 1]) {
+        Some(need) => awaited_by_need(schema, capacity, parts, unit, stage, need),
+        None => None,
+    }
+}
+
+/// What the unit waits for, where its step is blocked.
+fn awaited_of(schema: &Schema, capacity: u16, parts: &Parts, unit: u8) -> Option<Awaited>
+    requires well { IsWell schema.now capacity parts.now }
+    ensures { IsAwaited (core_of schema.now capacity parts.now) unit result }
+{
+    if unit == 0 || parts.runners.len() < unit as usize {
+        return None;
+    }
+    match where_it_stands(&parts.runners[unit as usize - 1]) {
+        Standing::Over => None,
+        Standing::Between => None,
+        Standing::TurningBack(_) => None,
+        Standing::Needing(stage) => awaited_by_needing(schema, capacity, parts, unit, stage),
+        Standing::Ticketed(_) => None,
+    }
+}
+
+fn has_cell(held: &Held, name: &CellName) -> bool
+    ensures { result ≡ list_any (λ e. name_eq name.now e.0) held.now.cells }
+{
+    match held.cell(name) {
+        Some(_cell) => true,
+        None => false,
+    }
+}
+
+fn has_awaited(runner: &Runner, awaited: &Awaited) -> bool
+    ensures { result ≡ has_awaited awaited.now runner.now }
+{
+    match awaited {
+        Awaited::Area { area, exclusive } => holds_against(runner, *exclusive, *area),
+        Awaited::Cell(name) => runner.stage.is_some() && has_cell(&runner.held, name),
+    }
+}
+
+// The units other than this one that have it in hand.
+fn holders_among(
+    alloc: Global,
+    runners: &[Runner],
+    unit: u8,
+    awaited: &Awaited,
+) -> Result<Row<usize>, AllocError>
+    ensures { IfOk result (λ all. all ≡ numbers_from unit awaited.now 1 runners.now) }
+{
+    let mut holders = Vec::new(alloc);
+    for (index, runner) in runners.iter().enumerate() {
+        let number = index + 1;
+        if number != unit as usize && has_awaited(runner, awaited) {
+            holders.push(number)?;
+        }
+    }
+    Ok(Row::of(holders))
+}
+
+/// What the unit waits for, where its step is blocked, with all who have it.
+pub fn blocking_of(
+    alloc: Global,
+    schema: &Schema,
+    capacity: u16,
+    parts: &Parts,
+    unit: u8,
+) -> Result<Option<Blocking>, AllocError>
+    requires well { IsWell schema.now capacity parts.now }
+    ensures found { IfOk result (λ found. found ≡ blocking_of (core_of schema.now capacity parts.now) unit) }
+    ensures blocked { IfOk result (λ found. TellsOfBlocked (core_of schema.now capacity parts.now) unit found) }
+{
+    match awaited_of(schema, capacity, parts, unit) {
+        Some(awaited) => {
+            let holders = holders_among(alloc, parts.runners.as_slice(), unit, &awaited)?;
+            Ok(Some(Blocking { awaited, holders }))
+        }
+        None => Ok(None),
+    }
+}

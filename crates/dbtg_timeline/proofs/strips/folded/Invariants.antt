@@ -1,6 +1,0 @@
-use Rattle.std.proofs.Common.{◌≡◌, ◌++◌, drop}
-use Rattle.dbtg_timeline.specs.Strips.{folded, folded_from}
-use Rattle.dbtg_timeline.proofs.strips.folded.Given as goal
-
-abbrev pub invariant-loop-i : goal.invariant-loop-i
-invariant-loop-i l = l.parts.items ++ folded_from l.width l.part.items (drop l.i l.text) ≡ folded l.width l.text
