@@ -146,8 +146,8 @@ fn timeline_known<S: Source>(
     }
 }
 
-/// What `timeline` or `page` prints of the schema, the scripts and the moves or turns that a source gives, or the first fault. Without moves and
-/// turns one script is made after the other. Before all others the last script is made, where it is made first.
+/// What `timeline` or `page` prints of the schema, the scripts and the moves or turns that a source gives, or the first fault. Without
+/// moves and turns one script is made after the other. Before all others the last script is made, if it is to be made first.
 pub fn timeline<S: Source>(
     alloc: Global,
     source: &S,

@@ -2,7 +2,7 @@
 -- that it gave none, as the reader of files says it; for this line files are read again, and standard input is not.
 use Rattle.std.specs.Prelude.{ℕ, ◌≡◌, ◌==◌, ◌||◌, not, false, List, [], ◌++◌, ◌⊎◌, Option, Some, None, codes, decimal, length, slice_get, string_bytes, unwrap_or, ◌-◌, if◌then◌else◌}
 use Rattle.std.specs.Str.{bytes_eq}
-use Rattle.core.specs.Str.Lossy.{utf8_lossy}
+use Rattle.std.specs.Str.Lossy.{utf8_lossy}
 use Rattle.dbtg_schema.specs.Texts.Causes.{cause_number as schema_cause_number}
 use Rattle.dbtg_schema.specs.Texts.SchemaFaults.{refusal}
 use Rattle.dbtg_schema.specs.declared.fault.Fault.{Fault as SchemaRefusal}

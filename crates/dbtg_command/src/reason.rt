@@ -283,9 +283,10 @@ fn told_of<F: FileReader>(
     ensures { IfOk result (λ told. MatchOption told (HasNoReason fault.now) (λ out. IsReason (F.has files.now.reader.now) (F.lacks files.now.reader.now) files.now.paths.now.schema.now (map (λ path. path.now) files.now.paths.now.scripts.now) (order_map (λ path. path.now) files.now.paths.now.order) fault.now out.items)) }
 {
     let paths = files.paths;
-    let told = match fault {
+    match fault {
         Fault::Schema { line, cause } => {
-            schema_reason(alloc, files, paths.schema, *line, cause.number())?
+            let told = schema_reason(alloc, files, paths.schema, *line, cause.number())?;
+            Ok(Some(told))
         }
         Fault::Script {
             number,
@@ -293,18 +294,22 @@ fn told_of<F: FileReader>(
             cause,
         } => {
             let path = script_path(paths, *number);
-            script_reason(alloc, files, path, *line, cause.number())?
+            let told = script_reason(alloc, files, path, *line, cause.number())?;
+            Ok(Some(told))
         }
         Fault::Moves { word, cause } => {
-            order_reason(alloc, order_path(paths), Kind::Moves, *word, cause.number())?
+            let path = order_path(paths);
+            let told = order_reason(alloc, path, Kind::Moves, *word, cause.number())?;
+            Ok(Some(told))
         }
         Fault::Turns { word, cause } => {
-            order_reason(alloc, order_path(paths), Kind::Turns, *word, cause.number())?
+            let path = order_path(paths);
+            let told = order_reason(alloc, path, Kind::Turns, *word, cause.number())?;
+            Ok(Some(told))
         }
-        Fault::Unreadable { path } => unread_line(alloc, files, path.as_str())?,
-        _ => return Ok(None),
-    };
-    Ok(Some(told))
+        Fault::Unreadable { path } => Ok(Some(unread_line(alloc, files, path.as_str())?)),
+        _ => Ok(None),
+    }
 }
 
 /// The second line of a fault, where there is one. To say it the files are read again.

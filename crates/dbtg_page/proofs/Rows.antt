@@ -25,6 +25,6 @@ unfolding row quoted field
 two_strings = refl
 
 -- the ticket of unit 2's eleventh statement, which is refused
-a_refusal : event_row (record { unit = 2; mark = Ticket 12 505; place = 10; midway = true }) ≡ row (codes "EVENT") (decimal 2 ∷ codes "X" ∷ decimal 10 ∷ [])
+a_refusal : event_row (record { unit = 2; mark = Ticket 12 505; place = 10; midway = true; wait = [] }) ≡ row (codes "EVENT") (decimal 2 ∷ codes "X" ∷ decimal 10 ∷ [])
 unfolding event_row
 a_refusal = refl

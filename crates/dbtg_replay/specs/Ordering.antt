@@ -1,13 +1,12 @@
 -- In which order units make their statements: turns, and the moves that they stand for. One script may be made first: it is the last
 -- of the scripts, and its unit makes it whole before all others.
 -- lists is the schema that a text says.
-use Rattle.std.specs.Prelude.{ℕ, ◌≡◌, ◌+◌, ◌++◌, Bool, true, false, List, [], ◌∷◌, length, replicate}
+use Rattle.std.specs.Prelude.{ℕ, ◌≡◌, ◌+◌, ◌-◌, ◌++◌, Bool, true, false, List, [], ◌∷◌, length, replicate, slice_get, unwrap_or}
 use Rattle.dbtg_schema.specs.Lists.{Lists}
 use Rattle.dbtg_unit.specs.declared.moves.Move.{Move}
 use Rattle.dbtg_unit.specs.declared.statement.Statement.{Statement}
 use Rattle.dbtg_step.specs.declared.results.Run.{Run}
 use Rattle.dbtg_step.specs.Core.Turns.{IsRunByTurns}
-use Rattle.dbtg_outcomes.specs.Orders.{last_of}
 
 -- these turns stand for these moves: there is such a run
 abbrev pub StandFor : Lists → ℕ → List (List Statement) → List ℕ → List Move → Type 0
@@ -19,6 +18,10 @@ serial_turns u [] = []
 serial_turns u (script ∷ scripts) = replicate (length script) u ++ serial_turns (u + 1) scripts
 
 -- THE SCRIPT THAT IS MADE FIRST
+
+-- the last of the scripts
+abbrev pub last_of : List (List Statement) → List Statement
+last_of scripts = unwrap_or (slice_get scripts (length scripts - 1)) []
 
 -- its unit, the last one, takes a turn for each of its statements; none where no script is made first
 abbrev pub first_turns : Bool → List (List Statement) → List ℕ

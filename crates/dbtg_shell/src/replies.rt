@@ -1,9 +1,9 @@
 //! What the shell replies to a line: texts of answers, faults and currents.
-ghost use Rattle.std.specs.Prelude.{◌≡◌, ◌-◌, ◌%◌, ◌≤◌, ◌<◌, [], IfOk, OnOk, Some, option_map, slice_get};
+ghost use Rattle.std.specs.Prelude.{◌≡◌, ◌-◌, ◌%◌, ◌≤◌, ◌<◌, [], ◌∷◌, ◌++◌, codes, decimal, IfOk, OnOk, Some, option_map, slice_get};
 ghost use Rattle.dbtg_script.specs.Printing.Texts.{image_text, unit_text, units_text};
 ghost use Rattle.dbtg_step.specs.Core.Whole.{state_now};
 ghost use Rattle.dbtg_unit.specs.Database.State.Image.{image_of};
-ghost use Rattle.dbtg_shell.specs.Sessions.{IsFaultText, answer_reply, cause_name, no_unit_text};
+ghost use Rattle.dbtg_shell.specs.Sessions.{IsFaultText, answer_reply, cause_name, no_unit_text, said_or};
 
 use crate::session::Session;
 use dbtg_command::explain::{CAUSES, Kind, field, line_at, meaning_of, row_with, said_of_word};
@@ -50,6 +50,25 @@ fn hint_for(line: &[u8]) -> &'static [u8] {
     }
 }
 
+// The line of a fault: its number; what is said of the word, or else the meaning; a hint.
+fn fault_line(
+    alloc: Global,
+    number: u8,
+    meaning: &[u8],
+    word: &[u8],
+    hint: &[u8],
+) -> Result<Vec<u8>, AllocError>
+    ensures { IfOk result (λ out. out.items ≡ codes "fault " ++ decimal number ++ codes ": " ++ said_or meaning.now word.now ++ hint.now ++ 10 ∷ []) }
+{
+    let mut out = Vec::from_slice(alloc, b"fault ")?;
+    push_number(&mut out, number as u64)?;
+    out.extend_from_slice(b": ")?;
+    out.extend_from_slice(if word.is_empty() { meaning } else { word })?;
+    out.extend_from_slice(hint)?;
+    out.push(b'\n')?;
+    Ok(out)
+}
+
 /// The fault of a line: its number, and what is said of the word that is at fault, or what the fault means.
 pub fn fault_reply(
     alloc: Global,
@@ -62,17 +81,7 @@ pub fn fault_reply(
     let number = cause.number();
     let meaning = meaning_of(Kind::Script, number);
     let word = said_of_word(alloc, schema, line_at(line, 1), number)?;
-    let mut out = Vec::from_slice(alloc, b"fault ")?;
-    push_number(&mut out, number as u64)?;
-    out.extend_from_slice(b": ")?;
-    out.extend_from_slice(if word.is_empty() {
-        meaning
-    } else {
-        word.as_slice()
-    })?;
-    out.extend_from_slice(hint_for(line))?;
-    out.push(b'\n')?;
-    Ok(out)
+    fault_line(alloc, number, meaning, word.as_slice(), hint_for(line))
 }
 
 /// The line that says which numbers units have, for a number that no unit has.

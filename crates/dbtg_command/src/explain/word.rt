@@ -197,9 +197,9 @@ pub fn said_of_word(
 {
     let text = faulty_text(alloc, schema, line)?;
     let word = told_part(text.as_slice(), number);
-    let rtype = type_word(line);
-    let names = names_for(alloc, schema, number, rtype)?;
+    let rtype = Vec::from_slice(alloc, type_word(line))?;
+    let names = names_for(alloc, schema, number, rtype.as_slice())?;
     let meaning = meaning_of(Kind::Script, number);
-    let parts = [word, rtype, names.as_slice(), meaning];
+    let parts = [word, rtype.as_slice(), names.as_slice(), meaning];
     said_by(alloc, FORMS, number, word, &parts)
 }

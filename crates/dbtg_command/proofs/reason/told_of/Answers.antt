@@ -1,0 +1,11 @@
+use Rattle.dbtg_command.proofs.reason.told_of.Goals as goal
+
+pub returns-in_ok-told-in-Schema : goal.returns-in_ok-told-in-Schema
+returns-in_ok-told-in-Schema g c =
+    let told = rw c.number.ensures at c.in_ok-told-in-Schema.ensures in
+    rw c.in-Schema.is told
+
+pub returns-in_ok-told-in-Script : goal.returns-in_ok-told-in-Script
+returns-in_ok-told-in-Script g c =
+    let told = rw (c.script_path-path.ensures, c.number-in-Script.ensures) at c.in_ok-told-in-Script.ensures in
+    rw c.in-Script.is told
