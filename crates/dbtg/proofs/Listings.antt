@@ -26,7 +26,7 @@ use Rattle.dbtg_unit.specs.declared.moves.Move.{Move}
 use Rattle.dbtg_command.specs.declared.fault.Fault.{Fault}
 use Rattle.dbtg_command.specs.declared.fault.Fault.TheVariants.{Memory, MovesOver}
 use Rattle.dbtg_command.specs.declared.order.Order.TheVariants.{Serial}
-use Rattle.dbtg_command.specs.declared.place.Place.{Place}
+use Rattle.dbtg_command.specs.declared.place.TextPlace.{TextPlace}
 use Rattle.dbtg.specs.declared.outcomes.Front.{Front}
 use Rattle.dbtg.specs.declared.outcomes.ListingOptions.{ListingOptions}
 use Rattle.dbtg.specs.Listing.{AreResultTexts, IsListing, IsLong, IsOver, IsResultText, OutcomesHeld, ToldOfOutcomes, meeting_of, result_line, result_text, summary_text, worded}
@@ -155,7 +155,7 @@ pub untold : (m : Meeting) (all : Outcomes) (limit : ℕ) (fault : Fault) → Ar
 untold m all limit fault are (inl e) = subst (IsOver m limit) (sym e) tt
 untold m all limit fault are (inr long) = subst (IsOver m limit) (sym long.0) (record { all = all; are = are; one = long.1; among = long.2; long = long.3 })
 
-module _ (holds : Place → List ℕ → Type 0) (lists : Lists) (count : ℕ) (options : ListingOptions) (right : is_count count ≡ true) (read : ReadSchema holds lists) (scripts : ReadScripts holds lists count)
+module _ (holds : TextPlace → List ℕ → Type 0) (lists : Lists) (count : ℕ) (options : ListingOptions) (right : is_count count ≡ true) (read : ReadSchema holds lists) (scripts : ReadScripts holds lists count)
     (statements : List (List Statement)) (same : statements ≡ map (script lists) scripts.texts) where
   of_texts : (Of : Meeting → Type 0) → Of (meeting_of lists statements options) → Of (meeting_of lists (map (script lists) scripts.texts) options)
   of_texts Of of = subst (λ (ss : List (List Statement)). Of (meeting_of lists ss options)) same of
@@ -170,5 +170,5 @@ module _ (holds : Place → List ℕ → Type 0) (lists : Lists) (count : ℕ) (
     },
   )
 
-  pub over : (fails : Place → Fault → Type 0) (fault : Fault) → IsOver (meeting_of lists statements options) options.limit fault → ToldOfOutcomes holds fails fault count options
+  pub over : (fails : TextPlace → Fault → Type 0) (fault : Fault) → IsOver (meeting_of lists statements options) options.limit fault → ToldOfOutcomes holds fails fault count options
   over fails fault is = inr (record { lists = lists; right = right; schema = read; scripts = scripts; over = of_texts (λ m. IsOver m options.limit fault) is })

@@ -6,7 +6,7 @@ use Rattle.dbtg_unit.specs.declared.statement.Statement.{Statement}
 use Rattle.dbtg_script.specs.Statements.{script}
 use Rattle.dbtg_step.specs.declared.results.Run.{Run}
 use Rattle.dbtg_step.specs.Core.Turns.{IsRunByTurns}
-use Rattle.dbtg_command.specs.declared.place.Place.{Place}
+use Rattle.dbtg_command.specs.declared.place.TextPlace.{TextPlace}
 use Rattle.dbtg_command.specs.declared.order.Order.{Order}
 use Rattle.dbtg_command.specs.declared.order.Order.TheVariants.{Moves, Serial, Turns}
 use Rattle.dbtg_command.specs.declared.order.OrderKind.TheVariants as kind
@@ -21,7 +21,7 @@ use Rattle.dbtg_command.proofs.Public.{all_accepted, read_texts}
 pub stands_for : (lists : Lists) (capacity : ℕ) (scripts : List (List Statement)) (turns : List ℕ) (moves said : List Move) (given : Run) → said ≡ moves → IsRunByTurns lists capacity scripts turns moves given → StandFor lists capacity scripts turns said
 stands_for lists capacity scripts turns moves said given e run = (given, subst (λ ms. IsRunByTurns lists capacity scripts turns ms given) (sym e) run)
 
-pictures : (holds : Place → List ℕ → Type 0) (lists : Lists) (count : ℕ) (order : Order (List ℕ)) (first : Bool) (form : Form) (capacity : ℕ) (out : List ℕ)
+pictures : (holds : TextPlace → List ℕ → Type 0) (lists : Lists) (count : ℕ) (order : Order (List ℕ)) (first : Bool) (form : Form) (capacity : ℕ) (out : List ℕ)
     → is_count count ≡ true → ReadSchema holds lists → (scripts : ReadScripts holds lists count) → HoldsOrder holds order → AcceptsOrder order
     → IsPictured lists capacity (map (script lists) scripts.texts) scripts.texts form (AreInOrder first lists capacity (map (script lists) scripts.texts) order) out
     → TimelineHeld holds count (kind_of order) first capacity form out
@@ -36,7 +36,7 @@ pictures holds lists count order first form capacity out right read scripts held
 )
 
 -- the same of what was read: nothing that says the order, moves, or turns
-module _ (holds : Place → List ℕ → Type 0) (lists : Lists) (count capacity : ℕ) (first : Bool) (form : Form) (out : List ℕ) (right : is_count count ≡ true) (read : ReadSchema holds lists) (scripts : ReadScripts holds lists count)
+module _ (holds : TextPlace → List ℕ → Type 0) (lists : Lists) (count capacity : ℕ) (first : Bool) (form : Form) (out : List ℕ) (right : is_count count ≡ true) (read : ReadSchema holds lists) (scripts : ReadScripts holds lists count)
     (statements : List (List Statement)) (same : statements ≡ map (script lists) scripts.texts) (texts : List (List ℕ)) (are : texts ≡ scripts.texts) where
   pictures_in : (order : Order (List ℕ)) → HoldsOrder holds order → AcceptsOrder order → IsPictured lists capacity statements texts form (AreInOrder first lists capacity statements order) out → TimelineHeld holds count (kind_of order) first capacity form out
   pictures_in order held accepted pictured =

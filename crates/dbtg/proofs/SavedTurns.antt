@@ -11,7 +11,7 @@ use Rattle.dbtg_step.specs.Machine.Headline.{IsSequential}
 use Rattle.dbtg_script.specs.Statements.{script}
 use Rattle.dbtg_script.specs.Turns.{turns_refusal}
 use Rattle.dbtg_command.specs.declared.order.Order.TheVariants.{Serial, Turns}
-use Rattle.dbtg_command.specs.declared.place.Place.{Place}
+use Rattle.dbtg_command.specs.declared.place.TextPlace.{TextPlace}
 use Rattle.dbtg_command.specs.Refusals.{AcceptsTexts, is_count, schema_in}
 use Rattle.dbtg_command.specs.Sources.{ReadSchema, ReadScripts}
 use Rattle.dbtg_command.proofs.Public.{all_accepted, read_texts}
@@ -47,7 +47,7 @@ saved_again text scripts capacity out turns right accepted printed_is =
     (again.0, λ printed r. printed_is.is_text ∙ ap (λ xs. xs ++ audit_line) (sym (again.1 printed r)))
 
 -- what the statements that were read come to on threads is what the texts do
-pub runs_on_threads : (holds : Place → List ℕ → Type 0) (lists : Lists) (count capacity : ℕ) (out turns : List ℕ)
+pub runs_on_threads : (holds : TextPlace → List ℕ → Type 0) (lists : Lists) (count capacity : ℕ) (out turns : List ℕ)
     → is_count count ≡ true → ReadSchema holds lists → (scripts : ReadScripts holds lists count)
     → IsPrintedOnThreads lists capacity (map (script lists) scripts.texts) out turns → ThreadsHeld holds count capacity out turns
 runs_on_threads holds lists count capacity out turns right read scripts run =

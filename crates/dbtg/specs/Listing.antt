@@ -20,7 +20,7 @@ use Rattle.dbtg_step.specs.Core.Turns.{IsRunByTurns}
 use Rattle.dbtg_command.specs.declared.fault.Fault.{Fault}
 use Rattle.dbtg_command.specs.declared.fault.Fault.TheVariants as fault
 use Rattle.dbtg_command.specs.declared.order.OrderKind.TheVariants as kind
-use Rattle.dbtg_command.specs.declared.place.Place.{Place}
+use Rattle.dbtg_command.specs.declared.place.TextPlace.{TextPlace}
 use Rattle.dbtg_replay.specs.Ordering.{AreFirstMoves, StandFor, first_turns}
 use Rattle.dbtg.specs.declared.outcomes.ListingOptions.{ListingOptions}
 use Rattle.dbtg_command.specs.Refusals.{AcceptsTexts, is_count, schema_in}
@@ -130,11 +130,11 @@ pub record IsOutcomesText (text : List ℕ) (scripts : List (List ℕ)) (options
   pub listing : IsListing (meeting_of (schema_in text) (map (script (schema_in text)) scripts) options) options.limit out
 
 -- what `outcomes` prints of texts that are held
-abbrev pub OutcomesHeld : (Place → List ℕ → Type 0) → ℕ → ListingOptions → List ℕ → Type 0
+abbrev pub OutcomesHeld : (TextPlace → List ℕ → Type 0) → ℕ → ListingOptions → List ℕ → Type 0
 OutcomesHeld holds count options out = (texts : Texts holds count kind.Serial) × IsOutcomesText texts.schema texts.scripts options out
 
 -- all texts are held and accepted, and the fault tells of too many states or moves
-pub record ToldOfListing (holds : Place → List ℕ → Type 0) (fault : Fault) (count : ℕ) (options : ListingOptions) : Type 0 where
+pub record ToldOfListing (holds : TextPlace → List ℕ → Type 0) (fault : Fault) (count : ℕ) (options : ListingOptions) : Type 0 where
   pub lists : Lists
   pub right : is_count count ≡ true
   pub schema : ReadSchema holds lists
@@ -142,5 +142,5 @@ pub record ToldOfListing (holds : Place → List ℕ → Type 0) (fault : Fault)
   pub over : IsOver (meeting_of lists (map (script lists) scripts.texts) options) options.limit fault
 
 -- what `outcomes` tells: a fault of a run, or of its listing
-abbrev pub ToldOfOutcomes : (Place → List ℕ → Type 0) → (Place → Fault → Type 0) → Fault → ℕ → ListingOptions → Type 0
+abbrev pub ToldOfOutcomes : (TextPlace → List ℕ → Type 0) → (TextPlace → Fault → Type 0) → Fault → ℕ → ListingOptions → Type 0
 ToldOfOutcomes holds fails fault count options = ToldOfRun holds fails fault count kind.Serial ⊎ ToldOfListing holds fault count options

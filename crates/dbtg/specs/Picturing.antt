@@ -15,7 +15,7 @@ use Rattle.dbtg_command.specs.declared.explain.causes.TheConstants.{CAUSES}
 use Rattle.dbtg_command.specs.declared.order.Order.{Order}
 use Rattle.dbtg_command.specs.declared.order.Order.TheVariants.{Moves, Serial, Turns}
 use Rattle.dbtg_command.specs.declared.order.OrderKind.{OrderKind}
-use Rattle.dbtg_command.specs.declared.place.Place.{Place}
+use Rattle.dbtg_command.specs.declared.place.TextPlace.{TextPlace}
 use Rattle.dbtg.specs.declared.timeline.Form.{Form}
 use Rattle.dbtg.specs.declared.timeline.Form.TheVariants.{Page, Svg, Text}
 use Rattle.dbtg_replay.specs.Ordering.{AreFirstMoves, StandFor, first_turns, serial_turns}
@@ -48,5 +48,5 @@ pub record IsTimeline (first : Bool) (text : List ℕ) (scripts : List (List ℕ
   pub pictured : IsPictured (schema_in text) capacity (map (script (schema_in text)) scripts) scripts form (AreInOrder first (schema_in text) capacity (map (script (schema_in text)) scripts) order) out
 
 -- what `timeline` and `page` print of texts that are held
-abbrev pub TimelineHeld : (Place → List ℕ → Type 0) → ℕ → OrderKind → Bool → ℕ → Form → List ℕ → Type 0
+abbrev pub TimelineHeld : (TextPlace → List ℕ → Type 0) → ℕ → OrderKind → Bool → ℕ → Form → List ℕ → Type 0
 TimelineHeld holds count which first capacity form out = (texts : Texts holds count which) × IsTimeline first texts.schema texts.scripts texts.order capacity form out

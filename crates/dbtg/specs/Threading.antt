@@ -14,7 +14,7 @@ use Rattle.dbtg_script.specs.Turns.{turns_refusal}
 use Rattle.dbtg_script.specs.Printing.WordTexts.{turns_text}
 use Rattle.dbtg_command.specs.declared.order.Order.TheVariants.{Turns}
 use Rattle.dbtg_command.specs.declared.order.OrderKind.TheVariants as kind
-use Rattle.dbtg_command.specs.declared.place.Place.{Place}
+use Rattle.dbtg_command.specs.declared.place.TextPlace.{TextPlace}
 use Rattle.dbtg_command.specs.Refusals.{AcceptsTexts, is_count, schema_in}
 use Rattle.dbtg_command.specs.Sources.{Texts}
 use Rattle.dbtg_replay.specs.Replaying.{IsReplay}
@@ -55,5 +55,5 @@ pub record IsThreads (text : List ℕ) (scripts : List (List ℕ)) (capacity : �
   pub again : (printed : List ℕ) → IsReplay text scripts (Turns turns) capacity printed → out ≡ printed ++ audit_line
 
 -- what `threads` prints of texts that are held, and the turns that it saves
-abbrev pub ThreadsHeld : (Place → List ℕ → Type 0) → ℕ → ℕ → List ℕ → List ℕ → Type 0
+abbrev pub ThreadsHeld : (TextPlace → List ℕ → Type 0) → ℕ → ℕ → List ℕ → List ℕ → Type 0
 ThreadsHeld holds count capacity out turns = (texts : Texts holds count kind.Serial) × IsThreads texts.schema texts.scripts capacity out turns

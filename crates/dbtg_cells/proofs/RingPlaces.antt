@@ -7,7 +7,7 @@ use Rattle.std.specs.List.{list_any, list_all, insert, remove}
 use Rattle.std.specs.Option.{IsSome, IfSome}
 use Rattle.dbtg_cells.specs.declared.key.DbKey.{DbKey}
 use Rattle.dbtg_cells.specs.declared.links.Node.{Node}
-use Rattle.dbtg_cells.specs.declared.sorted.Known.{Known}
+use Rattle.dbtg_cells.specs.declared.sorted.SortFacts.{SortFacts}
 use Rattle.dbtg_cells.specs.Keys.{key_eq, has_type}
 use Rattle.dbtg_cells.specs.Members.{Entry}
 use Rattle.dbtg_cells.specs.Inside.Chain.{Slots, Link, slot, head_at, last_at, Seg, Avoids, Apart, follow, end_or, unlinked_keys, key_at, linked_at, IsRing}

@@ -13,8 +13,8 @@ use Rattle.dbtg_command.specs.declared.order.Order.{Order}
 use Rattle.dbtg_command.specs.declared.order.Order.TheVariants as by
 use Rattle.dbtg_command.specs.declared.order.OrderKind.{OrderKind}
 use Rattle.dbtg_command.specs.declared.order.OrderKind.TheVariants as kind
-use Rattle.dbtg_command.specs.declared.place.Place.{Place}
-use Rattle.dbtg_command.specs.declared.place.Place.TheVariants.{Script}
+use Rattle.dbtg_command.specs.declared.place.TextPlace.{TextPlace}
+use Rattle.dbtg_command.specs.declared.place.TextPlace.TheVariants.{Script}
 use Rattle.dbtg_command.specs.Checking.{ChecksHeld, IsCheck}
 use Rattle.dbtg_command.specs.Refusals.{AcceptsTexts, RefusesReplay, RefusesSchema, RefusesScript, RefusesScripts, RefusesOrder, RefusesTexts, schema_in}
 use Rattle.dbtg_command.specs.Sources.{HoldsOrder, HoldsScripts, ToldOfOrder, ToldOfRun, ToldOfSchema, ToldOfScripts, ToldOfTexts, kind_of, order_map}
@@ -64,7 +64,7 @@ at_hand_check schema scripts out held =
     (subst (λ (ss : List (List ℕ)). IsCheck texts.schema ss out) (all_are schema by.Serial scripts texts.scripts texts.holds_scripts texts.many) held.1)
 
 -- no text at hand is wanting, but for memory
-abbrev pub OnlyMemory : Place → Fault → Type 0
+abbrev pub OnlyMemory : TextPlace → Fault → Type 0
 OnlyMemory place fault = fault ≡ Memory
 
 pub schema_told : (fault : Fault) (schema : List ℕ) (scripts : List (List ℕ)) (order : Order (List ℕ)) → ToldOfSchema (StandsIn schema scripts order) OnlyMemory fault → RefusesSchema fault (schema_refusal schema)

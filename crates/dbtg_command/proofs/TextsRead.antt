@@ -7,8 +7,8 @@ use Rattle.dbtg_script.specs.StatementFaults.{refusal as script_refusal}
 use Rattle.dbtg_script.specs.Statements.{script}
 use Rattle.dbtg_script.specs.Printing.Texts.{script_line}
 use Rattle.dbtg_command.specs.declared.fault.Fault.{Fault}
-use Rattle.dbtg_command.specs.declared.place.Place.{Place}
-use Rattle.dbtg_command.specs.declared.place.Place.TheVariants.{Script}
+use Rattle.dbtg_command.specs.declared.place.TextPlace.{TextPlace}
+use Rattle.dbtg_command.specs.declared.place.TextPlace.TheVariants.{Script}
 use Rattle.dbtg_command.specs.declared.order.Order.{Order}
 use Rattle.dbtg_command.specs.declared.order.Order.TheVariants.{Serial}
 use Rattle.dbtg_command.specs.Checking.{ChecksHeld, check_text, script_lines}
@@ -17,7 +17,7 @@ use Rattle.dbtg_command.specs.Sources.{HoldsOrder, HoldsScripts, ReadSchema, Rea
 use Rattle.dbtg_command.proofs.InTurn.{accepted_behind, lines_behind}
 
 -- a text that is held behind others
-pub held_behind : (holds : Place → List ℕ → Type 0) (n : ℕ) (front : List (List ℕ)) (text : List ℕ) → HoldsScripts holds n front → holds (Script (n + length front)) text → HoldsScripts holds n (front ++ text ∷ [])
+pub held_behind : (holds : TextPlace → List ℕ → Type 0) (n : ℕ) (front : List (List ℕ)) (text : List ℕ) → HoldsScripts holds n front → holds (Script (n + length front)) text → HoldsScripts holds n (front ++ text ∷ [])
 held_behind holds n [] text held one =
     let same : n + 0 ≡ n = omega arith in
     (subst (λ (k : ℕ). holds (Script k) text) same one, tt)
@@ -25,7 +25,7 @@ held_behind holds n (first ∷ front) text held one =
     let same : n + suc (length front) ≡ n + 1 + length front = omega arith in
     (held.0, held_behind holds (n + 1) front text held.1 (subst (λ (k : ℕ). holds (Script k) text) same one))
 
-pub one_more : (holds : Place → List ℕ → Type 0) (lists : Lists) (n : ℕ) (text : List ℕ) → ReadScripts holds lists n → holds (Script (n + 1)) text → script_refusal lists text ≡ None → ReadScripts holds lists (n + 1)
+pub one_more : (holds : TextPlace → List ℕ → Type 0) (lists : Lists) (n : ℕ) (text : List ℕ) → ReadScripts holds lists n → holds (Script (n + 1)) text → script_refusal lists text ≡ None → ReadScripts holds lists (n + 1)
 one_more holds lists n text read held accepted =
     let number : n + 1 ≡ 1 + length read.texts = omega (arith, read.many) in
     record {
@@ -36,7 +36,7 @@ one_more holds lists n text read held accepted =
     }
 
 -- the lines of the scripts that were read, and of one more
-pub line_behind : (holds : Place → List ℕ → Type 0) (lists : Lists) (n : ℕ) (text start before after : List ℕ)
+pub line_behind : (holds : TextPlace → List ℕ → Type 0) (lists : Lists) (n : ℕ) (text start before after : List ℕ)
     → (read : ReadScripts holds lists n) × (before ≡ start ++ script_lines lists 1 read.texts) → holds (Script (n + 1)) text → script_refusal lists text ≡ None
     → after ≡ before ++ script_line (n + 1) (length (script lists text)) → (read : ReadScripts holds lists (n + 1)) × (after ≡ start ++ script_lines lists 1 read.texts)
 unfolding one_more
@@ -54,7 +54,7 @@ line_behind holds lists n text start before after so_far held e line =
     )
 
 -- the statements of the scripts that were read, with their texts, and of one more
-pub texts_behind : (holds : Place → List ℕ → Type 0) (lists : Lists) (n : ℕ) (text : List ℕ) (before after : List (List Statement)) (texts more : List (List ℕ))
+pub texts_behind : (holds : TextPlace → List ℕ → Type 0) (lists : Lists) (n : ℕ) (text : List ℕ) (before after : List (List Statement)) (texts more : List (List ℕ))
     → (read : ReadScripts holds lists n) × (before ≡ map (script lists) read.texts) × (texts ≡ read.texts) → holds (Script (n + 1)) text → script_refusal lists text ≡ None
     → after ≡ before ++ script lists text ∷ [] → more ≡ texts ++ text ∷ [] → (read : ReadScripts holds lists (n + 1)) × (after ≡ map (script lists) read.texts) × (more ≡ read.texts)
 unfolding one_more
@@ -65,16 +65,16 @@ texts_behind holds lists n text before after texts more so_far held e taken kept
 )
 
 -- a fault of the script behind those that were read
-pub told_here : (holds : Place → List ℕ → Type 0) (fails : Place → Fault → Type 0) (fault : Fault) (lists : Lists) (i count : ℕ) → ReadScripts holds lists i → i < count
+pub told_here : (holds : TextPlace → List ℕ → Type 0) (fails : TextPlace → Fault → Type 0) (fault : Fault) (lists : Lists) (i count : ℕ) → ReadScripts holds lists i → i < count
     → ToldIn holds fails fault (Script (i + 1)) (λ text. RefusesScript fault (i + 1) (script_refusal lists text)) → ToldOfScripts holds fails fault lists count
 told_here holds fails fault lists i count read within told = record { before = i; read = read; within = within; told = told }
 
 -- what was read is accepted, as the schema's text says it
-pub all_accepted : (holds : Place → List ℕ → Type 0) (lists : Lists) (count : ℕ) (read : ReadSchema holds lists) (scripts : ReadScripts holds lists count) → AcceptsTexts read.text scripts.texts
+pub all_accepted : (holds : TextPlace → List ℕ → Type 0) (lists : Lists) (count : ℕ) (read : ReadSchema holds lists) (scripts : ReadScripts holds lists count) → AcceptsTexts read.text scripts.texts
 all_accepted holds lists count read scripts = (read.accepted, subst (λ (s : Lists). AllAccepted s scripts.texts) read.says scripts.accepted)
 
 -- the texts that were read, in this order
-abbrev pub read_texts : (holds : Place → List ℕ → Type 0) (lists : Lists) (count : ℕ) → ReadSchema holds lists → ReadScripts holds lists count → (order : Order (List ℕ)) → HoldsOrder holds order → Texts holds count (kind_of order)
+abbrev pub read_texts : (holds : TextPlace → List ℕ → Type 0) (lists : Lists) (count : ℕ) → ReadSchema holds lists → ReadScripts holds lists count → (order : Order (List ℕ)) → HoldsOrder holds order → Texts holds count (kind_of order)
 read_texts holds lists count read scripts order held = record {
   schema = read.text;
   scripts = scripts.texts;
@@ -86,7 +86,7 @@ read_texts holds lists count read scripts order held = record {
   holds_order = held;
 }
 
-pub checks : (holds : Place → List ℕ → Type 0) (lists : Lists) (count : ℕ) (out : List ℕ) → ReadSchema holds lists → (scripts : ReadScripts holds lists count) → out ≡ check_text lists scripts.texts → ChecksHeld holds count out
+pub checks : (holds : TextPlace → List ℕ → Type 0) (lists : Lists) (count : ℕ) (out : List ℕ) → ReadSchema holds lists → (scripts : ReadScripts holds lists count) → out ≡ check_text lists scripts.texts → ChecksHeld holds count out
 checks holds lists count out read scripts e = (
   read_texts holds lists count read scripts Serial tt,
   record {

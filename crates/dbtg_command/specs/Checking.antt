@@ -4,7 +4,7 @@ use Rattle.dbtg_schema.specs.Lists.{Lists}
 use Rattle.dbtg_script.specs.Statements.{script}
 use Rattle.dbtg_script.specs.Printing.Texts.{schema_line, script_line}
 use Rattle.dbtg_command.specs.declared.order.OrderKind.TheVariants as kind
-use Rattle.dbtg_command.specs.declared.place.Place.{Place}
+use Rattle.dbtg_command.specs.declared.place.TextPlace.{TextPlace}
 use Rattle.dbtg_command.specs.Refusals.{schema_in, AcceptsTexts}
 use Rattle.dbtg_command.specs.Sources.{Texts}
 
@@ -23,5 +23,5 @@ pub record IsCheck (text : List ℕ) (scripts : List (List ℕ)) (out : List ℕ
   pub is_text : out ≡ check_text (schema_in text) scripts
 
 -- what `check` prints of texts that are held
-abbrev pub ChecksHeld : (Place → List ℕ → Type 0) → ℕ → List ℕ → Type 0
+abbrev pub ChecksHeld : (TextPlace → List ℕ → Type 0) → ℕ → List ℕ → Type 0
 ChecksHeld holds count out = (texts : Texts holds count kind.Serial) × IsCheck texts.schema texts.scripts out

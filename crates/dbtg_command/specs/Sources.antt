@@ -14,8 +14,8 @@ use Rattle.dbtg_command.specs.declared.order.Order.{Order}
 use Rattle.dbtg_command.specs.declared.order.Order.TheVariants as by
 use Rattle.dbtg_command.specs.declared.order.OrderKind.{OrderKind}
 use Rattle.dbtg_command.specs.declared.order.OrderKind.TheVariants as kind
-use Rattle.dbtg_command.specs.declared.place.Place.{Place}
-use Rattle.dbtg_command.specs.declared.place.Place.TheVariants.{Schema, Script, Moves, Turns}
+use Rattle.dbtg_command.specs.declared.place.TextPlace.{TextPlace}
+use Rattle.dbtg_command.specs.declared.place.TextPlace.TheVariants.{Schema, Script, Moves, Turns}
 use Rattle.dbtg_command.specs.Refusals.{schema_in, moves_in, turns_in, is_count, AllAccepted, RefusesMoves, RefusesSchema, RefusesScript, RefusesTurns}
 
 -- what says the order, by its kind
@@ -31,25 +31,25 @@ order_map f (by.Moves it) = by.Moves (f it)
 order_map f (by.Turns it) = by.Turns (f it)
 
 -- there is such a place, where there are so many scripts, and moves, turns or neither
-abbrev pub HasPlace : ℕ → OrderKind → Place → Type 0
+abbrev pub HasPlace : ℕ → OrderKind → TextPlace → Type 0
 HasPlace count which Schema = Unit {0}
 HasPlace count which (Script n) = (1 ≤ n) × (n ≤ count)
 HasPlace count which Moves = which ≡ kind.Moves
 HasPlace count which Turns = which ≡ kind.Turns
 
 -- each text is held in the place of its script, from number n on
-abbrev pub HoldsScripts : (Place → List ℕ → Type 0) → ℕ → List (List ℕ) → Type 0
+abbrev pub HoldsScripts : (TextPlace → List ℕ → Type 0) → ℕ → List (List ℕ) → Type 0
 HoldsScripts holds n [] = Unit {0}
 HoldsScripts holds n (text ∷ texts) = holds (Script n) text × HoldsScripts holds (n + 1) texts
 
 -- the moves or turns, where there are any, are held in their place
-abbrev pub HoldsOrder : (Place → List ℕ → Type 0) → Order (List ℕ) → Type 0
+abbrev pub HoldsOrder : (TextPlace → List ℕ → Type 0) → Order (List ℕ) → Type 0
 HoldsOrder holds by.Serial = Unit {0}
 HoldsOrder holds (by.Moves text) = holds Moves text
 HoldsOrder holds (by.Turns text) = holds Turns text
 
 -- the texts of a schema, of so many scripts, and of moves or turns where there are any, each held in its place
-pub record Texts (holds : Place → List ℕ → Type 0) (count : ℕ) (which : OrderKind) : Type 0 where
+pub record Texts (holds : TextPlace → List ℕ → Type 0) (count : ℕ) (which : OrderKind) : Type 0 where
   pub schema : List ℕ
   pub scripts : List (List ℕ)
   pub order : Order (List ℕ)
@@ -60,61 +60,61 @@ pub record Texts (holds : Place → List ℕ → Type 0) (count : ℕ) (which : 
   pub holds_order : HoldsOrder holds order
 
 -- a text of a schema that is held and accepted, and says this schema
-pub record ReadSchema (holds : Place → List ℕ → Type 0) (lists : Lists) : Type 0 where
+pub record ReadSchema (holds : TextPlace → List ℕ → Type 0) (lists : Lists) : Type 0 where
   pub text : List ℕ
   pub held : holds Schema text
   pub accepted : schema_refusal text ≡ None
   pub says : lists ≡ schema_in text
 
 -- the texts of the first scripts, so many, that are held and accepted
-pub record ReadScripts (holds : Place → List ℕ → Type 0) (lists : Lists) (count : ℕ) : Type 0 where
+pub record ReadScripts (holds : TextPlace → List ℕ → Type 0) (lists : Lists) (count : ℕ) : Type 0 where
   pub texts : List (List ℕ)
   pub many : length texts ≡ count
   pub held : HoldsScripts holds 1 texts
   pub accepted : AllAccepted lists texts
 
 -- a text of moves that is held and accepted, and says these moves
-pub record ReadMoves (holds : Place → List ℕ → Type 0) (moves : List Move) : Type 0 where
+pub record ReadMoves (holds : TextPlace → List ℕ → Type 0) (moves : List Move) : Type 0 where
   pub text : List ℕ
   pub held : holds Moves text
   pub accepted : moves_refusal text ≡ None
   pub says : moves ≡ moves_in text
 
 -- a text of turns that is held and accepted, and says these turns
-pub record ReadTurns (holds : Place → List ℕ → Type 0) (turns : List ℕ) : Type 0 where
+pub record ReadTurns (holds : TextPlace → List ℕ → Type 0) (turns : List ℕ) : Type 0 where
   pub text : List ℕ
   pub held : holds Turns text
   pub accepted : turns_refusal text ≡ None
   pub says : turns ≡ turns_in text
 
 -- the fault is told in this place: the text cannot be given, or it is held and refused
-abbrev pub ToldIn : (Place → List ℕ → Type 0) → (Place → Fault → Type 0) → Fault → Place → (List ℕ → Type 0) → Type 0
+abbrev pub ToldIn : (TextPlace → List ℕ → Type 0) → (TextPlace → Fault → Type 0) → Fault → TextPlace → (List ℕ → Type 0) → Type 0
 ToldIn holds fails fault place Refuses = fails place fault ⊎ ((text : List ℕ) × holds place text × Refuses text)
 
 -- the fault is told of the schema
-abbrev pub ToldOfSchema : (Place → List ℕ → Type 0) → (Place → Fault → Type 0) → Fault → Type 0
+abbrev pub ToldOfSchema : (TextPlace → List ℕ → Type 0) → (TextPlace → Fault → Type 0) → Fault → Type 0
 ToldOfSchema holds fails fault = ToldIn holds fails fault Schema (λ text. RefusesSchema fault (schema_refusal text))
 
 -- the fault is told of one of so many scripts, and all before it are held and accepted
-pub record ToldOfScripts (holds : Place → List ℕ → Type 0) (fails : Place → Fault → Type 0) (fault : Fault) (lists : Lists) (count : ℕ) : Type 0 where
+pub record ToldOfScripts (holds : TextPlace → List ℕ → Type 0) (fails : TextPlace → Fault → Type 0) (fault : Fault) (lists : Lists) (count : ℕ) : Type 0 where
   pub before : ℕ
   pub read : ReadScripts holds lists before
   pub within : before < count
   pub told : ToldIn holds fails fault (Script (before + 1)) (λ text. RefusesScript fault (before + 1) (script_refusal lists text))
 
 -- the fault is told of the moves or turns; where there are neither only memory is wanting
-abbrev pub ToldOfOrder : (Place → List ℕ → Type 0) → (Place → Fault → Type 0) → Fault → OrderKind → Type 0
+abbrev pub ToldOfOrder : (TextPlace → List ℕ → Type 0) → (TextPlace → Fault → Type 0) → Fault → OrderKind → Type 0
 ToldOfOrder holds fails fault kind.Serial = fault ≡ Memory
 ToldOfOrder holds fails fault kind.Moves = ToldIn holds fails fault Moves (λ text. RefusesMoves fault (moves_refusal text))
 ToldOfOrder holds fails fault kind.Turns = ToldIn holds fails fault Turns (λ text. RefusesTurns fault (turns_refusal text))
 
 -- the fault is told of the schema, or the schema is held and accepted and it is told of a script
-abbrev pub ToldOfTexts : (Place → List ℕ → Type 0) → (Place → Fault → Type 0) → Fault → ℕ → Type 0
+abbrev pub ToldOfTexts : (TextPlace → List ℕ → Type 0) → (TextPlace → Fault → Type 0) → Fault → ℕ → Type 0
 ToldOfTexts holds fails fault count = ToldOfSchema holds fails fault ⊎ ((lists : Lists) × ReadSchema holds lists × ToldOfScripts holds fails fault lists count)
 
 -- a wrong number of scripts, or else a fault that is told of schema and scripts, or of the moves or turns where these are held and
 -- accepted
-abbrev pub ToldOfRun : (Place → List ℕ → Type 0) → (Place → Fault → Type 0) → Fault → ℕ → OrderKind → Type 0
+abbrev pub ToldOfRun : (TextPlace → List ℕ → Type 0) → (TextPlace → Fault → Type 0) → Fault → ℕ → OrderKind → Type 0
 ToldOfRun holds fails fault count which =
     ((is_count count ≡ false) × (fault ≡ ScriptCount))
     ⊎ ((is_count count ≡ true) × (ToldOfTexts holds fails fault count ⊎ ((lists : Lists) × ReadSchema holds lists × ReadScripts holds lists count × ToldOfOrder holds fails fault which)))

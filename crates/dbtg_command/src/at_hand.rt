@@ -6,7 +6,7 @@ ghost use Rattle.dbtg_command.specs.declared.fault.Fault.TheVariants.{Memory};
 
 use crate::fault::Fault;
 use crate::order::{Order, OrderKind};
-use crate::place::Place;
+use crate::place::TextPlace;
 use crate::source::Source;
 use dbtg_schema::Row;
 use std::alloc::Global;
@@ -20,15 +20,15 @@ pub struct AtHand<'a> {
 }
 
 impl<'a> AtHand<'a> {
-    fn text(&self, place: Place) -> &'a [u8]
+    fn text(&self, place: TextPlace) -> &'a [u8]
         requires { HasPlace (length self.now.scripts.now) (kind_of self.now.order) place }
         ensures { StandsIn self.now.schema.now self.now.scripts.now (order_map (λ t. t.now) self.now.order) place result.now }
     {
         match (place, self.order) {
-            (Place::Schema, _) => self.schema,
-            (Place::Script(number), _) => self.scripts[number - 1].as_slice(),
-            (Place::Moves, Order::Moves(text)) => text,
-            (Place::Turns, Order::Turns(text)) => text,
+            (TextPlace::Schema, _) => self.schema,
+            (TextPlace::Script(number), _) => self.scripts[number - 1].as_slice(),
+            (TextPlace::Moves, Order::Moves(text)) => text,
+            (TextPlace::Turns, Order::Turns(text)) => text,
             _ => unreachable!(),
         }
     }
@@ -51,7 +51,7 @@ impl<'a> Source for AtHand<'a> {
         self.order.kind()
     }
 
-    fn read(&self, alloc: Global, place: Place) -> Result<Vec<u8>, Fault> {
+    fn read(&self, alloc: Global, place: TextPlace) -> Result<Vec<u8>, Fault> {
         Ok(Vec::from_slice(alloc, self.text(place))?)
     }
 }

@@ -10,7 +10,7 @@ ghost use Rattle.dbtg_command.specs.Sources.{ReadSchema, ReadScripts, ToldOfScri
 use crate::at_hand::AtHand;
 use crate::fault::Fault;
 use crate::order::Order;
-use crate::place::Place;
+use crate::place::TextPlace;
 use crate::reading::statements_of;
 use crate::source::Source;
 use crate::texts::read_schema;
@@ -46,7 +46,7 @@ fn push_scripts<S: Source>(
     ensures refused { IfErr result (λ fault. ToldOfScripts (S.holds source.now) (S.fails source.now) fault schema.now (S.count source.now)) }
 {
     for i in 0..source.count() {
-        let text = source.read(alloc, Place::Script(i + 1))?;
+        let text = source.read(alloc, TextPlace::Script(i + 1))?;
         push_script(alloc, out, schema, i + 1, text.as_slice())?;
     }
     Ok(())

@@ -7,7 +7,7 @@ ghost use Rattle.dbtg_command.specs.Inside.Sources.{StandsIn};
 
 use crate::fault::Fault;
 use crate::order::{Order, OrderKind};
-use crate::place::Place;
+use crate::place::TextPlace;
 use crate::source::Source;
 use std::alloc::Global;
 use std::fs::File;
@@ -72,15 +72,15 @@ pub struct Paths<'a> {
 }
 
 impl<'a> Paths<'a> {
-    fn path(&self, place: Place) -> &'a str
+    fn path(&self, place: TextPlace) -> &'a str
         requires { HasPlace (length self.now.scripts.now) (kind_of self.now.order) place }
         ensures { StandsIn self.now.schema.now (map (λ path. path.now) self.now.scripts.now) (order_map (λ path. path.now) self.now.order) place result.now }
     {
         match (place, self.order) {
-            (Place::Schema, _) => self.schema,
-            (Place::Script(number), _) => self.scripts[number - 1],
-            (Place::Moves, Order::Moves(path)) => path,
-            (Place::Turns, Order::Turns(path)) => path,
+            (TextPlace::Schema, _) => self.schema,
+            (TextPlace::Script(number), _) => self.scripts[number - 1],
+            (TextPlace::Moves, Order::Moves(path)) => path,
+            (TextPlace::Turns, Order::Turns(path)) => path,
             _ => unreachable!(),
         }
     }
@@ -93,13 +93,13 @@ pub struct Files<'a, F> {
     pub paths: &'a Paths<'a>,
 }
 
-fn most_of(place: Place) -> u64
+fn most_of(place: TextPlace) -> u64
     ensures { result ≡ most_of place }
 {
     match place {
-        Place::Schema => SCHEMA_BYTES,
-        Place::Script(_) => SCRIPT_BYTES,
-        Place::Moves | Place::Turns => MOVES_BYTES,
+        TextPlace::Schema => SCHEMA_BYTES,
+        TextPlace::Script(_) => SCRIPT_BYTES,
+        TextPlace::Moves | TextPlace::Turns => MOVES_BYTES,
     }
 }
 
@@ -132,7 +132,7 @@ impl<'a, F: FileReader> Source for Files<'a, F> {
         self.paths.order.kind()
     }
 
-    fn read(&self, alloc: Global, place: Place) -> Result<Vec<u8>, Fault> {
+    fn read(&self, alloc: Global, place: TextPlace) -> Result<Vec<u8>, Fault> {
         let path = self.paths.path(place);
         match self.reader.read(path, most_of(place)) {
             Ok(text) => Ok(text),

@@ -28,7 +28,7 @@ pub use copies::copy_scripts;
 pub use fault::{Fault, status_of};
 pub use files::{FileReader, Files, Paths};
 pub use order::{Order, OrderKind};
-pub use place::Place;
+pub use place::TextPlace;
 pub use reading::take_script;
 pub use source::Source;
 pub use texts::{read_moves, read_schema, read_turns};

@@ -2,7 +2,7 @@
 
 /// The place of a text. Scripts are numbered from 1.
 #[derive(Clone, Copy)]
-pub enum Place {
+pub enum TextPlace {
     Schema,
     Script(usize),
     Moves,

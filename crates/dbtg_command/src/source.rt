@@ -3,11 +3,11 @@ ghost use Rattle.std.specs.Prelude.{◌≡◌, ℕ, List, IfErr, IfOk};
 ghost use Rattle.dbtg_command.specs.Sources.{HasPlace};
 ghost use Rattle.dbtg_command.specs.declared.fault.Fault.{Fault};
 ghost use Rattle.dbtg_command.specs.declared.order.OrderKind.{OrderKind};
-ghost use Rattle.dbtg_command.specs.declared.place.Place.{Place};
+ghost use Rattle.dbtg_command.specs.declared.place.TextPlace.{TextPlace};
 
 use crate::fault::Fault;
 use crate::order::OrderKind;
-use crate::place::Place;
+use crate::place::TextPlace;
 use std::alloc::Global;
 
 /// What gives a command its texts, one for each place.
@@ -19,10 +19,10 @@ pub trait Source {
     ghost order: { Self → OrderKind };
 
     /// The source has this text in this place.
-    ghost holds: { Self → Place → List ℕ → Type 0 };
+    ghost holds: { Self → TextPlace → List ℕ → Type 0 };
 
     /// The source cannot give the text in this place, and tells this fault.
-    ghost fails: { Self → Place → Fault → Type 0 };
+    ghost fails: { Self → TextPlace → Fault → Type 0 };
 
     /// How many scripts there are.
     fn count(&self) -> usize
@@ -33,7 +33,7 @@ pub trait Source {
         ensures { result ≡ order self.now };
 
     /// The text in a place, as far as its kind may be long.
-    fn read(&self, alloc: Global, place: Place) -> Result<Vec<u8>, Fault>
+    fn read(&self, alloc: Global, place: TextPlace) -> Result<Vec<u8>, Fault>
         requires { HasPlace (count self.now) (order self.now) place }
         ensures held { IfOk result (λ text. holds self.now place text.items) }
         ensures failed { IfErr result (λ fault. fails self.now place fault) };

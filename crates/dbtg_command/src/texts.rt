@@ -5,7 +5,7 @@ ghost use Rattle.dbtg_command.specs.declared.order.OrderKind.TheVariants.{Moves,
 ghost use Rattle.dbtg_command.specs.Sources.{ReadMoves, ReadSchema, ReadTurns, ToldOfOrder, ToldOfSchema};
 
 use crate::fault::Fault;
-use crate::place::Place;
+use crate::place::TextPlace;
 use crate::reading::{moves_of, schema_of, turns_of};
 use crate::source::Source;
 use dbtg_schema::{Row, Schema};
@@ -18,7 +18,7 @@ pub fn read_schema<S: Source>(alloc: Global, source: &S) -> Result<Schema, Fault
     ensures sound { IfOk result (λ schema. IsSound schema) }
     ensures refused { IfErr result (λ fault. ToldOfSchema (S.holds source.now) (S.fails source.now) fault) }
 {
-    let text = source.read(alloc, Place::Schema)?;
+    let text = source.read(alloc, TextPlace::Schema)?;
     schema_of(alloc, text.as_slice())
 }
 
@@ -28,7 +28,7 @@ pub fn read_moves<S: Source>(alloc: Global, source: &S) -> Result<Vec<Move>, Fau
     ensures read { IfOk result (λ moves. ReadMoves (S.holds source.now) moves.items) }
     ensures refused { IfErr result (λ fault. ToldOfOrder (S.holds source.now) (S.fails source.now) fault Moves) }
 {
-    let text = source.read(alloc, Place::Moves)?;
+    let text = source.read(alloc, TextPlace::Moves)?;
     moves_of(alloc, text.as_slice())
 }
 
@@ -38,6 +38,6 @@ pub fn read_turns<S: Source>(alloc: Global, source: &S) -> Result<Row<u8>, Fault
     ensures read { IfOk result (λ turns. ReadTurns (S.holds source.now) turns) }
     ensures refused { IfErr result (λ fault. ToldOfOrder (S.holds source.now) (S.fails source.now) fault Turns) }
 {
-    let text = source.read(alloc, Place::Turns)?;
+    let text = source.read(alloc, TextPlace::Turns)?;
     turns_of(alloc, text.as_slice())
 }

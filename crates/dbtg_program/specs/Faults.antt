@@ -21,7 +21,7 @@ use Rattle.dbtg_program.specs.declared.fault.ProgramCause.TheVariants.{AsInScrip
 use Rattle.dbtg_program.specs.declared.fault.Fault.{Fault}
 use Rattle.dbtg_program.specs.declared.grammar.Keyword.{Keyword}
 use Rattle.dbtg_program.specs.declared.grammar.Keyword.TheVariants as keyword
-use Rattle.dbtg_program.specs.declared.grammar.Place.{Place}
+use Rattle.dbtg_program.specs.declared.grammar.FormPlace.{FormPlace}
 use Rattle.dbtg_program.specs.declared.grammar.Role.{Role}
 use Rattle.dbtg_program.specs.declared.grammar.Role.TheVariants as role
 use Rattle.dbtg_program.specs.Values.{can_hold, stripped}
@@ -99,7 +99,7 @@ said text at ws w role.CountedTo = when (names_no_field text w) UnknownField ++ 
 -- THE FAULTS OF A SENTENCE
 
 -- the faults of the words that are left, which stand in these places, up to the first that does not fit
-abbrev pub faults_from : Text → ℕ → List Token → List Place → List Token → List ProgramCause
+abbrev pub faults_from : Text → ℕ → List Token → List FormPlace → List Token → List ProgramCause
 faults_from text at ws [] [] = []
 faults_from text at ws [] (w ∷ left) = AsInScript cause.UnexpectedWord ∷ []
 faults_from text at ws (p ∷ ps) [] = AsInScript cause.UnexpectedWord ∷ []

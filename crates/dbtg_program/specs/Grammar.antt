@@ -10,7 +10,7 @@ use Rattle.dbtg_program.specs.declared.grammar.Kind.{Kind}
 use Rattle.dbtg_program.specs.declared.grammar.Kind.TheVariants as kind
 use Rattle.dbtg_program.specs.declared.grammar.Role.{Role}
 use Rattle.dbtg_program.specs.declared.grammar.Role.TheVariants as role
-use Rattle.dbtg_program.specs.declared.grammar.Place.{Place}
+use Rattle.dbtg_program.specs.declared.grammar.FormPlace.{FormPlace}
 use Rattle.dbtg_program.specs.Sentences.{is_equals, is_own_name, is_spelled, is_word, plain_text}
 
 -- a word in a field's place: a name, or a word with a period
@@ -48,28 +48,28 @@ fits kind.Picture w = some_and is_picture (plain_text w)
 fits kind.Code w = is_code w
 
 -- a word of this kind, with what is judged at it
-abbrev pub one : Kind → Role → Place
+abbrev pub one : Kind → Role → FormPlace
 one k r = record { kind = k; role = r; optional = false }
 
 -- this very word
-abbrev pub say : Keyword → Place
+abbrev pub say : Keyword → FormPlace
 say w = one (kind.Key w) role.Plain
 
 -- this very word, or nothing
-abbrev pub maybe : Keyword → Place
+abbrev pub maybe : Keyword → FormPlace
 maybe w = record { kind = kind.Key w; role = role.Plain; optional = true }
 
 -- STATUS [ NOT ] = dddd, or x [ NOT ] ( = | < | > ) x
-abbrev pub condition : Bool → List Place
+abbrev pub condition : Bool → List FormPlace
 condition true = say keyword.Status ∷ maybe keyword.Not ∷ one kind.EqualSign role.Plain ∷ one kind.Code role.Plain ∷ []
 condition false = one kind.Value role.FirstValue ∷ maybe keyword.Not ∷ one kind.Relation role.Plain ∷ one kind.Value role.SecondValue ∷ []
 
 -- GO TO p
-abbrev pub jump : List Place
+abbrev pub jump : List FormPlace
 jump = say keyword.Go ∷ say keyword.To ∷ one kind.Any role.Paragraph ∷ []
 
 -- the places of the sentence with this verb; the flag says that it asks for STATUS
-abbrev pub form : Keyword → Bool → List Place
+abbrev pub form : Keyword → Bool → List FormPlace
 form keyword.Level s = one (kind.Key keyword.Level) role.Counter ∷ one kind.Any role.CounterName ∷ one kind.PictureWord role.Plain ∷ maybe keyword.Is ∷ one kind.Picture role.Plain ∷ []
 form keyword.Move s = say keyword.Move ∷ one kind.Value role.FirstValue ∷ say keyword.To ∷ one kind.Field role.MovedTo ∷ []
 form keyword.Add s = say keyword.Add ∷ one kind.Value role.FirstNumber ∷ say keyword.To ∷ one kind.Field role.CountedTo ∷ []

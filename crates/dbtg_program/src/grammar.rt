@@ -64,7 +64,7 @@ pub enum Role {
 
 /// A place of a sentence.
 #[derive(Clone, Copy, Debug, PartialEq, Eq)]
-pub struct Place {
+pub struct FormPlace {
     pub kind: Kind,
     pub role: Role,
     pub optional: bool,
@@ -94,7 +94,7 @@ impl Keyword {
 
 macro_rules! one {
     ($kind:ident, $role:ident) => {
-        Place {
+        FormPlace {
             kind: Kind::$kind,
             role: Role::$role,
             optional: false,
@@ -104,7 +104,7 @@ macro_rules! one {
 
 macro_rules! say {
     ($word:ident) => {
-        Place {
+        FormPlace {
             kind: Kind::Key(Keyword::$word),
             role: Role::Plain,
             optional: false,
@@ -114,7 +114,7 @@ macro_rules! say {
 
 macro_rules! maybe {
     ($word:ident) => {
-        Place {
+        FormPlace {
             kind: Kind::Key(Keyword::$word),
             role: Role::Plain,
             optional: true,
@@ -123,12 +123,12 @@ macro_rules! maybe {
 }
 
 /// The places of the sentence that begins with this verb; the flag says that it asks for STATUS.
-pub fn form(verb: Keyword, of_status: bool) -> &'static [Place]
+pub fn form(verb: Keyword, of_status: bool) -> &'static [FormPlace]
     ensures { result.now ≡ form verb of_status }
 {
     match verb {
         Keyword::Level => &[
-            Place {
+            FormPlace {
                 kind: Kind::Key(Keyword::Level),
                 role: Role::Counter,
                 optional: false,
@@ -164,7 +164,7 @@ pub fn form(verb: Keyword, of_status: bool) -> &'static [Place]
     }
 }
 
-fn if_form(of_status: bool) -> &'static [Place]
+fn if_form(of_status: bool) -> &'static [FormPlace]
     ensures { result.now ≡ form Keyword.If of_status }
 {
     if of_status {
@@ -192,7 +192,7 @@ fn if_form(of_status: bool) -> &'static [Place]
     }
 }
 
-fn assert_form(of_status: bool) -> &'static [Place]
+fn assert_form(of_status: bool) -> &'static [FormPlace]
     ensures { result.now ≡ form Keyword.Assert of_status }
 {
     if of_status {

@@ -11,6 +11,6 @@ mod state;
 
 pub use fault::{ProgramCause, ProgramFault};
 pub use going::{Due, next};
-pub use grammar::{Keyword, Kind, Place, Role};
+pub use grammar::{Keyword, Kind, FormPlace, Role};
 pub use program::{Condition, End, Line, Operand, Program, Relation, Sentence, Word};
 pub use state::State;

@@ -19,7 +19,7 @@ use Rattle.dbtg_script.specs.Printing.WordTexts.{moves_words_text}
 use Rattle.dbtg_script.proofs.Public.{moves_read_back}
 use Rattle.dbtg_command.specs.declared.fault.Fault.{Fault}
 use Rattle.dbtg_command.specs.declared.order.Order.TheVariants.{Turns}
-use Rattle.dbtg_command.specs.declared.place.Place.{Place}
+use Rattle.dbtg_command.specs.declared.place.TextPlace.{TextPlace}
 use Rattle.dbtg_replay.specs.ByTurns.{AreMoreMoves, AreMovesOf, MovesHeld, ToldOfMoves}
 use Rattle.dbtg_replay.specs.Ordering.{StandFor}
 use Rattle.dbtg_command.specs.Refusals.{is_count, moves_in, turns_in}
@@ -69,7 +69,7 @@ moves_said lists capacity scripts turns moves given out run small few is =
     }
 
 -- what is said of the statements and turns that were read is what the texts say
-module _ (holds : Place → List ℕ → Type 0) (lists : Lists) (count capacity : ℕ) (right : is_count count ≡ true) (read : ReadSchema holds lists) (scripts : ReadScripts holds lists count)
+module _ (holds : TextPlace → List ℕ → Type 0) (lists : Lists) (count capacity : ℕ) (right : is_count count ≡ true) (read : ReadSchema holds lists) (scripts : ReadScripts holds lists count)
     (statements : List (List Statement)) (same : statements ≡ map (script lists) scripts.texts) (turns used : List ℕ) (by : ReadTurns holds turns) (e : used ≡ turns) where
   pub moves_held : (out : List ℕ) → AreMovesOf lists capacity statements used out → MovesHeld holds count capacity out
   moves_held out moves =

@@ -16,7 +16,7 @@ use Rattle.dbtg_command.specs.declared.order.Order.{Order}
 use Rattle.dbtg_command.specs.declared.order.Order.TheVariants.{Moves, Serial, Turns}
 use Rattle.dbtg_command.specs.declared.order.OrderKind.{OrderKind}
 use Rattle.dbtg_command.specs.declared.order.OrderKind.TheVariants as kind
-use Rattle.dbtg_command.specs.declared.place.Place.{Place}
+use Rattle.dbtg_command.specs.declared.place.TextPlace.{TextPlace}
 use Rattle.dbtg_command.specs.Refusals.{AcceptsOrder, is_count, turns_in}
 use Rattle.dbtg_command.specs.Sources.{HoldsOrder, ReadMoves, ReadSchema, ReadScripts, ReadTurns, kind_of}
 use Rattle.dbtg_command.proofs.Public.{all_accepted, read_texts}
@@ -29,7 +29,7 @@ fit_behind lists statements before after e all one =
     ap (scripts_fit lists) e ∙ list_all-append (list_all (fits lists)) before (statements ∷ []) ∙ rw (all, one) refl
 
 -- what a run of the statements that were read gives is the replay of the texts
-pub replays : (holds : Place → List ℕ → Type 0) (lists : Lists) (count : ℕ) (order : Order (List ℕ)) (first echo : Bool) (capacity : ℕ) (out : List ℕ)
+pub replays : (holds : TextPlace → List ℕ → Type 0) (lists : Lists) (count : ℕ) (order : Order (List ℕ)) (first echo : Bool) (capacity : ℕ) (out : List ℕ)
     → is_count count ≡ true → ReadSchema holds lists → (scripts : ReadScripts holds lists count) → HoldsOrder holds order → AcceptsOrder order
     → IsPrintedRun first lists capacity (map (script lists) scripts.texts) (echo_of echo scripts.texts) order out → ReplaysHeld holds count (kind_of order) first echo capacity out
 replays holds lists count order first echo capacity out right read scripts held accepted run = (
@@ -48,7 +48,7 @@ same_shown lists None given results = refl
 same_shown lists (Some texts) given results = refl
 
 -- the same of what was read: nothing that says the order, moves, or turns; and the texts that are shown
-module _ (holds : Place → List ℕ → Type 0) (lists : Lists) (count capacity : ℕ) (out : List ℕ) (right : is_count count ≡ true) (read : ReadSchema holds lists) (scripts : ReadScripts holds lists count)
+module _ (holds : TextPlace → List ℕ → Type 0) (lists : Lists) (count capacity : ℕ) (out : List ℕ) (right : is_count count ≡ true) (read : ReadSchema holds lists) (scripts : ReadScripts holds lists count)
     (statements : List (List Statement)) (same : statements ≡ map (script lists) scripts.texts) (first echo : Bool) (texts : Option (List (List ℕ))) (are : texts ≡ echo_of echo scripts.texts) where
   replays_in : (order : Order (List ℕ)) → HoldsOrder holds order → AcceptsOrder order → IsPrintedRun first lists capacity statements texts order out → ReplaysHeld holds count (kind_of order) first echo capacity out
   replays_in order held accepted run =

@@ -14,7 +14,7 @@ use Rattle.dbtg_command.specs.declared.fault.Fault.{Fault}
 use Rattle.dbtg_command.specs.declared.fault.Fault.TheVariants as fault
 use Rattle.dbtg_command.specs.declared.order.Order.TheVariants.{Moves, Turns}
 use Rattle.dbtg_command.specs.declared.order.OrderKind.TheVariants as kind
-use Rattle.dbtg_command.specs.declared.place.Place.{Place}
+use Rattle.dbtg_command.specs.declared.place.TextPlace.{TextPlace}
 use Rattle.dbtg_command.specs.Refusals.{AcceptsTexts, is_count, moves_in, schema_in, turns_in}
 use Rattle.dbtg_command.specs.Sources.{ReadSchema, ReadScripts, ReadTurns, Texts, ToldOfRun}
 use Rattle.dbtg_replay.specs.Ordering.{StandFor}
@@ -49,12 +49,12 @@ pub record IsMovesText (text : List ℕ) (scripts : List (List ℕ)) (turns : Li
       → (results : List Stepped) × (by_moves ≡ moves_text results ++ by_turns)
 
 -- what `turns` prints of texts that are held
-abbrev pub MovesHeld : (Place → List ℕ → Type 0) → ℕ → ℕ → List ℕ → Type 0
+abbrev pub MovesHeld : (TextPlace → List ℕ → Type 0) → ℕ → ℕ → List ℕ → Type 0
 MovesHeld holds count capacity out =
     (texts : Texts holds count kind.Turns) × (turns : List ℕ) × (texts.order ≡ Turns turns) × IsMovesText texts.schema texts.scripts turns capacity out
 
 -- all texts are held and accepted, and the fault tells that the turns stand for too many moves
-pub record ToldOfMoves (holds : Place → List ℕ → Type 0) (fault : Fault) (count capacity : ℕ) : Type 0 where
+pub record ToldOfMoves (holds : TextPlace → List ℕ → Type 0) (fault : Fault) (count capacity : ℕ) : Type 0 where
   pub lists : Lists
   pub turns : List ℕ
   pub right : is_count count ≡ true
@@ -64,5 +64,5 @@ pub record ToldOfMoves (holds : Place → List ℕ → Type 0) (fault : Fault) (
   pub more : AreMoreMoves lists capacity (map (script lists) scripts.texts) turns fault
 
 -- what `turns` tells: a fault of a run, or of its moves
-abbrev pub ToldOfTurns : (Place → List ℕ → Type 0) → (Place → Fault → Type 0) → Fault → ℕ → ℕ → Type 0
+abbrev pub ToldOfTurns : (TextPlace → List ℕ → Type 0) → (TextPlace → Fault → Type 0) → Fault → ℕ → ℕ → Type 0
 ToldOfTurns holds fails fault count capacity = ToldOfRun holds fails fault count kind.Turns ⊎ ToldOfMoves holds fault count capacity

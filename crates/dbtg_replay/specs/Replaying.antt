@@ -15,7 +15,7 @@ use Rattle.dbtg_script.specs.Printing.Texts.{moves_text, run_text}
 use Rattle.dbtg_command.specs.declared.order.Order.{Order}
 use Rattle.dbtg_command.specs.declared.order.Order.TheVariants.{Moves, Serial, Turns}
 use Rattle.dbtg_command.specs.declared.order.OrderKind.{OrderKind}
-use Rattle.dbtg_command.specs.declared.place.Place.{Place}
+use Rattle.dbtg_command.specs.declared.place.TextPlace.{TextPlace}
 use Rattle.dbtg_command.specs.Refusals.{AcceptsOrder, AcceptsTexts, is_count, moves_in, schema_in, turns_in}
 use Rattle.dbtg_command.specs.Sources.{Texts}
 use Rattle.dbtg_replay.specs.Ordering.{AreFirstMoves, first_turns, serial_turns}
@@ -86,5 +86,5 @@ abbrev pub IsReplay : List ℕ → List (List ℕ) → Order (List ℕ) → ℕ 
 IsReplay text scripts order capacity out = IsShownReplay false false text scripts order capacity out
 
 -- what `replay` prints of texts that are held
-abbrev pub ReplaysHeld : (Place → List ℕ → Type 0) → ℕ → OrderKind → Bool → Bool → ℕ → List ℕ → Type 0
+abbrev pub ReplaysHeld : (TextPlace → List ℕ → Type 0) → ℕ → OrderKind → Bool → Bool → ℕ → List ℕ → Type 0
 ReplaysHeld holds count which first echo capacity out = (texts : Texts holds count which) × IsShownReplay first echo texts.schema texts.scripts texts.order capacity out

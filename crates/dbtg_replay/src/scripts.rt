@@ -4,11 +4,11 @@ ghost use Rattle.dbtg_schema.specs.Sound.{IsSound};
 ghost use Rattle.dbtg_script.specs.StatementFaults.{refusal as script_refusal};
 ghost use Rattle.dbtg_script.specs.Statements.{script};
 ghost use Rattle.dbtg_step.specs.Laws.{scripts_fit};
-ghost use Rattle.dbtg_command.specs.declared.place.Place.TheVariants.{Script};
+ghost use Rattle.dbtg_command.specs.declared.place.TextPlace.TheVariants.{Script};
 ghost use Rattle.dbtg_command.specs.Refusals.{RefusesScript};
 ghost use Rattle.dbtg_command.specs.Sources.{ReadScripts, ToldIn, ToldOfScripts};
 
-use dbtg_command::{Fault, Place, Source, take_script};
+use dbtg_command::{Fault, TextPlace, Source, take_script};
 use dbtg_schema::{Row, Schema};
 use dbtg_unit::Statement;
 use std::alloc::Global;
@@ -34,7 +34,7 @@ pub fn take_next<S: Source>(
     ensures fitting { IsSound schema.now → scripts_fit schema.now scripts.old.statements ≡ true → OnOk result (scripts_fit schema.now scripts.new.statements ≡ true) }
     ensures refused { IfErr result (λ fault. ToldIn (S.holds source.now) (S.fails source.now) fault (Script number) (λ text. RefusesScript fault number (script_refusal schema.now text))) }
 {
-    let text = source.read(alloc, Place::Script(number))?;
+    let text = source.read(alloc, TextPlace::Script(number))?;
     take_script(
         alloc,
         &mut scripts.statements,

@@ -34,5 +34,5 @@ pub use settled::{Fault, Settled, Unsettled};
 pub use settlement::settle;
 pub use threads::run_units;
 pub use unit::RunUnit;
-pub use view::{About, Member, View};
+pub use view::{About, SeatUnit, SeatKnowledge};
 pub use work::Work;

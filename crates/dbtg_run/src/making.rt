@@ -2,7 +2,7 @@
 ghost use Rattle.std.specs.Prelude.{◌≡◌, ◌<◌, ◌≤◌, [], false, length, map, Some, All, IfOk};
 ghost use Rattle.dbtg_schema.specs.Sound.{IsSound};
 ghost use Rattle.dbtg_unit.specs.Database.State.Units.{opening_unit};
-ghost use Rattle.dbtg_run.specs.Inside.Kept.{first_view};
+ghost use Rattle.dbtg_run.specs.Inside.LatchRule.{first_view};
 ghost use Rattle.dbtg_run.specs.Inside.Posed.{posed, IsSized};
 ghost use Rattle.dbtg_run.specs.UnitView.{BelongsTo, opening_view, opening_views};
 

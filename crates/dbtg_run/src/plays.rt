@@ -1,5 +1,5 @@
 //! The steps on the table: eight kinds that change a word or a view, and two loads. What a seat knows after each is its
-//! clause `then` (specs/Kept). For each there is one public lemma in proofs/, which says that the step keeps the rule:
+//! clause `then` (specs/Inside/LatchRule). For each there is one public lemma in proofs/, which says that the step keeps the rule:
 //!
 //! | Step | Lemma | Made by |
 //! |---|---|---|
@@ -20,9 +20,9 @@ ghost use Rattle.dbtg_unit.specs.declared.statement.Statement.{Statement};
 ghost use Rattle.dbtg_unit.specs.declared.unit.Answer.{Answer};
 ghost use Rattle.dbtg_unit.specs.declared.unit.Status.TheVariants.{Done};
 ghost use Rattle.dbtg_unit.specs.declared.unit.Unit.{Unit};
-ghost use Rattle.dbtg_run.specs.Inside.Kept.{LooksAtArea, TakesArea, LeavesArea, TakesCell, PutsCell, Draws, Learns, others_of, one_of, gathered, spent};
+ghost use Rattle.dbtg_run.specs.Inside.LatchRule.{LooksAtArea, TakesArea, LeavesArea, TakesCell, PutsCell, Draws, Learns, others_of, one_of, gathered, spent};
 
-use crate::view::View;
+use crate::view::SeatKnowledge;
 use atomic_table::{Join, Play, Split};
 use dbtg_cells::Cell;
 use std::marker::{Brand, PhantomData};
@@ -30,42 +30,42 @@ use std::marker::{Brand, PhantomData};
 /// A look at an area's word.
 pub struct LookAtArea;
 
-impl Play<Option<Cell>, View> for LookAtArea {
+impl Play<Option<Cell>, SeatKnowledge> for LookAtArea {
     ghost then = { LooksAtArea };
 }
 
 /// An area is taken beside others that share it.
 pub struct TakeShared;
 
-impl Play<Option<Cell>, View> for TakeShared {
+impl Play<Option<Cell>, SeatKnowledge> for TakeShared {
     ghost then = { TakesArea false };
 }
 
 /// An area is taken that no other unit has.
 pub struct TakeAlone;
 
-impl Play<Option<Cell>, View> for TakeAlone {
+impl Play<Option<Cell>, SeatKnowledge> for TakeAlone {
     ghost then = { TakesArea true };
 }
 
 /// The area that was taken last is left, with no cell in hand.
 pub struct LeaveArea;
 
-impl Play<Option<Cell>, View> for LeaveArea {
+impl Play<Option<Cell>, SeatKnowledge> for LeaveArea {
     ghost then = { LeavesArea };
 }
 
 /// A cell that is at home is taken.
 pub struct TakeCell;
 
-impl Play<Option<Cell>, View> for TakeCell {
+impl Play<Option<Cell>, SeatKnowledge> for TakeCell {
     ghost then = { TakesCell };
 }
 
 /// The cell that was taken last is put back, with the value that the database has.
 pub struct PutCell;
 
-impl Play<Option<Cell>, View> for PutCell {
+impl Play<Option<Cell>, SeatKnowledge> for PutCell {
     ghost then = { PutsCell };
 }
 
@@ -95,21 +95,21 @@ pub struct Draw<O> {
     picked: PhantomData<O>,
 }
 
-impl<O: Picked> Play<Option<Cell>, View> for Draw<O> {
+impl<O: Picked> Play<Option<Cell>, SeatKnowledge> for Draw<O> {
     ghost then = { Draws O.statement O.answer O.unit O.held };
 }
 
 /// Loads the ticket counter. A seat with all units learns their history from it.
 pub struct Learn;
 
-impl Play<Option<Cell>, View> for Learn {
+impl Play<Option<Cell>, SeatKnowledge> for Learn {
     ghost then = { Learns };
 }
 
 /// The first unit of a seat gets a seat of its own.
 pub struct OneOff;
 
-impl Split<View> for OneOff {
+impl Split<SeatKnowledge> for OneOff {
     ghost left = { others_of };
 
     ghost right = { one_of };
@@ -118,7 +118,7 @@ impl Split<View> for OneOff {
 /// A seat takes in the units of another.
 pub struct Gather;
 
-impl Join<View> for Gather {
+impl Join<SeatKnowledge> for Gather {
     ghost both = { gathered };
 
     ghost spent = { spent };

@@ -17,7 +17,7 @@ ghost use Rattle.dbtg_step.specs.Inside.Events.{HaveRings};
 ghost use Rattle.dbtg_run.specs.Inside.Posed.{HoldsSo, turns_left};
 ghost use Rattle.dbtg_run.specs.Inside.Tries.{AreUsedUp, IsVain, Suffice};
 ghost use Rattle.dbtg_run.specs.Inside.Views.{times};
-ghost use Rattle.dbtg_run.specs.Inside.Kept.{area_count};
+ghost use Rattle.dbtg_run.specs.Inside.LatchRule.{area_count};
 ghost use Rattle.dbtg_run.specs.Inside.Works.{Belongs, IsAtWork, IsSameUnit, KnowsBetter};
 
 use crate::database::Database;
@@ -297,7 +297,7 @@ impl Work {
         ensures free { IsReady self.old.about.schema.value self.old.about.capacity self.old.unit self.old.held statement.now → IfOk result (λ b. b ≡ true) }
         ensures alone { self.old.about.units ≡ 1 → 0 < tries.old.given → IfOk result (λ b. b ≡ true) }
     {
-        // Kept from need to need, so that nothing that is settled is asked again.
+        // LatchRule from need to need, so that nothing that is settled is asked again.
         let mut course = None;
         let gathered = self.gather_along(alloc, db, statement, tries, &mut course);
         drop(course);

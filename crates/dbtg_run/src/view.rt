@@ -14,7 +14,7 @@ pub struct About {
 
 /// One run-unit: its place among the units from 0, what it is, its entries, and what it holds in the order of taking. A held
 /// cell has no room beside what it shows.
-pub struct Member {
+pub struct SeatUnit {
     pub place: u8,
     pub unit: Unit,
     pub journal: [Entry; 0],
@@ -24,9 +24,9 @@ pub struct Member {
 }
 
 /// What a seat knows: the units that sit there.
-pub struct View {
+pub struct SeatKnowledge {
     /// False in what a join leaves.
     pub live: bool,
     pub about: About,
-    pub members: [Member; 0],
+    pub members: [SeatUnit; 0],
 }

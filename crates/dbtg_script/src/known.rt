@@ -17,7 +17,7 @@ const PLACES: usize = 256;
 
 /// The last line of each place.
 #[derive(Drop)]
-pub struct Known<'a> {
+pub struct LineCache<'a> {
     pub places: [Option<Seen<'a>>; PLACES],
 }
 
@@ -46,7 +46,7 @@ fn place_in(seen: &Seen, line: &[u8]) -> Option<usize>
     }
 }
 
-impl<'a> Known<'a> {
+impl<'a> LineCache<'a> {
     /// No line yet.
     pub fn none() -> Self
         ensures { (schema : Lists) (statements : List SaidStatement) → IsKnown schema statements result.places }

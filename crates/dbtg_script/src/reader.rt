@@ -21,7 +21,7 @@ ghost use Rattle.dbtg_unit.specs.Database.Statements.Fits.{fits as statement_fit
 use crate::automaton::{State, follow};
 use crate::checks::{at_other, end_fault, said};
 use crate::fault::{Cause, LineFault, ScriptFault};
-use crate::known::Known;
+use crate::known::LineCache;
 use crate::line::{Lines, ends_in_text, is_allowed, is_statement, trimmed};
 use crate::queries::Labelled;
 use crate::statement::statement_of;
@@ -159,7 +159,7 @@ pub fn read_script_line(
 /// The statement of a line, if the line was read before and there is room for one more.
 fn said_again(
     alloc: Global,
-    known: &Known,
+    known: &LineCache,
     statements: &[Statement],
     line: &[u8],
 ) -> Result<Option<Statement>, AllocError>
@@ -184,7 +184,7 @@ fn said_again(
 fn said_at_once(
     alloc: Global,
     schema: &Schema,
-    known: &Known,
+    known: &LineCache,
     statements: &[Statement],
     line: &[u8],
 ) -> Result<Option<Statement>, AllocError>
@@ -205,7 +205,7 @@ fn said_at_once(
 fn take_new_line<'a>(
     alloc: Global,
     words: &mut Words<'a>,
-    known: &mut Known<'a>,
+    known: &mut LineCache<'a>,
     statements: &mut Vec<Statement>,
     line: &'a [u8],
 ) -> Result<(), LineFault>
@@ -233,7 +233,7 @@ fn take_new_line<'a>(
 fn take_line<'a>(
     alloc: Global,
     words: &mut Words<'a>,
-    known: &mut Known<'a>,
+    known: &mut LineCache<'a>,
     statements: &mut Vec<Statement>,
     line: &'a [u8],
 ) -> Result<(), LineFault>
@@ -290,7 +290,7 @@ pub fn read_script(
     }
     let mut statements = Vec::new(alloc);
     let mut words = Words::new(alloc, schema);
-    let mut known = Known::none();
+    let mut known = LineCache::none();
     let mut number: u64 = 1;
     let mut left = Lines { rest: text };
     while let Some(line) = left.next() {

@@ -12,10 +12,10 @@ ghost use Rattle.dbtg_unit.specs.Hands.Making.{MayPrepare, ShowsTheSame};
 ghost use Rattle.dbtg_step.specs.declared.parts.Runner.{Runner};
 ghost use Rattle.dbtg_step.specs.Inside.Stands.{StandsNeeding};
 ghost use Rattle.dbtg_step.specs.Inside.Leaves.{IsDrawn, IsUnmade};
-ghost use Rattle.dbtg_step.specs.Inside.Parts.{stage_while_held};
+ghost use Rattle.dbtg_step.specs.Inside.Parts.{progress_while_held};
 ghost use Rattle.dbtg_step.specs.Inside.Events.{IsStepped, IsWell, NeedsNext};
 
-use crate::parts::{Parts, Runner, Stage};
+use crate::parts::{Parts, Runner, StatementProgress};
 use crate::runner::{close, pass, statement_of};
 use crate::statements::prepare;
 use dbtg_schema::Schema;
@@ -71,13 +71,13 @@ pub fn enter(history: &mut Vec<Entry>, unit: u8, statement: Statement, answer: A
 }
 
 /// The statement has this ticket, and the unit goes on behind it.
-fn go_on(runner: &mut Runner, stage: Stage, ticket: u64)
+fn go_on(runner: &mut Runner, progress: StatementProgress, ticket: u64)
     requires { runner.old.next < length runner.old.script }
-    ensures { runner.new ≡ record runner.old { next = runner.old.next + 1; stage = stage_while_held runner.old.held.areas runner.old.held.cells (Some (record { exclusive = stage.exclusive; turning_back = false; ticket = Some ticket; linked = 0 })) } }
+    ensures { runner.new ≡ record runner.old { next = runner.old.next + 1; progress = progress_while_held runner.old.held.areas runner.old.held.cells (Some (record { exclusive = progress.exclusive; turning_back = false; ticket = Some ticket; linked = 0 })) } }
 {
     pass(runner);
-    runner.stage = Some(Stage {
-        exclusive: stage.exclusive,
+    runner.progress = Some(StatementProgress {
+        exclusive: progress.exclusive,
         turning_back: false,
         ticket: Some(ticket),
         linked: 0,
@@ -93,13 +93,13 @@ fn draw(
     history: &mut Vec<Entry>,
     runner: &mut Runner,
     unit: u8,
-    stage: Stage,
+    progress: StatementProgress,
 ) -> Result<(), AllocError>
     requires left { runner.old.next < length runner.old.script }
     requires may { length history.old.items + 1 < 2 ^ 64 → (x : Statement) → slice_get runner.old.script runner.old.next ≡ Some x → MayPrepare schema.now capacity runner.old.unit runner.old.held x }
     requires agrees { (db : Database) × Agrees schema.now capacity db runner.old.held runner.old.unit }
     requires once { pairwise (λ e f. not (name_eq e.0 f.0)) runner.old.held.cells ≡ true }
-    ensures drawn { OnOk result ((x : Statement) (db : Database) → slice_get runner.old.script runner.old.next ≡ Some x → Agrees schema.now capacity db runner.old.held runner.old.unit → IsDrawn schema.now capacity db x unit stage history.old.items history.new.items runner.old runner.new) }
+    ensures drawn { OnOk result ((x : Statement) (db : Database) → slice_get runner.old.script runner.old.next ≡ Some x → Agrees schema.now capacity db runner.old.held runner.old.unit → IsDrawn schema.now capacity db x unit progress history.old.items history.new.items runner.old runner.new) }
     ensures history { OnErr result (history.new.items ≡ history.old.items) }
     ensures unmade { OnErr result (IsUnmade runner.old runner.new) }
 {
@@ -116,24 +116,24 @@ fn draw(
         &statement,
     )?;
     let ticket = enter(history, unit, statement, answer);
-    go_on(runner, stage, ticket);
+    go_on(runner, progress, ticket);
     Ok(())
 }
 
 /// A statement that needs nothing more draws its ticket.
-pub fn draws(
+pub fn ticket_event(
     alloc: Global,
     schema: &Schema,
     capacity: u16,
     parts: &mut Parts,
     unit: u8,
-    stage: Stage,
+    progress: StatementProgress,
 ) -> Stepped
     requires numbered { 0 < unit }
     requires within { unit ≤ length parts.old.runners.items }
     requires well { IsWell schema.now capacity parts.old }
-    requires stands { (r : Runner) → slice_get parts.old.runners.items (unit - 1) ≡ Some r → StandsNeeding r stage }
-    requires needs { NeedsNext schema.now capacity parts.old unit stage Need.Ready }
+    requires stands { (r : Runner) → slice_get parts.old.runners.items (unit - 1) ≡ Some r → StandsNeeding r progress }
+    requires needs { NeedsNext schema.now capacity parts.old unit progress Need.Ready }
     ensures { IsStepped schema.now capacity unit result parts.old parts.new }
 {
     let runner = &mut parts.runners[unit as usize - 1];
@@ -144,7 +144,7 @@ pub fn draws(
         &mut parts.history,
         runner,
         unit,
-        stage,
+        progress,
     ) {
         Ok(()) => Stepped::Moved,
         Err(_) => Stepped::NoMemory,

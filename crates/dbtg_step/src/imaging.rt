@@ -7,7 +7,7 @@ ghost use Rattle.dbtg_unit.specs.Hands.InHand.{numbers_of, users_of};
 ghost use Rattle.dbtg_step.specs.Machine.SequentialDatabase.{unit_at};
 ghost use Rattle.dbtg_step.specs.Inside.Imaging.{cell_in, found_cell, found_in, generations_in, image_from, list_of, lists_of, next_in, occurrence_at, record_of, records_of, stored_at, version_of, versions_of};
 
-use crate::parts::{Parts, Place, Runner};
+use crate::parts::{Parts, CellLocation, Runner};
 use dbtg_cells::{
     Cell, CellName, DbKey, Extent, Mode, Owner, Ring, Stored, Usage, Value, cell_number, copy_items,
 };
@@ -22,7 +22,7 @@ pub enum CellSource<'a> {
     Hands(&'a Held),
 }
 
-fn place_at(table: &[Place], number: usize) -> Option<&Place>
+fn place_at(table: &[CellLocation], number: usize) -> Option<&CellLocation>
     ensures { option_copied result ≡ slice_get table.now number }
 {
     table.get(number)
@@ -52,12 +52,12 @@ fn held_cell<'a>(runners: &'a [Runner], unit: u8, name: &CellName) -> Option<&'a
     }
 }
 
-fn cell_in<'a>(runners: &'a [Runner], place: &'a Place, name: &CellName) -> Option<&'a Cell>
+fn cell_in<'a>(runners: &'a [Runner], place: &'a CellLocation, name: &CellName) -> Option<&'a Cell>
     ensures { option_copied result ≡ cell_in runners.now name.now place.now }
 {
     match place {
-        Place::Home(cell) => Some(cell),
-        Place::HeldBy(unit) => held_cell(runners, *unit, name),
+        CellLocation::Home(cell) => Some(cell),
+        CellLocation::HeldBy(unit) => held_cell(runners, *unit, name),
     }
 }
 

@@ -17,8 +17,8 @@ ghost use Rattle.dbtg_step.specs.Inside.Stands.{holds_against, StandsNeeding};
 ghost use Rattle.dbtg_step.specs.Inside.Leaves.{IsTaken};
 ghost use Rattle.dbtg_step.specs.Inside.Events.{ChangesCourseAlone, IsStepped, IsWell, NeedsNext};
 
-use crate::drawing::draws;
-use crate::parts::{Parts, Place, Runner, Stage};
+use crate::drawing::ticket_event;
+use crate::parts::{Parts, CellLocation, Runner, StatementProgress};
 use crate::runner::turn_back;
 use crate::statements::next_need;
 use dbtg_cells::{Cell, CellName, cell_number};
@@ -63,20 +63,20 @@ fn need_now(
     capacity: u16,
     parts: &mut Parts,
     unit: u8,
-    stage: Stage,
+    progress: StatementProgress,
 ) -> Result<Need, AllocError>
     requires numbered { 0 < unit }
     requires within { unit ≤ length parts.old.runners.items }
     requires well { IsWell schema.now capacity parts.old }
-    requires stands { (r : Runner) → slice_get parts.old.runners.items (unit - 1) ≡ Some r → StandsNeeding r stage }
+    requires stands { (r : Runner) → slice_get parts.old.runners.items (unit - 1) ≡ Some r → StandsNeeding r progress }
     ensures alone { ChangesCourseAlone unit parts.old parts.new }
     ensures well { IsWell schema.now capacity parts.new }
-    ensures stands { (r : Runner) → slice_get parts.new.runners.items (unit - 1) ≡ Some r → StandsNeeding r stage }
-    ensures need { IfOk result (λ n. NeedsNext schema.now capacity parts.new unit stage n) }
+    ensures stands { (r : Runner) → slice_get parts.new.runners.items (unit - 1) ≡ Some r → StandsNeeding r progress }
+    ensures need { IfOk result (λ n. NeedsNext schema.now capacity parts.new unit progress n) }
     ensures refused { OnErr result ((r : Runner) (x : Statement) → slice_get parts.new.runners.items (unit - 1) ≡ Some r → slice_get r.script r.next ≡ Some x → HasItsAreas schema.now r.unit r.held x) }
 {
     // Used by the contract alone.
-    let _ = stage.linked;
+    let _ = progress.linked;
     need_of(
         alloc,
         schema,
@@ -89,9 +89,9 @@ fn need_now(
 pub fn holds_against(runner: &Runner, exclusive: bool, area: AreaNo) -> bool
     ensures { result ≡ holds_against exclusive area runner.now }
 {
-    match runner.stage {
+    match runner.progress {
         None => false,
-        Some(stage) => runner.held.has(area) && (exclusive || stage.exclusive),
+        Some(progress) => runner.held.has(area) && (exclusive || progress.exclusive),
     }
 }
 
@@ -116,13 +116,13 @@ pub fn other_holds_against(runners: &[Runner], unit: u8, exclusive: bool, area: 
 }
 
 /// Takes an area, unless another unit holds it in a way that conflicts.
-fn takes_area(parts: &mut Parts, unit: u8, stage: Stage, area: AreaNo) -> Stepped
+fn take_area_event(parts: &mut Parts, unit: u8, progress: StatementProgress, area: AreaNo) -> Stepped
     requires numbered { 0 < unit }
     requires within { unit ≤ length parts.old.runners.items }
-    requires stands { (r : Runner) → slice_get parts.old.runners.items (unit - 1) ≡ Some r → StandsNeeding r stage }
-    ensures { (schema : Lists) (capacity : ℕ) → IsWell schema capacity parts.old → NeedsNext schema capacity parts.old unit stage (Need.Area area) → IsStepped schema capacity unit result parts.old parts.new }
+    requires stands { (r : Runner) → slice_get parts.old.runners.items (unit - 1) ≡ Some r → StandsNeeding r progress }
+    ensures { (schema : Lists) (capacity : ℕ) → IsWell schema capacity parts.old → NeedsNext schema capacity parts.old unit progress (Need.Area area) → IsStepped schema capacity unit result parts.old parts.new }
 {
-    if other_holds_against(&parts.runners, unit, stage.exclusive, area) {
+    if other_holds_against(&parts.runners, unit, progress.exclusive, area) {
         return Stepped::Blocked;
     }
     match parts.runners[unit as usize - 1].held.push_area(area) {
@@ -133,19 +133,19 @@ fn takes_area(parts: &mut Parts, unit: u8, stage: Stage, area: AreaNo) -> Steppe
 
 // Has a cell in hand that was at home in this place; where memory for it is refused it goes home again.
 fn put_in_hand(
-    place: &mut Place,
+    place: &mut CellLocation,
     held: &mut Held,
     name: CellName,
     cell: Cell,
 ) -> Result<(), AllocError>
     requires free { list_any (λ e. name_eq name e.0) held.old.cells ≡ false }
     ensures taken { OnOk result ((place.new ≡ place.old) × (held.new ≡ record held.old { cells = held.old.cells ++ (name, cell) ∷ [] })) }
-    ensures home { OnErr result ((place.new ≡ Place.Home cell) × (held.new ≡ held.old)) }
+    ensures home { OnErr result ((place.new ≡ CellLocation.Home cell) × (held.new ≡ held.old)) }
 {
     match held.push_cell(name, cell) {
         Ok(()) => Ok(()),
         Err(failed) => {
-            *place = Place::Home(failed.value);
+            *place = CellLocation::Home(failed.value);
             Err(AllocError)
         }
     }
@@ -153,7 +153,7 @@ fn put_in_hand(
 
 // Takes the cell of this number out of the table, if it is at home.
 fn take_cell(
-    table: &mut Vec<Place>,
+    table: &mut Vec<CellLocation>,
     held: &mut Held,
     unit: u8,
     number: usize,
@@ -164,12 +164,12 @@ fn take_cell(
     ensures { IsTaken unit number name table.old.items table.new.items held.old held.new result }
 {
     let place = &mut table[number];
-    match mem::replace(place, Place::HeldBy(unit)) {
-        Place::HeldBy(other) => {
-            *place = Place::HeldBy(other);
+    match mem::replace(place, CellLocation::HeldBy(unit)) {
+        CellLocation::HeldBy(other) => {
+            *place = CellLocation::HeldBy(other);
             Stepped::Blocked
         }
-        Place::Home(cell) => match put_in_hand(place, held, name, cell) {
+        CellLocation::Home(cell) => match put_in_hand(place, held, name, cell) {
             Ok(()) => Stepped::Moved,
             Err(_) => Stepped::NoMemory,
         },
@@ -177,23 +177,23 @@ fn take_cell(
 }
 
 /// Takes a cell, if it is at home.
-fn takes_cell(
+fn take_cell_event(
     schema: &Schema,
     capacity: u16,
     parts: &mut Parts,
     unit: u8,
-    stage: Stage,
+    progress: StatementProgress,
     name: CellName,
 ) -> Stepped
     requires numbered { 0 < unit }
     requires within { unit ≤ length parts.old.runners.items }
     requires well { IsWell schema.now capacity parts.old }
-    requires stands { (r : Runner) → slice_get parts.old.runners.items (unit - 1) ≡ Some r → StandsNeeding r stage }
-    requires needs { NeedsNext schema.now capacity parts.old unit stage (Need.Take name) }
+    requires stands { (r : Runner) → slice_get parts.old.runners.items (unit - 1) ≡ Some r → StandsNeeding r progress }
+    requires needs { NeedsNext schema.now capacity parts.old unit progress (Need.Take name) }
     ensures { IsStepped schema.now capacity unit result parts.old parts.new }
 {
     // Used by the contract alone.
-    let _ = stage.linked;
+    let _ = progress.linked;
     match cell_number(schema, capacity, &name) {
         Some(number) => {
             let runner = &mut parts.runners[unit as usize - 1];
@@ -204,19 +204,19 @@ fn takes_cell(
 }
 
 /// Turns back with the true owners as guesses.
-fn notes_owners(
+fn note_owners_event(
     schema: &Schema,
     capacity: u16,
     parts: &mut Parts,
     unit: u8,
-    stage: Stage,
+    progress: StatementProgress,
     owners: Owners,
 ) -> Stepped
     requires numbered { 0 < unit }
     requires within { unit ≤ length parts.old.runners.items }
     requires well { IsWell schema.now capacity parts.old }
-    requires stands { (r : Runner) → slice_get parts.old.runners.items (unit - 1) ≡ Some r → StandsNeeding r stage }
-    requires needs { NeedsNext schema.now capacity parts.old unit stage (Need.Stale owners) }
+    requires stands { (r : Runner) → slice_get parts.old.runners.items (unit - 1) ≡ Some r → StandsNeeding r progress }
+    requires needs { NeedsNext schema.now capacity parts.old unit progress (Need.Stale owners) }
     ensures { IsStepped schema.now capacity unit result parts.old parts.new }
 {
     // Used by the contract alone.
@@ -225,52 +225,52 @@ fn notes_owners(
     let runner = &mut parts.runners[unit as usize - 1];
     let guesses = with_true_owners(runner.held.guesses(), owners);
     runner.held.set_guesses(guesses);
-    turn_back(runner, stage);
+    turn_back(runner, progress);
     Stepped::Moved
 }
 
 // Meets the need.
-fn meets(
+fn need_event(
     alloc: Global,
     schema: &Schema,
     capacity: u16,
     parts: &mut Parts,
     unit: u8,
-    stage: Stage,
+    progress: StatementProgress,
     need: Need,
 ) -> Stepped
     requires numbered { 0 < unit }
     requires within { unit ≤ length parts.old.runners.items }
     requires well { IsWell schema.now capacity parts.old }
-    requires stands { (r : Runner) → slice_get parts.old.runners.items (unit - 1) ≡ Some r → StandsNeeding r stage }
-    requires needs { NeedsNext schema.now capacity parts.old unit stage need }
+    requires stands { (r : Runner) → slice_get parts.old.runners.items (unit - 1) ≡ Some r → StandsNeeding r progress }
+    requires needs { NeedsNext schema.now capacity parts.old unit progress need }
     ensures { IsStepped schema.now capacity unit result parts.old parts.new }
 {
     match need {
-        Need::Area(area) => takes_area(parts, unit, stage, area),
-        Need::Take(name) => takes_cell(schema, capacity, parts, unit, stage, name),
-        Need::Stale(owners) => notes_owners(schema, capacity, parts, unit, stage, owners),
-        Need::Ready => draws(alloc, schema, capacity, parts, unit, stage),
+        Need::Area(area) => take_area_event(parts, unit, progress, area),
+        Need::Take(name) => take_cell_event(schema, capacity, parts, unit, progress, name),
+        Need::Stale(owners) => note_owners_event(schema, capacity, parts, unit, progress, owners),
+        Need::Ready => ticket_event(alloc, schema, capacity, parts, unit, progress),
     }
 }
 
 /// A statement without a ticket follows its needs.
-pub fn follows(
+pub fn event_before_ticket(
     alloc: Global,
     schema: &Schema,
     capacity: u16,
     parts: &mut Parts,
     unit: u8,
-    stage: Stage,
+    progress: StatementProgress,
 ) -> Stepped
     requires numbered { 0 < unit }
     requires within { unit ≤ length parts.old.runners.items }
     requires well { IsWell schema.now capacity parts.old }
-    requires stands { (r : Runner) → slice_get parts.old.runners.items (unit - 1) ≡ Some r → StandsNeeding r stage }
+    requires stands { (r : Runner) → slice_get parts.old.runners.items (unit - 1) ≡ Some r → StandsNeeding r progress }
     ensures { IsStepped schema.now capacity unit result parts.old parts.new }
 {
-    match need_now(alloc, schema, capacity, parts, unit, stage) {
-        Ok(need) => meets(alloc, schema, capacity, parts, unit, stage, need),
+    match need_now(alloc, schema, capacity, parts, unit, progress) {
+        Ok(need) => need_event(alloc, schema, capacity, parts, unit, progress, need),
         Err(_) => Stepped::NoMemory,
     }
 }

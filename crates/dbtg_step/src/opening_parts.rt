@@ -12,7 +12,7 @@ ghost use Rattle.dbtg_step.specs.Core.Openings.{homes_of, homes_shown};
 ghost use Rattle.dbtg_step.specs.Inside.Openings.{locations_of, opening_runner, runners_from};
 ghost use Rattle.dbtg_step.specs.Inside.Whole.{HasTaken};
 
-use crate::parts::{Place, Runner};
+use crate::parts::{CellLocation, Runner};
 use dbtg_cells::{Cell, CellName, Extent, Owner, Ring, Slot, Usage};
 use dbtg_schema::{AreaNo, RecordNo, Row, Schema, SetNo};
 use dbtg_unit::{Currency, Held, Kept, Owners, Statement, Unit};
@@ -181,12 +181,12 @@ pub fn hold_opening_cells(
 }
 
 // The table in which these cells are at home.
-fn table_of(alloc: Global, cells: Vec<Cell>) -> Result<Vec<Place>, AllocError>
+fn table_of(alloc: Global, cells: Vec<Cell>) -> Result<Vec<CellLocation>, AllocError>
     ensures { IfOk result (λ table. locations_of table.items ≡ homes_shown cells.items) }
 {
     let mut table = Vec::with_capacity(alloc, cells.len())?;
     for cell in cells {
-        table.push(Place::Home(cell))?;
+        table.push(CellLocation::Home(cell))?;
     }
     Ok(table)
 }
@@ -196,7 +196,7 @@ pub fn opening_table(
     alloc: Global,
     schema: &Schema,
     capacity: u16,
-) -> Result<Vec<Place>, AllocError>
+) -> Result<Vec<CellLocation>, AllocError>
     ensures { IfOk result (λ table. locations_of table.items ≡ homes_of schema.now capacity (cells_in_order schema.now capacity)) }
 {
     table_of(alloc, opening_cells(alloc, schema, capacity)?)
@@ -248,7 +248,7 @@ fn new_runner(
         held,
         script,
         next: 0,
-        stage: None,
+        progress: None,
         course: None,
     })
 }

@@ -7,21 +7,21 @@ use dbtg_unit::{Entry, Held, Statement, Unit};
 
 /// Where a cell is: at home, or with the unit of this number.
 #[derive(Drop)]
-pub enum Place {
+pub enum CellLocation {
     Home(Cell),
     HeldBy(u8),
 }
 
 /// How far a unit is with its statement; `linked` counts the cells that are linked after the ticket.
 #[derive(Clone, Copy, Debug, PartialEq, Eq)]
-pub struct Stage {
+pub struct StatementProgress {
     pub exclusive: bool,
     pub turning_back: bool,
     pub ticket: Option<u64>,
     pub linked: usize,
 }
 
-/// A run-unit: what it holds, its script, how many statements of it have their ticket, and, in mid-statement, its stage; `course`
+/// A run-unit: what it holds, its script, how many statements of it have their ticket, and, in mid-statement, its progress; `course`
 /// is how far its statement has come with its needs.
 #[derive(Drop)]
 pub struct Runner {
@@ -29,14 +29,14 @@ pub struct Runner {
     pub held: Held,
     pub script: Row<Statement>,
     pub next: usize,
-    pub stage: Option<Stage>,
+    pub progress: Option<StatementProgress>,
     pub course: Option<Course>,
 }
 
 /// The cells by number, the statements that drew a ticket, and the units in their order.
 #[derive(Drop)]
 pub struct Parts {
-    pub table: Vec<Place>,
+    pub table: Vec<CellLocation>,
     pub history: Vec<Entry>,
     pub runners: Vec<Runner>,
 }

@@ -5,13 +5,13 @@ ghost use Rattle.dbtg_step.specs.Inside.Parts.{written_homes};
 ghost use Rattle.dbtg_step.specs.Inside.Stands.{HavePlaces, StandsUnticketed};
 ghost use Rattle.dbtg_step.specs.Inside.Events.{IsQuit, IsWell};
 
-use crate::parts::{Parts, Place};
+use crate::parts::{Parts, CellLocation};
 use crate::table::put_home;
 use dbtg_schema::Schema;
 use dbtg_unit::{Held, Stepped};
 
 /// All cells go home, the newest first.
-fn give_cells(schema: &Schema, capacity: u16, table: &mut Vec<Place>, held: &mut Held)
+fn give_cells(schema: &Schema, capacity: u16, table: &mut Vec<CellLocation>, held: &mut Held)
     requires { HavePlaces schema.now capacity held.old.cells table.old.items }
     ensures table { table.new.items ≡ written_homes schema.now capacity (reverse held.old.cells) table.old.items }
     ensures held { held.new ≡ record held.old { cells = [] } }
@@ -28,7 +28,7 @@ fn leave_areas(held: &mut Held)
     while let Some(_area) = held.pop_area() {}
 }
 
-fn gives_back(schema: &Schema, capacity: u16, parts: &mut Parts, unit: u8) -> Stepped
+fn quit_event(schema: &Schema, capacity: u16, parts: &mut Parts, unit: u8) -> Stepped
     requires numbered { 0 < unit }
     requires within { unit ≤ length parts.old.runners.items }
     requires well { IsWell schema.now capacity parts.old }
@@ -38,7 +38,7 @@ fn gives_back(schema: &Schema, capacity: u16, parts: &mut Parts, unit: u8) -> St
     let runner = &mut parts.runners[unit as usize - 1];
     give_cells(schema, capacity, &mut parts.table, &mut runner.held);
     leave_areas(&mut runner.held);
-    runner.stage = None;
+    runner.progress = None;
     Stepped::Moved
 }
 
@@ -50,13 +50,13 @@ pub fn quit(schema: &Schema, capacity: u16, parts: &mut Parts, unit: u8) -> Step
     if unit == 0 || parts.runners.len() < unit as usize {
         return Stepped::Idle;
     }
-    match parts.runners[unit as usize - 1].stage {
+    match parts.runners[unit as usize - 1].progress {
         None => Stepped::Idle,
-        Some(stage) => {
-            if stage.ticket.is_some() {
+        Some(progress) => {
+            if progress.ticket.is_some() {
                 Stepped::Idle
             } else {
-                gives_back(schema, capacity, parts, unit)
+                quit_event(schema, capacity, parts, unit)
             }
         }
     }

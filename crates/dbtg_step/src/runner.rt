@@ -1,50 +1,50 @@
 //! What the events change of a run-unit.
 ghost use Rattle.std.specs.Prelude.{◌≡◌, ℕ, ◌<◌, ◌+◌, ◌∷◌, [], ◌++◌, OnOk, OnErr, Some, None, true, false, length, map, nat_lt, slice_get, IfOk};
 ghost use Rattle.dbtg_step.specs.Machine.Network.{is_delete};
-ghost use Rattle.dbtg_step.specs.Inside.Parts.{stage_while_held};
+ghost use Rattle.dbtg_step.specs.Inside.Parts.{progress_while_held};
 ghost use Rattle.dbtg_step.specs.Inside.Stands.{HasStatement, IsStanding};
 ghost use Rattle.dbtg_unit.specs.declared.statement.Statement.{Statement};
 
-use crate::parts::{Runner, Stage};
+use crate::parts::{Runner, StatementProgress};
 use dbtg_schema::Row;
 use dbtg_unit::{Statement, Unit};
 use std::alloc::{AllocError, Global};
 
 /// Where a unit stands.
 #[derive(Clone, Copy, Debug, PartialEq, Eq)]
-pub enum Standing {
+pub enum Phase {
     /// It has nothing to do.
     Over,
     /// It is between statements, and there is a next one.
     Between,
     /// Its statement turns back, and still has a cell.
-    TurningBack(Stage),
+    TurningBack(StatementProgress),
     /// Its statement follows its needs.
-    Needing(Stage),
+    Needing(StatementProgress),
     /// Its statement has its ticket.
-    Ticketed(Stage),
+    Ticketed(StatementProgress),
 }
 
 /// Where the unit stands.
-pub fn where_it_stands(runner: &Runner) -> Standing
+pub fn phase_of(runner: &Runner) -> Phase
     requires { HasStatement runner.now }
     ensures { IsStanding runner.now result }
 {
-    match runner.stage {
+    match runner.progress {
         None => {
             if runner.script.len() <= runner.next {
-                Standing::Over
+                Phase::Over
             } else {
-                Standing::Between
+                Phase::Between
             }
         }
-        Some(stage) => {
-            if stage.ticket.is_some() {
-                Standing::Ticketed(stage)
-            } else if stage.turning_back && 0 < runner.held.cell_count() {
-                Standing::TurningBack(stage)
+        Some(progress) => {
+            if progress.ticket.is_some() {
+                Phase::Ticketed(progress)
+            } else if progress.turning_back && 0 < runner.held.cell_count() {
+                Phase::TurningBack(progress)
             } else {
-                Standing::Needing(stage)
+                Phase::Needing(progress)
             }
         }
     }
@@ -68,10 +68,10 @@ fn is_delete(statement: &Statement) -> bool
 /// Begins the next statement; what is kept of the statement before it is let go.
 pub fn begin(runner: &mut Runner)
     requires { runner.old.next < length runner.old.script }
-    ensures { (x : Statement) → slice_get runner.old.script runner.old.next ≡ Some x → runner.new ≡ record runner.old { stage = Some (record { exclusive = is_delete x; turning_back = false; ticket = None; linked = 0 }); course = None } }
+    ensures { (x : Statement) → slice_get runner.old.script runner.old.next ≡ Some x → runner.new ≡ record runner.old { progress = Some (record { exclusive = is_delete x; turning_back = false; ticket = None; linked = 0 }); course = None } }
 {
     let exclusive = is_delete(statement_of(runner));
-    runner.stage = Some(Stage {
+    runner.progress = Some(StatementProgress {
         exclusive,
         turning_back: false,
         ticket: None,
@@ -81,17 +81,17 @@ pub fn begin(runner: &mut Runner)
 }
 
 /// Links a cell.
-pub fn link(runner: &mut Runner, stage: Stage)
-    requires { stage.linked < length runner.old.held.cells }
-    ensures { runner.new ≡ record runner.old { stage = Some (record stage { linked = stage.linked + 1 }) } }
+pub fn link(runner: &mut Runner, progress: StatementProgress)
+    requires { progress.linked < length runner.old.held.cells }
+    ensures { runner.new ≡ record runner.old { progress = Some (record progress { linked = progress.linked + 1 }) } }
 {
     // The number of cells fits a usize, and so does one link more.
     let _ = runner.held.cell_count();
-    runner.stage = Some(Stage {
-        exclusive: stage.exclusive,
-        turning_back: stage.turning_back,
-        ticket: stage.ticket,
-        linked: stage.linked + 1,
+    runner.progress = Some(StatementProgress {
+        exclusive: progress.exclusive,
+        turning_back: progress.turning_back,
+        ticket: progress.ticket,
+        linked: progress.linked + 1,
     });
 }
 
@@ -107,22 +107,22 @@ pub fn pass(runner: &mut Runner)
 
 /// With nothing left in hand the statement is over.
 pub fn close(runner: &mut Runner)
-    ensures { runner.new ≡ record runner.old { stage = stage_while_held runner.old.held.areas runner.old.held.cells runner.old.stage } }
+    ensures { runner.new ≡ record runner.old { progress = progress_while_held runner.old.held.areas runner.old.held.cells runner.old.progress } }
 {
     if runner.held.area_count() == 0 && runner.held.cell_count() == 0 {
-        runner.stage = None;
+        runner.progress = None;
     }
 }
 
 /// Turns back as long as a cell is in hand; what is kept of the cells that were in hand is let go.
-pub fn turn_back(runner: &mut Runner, stage: Stage)
-    ensures { runner.new ≡ record runner.old { stage = Some (record stage { turning_back = nat_lt 0 (length runner.old.held.cells) }); course = None } }
+pub fn turn_back(runner: &mut Runner, progress: StatementProgress)
+    ensures { runner.new ≡ record runner.old { progress = Some (record progress { turning_back = nat_lt 0 (length runner.old.held.cells) }); course = None } }
 {
-    runner.stage = Some(Stage {
-        exclusive: stage.exclusive,
+    runner.progress = Some(StatementProgress {
+        exclusive: progress.exclusive,
         turning_back: 0 < runner.held.cell_count(),
-        ticket: stage.ticket,
-        linked: stage.linked,
+        ticket: progress.ticket,
+        linked: progress.linked,
     });
     runner.course = None;
 }

@@ -5,16 +5,16 @@ ghost use Rattle.dbtg_step.specs.declared.parts.Runner.{Runner};
 ghost use Rattle.dbtg_step.specs.Inside.Stands.{StandsBetween, StandsTicketed, StandsTurning};
 ghost use Rattle.dbtg_step.specs.Inside.Events.{IsStepped, IsWell};
 
-use crate::needing::follows;
-use crate::parts::{Parts, Stage};
-use crate::runner::{Standing, begin, close, link, turn_back, where_it_stands};
+use crate::needing::event_before_ticket;
+use crate::parts::{Parts, StatementProgress};
+use crate::runner::{Phase, begin, close, link, turn_back, phase_of};
 use crate::table::give_cell;
 use dbtg_schema::Schema;
 use dbtg_unit::Stepped;
 use std::alloc::Global;
 
 /// Begins the next statement.
-pub fn begins(parts: &mut Parts, unit: u8) -> Stepped
+pub fn begin_event(parts: &mut Parts, unit: u8) -> Stepped
     requires numbered { 0 < unit }
     requires within { unit ≤ length parts.old.runners.items }
     requires stands { (r : Runner) → slice_get parts.old.runners.items (unit - 1) ≡ Some r → StandsBetween r }
@@ -25,35 +25,35 @@ pub fn begins(parts: &mut Parts, unit: u8) -> Stepped
 }
 
 /// Links a cell that is held.
-pub fn links(parts: &mut Parts, unit: u8, stage: Stage) -> Stepped
+pub fn link_event(parts: &mut Parts, unit: u8, progress: StatementProgress) -> Stepped
     requires numbered { 0 < unit }
     requires within { unit ≤ length parts.old.runners.items }
-    requires stands { (r : Runner) → slice_get parts.old.runners.items (unit - 1) ≡ Some r → StandsTicketed r stage }
-    requires left { (r : Runner) → slice_get parts.old.runners.items (unit - 1) ≡ Some r → stage.linked < length r.held.cells }
+    requires stands { (r : Runner) → slice_get parts.old.runners.items (unit - 1) ≡ Some r → StandsTicketed r progress }
+    requires left { (r : Runner) → slice_get parts.old.runners.items (unit - 1) ≡ Some r → progress.linked < length r.held.cells }
     ensures { (schema : Lists) (capacity : ℕ) → IsWell schema capacity parts.old → IsStepped schema capacity unit result parts.old parts.new }
 {
-    link(&mut parts.runners[unit as usize - 1], stage);
+    link(&mut parts.runners[unit as usize - 1], progress);
     Stepped::Moved
 }
 
 /// With a ticket and all links made, the newest cell goes home.
-pub fn gives_cell(
+pub fn give_cell_event(
     schema: &Schema,
     capacity: u16,
     parts: &mut Parts,
     unit: u8,
-    stage: Stage,
+    progress: StatementProgress,
 ) -> Stepped
     requires numbered { 0 < unit }
     requires within { unit ≤ length parts.old.runners.items }
     requires well { IsWell schema.now capacity parts.old }
-    requires stands { (r : Runner) → slice_get parts.old.runners.items (unit - 1) ≡ Some r → StandsTicketed r stage }
-    requires linked { (r : Runner) → slice_get parts.old.runners.items (unit - 1) ≡ Some r → length r.held.cells ≤ stage.linked }
+    requires stands { (r : Runner) → slice_get parts.old.runners.items (unit - 1) ≡ Some r → StandsTicketed r progress }
+    requires linked { (r : Runner) → slice_get parts.old.runners.items (unit - 1) ≡ Some r → length r.held.cells ≤ progress.linked }
     requires cells { (r : Runner) → slice_get parts.old.runners.items (unit - 1) ≡ Some r → 0 < length r.held.cells }
     ensures { IsStepped schema.now capacity unit result parts.old parts.new }
 {
     // Used by the contract alone.
-    let _ = stage.linked;
+    let _ = progress.linked;
     let runner = &mut parts.runners[unit as usize - 1];
     give_cell(schema, capacity, &mut parts.table, &mut runner.held);
     close(runner);
@@ -61,15 +61,15 @@ pub fn gives_cell(
 }
 
 /// With a ticket and all cells at home, the newest area is left.
-pub fn leaves_area(parts: &mut Parts, unit: u8, stage: Stage) -> Stepped
+pub fn leave_area_event(parts: &mut Parts, unit: u8, progress: StatementProgress) -> Stepped
     requires numbered { 0 < unit }
     requires within { unit ≤ length parts.old.runners.items }
-    requires stands { (r : Runner) → slice_get parts.old.runners.items (unit - 1) ≡ Some r → StandsTicketed r stage }
+    requires stands { (r : Runner) → slice_get parts.old.runners.items (unit - 1) ≡ Some r → StandsTicketed r progress }
     requires cells { (r : Runner) → slice_get parts.old.runners.items (unit - 1) ≡ Some r → length r.held.cells ≡ 0 }
     ensures { (schema : Lists) (capacity : ℕ) → IsWell schema capacity parts.old → IsStepped schema capacity unit result parts.old parts.new }
 {
     // Used by the contract alone.
-    let _ = stage.linked;
+    let _ = progress.linked;
     let runner = &mut parts.runners[unit as usize - 1];
     let _ = runner.held.pop_area();
     close(runner);
@@ -77,40 +77,40 @@ pub fn leaves_area(parts: &mut Parts, unit: u8, stage: Stage) -> Stepped
 }
 
 /// A unit that turns back puts its newest cell back.
-pub fn turns_back(
+pub fn turn_back_event(
     schema: &Schema,
     capacity: u16,
     parts: &mut Parts,
     unit: u8,
-    stage: Stage,
+    progress: StatementProgress,
 ) -> Stepped
     requires numbered { 0 < unit }
     requires within { unit ≤ length parts.old.runners.items }
     requires well { IsWell schema.now capacity parts.old }
-    requires stands { (r : Runner) → slice_get parts.old.runners.items (unit - 1) ≡ Some r → StandsTurning r stage }
+    requires stands { (r : Runner) → slice_get parts.old.runners.items (unit - 1) ≡ Some r → StandsTurning r progress }
     ensures { IsStepped schema.now capacity unit result parts.old parts.new }
 {
     let runner = &mut parts.runners[unit as usize - 1];
     give_cell(schema, capacity, &mut parts.table, &mut runner.held);
-    turn_back(runner, stage);
+    turn_back(runner, progress);
     Stepped::Moved
 }
 
 /// With a ticket: a link while one is left, then each cell goes home, then each area is left.
-fn ends(schema: &Schema, capacity: u16, parts: &mut Parts, unit: u8, stage: Stage) -> Stepped
+fn end_event(schema: &Schema, capacity: u16, parts: &mut Parts, unit: u8, progress: StatementProgress) -> Stepped
     requires numbered { 0 < unit }
     requires within { unit ≤ length parts.old.runners.items }
     requires well { IsWell schema.now capacity parts.old }
-    requires stands { (r : Runner) → slice_get parts.old.runners.items (unit - 1) ≡ Some r → StandsTicketed r stage }
+    requires stands { (r : Runner) → slice_get parts.old.runners.items (unit - 1) ≡ Some r → StandsTicketed r progress }
     ensures { IsStepped schema.now capacity unit result parts.old parts.new }
 {
     let count = parts.runners[unit as usize - 1].held.cell_count();
-    if stage.linked < count {
-        links(parts, unit, stage)
+    if progress.linked < count {
+        link_event(parts, unit, progress)
     } else if 0 < count {
-        gives_cell(schema, capacity, parts, unit, stage)
+        give_cell_event(schema, capacity, parts, unit, progress)
     } else {
-        leaves_area(parts, unit, stage)
+        leave_area_event(parts, unit, progress)
     }
 }
 
@@ -122,11 +122,11 @@ pub fn step(alloc: Global, schema: &Schema, capacity: u16, parts: &mut Parts, un
     if unit == 0 || parts.runners.len() < unit as usize {
         return Stepped::Idle;
     }
-    match where_it_stands(&parts.runners[unit as usize - 1]) {
-        Standing::Over => Stepped::Idle,
-        Standing::Between => begins(parts, unit),
-        Standing::TurningBack(stage) => turns_back(schema, capacity, parts, unit, stage),
-        Standing::Needing(stage) => follows(alloc, schema, capacity, parts, unit, stage),
-        Standing::Ticketed(stage) => ends(schema, capacity, parts, unit, stage),
+    match phase_of(&parts.runners[unit as usize - 1]) {
+        Phase::Over => Stepped::Idle,
+        Phase::Between => begin_event(parts, unit),
+        Phase::TurningBack(progress) => turn_back_event(schema, capacity, parts, unit, progress),
+        Phase::Needing(progress) => event_before_ticket(alloc, schema, capacity, parts, unit, progress),
+        Phase::Ticketed(progress) => end_event(schema, capacity, parts, unit, progress),
     }
 }

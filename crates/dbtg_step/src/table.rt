@@ -4,24 +4,24 @@ ghost use Rattle.dbtg_step.specs.Inside.Parts.{written_home};
 ghost use Rattle.dbtg_step.specs.Inside.Stands.{HasPlace, HavePlaces};
 ghost use Rattle.dbtg_step.specs.Inside.Leaves.{IsCellGiven};
 
-use crate::parts::Place;
+use crate::parts::CellLocation;
 use dbtg_cells::{Cell, CellName, cell_number};
 use dbtg_schema::Schema;
 use dbtg_unit::Held;
 
 /// Puts a cell home, to its place in the table.
-pub fn put_home(schema: &Schema, capacity: u16, table: &mut Vec<Place>, name: &CellName, cell: Cell)
+pub fn put_home(schema: &Schema, capacity: u16, table: &mut Vec<CellLocation>, name: &CellName, cell: Cell)
     requires { HasPlace schema.now capacity name.now table.old.items }
     ensures { table.new.items ≡ written_home schema.now capacity name.now cell table.old.items }
 {
     match cell_number(schema, capacity, name) {
-        Some(number) => table[number] = Place::Home(cell),
+        Some(number) => table[number] = CellLocation::Home(cell),
         None => unreachable!(),
     }
 }
 
 /// The cell that was taken last goes home.
-pub fn give_cell(schema: &Schema, capacity: u16, table: &mut Vec<Place>, held: &mut Held)
+pub fn give_cell(schema: &Schema, capacity: u16, table: &mut Vec<CellLocation>, held: &mut Held)
     requires any { 0 < length held.old.cells }
     requires places { HavePlaces schema.now capacity held.old.cells table.old.items }
     ensures { IsCellGiven schema.now capacity held.old held.new table.old.items table.new.items }

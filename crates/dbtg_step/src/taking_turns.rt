@@ -101,7 +101,7 @@ fn statements_left(runner: &Runner) -> usize
 fn is_done(runner: &Runner, left: usize) -> bool
     ensures { (schema : Lists) (capacity : ℕ) → Decides result (IsDone (network schema capacity) left (unit_state_of schema capacity runner.now)) }
 {
-    runner.stage.is_none() & (statements_left(runner) <= left)
+    runner.progress.is_none() & (statements_left(runner) <= left)
 }
 
 // One turn of a unit, step by step; nothing where there is no such unit, or its script is at its end. No other unit holds

@@ -21,8 +21,8 @@ ghost use Rattle.dbtg_step.specs.Inside.Stands.{StandsNeeding};
 ghost use Rattle.dbtg_step.specs.Inside.Waiting.{IsAwaited, has_awaited, is_with_unit, numbers_from};
 
 use crate::needing::{holds_against, other_holds_against};
-use crate::parts::{Parts, Place, Runner, Stage};
-use crate::runner::{Standing, statement_of, where_it_stands};
+use crate::parts::{Parts, CellLocation, Runner, StatementProgress};
+use crate::runner::{Phase, statement_of, phase_of};
 use crate::statements::need_unless_delete;
 use dbtg_cells::{CellName, cell_number};
 use dbtg_schema::{AreaNo, Row, Schema};
@@ -56,13 +56,13 @@ fn need_of_runner(schema: &Schema, capacity: u16, runner: &Runner) -> Option<Nee
 }
 
 #[tactic(auto, unfolding(crate::specs::Core::Parts::location_at))]
-fn is_with_unit(schema: &Schema, capacity: u16, table: &[Place], name: &CellName) -> bool
+fn is_with_unit(schema: &Schema, capacity: u16, table: &[CellLocation], name: &CellName) -> bool
     ensures { result ≡ is_with_unit (location_at schema.now capacity table.now name.now) }
 {
     match cell_number(schema, capacity, name) {
         Some(number) => match table.get(number) {
-            Some(Place::HeldBy(_)) => true,
-            Some(Place::Home(_)) => false,
+            Some(CellLocation::HeldBy(_)) => true,
+            Some(CellLocation::Home(_)) => false,
             None => false,
         },
         None => false,
@@ -82,13 +82,13 @@ fn where_held(is_held: bool, awaited: Awaited) -> Option<Awaited>
 }
 
 // An area is waited for where another unit holds it in a way that conflicts.
-fn awaits_area(parts: &Parts, unit: u8, stage: Stage, area: AreaNo) -> Option<Awaited>
+fn awaits_area(parts: &Parts, unit: u8, progress: StatementProgress, area: AreaNo) -> Option<Awaited>
     requires numbered { 0 < unit }
     requires within { unit ≤ length parts.now.runners.items }
-    requires stands { (r : Runner) → slice_get parts.now.runners.items (unit - 1) ≡ Some r → StandsNeeding r stage }
-    ensures { (schema : Lists) (capacity : ℕ) → IsWell schema capacity parts.now → NeedsNext schema capacity parts.now unit stage (Need.Area area) → IsAwaited (core_of schema capacity parts.now) unit result }
+    requires stands { (r : Runner) → slice_get parts.now.runners.items (unit - 1) ≡ Some r → StandsNeeding r progress }
+    ensures { (schema : Lists) (capacity : ℕ) → IsWell schema capacity parts.now → NeedsNext schema capacity parts.now unit progress (Need.Area area) → IsAwaited (core_of schema capacity parts.now) unit result }
 {
-    let exclusive = stage.exclusive;
+    let exclusive = progress.exclusive;
     let is_held = other_holds_against(&parts.runners, unit, exclusive, area);
     where_held(is_held, Awaited::Area { area, exclusive })
 }
@@ -99,18 +99,18 @@ fn awaits_cell(
     capacity: u16,
     parts: &Parts,
     unit: u8,
-    stage: Stage,
+    progress: StatementProgress,
     name: CellName,
 ) -> Option<Awaited>
     requires numbered { 0 < unit }
     requires within { unit ≤ length parts.now.runners.items }
     requires well { IsWell schema.now capacity parts.now }
-    requires stands { (r : Runner) → slice_get parts.now.runners.items (unit - 1) ≡ Some r → StandsNeeding r stage }
-    requires needs { NeedsNext schema.now capacity parts.now unit stage (Need.Take name) }
+    requires stands { (r : Runner) → slice_get parts.now.runners.items (unit - 1) ≡ Some r → StandsNeeding r progress }
+    requires needs { NeedsNext schema.now capacity parts.now unit progress (Need.Take name) }
     ensures { IsAwaited (core_of schema.now capacity parts.now) unit result }
 {
     // Used by the contract alone.
-    let _ = stage.linked;
+    let _ = progress.linked;
     let _ = unit;
     let is_held = is_with_unit(schema, capacity, parts.table.as_slice(), &name);
     where_held(is_held, awaited_cell(name))
@@ -122,19 +122,19 @@ fn awaited_by_need(
     capacity: u16,
     parts: &Parts,
     unit: u8,
-    stage: Stage,
+    progress: StatementProgress,
     need: Need,
 ) -> Option<Awaited>
     requires numbered { 0 < unit }
     requires within { unit ≤ length parts.now.runners.items }
     requires well { IsWell schema.now capacity parts.now }
-    requires stands { (r : Runner) → slice_get parts.now.runners.items (unit - 1) ≡ Some r → StandsNeeding r stage }
-    requires needs { NeedsNext schema.now capacity parts.now unit stage need }
+    requires stands { (r : Runner) → slice_get parts.now.runners.items (unit - 1) ≡ Some r → StandsNeeding r progress }
+    requires needs { NeedsNext schema.now capacity parts.now unit progress need }
     ensures { IsAwaited (core_of schema.now capacity parts.now) unit result }
 {
     match need {
-        Need::Area(area) => awaits_area(parts, unit, stage, area),
-        Need::Take(name) => awaits_cell(schema, capacity, parts, unit, stage, name),
+        Need::Area(area) => awaits_area(parts, unit, progress, area),
+        Need::Take(name) => awaits_cell(schema, capacity, parts, unit, progress, name),
         Need::Stale(owners) => {
             drop(owners);
             None
@@ -149,16 +149,16 @@ fn awaited_by_needing(
     capacity: u16,
     parts: &Parts,
     unit: u8,
-    stage: Stage,
+    progress: StatementProgress,
 ) -> Option<Awaited>
     requires numbered { 0 < unit }
     requires within { unit ≤ length parts.now.runners.items }
     requires well { IsWell schema.now capacity parts.now }
-    requires stands { (r : Runner) → slice_get parts.now.runners.items (unit - 1) ≡ Some r → StandsNeeding r stage }
+    requires stands { (r : Runner) → slice_get parts.now.runners.items (unit - 1) ≡ Some r → StandsNeeding r progress }
     ensures { IsAwaited (core_of schema.now capacity parts.now) unit result }
 {
     match need_of_runner(schema, capacity, &parts.runners[unit as usize - 1]) {
-        Some(need) => awaited_by_need(schema, capacity, parts, unit, stage, need),
+        Some(need) => awaited_by_need(schema, capacity, parts, unit, progress, need),
         None => None,
     }
 }
@@ -171,12 +171,12 @@ fn awaited_of(schema: &Schema, capacity: u16, parts: &Parts, unit: u8) -> Option
     if unit == 0 || parts.runners.len() < unit as usize {
         return None;
     }
-    match where_it_stands(&parts.runners[unit as usize - 1]) {
-        Standing::Over => None,
-        Standing::Between => None,
-        Standing::TurningBack(_) => None,
-        Standing::Needing(stage) => awaited_by_needing(schema, capacity, parts, unit, stage),
-        Standing::Ticketed(_) => None,
+    match phase_of(&parts.runners[unit as usize - 1]) {
+        Phase::Over => None,
+        Phase::Between => None,
+        Phase::TurningBack(_) => None,
+        Phase::Needing(progress) => awaited_by_needing(schema, capacity, parts, unit, progress),
+        Phase::Ticketed(_) => None,
     }
 }
 
@@ -194,7 +194,7 @@ fn has_awaited(runner: &Runner, awaited: &Awaited) -> bool
 {
     match awaited {
         Awaited::Area { area, exclusive } => holds_against(runner, *exclusive, *area),
-        Awaited::Cell(name) => runner.stage.is_some() && has_cell(&runner.held, name),
+        Awaited::Cell(name) => runner.progress.is_some() && has_cell(&runner.held, name),
     }
 }
 

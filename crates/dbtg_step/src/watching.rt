@@ -28,13 +28,13 @@ pub struct Position {
 fn progress_of(runner: &Runner) -> Option<Progress>
     ensures { (schema : Lists) (capacity : ℕ) → result ≡ (position_of (network schema capacity) (unit_state_of schema capacity runner.now)).progress }
 {
-    let stage = runner.stage?;
+    let progress = runner.progress?;
     Some(Progress {
         areas: runner.held.area_count(),
         cells: runner.held.cell_count(),
-        turning_back: stage.turning_back,
-        has_ticket: stage.ticket.is_some(),
-        linked: stage.linked,
+        turning_back: progress.turning_back,
+        has_ticket: progress.ticket.is_some(),
+        linked: progress.linked,
     })
 }
 

@@ -6,7 +6,7 @@ use Rattle.dbtg_schema.specs.declared.shape.Duplicates.{Duplicates}
 use Rattle.dbtg_cells.specs.declared.key.DbKey.{DbKey}
 use Rattle.dbtg_cells.specs.declared.key.Value.{Value}
 use Rattle.dbtg_cells.specs.declared.sorted.SortedBy.{SortedBy}
-use Rattle.dbtg_cells.specs.declared.sorted.Known.{Known}
+use Rattle.dbtg_cells.specs.declared.sorted.SortFacts.{SortFacts}
 use Rattle.dbtg_cells.specs.Keys.{has_type}
 use Rattle.dbtg_cells.specs.Orders.{sort_key_below, comes_before}
 use Rattle.dbtg_cells.specs.Members.{Entry}

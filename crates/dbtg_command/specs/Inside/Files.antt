@@ -4,12 +4,12 @@ use Rattle.std.specs.Prelude.{ℕ, ◌≡◌, List, string_bytes}
 use Rattle.dbtg_command.specs.declared.fault.Fault.{Fault}
 use Rattle.dbtg_command.specs.declared.fault.Fault.TheVariants.{Schema as InSchema, Script as InScript, Moves as InMoves, Turns as InTurns, MovesOver, StatesOver, Unreadable, ScriptCount, Memory}
 use Rattle.dbtg_command.specs.declared.order.Order.{Order}
-use Rattle.dbtg_command.specs.declared.place.Place.{Place}
-use Rattle.dbtg_command.specs.declared.place.Place.TheVariants.{Schema, Script, Moves, Turns}
+use Rattle.dbtg_command.specs.declared.place.TextPlace.{TextPlace}
+use Rattle.dbtg_command.specs.declared.place.TextPlace.TheVariants.{Schema, Script, Moves, Turns}
 use Rattle.dbtg_command.specs.Inside.Sources.{StandsIn}
 
 -- so much of a file is read: a byte more than a schema or a script may have, and moves and turns to their end
-abbrev pub most_of : Place → ℕ
+abbrev pub most_of : TextPlace → ℕ
 most_of Schema = 65537
 most_of (Script n) = 1048577
 most_of Moves = 18446744073709551615
@@ -28,9 +28,9 @@ IsUnread path (StatesOver limit) = ⊥
 IsUnread path ScriptCount = ⊥
 
 -- the file that is named in this place gave this text
-abbrev pub FileHolds : (List ℕ → ℕ → List ℕ → Type 0) → List ℕ → List (List ℕ) → Order (List ℕ) → Place → List ℕ → Type 0
+abbrev pub FileHolds : (List ℕ → ℕ → List ℕ → Type 0) → List ℕ → List (List ℕ) → Order (List ℕ) → TextPlace → List ℕ → Type 0
 FileHolds has schema scripts order place text = (path : List ℕ) × StandsIn schema scripts order place path × has path (most_of place) text
 
 -- the file that is named in this place gave no text, and the fault tells so
-abbrev pub FileFails : (List ℕ → ℕ → Type 0) → List ℕ → List (List ℕ) → Order (List ℕ) → Place → Fault → Type 0
+abbrev pub FileFails : (List ℕ → ℕ → Type 0) → List ℕ → List (List ℕ) → Order (List ℕ) → TextPlace → Fault → Type 0
 FileFails lacks schema scripts order place fault = (path : List ℕ) × StandsIn schema scripts order place path × lacks path (most_of place) × IsUnread path fault

@@ -2,11 +2,11 @@
 use Rattle.std.specs.Prelude.{ℕ, ◌≡◌, ◌-◌, List, Some, slice_get}
 use Rattle.dbtg_command.specs.declared.order.Order.{Order}
 use Rattle.dbtg_command.specs.declared.order.Order.TheVariants as by
-use Rattle.dbtg_command.specs.declared.place.Place.{Place}
-use Rattle.dbtg_command.specs.declared.place.Place.TheVariants.{Schema, Script, Moves, Turns}
+use Rattle.dbtg_command.specs.declared.place.TextPlace.{TextPlace}
+use Rattle.dbtg_command.specs.declared.place.TextPlace.TheVariants.{Schema, Script, Moves, Turns}
 
 -- of a schema, scripts and moves or turns, this one stands in this place; they are texts, or paths of files
-abbrev pub StandsIn : List ℕ → List (List ℕ) → Order (List ℕ) → Place → List ℕ → Type 0
+abbrev pub StandsIn : List ℕ → List (List ℕ) → Order (List ℕ) → TextPlace → List ℕ → Type 0
 StandsIn schema scripts order Schema it = it ≡ schema
 StandsIn schema scripts order (Script n) it = slice_get scripts (n - 1) ≡ Some it
 StandsIn schema scripts order Moves it = order ≡ by.Moves it

@@ -18,7 +18,7 @@ use Rattle.dbtg_unit.specs.Database.State.Units.{opening_unit}
 use Rattle.dbtg_unit.proofs.Rows.Defined.Schemas.{shop, main, customers}
 use Rattle.dbtg_unit.proofs.Rows.Words.{by, store, text}
 use Rattle.dbtg_run.specs.declared.view.About.{About}
-use Rattle.dbtg_run.specs.Inside.Kept.{area_word, cell_word}
+use Rattle.dbtg_run.specs.Inside.LatchRule.{area_word, cell_word}
 
 abbrev about : About
 about = record { schema = record { marker = record {}; value = shop }; capacity = 1; units = 2 }

@@ -22,11 +22,11 @@ use Rattle.dbtg_step.specs.Machine.Machine.{UnitState, held_cells}
 use Rattle.dbtg_step.specs.Core.Parts.{held_cells_of, held_of}
 use Rattle.dbtg_step.proofs.Public.{in_reverse, network_names_cells, versions_next}
 use Rattle.dbtg_run.specs.declared.view.About.{About}
-use Rattle.dbtg_run.specs.declared.view.Member.{Member}
-use Rattle.dbtg_run.specs.declared.view.View.{View}
+use Rattle.dbtg_run.specs.declared.view.SeatUnit.{SeatUnit}
+use Rattle.dbtg_run.specs.declared.view.SeatKnowledge.{SeatKnowledge}
 use Rattle.dbtg_run.specs.Views.{lone}
 use Rattle.dbtg_run.specs.Inside.Views.{total_below}
-use Rattle.dbtg_run.specs.Inside.Kept.{net, cell_word, progress_of, hands_of, database_after, IsReal, Kept, TellsReal, CellFreeAlone}
+use Rattle.dbtg_run.specs.Inside.LatchRule.{net, cell_word, progress_of, hands_of, database_after, IsReal, LatchRule, TellsReal, CellFreeAlone}
 use Rattle.dbtg_run.proofs.TheRule.Base.{below_le}
 use Rattle.dbtg_run.proofs.TheRule.Facts.{database_now, database_is, agrees_now, once_now}
 use Rattle.dbtg_run.proofs.TheRule.Moves.{sits, is_known, mine}
@@ -55,11 +55,11 @@ holds_shown : (h : HeldCell CellName CellValue) (es : List (CellName × Cell)) �
 holds_shown h es i = mapped_in h es (subst (λ (l : List (HeldCell CellName CellValue)). In h l) (reverse-reverse (map held_of es)) (in_reverse h (reverse (map held_of es)) i))
 
 -- eight units with few entries each
-pub few_entries : (about : About) (s : State (Option Cell) View) (K : Kept about s) → length K.worded.log ≤ 524280
+pub few_entries : (about : About) (s : State (Option Cell) SeatKnowledge) (K : LatchRule about s) → length K.worded.log ≤ 524280
 few_entries about s K = let h : total_below (λ u. length (K.all u).journal) about.units ≤ 65535 * about.units = below_le (λ u. length (K.all u).journal) about.units (λ u l. K.worded.short u l) in
     let e = K.worded.entries in let f = K.few in omega arith
 
-module _ (about : About) (s : State (Option Cell) View) (K : Kept about s) (id : ℕ) (m : Member) (at : get_elem? s.views id ≡ some (lone about m)) where
+module _ (about : About) (s : State (Option Cell) SeatKnowledge) (K : LatchRule about s) (id : ℕ) (m : SeatUnit) (at : get_elem? s.views id ≡ some (lone about m)) where
   first_place : about.units ≡ 1 → m.place ≡ 0
   first_place one = let i = (sits about s K id m at).inside in omega arith
 
@@ -68,10 +68,10 @@ module _ (about : About) (s : State (Option Cell) View) (K : Kept about s) (id :
       let here : K.all 0 ≡ m = ap K.all (sym (first_place one)) ∙ is_known about s K id m at in
       let j : entries_of 1 K.worded.log ≡ (K.all 0).journal = K.worded.journal 0 (omega arith) in
       let t : 0 + length (K.all 0).journal ≡ length K.worded.log = subst (λ n. total_below (λ u. length (K.all u).journal) n ≡ length K.worded.log) one K.worded.entries in
-      sym (filter_all (λ (e : Entry). e.unit == 1) K.worded.log (ap length j ∙ (let q : length (K.all 0).journal ≡ length K.worded.log = omega arith in q))) ∙ (j ∙ ap (λ (y : Member). y.journal) here)
+      sym (filter_all (λ (e : Entry). e.unit == 1) K.worded.log (ap length j ∙ (let q : length (K.all 0).journal ≡ length K.worded.log = omega arith in q))) ∙ (j ∙ ap (λ (y : SeatUnit). y.journal) here)
 
   pub tells_real : TellsReal (lone about m)
-  tells_real y is = subst (λ (z : Member). IsReal about z.unit z.journal (hands_of z)) (heads m y is) (record {
+  tells_real y is = subst (λ (z : SeatUnit). IsReal about z.unit z.journal (hands_of z)) (heads m y is) (record {
     db = now;
     agrees = agrees;
     alone = λ one. known ∙ ap (database_after about) (journal_is_log one);
@@ -81,7 +81,7 @@ module _ (about : About) (s : State (Option Cell) View) (K : Kept about s) (id :
         m.held agrees.cells (let f = few_entries about s K in omega arith);
   })
     where
-      heads : (p q : Member) → p ∷ [] ≡ q ∷ [] → p ≡ q
+      heads : (p q : SeatUnit) → p ∷ [] ≡ q ∷ [] → p ≡ q
       heads p q e = cc (e)
 
       now : Database
@@ -97,7 +97,7 @@ module _ (about : About) (s : State (Option Cell) View) (K : Kept about s) (id :
   unfolding held_cells unit_at
   cell_free_alone k y c is one named not_held = dite (ℕ_discrete (get_or s.words (cell_word about k) 0) 0) (λ e. e) (λ busy. absurd (by_whom busy))
     where
-      heads : (p q : Member) → p ∷ [] ≡ q ∷ [] → p ≡ q
+      heads : (p q : SeatUnit) → p ∷ [] ≡ q ∷ [] → p ≡ q
       heads p q e = cc (e)
 
       only : (w : ℕ) (state : UnitState (net about)) → unit_at K.worded.machine.units w ≡ Some state → w ≡ 1
@@ -122,7 +122,7 @@ module _ (about : About) (s : State (Option Cell) View) (K : Kept about s) (id :
           let progress = ap (λ (z : UnitState (net about)). z.progress) same ∙ my.progress in
           let inside : In h.holds.which (held_cells (net about) (Some (progress_of about m))) = subst (λ o. In h.holds.which (held_cells (net about) o)) progress h.holds.is_in in
           let yes : holds m.held c ≡ true = ap (holds m.held) (sym h.holds.name) ∙ holds_shown h.holds.which m.held inside in
-          let no : holds m.held c ≡ false = ap (λ (z : Member). holds z.held c) (heads m y is) ∙ not_held in
+          let no : holds m.held c ≡ false = ap (λ (z : SeatUnit). holds z.held c) (heads m y is) ∙ not_held in
           clash (sym yes ∙ no)
         where
           clash : true ≡ false → ⊥

@@ -7,7 +7,7 @@ use Rattle.std.specs.Int.RustNames.{bit_or, bit_and}
 use mathlib.Core.Logic.{dite}
 use native.Mathlib.Decide.{ℕ_discrete, dec_lt}
 use Rattle.dbtg_run.specs.Inside.Views.{put}
-use Rattle.dbtg_run.specs.Inside.Kept.{AreaOk}
+use Rattle.dbtg_run.specs.Inside.LatchRule.{AreaOk}
 
 -- who has the area so, where the one at place u has it as h says
 abbrev pub had : (Bool → ℕ → ℕ) → ℕ → (Bool → ℕ) → Bool → ℕ → ℕ

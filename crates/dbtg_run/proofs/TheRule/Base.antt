@@ -6,8 +6,8 @@ use native.Mathlib.Decide.{ℕ_discrete}
 use lib.ListN.{get_elem?}
 use Rattle.atomic_table.proofs.Lists.{at_set}
 use Rattle.dbtg_run.specs.declared.view.About.{About}
-use Rattle.dbtg_run.specs.declared.view.Member.{Member}
-use Rattle.dbtg_run.specs.declared.view.View.{View}
+use Rattle.dbtg_run.specs.declared.view.SeatUnit.{SeatUnit}
+use Rattle.dbtg_run.specs.declared.view.SeatKnowledge.{SeatKnowledge}
 use Rattle.dbtg_run.specs.Views.{Has, lone}
 use Rattle.dbtg_run.specs.Inside.Views.{total, total_below, put, one_if, Sits, Seated, times_place}
 
@@ -78,14 +78,14 @@ below_same f g zero h = refl
 below_same f g (suc n) h = omega (arith, below_same f g n h, h n)
 
 -- ---- the views, where the seat id has the unit of m, which becomes w
-module _ (about : About) (all : ℕ → Member) (seat : ℕ → ℕ) (views : List View) (id : ℕ) (m w : Member) (at : get_elem? views id ≡ some (lone about m)) (same : w.place ≡ m.place) where
-  pub live_set : ((id : ℕ) (v : View) → get_elem? views id ≡ some v → v.live ≡ true → v.about ≡ about) → (i : ℕ) (v : View) → get_elem? (set views id (lone about w)) i ≡ some v → v.live ≡ true → v.about ≡ about
-  live_set h i v e l = ⊎_elim (λ (t : (i ≡ id) × (lone about w ≡ v)). sym (ap (λ (x : View). x.about) t.1)) (λ (t : (i ≢ id) × (get_elem? views i ≡ some v)). h i v t.1 l) (at_set views id i (lone about w) v e)
+module _ (about : About) (all : ℕ → SeatUnit) (seat : ℕ → ℕ) (views : List SeatKnowledge) (id : ℕ) (m w : SeatUnit) (at : get_elem? views id ≡ some (lone about m)) (same : w.place ≡ m.place) where
+  pub live_set : ((id : ℕ) (v : SeatKnowledge) → get_elem? views id ≡ some v → v.live ≡ true → v.about ≡ about) → (i : ℕ) (v : SeatKnowledge) → get_elem? (set views id (lone about w)) i ≡ some v → v.live ≡ true → v.about ≡ about
+  live_set h i v e l = ⊎_elim (λ (t : (i ≡ id) × (lone about w ≡ v)). sym (ap (λ (x : SeatKnowledge). x.about) t.1)) (λ (t : (i ≢ id) × (get_elem? views i ≡ some v)). h i v t.1 l) (at_set views id i (lone about w) v e)
 
-  pub seated_set : seat m.place ≡ id → m.place < about.units → ((id : ℕ) (v : View) (m : Member) → get_elem? views id ≡ some v → Has m v.members → Sits about all seat id m)
-      → (i : ℕ) (v : View) (x : Member) → get_elem? (set views id (lone about w)) i ≡ some v → Has x v.members → Sits about (put all m.place w) seat i x
+  pub seated_set : seat m.place ≡ id → m.place < about.units → ((id : ℕ) (v : SeatKnowledge) (m : SeatUnit) → get_elem? views id ≡ some v → Has m v.members → Sits about all seat id m)
+      → (i : ℕ) (v : SeatKnowledge) (x : SeatUnit) → get_elem? (set views id (lone about w)) i ≡ some v → Has x v.members → Sits about (put all m.place w) seat i x
   seated_set here inside h i v x e has = ⊎_elim
-      (λ (t : (i ≡ id) × (lone about w ≡ v)). mine t.0 (subst (λ (y : View). Has x y.members) (sym t.1) has))
+      (λ (t : (i ≡ id) × (lone about w ≡ v)). mine t.0 (subst (λ (y : SeatKnowledge). Has x y.members) (sym t.1) has))
       (λ (t : (i ≢ id) × (get_elem? views i ≡ some v)). let s = h i v x t.1 has in record {
         same = s.same ∙ sym (put_else all m.place w x.place (λ k. t.0 (sym s.here ∙ ap seat k ∙ here)));
         here = s.here;
@@ -100,16 +100,16 @@ module _ (about : About) (all : ℕ → Member) (seat : ℕ → ℕ) (views : Li
         inside = subst (λ (n : ℕ). n < about.units) (sym same) inside;
       }) (λ none. absurd none) q
 
-  pub once_set : (u : ℕ) → total (λ (v : View). times_place u v.members) (set views id (lone about w)) ≡ total (λ (v : View). times_place u v.members) views
+  pub once_set : (u : ℕ) → total (λ (v : SeatKnowledge). times_place u v.members) (set views id (lone about w)) ≡ total (λ (v : SeatKnowledge). times_place u v.members) views
   once_set u =
-      let h = total_set (λ (v : View). times_place u v.members) views id (lone about m) (lone about w) at in
+      let h = total_set (λ (v : SeatKnowledge). times_place u v.members) views id (lone about m) (lone about w) at in
       let k : one_if (eqb w.place u) ≡ one_if (eqb m.place u) = ap (λ n. one_if (eqb n u)) same in omega arith
 
-  pub there_set : total (λ (v : View). length v.members) (set views id (lone about w)) ≡ total (λ (v : View). length v.members) views
-  there_set = let h = total_set (λ (v : View). length v.members) views id (lone about m) (lone about w) at in omega arith
+  pub there_set : total (λ (v : SeatKnowledge). length v.members) (set views id (lone about w)) ≡ total (λ (v : SeatKnowledge). length v.members) views
+  there_set = let h = total_set (λ (v : SeatKnowledge). length v.members) views id (lone about m) (lone about w) at in omega arith
 
 -- the seat id, which has the unit of m and no other, has it as w
-pub seats_changed : (about : About) (all : ℕ → Member) (views : List View) (id : ℕ) (m w : Member) → get_elem? views id ≡ some (lone about m) → w.place ≡ m.place → Seated about all views → Seated about (put all m.place w) (set views id (lone about w))
+pub seats_changed : (about : About) (all : ℕ → SeatUnit) (views : List SeatKnowledge) (id : ℕ) (m w : SeatUnit) → get_elem? views id ≡ some (lone about m) → w.place ≡ m.place → Seated about all views → Seated about (put all m.place w) (set views id (lone about w))
 seats_changed about all views id m w at same S =
     let sits : Sits about all S.seat id m = S.seated id (lone about m) m at (inl refl) in
     record {

@@ -29,11 +29,11 @@ use Rattle.dbtg_step.specs.Machine.Machine.{Location, Home, HeldBy, Progress, re
 use Rattle.dbtg_step.specs.Core.Parts.{held_cells_of, held_of}
 use Rattle.dbtg_step.proofs.Public.{SafeUpdate, back_is_safe, held_behind, relocated_at, relocated_elsewhere, take_is_safe}
 use Rattle.dbtg_run.specs.declared.view.About.{About}
-use Rattle.dbtg_run.specs.declared.view.Member.{Member}
-use Rattle.dbtg_run.specs.declared.view.View.{View}
+use Rattle.dbtg_run.specs.declared.view.SeatUnit.{SeatUnit}
+use Rattle.dbtg_run.specs.declared.view.SeatKnowledge.{SeatKnowledge}
 use Rattle.dbtg_run.specs.Inside.Views.{put, latched, with_cell, less_cell, bare, init}
 use Rattle.dbtg_run.specs.Views.{lone}
-use Rattle.dbtg_run.specs.Inside.Kept.{net, opens, area_count, cells_of_table, area_word, cell_word, slot_name, progress_of, hands_of, Sat, AtHome, AreaOk, Kept, TakesAt, TakesCell, PutsCell}
+use Rattle.dbtg_run.specs.Inside.LatchRule.{net, opens, area_count, cells_of_table, area_word, cell_word, slot_name, progress_of, hands_of, Sat, AtHome, AreaOk, LatchRule, TakesAt, TakesCell, PutsCell}
 use Rattle.dbtg_run.proofs.TheRule.Base.{each_put}
 use Rattle.dbtg_run.proofs.TheRule.Areas.{ok_same}
 use Rattle.dbtg_run.proofs.TheRule.Facts.{init_more, shown_bare, area_of_cell_held}
@@ -45,7 +45,7 @@ pub apart : (about : About) (j k : ℕ) (c : CellName) → slot_name about j ≡
 apart about j k c a b =
     let e : Some j ≡ Some k = sym (numbered_at about.schema.value about.capacity j c a) ∙ numbered_at about.schema.value about.capacity k c b in cc (e)
 
-latched_held : (y : Bool) (a : ℕ) (m : Member) (held : List (CellName × Cell)) → latched y a (record m { held = held }) ≡ latched y a m
+latched_held : (y : Bool) (a : ℕ) (m : SeatUnit) (held : List (CellName × Cell)) → latched y a (record m { held = held }) ≡ latched y a m
 latched_held true a m held = refl
 latched_held false a m held = refl
 
@@ -57,16 +57,16 @@ there_here [] i a b e = absurd (some-ne-none a (sym e))
 there_here (x ∷ xs) zero a b e = refl
 there_here (x ∷ xs) (suc i) a b e = there_here xs i a b e
 
-module _ (about : About) (s : State (Option Cell) View) (K : Kept about s) (id : ℕ) (m : Member) (at : get_elem? s.views id ≡ some (lone about m)) where
+module _ (about : About) (s : State (Option Cell) SeatKnowledge) (K : LatchRule about s) (id : ℕ) (m : SeatUnit) (at : get_elem? s.views id ≡ some (lone about m)) where
   -- a step on the word of the slot k, which has the cell c; the unit then has other cells
-  pub cell_moved : (k x : ℕ) (c : CellName) (w : Member) (location : CellName → Location CellValue) (homes : List (maybe.Option (Option Cell))) → slot_name about k ≡ Some c
+  pub cell_moved : (k x : ℕ) (c : CellName) (w : SeatUnit) (location : CellName → Location CellValue) (homes : List (maybe.Option (Option Cell))) → slot_name about k ≡ Some c
       → w.place ≡ m.place → w.unit ≡ m.unit → w.journal ≡ m.journal → ((y : Bool) (a : ℕ) → latched y a w ≡ latched y a m)
       → SafeUpdate (net about) (opens about) K.worded.machine (suc m.place) location (Some (progress_of about w))
       → ((d : CellName) → d ≢ c → location d ≡ K.worded.machine.location d)
       → ((j : ℕ) → j ≢ k → get_elem? homes j ≡ get_elem? s.homes j)
       → (x ≡ 0 → AtHome location (get_elem? homes k) c)
       → (x ≢ 0 → location c ≡ HeldBy x)
-      → Kept about record { words = set s.words (cell_word about k) x; homes = homes; views = set s.views id (lone about w) }
+      → LatchRule about record { words = set s.words (cell_word about k) x; homes = homes; views = set s.views id (lone about w) }
   cell_moved k x c w location homes named place unit journal same safe elsewhere rest home out =
       let W = K.worded in
       let inside : k < cells_of_table about = slice_get_within _ k c named in
@@ -78,7 +78,7 @@ module _ (about : About) (s : State (Option Cell) View) (K : Kept about s) (id :
       (get_or-set_other s.words (cell_word about k) 0 x 0 (λ e. omega arith))
       (λ a l. subst (λ (n : ℕ). AreaOk n (λ y u. latched y a (put K.all m.place w u))) (sym (get_or-set_other s.words (cell_word about k) (area_word a) x 0 (λ e. omega arith)))
       (ok_same (get_or s.words (area_word a) 0) (λ y u. latched y a (K.all u)) (λ y u. latched y a (put K.all m.place w u))
-      (λ y u. each_put (λ (u : ℕ) (z : Member). latched y a z ≡ latched y a (K.all u)) K.all m.place w (same y a ∙ sym (ap (λ (z : Member). latched y a z) (is_known about s K id m at))) (λ u ne. refl) u)
+      (λ y u. each_put (λ (u : ℕ) (z : SeatUnit). latched y a z ≡ latched y a (K.all u)) K.all m.place w (same y a ∙ sym (ap (λ (z : SeatUnit). latched y a z) (is_known about s K id m at))) (λ u ne. refl) u)
       (W.areas a l)))
       (λ j d n free. dite (ℕ_discrete j k)
       (λ e. let q : d ≡ c = let p : Some d ≡ Some c = sym n ∙ ap (slot_name about) e ∙ named in cc (p) in
@@ -91,21 +91,21 @@ module _ (about : About) (s : State (Option Cell) View) (K : Kept about s) (id :
       ap location q ∙ out (λ z. busy (word ∙ z)) ∙ ap (λ n. HeldBy n) (sym word))
       (λ ne. elsewhere d (other j d ne n) ∙ W.out j d n (λ z. busy (beside j ne ∙ z)) ∙ ap (λ n. HeldBy n) (sym (beside j ne)))))
 
-module _ (about : About) (id : ℕ) (m : Member) (slots : ℕ) (rest : List (ℕ × Option Cell)) where
+module _ (about : About) (id : ℕ) (m : SeatUnit) (slots : ℕ) (rest : List (ℕ × Option Cell)) where
   abbrev me : Sat
   me = (lone about m, rest)
 
   fewer : (k : ℕ) → 1 + area_count about + k - (1 + area_count about) ≡ k
   fewer k = omega arith
 
-  abbrev GoesAt : ℕ → State (Option Cell) View → ℕ → ℕ → ℕ → Type 0
-  GoesAt b s k x found = (w : View) × (a : Act (Option Cell)) × Valid s.homes rest a × Kept about (stepped s (cell_word about k) x id rest w a) × TakesAt b me found (w, carried_after rest a)
+  abbrev GoesAt : ℕ → State (Option Cell) SeatKnowledge → ℕ → ℕ → ℕ → Type 0
+  GoesAt b s k x found = (w : SeatKnowledge) × (a : Act (Option Cell)) × Valid s.homes rest a × LatchRule about (stepped s (cell_word about k) x id rest w a) × TakesAt b me found (w, carried_after rest a)
 
   -- kind 3
   pub takes_cell : (k new : ℕ) (c : CellName) (x : Statement) (g : List (Option Owner)) → slot_name about k ≡ Some c → fits about.schema.value x ≡ true
       → ((db : Database) → Agrees about.schema.value about.capacity db (hands_of m) m.unit → Take c ≡ need about.schema.value about.capacity db m.unit (record { areas = m.areas; cells = m.held; guesses = g }) x)
       → new ≡ suc m.place
-      → Allows (Kept about) slots id me (cell_word about k) (λ n. either (eqb n 0) new n) (TakesCell (step slots (cell_word about k) 0 new none) me)
+      → Allows (LatchRule about) slots id me (cell_word about k) (λ n. either (eqb n 0) new n) (TakesCell (step slots (cell_word about k) 0 new none) me)
   takes_cell k new c x g named fit wanted is s K deep at bound =
       let told = cell_free_alone about s K id m at k in
       exchanged (get_or s.words (cell_word about k) 0) 0 new
@@ -121,7 +121,7 @@ module _ (about : About) (id : ℕ) (m : Member) (slots : ℕ) (rest : List (ℕ
       (λ miss. subst (λ (b : ℕ). GoesAt b s k (get_or s.words (cell_word about k) 0) (get_or s.words (cell_word about k) 0)) (sym (fewer k))
       (lone about m, keeps, tt, still about s K id m at (cell_word about k) rest, ((λ hit. absurd (miss hit)), (λ _. refl), told)))
     where
-      kept : (hit : get_or s.words (cell_word about k) 0 ≡ 0) → Kept about record { words = set s.words (cell_word about k) new; homes = set s.homes k none; views = set s.views id (lone about (with_cell c (bare (shown (K.worded.home k c named hit).value)) m)) }
+      kept : (hit : get_or s.words (cell_word about k) 0 ≡ 0) → LatchRule about record { words = set s.words (cell_word about k) new; homes = set s.homes k none; views = set s.views id (lone about (with_cell c (bare (shown (K.worded.home k c named hit).value)) m)) }
       kept hit =
           let h = K.worded.home k c named hit in
           let my = mine about s K id m at in
@@ -139,18 +139,18 @@ module _ (about : About) (id : ℕ) (m : Member) (slots : ℕ) (rest : List (ℕ
           (λ _. relocated_at (net about) l.names K.worded.machine.location c (HeldBy (suc m.place)) ∙ ap (λ n. HeldBy n) (sym is))
 
 -- kind 5
-pub puts_cell : (about : About) (id : ℕ) (m : Member) (slots zeros k : ℕ) (c : CellName) (x y : Cell) (es : List (CellName × Cell)) (rest : List (ℕ × Option Cell)) → m.held ≡ es ++ (c, y) ∷ [] → shown x ≡ shown y → slot_name about k ≡ Some c → zeros ≡ 0 → slots ≡ cells_of_table about
-    → Allows (Kept about) slots id (lone about m, (k, Some x) ∷ rest) (cell_word about k) (λ n. bit_and n zeros) (PutsCell (step slots (cell_word about k) zeros 0 none) (lone about m, (k, Some x) ∷ rest))
+pub puts_cell : (about : About) (id : ℕ) (m : SeatUnit) (slots zeros k : ℕ) (c : CellName) (x y : Cell) (es : List (CellName × Cell)) (rest : List (ℕ × Option Cell)) → m.held ≡ es ++ (c, y) ∷ [] → shown x ≡ shown y → slot_name about k ≡ Some c → zeros ≡ 0 → slots ≡ cells_of_table about
+    → Allows (LatchRule about) slots id (lone about m, (k, Some x) ∷ rest) (cell_word about k) (λ n. bit_and n zeros) (PutsCell (step slots (cell_word about k) zeros 0 none) (lone about m, (k, Some x) ∷ rest))
 unfolding held_cells
 puts_cell about id m slots zeros k c x y es rest is value named zero_is size s K deep at bound = (
   lone about (less_cell m),
   gives,
   tt,
-  subst (λ (w : Member). Kept about record { words = set s.words (cell_word about k) (bit_and (get_or s.words (cell_word about k) 0) zeros); homes = set s.homes k (some (Some x)); views = set s.views id (lone about w) }) same kept,
+  subst (λ (w : SeatUnit). LatchRule about record { words = set s.words (cell_word about k) (bit_and (get_or s.words (cell_word about k) 0) zeros); homes = set s.homes k (some (Some x)); views = set s.views id (lone about w) }) same kept,
   refl,
 )
   where
-    left : Member
+    left : SeatUnit
     left = record m { held = es }
 
     same : left ≡ less_cell m
@@ -168,7 +168,7 @@ puts_cell about id m slots zeros k c x y es rest is value named zero_is size s K
     there : get_elem? (set s.homes k (some (Some x))) k ≡ some (some (Some x))
     there = set_here s.homes k (some (Some x)) (let h = slice_get_within _ k c named in omega arith)
 
-    kept : Kept about record { words = set s.words (cell_word about k) (bit_and (get_or s.words (cell_word about k) 0) zeros); homes = set s.homes k (some (Some x)); views = set s.views id (lone about left) }
+    kept : LatchRule about record { words = set s.words (cell_word about k) (bit_and (get_or s.words (cell_word about k) 0) zeros); homes = set s.homes k (some (Some x)); views = set s.views id (lone about left) }
     kept =
         let my = mine about s K id m at in
         cell_moved about s K id m at k (bit_and (get_or s.words (cell_word about k) 0) zeros) c left location (set s.homes k (some (Some x))) named refl refl refl (λ y a. latched_held y a m _)

@@ -30,9 +30,9 @@ use Rattle.dbtg_step.specs.Machine.Headline.{entry_of}
 use Rattle.dbtg_step.specs.Core.Parts.{held_of, note_of}
 use Rattle.dbtg_step.proofs.Public.{entries_again, in_mapped, in_reverse, need_of_holding, once_of_distinct, replays_same, unit_found}
 use Rattle.dbtg_run.specs.declared.view.About.{About}
-use Rattle.dbtg_run.specs.declared.view.Member.{Member}
+use Rattle.dbtg_run.specs.declared.view.SeatUnit.{SeatUnit}
 use Rattle.dbtg_run.specs.Inside.Views.{bare, bared, init, rest_of}
-use Rattle.dbtg_run.specs.Inside.Kept.{net, opens, database_after, progress_of, hands_of, Shows}
+use Rattle.dbtg_run.specs.Inside.LatchRule.{net, opens, database_after, progress_of, hands_of, Shows}
 
 -- LISTS BY THEIR ENDS
 
@@ -80,7 +80,7 @@ module _ (about : About) (machine : Machine (net about)) (lawful : Lawful (net a
   agree_each db [] h = tt
   agree_each db (e ∷ es) h = (h e (inl refl), agree_each db es (λ f i. h f (inr i)))
 
-  module _ (u : ℕ) (m : Member) (sh : Shows about machine u m) where
+  module _ (u : ℕ) (m : SeatUnit) (sh : Shows about machine u m) where
     unit_here : unit_at (replay (net about) (opens about) machine.history).units (suc u) ≡ Some m.unit
     unit_here = unit_found (net about) (opens about) machine lawful (suc u) sh.state sh.found ∙ ap (λ x. Some x) sh.unit
 

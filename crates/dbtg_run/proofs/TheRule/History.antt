@@ -7,10 +7,10 @@ use Rattle.dbtg_step.specs.Machine.SequentialDatabase.{unit_at}
 use Rattle.dbtg_step.specs.Machine.Headline.{entry_of}
 use Rattle.dbtg_step.proofs.Public.{answers_same, entries_again, replays_same, tickets_in_order, unit_found}
 use Rattle.dbtg_run.specs.declared.view.About.{About}
-use Rattle.dbtg_run.specs.declared.view.Member.{Member}
-use Rattle.dbtg_run.specs.Inside.Kept.{net, opens, Worded}
+use Rattle.dbtg_run.specs.declared.view.SeatUnit.{SeatUnit}
+use Rattle.dbtg_run.specs.Inside.LatchRule.{net, opens, Worded}
 
-module _ (about : About) (words : List ℕ) (homes : List (maybe.Option (Option Cell))) (all : ℕ → Member) (W : Worded about words homes all) where
+module _ (about : About) (words : List ℕ) (homes : List (maybe.Option (Option Cell))) (all : ℕ → SeatUnit) (W : Worded about words homes all) where
   noted : map (entry_of {schema = about.schema.value} {capacity = about.capacity}) W.machine.history ≡ W.log
   noted = ap (map entry_of) W.history ∙ entries_again about.schema.value about.capacity W.log
 

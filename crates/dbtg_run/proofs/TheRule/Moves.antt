@@ -23,16 +23,16 @@ use Rattle.dbtg_step.specs.Machine.Machine.{Location, HeldBy, UnitState, State a
 use Rattle.dbtg_step.specs.Machine.Step.{any_other, conflicts, updated}
 use Rattle.dbtg_step.proofs.Public.{SafeUpdate, any_reverse, network_is_sequential, safe_update_keeps, set_at, set_elsewhere}
 use Rattle.dbtg_run.specs.declared.view.About.{About}
-use Rattle.dbtg_run.specs.declared.view.Member.{Member}
-use Rattle.dbtg_run.specs.declared.view.View.{View}
+use Rattle.dbtg_run.specs.declared.view.SeatUnit.{SeatUnit}
+use Rattle.dbtg_run.specs.declared.view.SeatKnowledge.{SeatKnowledge}
 use Rattle.dbtg_run.specs.Inside.Views.{put, Sits, latched, times, one_if}
 use Rattle.dbtg_run.specs.Views.{lone}
-use Rattle.dbtg_run.specs.Inside.Kept.{net, opens, area_count, area_word, cell_word, slot_name, progress_of, Shows, AreaOk, AtHome, Worded, Kept, FreeAlone}
+use Rattle.dbtg_run.specs.Inside.LatchRule.{net, opens, area_count, area_word, cell_word, slot_name, progress_of, Shows, AreaOk, AtHome, Worded, LatchRule, FreeAlone}
 use Rattle.dbtg_run.proofs.TheRule.Base.{each_put, below_same, seats_changed}
 use Rattle.dbtg_run.proofs.TheRule.Areas.{had, ok_same, free_word}
 use Rattle.dbtg_run.proofs.TheRule.Machines.{others_none}
 
-pub latched_none : (x : Bool) (a : ℕ) (m : Member) → m.areas ≡ [] → latched x a m ≡ 0
+pub latched_none : (x : Bool) (a : ℕ) (m : SeatUnit) → m.areas ≡ [] → latched x a m ≡ 0
 latched_none x a m e = by x m.exclusive (ap (times a) e)
   where
     both : (b : Bool) (n k : ℕ) → n ≡ 0 → k ≡ 0 → cond b n k ≡ 0
@@ -44,7 +44,7 @@ latched_none x a m e = by x m.exclusive (ap (times a) e)
     by false b e = both m.exclusive 0 (times a m.areas) refl e
 
 -- who has the area, where one member is another
-pub latched_put : (x : Bool) (a : ℕ) (all : ℕ → Member) (k : ℕ) (w : Member) (v : ℕ) → latched x a (put all k w v) ≡ put (λ u. latched x a (all u)) k (latched x a w) v
+pub latched_put : (x : Bool) (a : ℕ) (all : ℕ → SeatUnit) (k : ℕ) (w : SeatUnit) (v : ℕ) → latched x a (put all k w v) ≡ put (λ u. latched x a (all u)) k (latched x a w) v
 latched_put x a all k w v = by (eqb v k)
   where
     by : (b : Bool) → latched x a (cond b w (all v)) ≡ cond b (latched x a w) (latched x a (all v))
@@ -58,7 +58,7 @@ not_any a (x ∷ xs) e = dite (ℕ_discrete x a)
     (λ n. let z : one_if (eqb x a) ≡ 0 = ap one_if (ne_eqb x a n) in
     ap (λ b. b || list_any (eqb a) xs) (ne_eqb a x (λ q. n (sym q))) ∙ not_any a xs (omega arith))
 
-module _ (about : About) (s : State (Option Cell) View) (K : Kept about s) (id : ℕ) (m : Member) (at : get_elem? s.views id ≡ some (lone about m)) where
+module _ (about : About) (s : State (Option Cell) SeatKnowledge) (K : LatchRule about s) (id : ℕ) (m : SeatUnit) (at : get_elem? s.views id ≡ some (lone about m)) where
   pub laws : IsSequentialDatabase (net about)
   laws = network_is_sequential about.schema.value about.capacity K.sound
 
@@ -74,11 +74,11 @@ module _ (about : About) (s : State (Option Cell) View) (K : Kept about s) (id :
   pub mine : Shows about K.worded.machine m.place m
   mine = subst (Shows about K.worded.machine m.place) is_known (K.worded.shows m.place sits.inside)
 
-  abbrev pub next : (CellName → Location CellValue) → Member → Machine (net about)
+  abbrev pub next : (CellName → Location CellValue) → SeatUnit → Machine (net about)
   next location w = updated (net about) K.worded.machine (suc m.place) mine.state location mine.state.guesses (Some (progress_of about w))
 
   -- the history stays
-  pub moved : (w : Member) (location : CellName → Location CellValue) (words : List ℕ) (homes : List (maybe.Option (Option Cell))) → w.place ≡ m.place → w.unit ≡ m.unit → w.journal ≡ m.journal
+  pub moved : (w : SeatUnit) (location : CellName → Location CellValue) (words : List ℕ) (homes : List (maybe.Option (Option Cell))) → w.place ≡ m.place → w.unit ≡ m.unit → w.journal ≡ m.journal
       → SafeUpdate (net about) (opens about) K.worded.machine (suc m.place) location (Some (progress_of about w))
       → length words ≡ length s.words → get_or words 0 0 ≡ get_or s.words 0 0
       → ((a : ℕ) → a < area_count about → AreaOk (get_or words (area_word a) 0) (λ x u. latched x a (put K.all m.place w u)))
@@ -98,35 +98,35 @@ module _ (about : About) (s : State (Option Cell) View) (K : Kept about s) (id :
         fitting = W.fitting;
         counter = counter ∙ W.counter;
         count = length-set W.machine.units m.place new ∙ W.count;
-        shows = each_put (λ (u : ℕ) (y : Member). u < about.units → Shows about (next location w) u y) K.all m.place w
+        shows = each_put (λ (u : ℕ) (y : SeatUnit). u < about.units → Shows about (next location w) u y) K.all m.place w
             (λ l. record { state = new; found = set_at W.machine.units (suc m.place) mine.state new mine.found; unit = mine.unit ∙ sym unit; progress = refl })
             (λ u ne l. let o = W.shows u l in record { state = o.state; found = set_elsewhere W.machine.units (suc m.place) (suc u) new (λ q. ne (cc (q))) ∙ o.found; unit = o.unit; progress = o.progress });
-        place = each_put (λ (u : ℕ) (y : Member). u < about.units → y.place ≡ u) K.all m.place w (λ l. place) (λ u ne l. W.place u l);
-        journal = each_put (λ (u : ℕ) (y : Member). u < about.units → entries_of (suc u) W.log ≡ y.journal) K.all m.place w
-            (λ l. W.journal m.place l ∙ (ap (λ (y : Member). y.journal) is_known ∙ sym journal)) (λ u ne l. W.journal u l);
-        short = each_put (λ (u : ℕ) (y : Member). u < about.units → length y.journal ≤ 65535) K.all m.place w
-            (λ l. subst (λ (j : List Entry). length j ≤ 65535) (ap (λ (y : Member). y.journal) is_known ∙ sym journal) (W.short m.place l)) (λ u ne l. W.short u l);
-        none = each_put (λ (u : ℕ) (y : Member). about.units ≤ u → y.areas ≡ []) K.all m.place w (λ l. let k = sits.inside in absurd (omega arith)) (λ u ne l. W.none u l);
+        place = each_put (λ (u : ℕ) (y : SeatUnit). u < about.units → y.place ≡ u) K.all m.place w (λ l. place) (λ u ne l. W.place u l);
+        journal = each_put (λ (u : ℕ) (y : SeatUnit). u < about.units → entries_of (suc u) W.log ≡ y.journal) K.all m.place w
+            (λ l. W.journal m.place l ∙ (ap (λ (y : SeatUnit). y.journal) is_known ∙ sym journal)) (λ u ne l. W.journal u l);
+        short = each_put (λ (u : ℕ) (y : SeatUnit). u < about.units → length y.journal ≤ 65535) K.all m.place w
+            (λ l. subst (λ (j : List Entry). length j ≤ 65535) (ap (λ (y : SeatUnit). y.journal) is_known ∙ sym journal) (W.short m.place l)) (λ u ne l. W.short u l);
+        none = each_put (λ (u : ℕ) (y : SeatUnit). about.units ≤ u → y.areas ≡ []) K.all m.place w (λ l. let k = sits.inside in absurd (omega arith)) (λ u ne l. W.none u l);
         entries = below_same (λ u. length (put K.all m.place w u).journal) (λ u. length (K.all u).journal) about.units
-            (each_put (λ (u : ℕ) (y : Member). length y.journal ≡ length (K.all u).journal) K.all m.place w (ap (λ (j : List Entry). length j) journal ∙ sym (ap (λ (y : Member). length y.journal) is_known)) (λ u ne. refl)) ∙ W.entries;
+            (each_put (λ (u : ℕ) (y : SeatUnit). length y.journal ≡ length (K.all u).journal) K.all m.place w (ap (λ (j : List Entry). length j) journal ∙ sym (ap (λ (y : SeatUnit). length y.journal) is_known)) (λ u ne. refl)) ∙ W.entries;
         areas = areas;
         home = home;
         out = out;
       }
 
-  pub kept_with : (w : Member) (words : List ℕ) (homes : List (maybe.Option (Option Cell))) → w.place ≡ m.place → Worded about words homes (put K.all m.place w) → Kept about record { words = words; homes = homes; views = set s.views id (lone about w) }
+  pub kept_with : (w : SeatUnit) (words : List ℕ) (homes : List (maybe.Option (Option Cell))) → w.place ≡ m.place → Worded about words homes (put K.all m.place w) → LatchRule about record { words = words; homes = homes; views = set s.views id (lone about w) }
   kept_with w words homes place worded = record { sound = K.sound; few = K.few; all = put K.all m.place w; seats = seats_changed about K.all s.views id m w at place K.seats; worded = worded }
 
   -- nothing changes
-  pub still : (i : ℕ) (c : List (ℕ × Option Cell)) → Kept about (stepped s i (get_or s.words i 0) id c (lone about m) keeps)
-  still i c = subst (Kept about) (λ j. record { words = sym (set-get_or s.words i 0) j; homes = s.homes; views = sym (set_again s.views id (lone about m) at) j }) K
+  pub still : (i : ℕ) (c : List (ℕ × Option Cell)) → LatchRule about (stepped s i (get_or s.words i 0) id c (lone about m) keeps)
+  still i c = subst (LatchRule about) (λ j. record { words = sym (set-get_or s.words i 0) j; homes = s.homes; views = sym (set_again s.views id (lone about m) at) j }) K
 
   -- a step on the word of the area a, after which the unit has other areas
-  pub area_moved : (a x : ℕ) (w : Member) → a < area_count about → w.place ≡ m.place → w.unit ≡ m.unit → w.journal ≡ m.journal
+  pub area_moved : (a x : ℕ) (w : SeatUnit) → a < area_count about → w.place ≡ m.place → w.unit ≡ m.unit → w.journal ≡ m.journal
       → SafeUpdate (net about) (opens about) K.worded.machine (suc m.place) K.worded.machine.location (Some (progress_of about w))
       → ((b : ℕ) (y : Bool) → b ≢ a → latched y b w ≡ latched y b m)
       → AreaOk x (had (λ y u. latched y a (K.all u)) m.place (λ y. latched y a w))
-      → Kept about record { words = set s.words (area_word a) x; homes = s.homes; views = set s.views id (lone about w) }
+      → LatchRule about record { words = set s.words (area_word a) x; homes = s.homes; views = set s.views id (lone about w) }
   area_moved a x w inside place unit journal safe others ok =
       let W = K.worded in
       let beside : (k : ℕ) → get_or (set s.words (area_word a) x) (cell_word about k) 0 ≡ get_or s.words (cell_word about k) 0 = λ k. get_or-set_other s.words (area_word a) (cell_word about k) x 0 (λ e. omega arith) in
@@ -139,7 +139,7 @@ module _ (about : About) (s : State (Option Cell) View) (K : Kept about s) (id :
       (ok_same x (had (λ y u. latched y a (K.all u)) m.place (λ y. latched y a w)) (λ y u. latched y a (put K.all m.place w u)) (λ y u. latched_put y a K.all m.place w u) ok)))
       (λ ne. subst (λ (n : ℕ). AreaOk n (λ y u. latched y b (put K.all m.place w u))) (sym (get_or-set_other s.words (area_word a) (area_word b) x 0 (λ e. ne (omega arith))))
       (ok_same (get_or s.words (area_word b) 0) (λ y u. latched y b (K.all u)) (λ y u. latched y b (put K.all m.place w u))
-      (λ y u. each_put (λ (u : ℕ) (z : Member). latched y b z ≡ latched y b (K.all u)) K.all m.place w (others b y ne ∙ sym (ap (λ (z : Member). latched y b z) is_known)) (λ u ne. refl) u)
+      (λ y u. each_put (λ (u : ℕ) (z : SeatUnit). latched y b z ≡ latched y b (K.all u)) K.all m.place w (others b y ne ∙ sym (ap (λ (z : SeatUnit). latched y b z) is_known)) (λ u ne. refl) u)
       (W.areas b l))))
       (λ k c named free. W.home k c named (sym (beside k) ∙ free))
       (λ k c named busy. W.out k c named (λ z. busy (beside k ∙ z)) ∙ ap (λ n. HeldBy n) (sym (beside k))))
@@ -151,11 +151,11 @@ module _ (about : About) (s : State (Option Cell) View) (K : Kept about s) (id :
       let here : K.all 0 ≡ y = ap K.all (sym zero_is) ∙ is_known ∙ heads m y is in
       free_word (get_or s.words (area_word a) 0) (λ x u. latched x a (K.all u))
       (λ x u b. dite (ℕ_discrete u 0)
-      (λ e. ap (λ v. latched x a (K.all v)) e ∙ ap (λ (z : Member). latched x a z) here ∙ which x shared alone)
+      (λ e. ap (λ v. latched x a (K.all v)) e ∙ ap (λ (z : SeatUnit). latched x a z) here ∙ which x shared alone)
       (λ ne. latched_none x a (K.all u) (K.worded.none u (omega arith))))
       (K.worded.areas a l)
     where
-      heads : (p q : Member) → p ∷ [] ≡ q ∷ [] → p ≡ q
+      heads : (p q : SeatUnit) → p ∷ [] ≡ q ∷ [] → p ≡ q
       heads p q e = cc (e)
 
       which : (x : Bool) → latched false a y ≡ 0 → latched true a y ≡ 0 → latched x a y ≡ 0

@@ -23,14 +23,14 @@ use Rattle.dbtg_step.specs.Machine.Headline.{machine_of, opening_of, units_from}
 use Rattle.dbtg_step.specs.Laws.{scripts_fit}
 use Rattle.dbtg_step.proofs.Public.{machine_is_opening, network_is_sequential, opening_is_lawful}
 use Rattle.dbtg_run.specs.declared.view.About.{About}
-use Rattle.dbtg_run.specs.declared.view.Member.{Member}
-use Rattle.dbtg_run.specs.declared.view.View.{View}
+use Rattle.dbtg_run.specs.declared.view.SeatUnit.{SeatUnit}
+use Rattle.dbtg_run.specs.declared.view.SeatKnowledge.{SeatKnowledge}
 use Rattle.dbtg_run.specs.Views.{Has}
 use Rattle.dbtg_run.specs.Inside.Views.{Seated, total_below, latched, once_below, times_place}
-use Rattle.dbtg_run.specs.Inside.Kept.{net, opens as opening_units, area_count, cells_of_table, area_word, cell_word, slot_name, AreaOk, progress_of, Worded, Kept, numbered, first_view}
+use Rattle.dbtg_run.specs.Inside.LatchRule.{net, opens as opening_units, area_count, cells_of_table, area_word, cell_word, slot_name, AreaOk, progress_of, Worded, LatchRule, numbered, first_view}
 use Rattle.dbtg_run.proofs.TheRule.Rested.{rested, rested_keeps}
 
-abbrev pub newcomer : About → ℕ → Member
+abbrev pub newcomer : About → ℕ → SeatUnit
 newcomer about u = record { place = u; unit = opening_unit about.schema.value (suc u); journal = []; exclusive = false; areas = []; held = [] }
 
 no_scripts_fit : (schema : Lists) (n : ℕ) → scripts_fit schema (replicate n []) ≡ true
@@ -115,24 +115,24 @@ module _ (about : About) (sound : IsSound about.schema.value) where
   numbered_length p zero = refl
   numbered_length p (suc n) = ap suc (numbered_length (suc p) n)
 
-  numbered_has : (p n : ℕ) (m : Member) → Has m (numbered about p n) → (i : ℕ) × (i < n) × (m ≡ newcomer about (p + i))
+  numbered_has : (p n : ℕ) (m : SeatUnit) → Has m (numbered about p n) → (i : ℕ) × (i < n) × (m ≡ newcomer about (p + i))
   numbered_has p zero m h = absurd h
   numbered_has p (suc n) m (inl e) = (0, omega arith, sym e ∙ ap (newcomer about) (let q : p ≡ p + 0 = omega arith in q))
   numbered_has p (suc n) m (inr r) = let t = numbered_has (suc p) n m r in (suc t.0, (let l = t.1 in omega arith), t.2 ∙ ap (newcomer about) (let q : suc p + t.0 ≡ p + suc t.0 = omega arith in q))
 
-  only : (i : ℕ) (v : View) → get_elem? (first_view about ∷ []) i ≡ some v → (i ≡ 0) × (first_view about ≡ v)
+  only : (i : ℕ) (v : SeatKnowledge) → get_elem? (first_view about ∷ []) i ≡ some v → (i ≡ 0) × (first_view about ≡ v)
   only zero v e = (refl, some-injective (first_view about) v e)
   only (suc i) v e = absurd (some-ne-none v (sym e))
 
   seats : Seated about (newcomer about) (first_view about ∷ [])
   seats = record {
     seat = λ _. 0;
-    live = λ i v e l. ap (λ (x : View). x.about) (sym (only i v e).1);
+    live = λ i v e l. ap (λ (x : SeatKnowledge). x.about) (sym (only i v e).1);
     seated = λ i v m e h.
         let o = only i v e in
-        let t = numbered_has 0 about.units m (subst (λ (x : View). Has m x.members) (sym o.1) h) in
+        let t = numbered_has 0 about.units m (subst (λ (x : SeatKnowledge). Has m x.members) (sym o.1) h) in
         let is : m ≡ newcomer about t.0 = t.2 ∙ ap (newcomer about) (let q : 0 + t.0 ≡ t.0 = omega arith in q) in
-        let place : m.place ≡ t.0 = ap (λ (x : Member). x.place) is in
+        let place : m.place ≡ t.0 = ap (λ (x : SeatUnit). x.place) is in
         record { same = is ∙ ap (newcomer about) (sym place); here = sym o.0; inside = (let l = t.1 in omega arith) };
     each_once = λ u. let h = numbered_once 0 about.units u in let e : once_below u (0 + about.units) ≡ once_below u about.units = (let q : 0 + about.units ≡ about.units = omega arith in ap (once_below u) q) in omega arith;
     all_there = let h = numbered_length 0 about.units in omega arith;
@@ -140,5 +140,5 @@ module _ (about : About) (sound : IsSound about.schema.value) where
 
   pub opens : about.units ≤ 8 → (words : List ℕ) (slots : List (Option Cell)) → length words ≡ 1 + area_count about + cells_of_table about → ((i : ℕ) → get_or words i 0 ≡ 0)
       → ((k : ℕ) (c : CellName) → slot_name about k ≡ Some c → (x : Cell) × (get_elem? slots k ≡ some (Some x)) × (shown x ≡ cell about.schema.value about.capacity (first_database about.schema.value) c))
-      → Kept about (opening words slots (first_view about))
+      → LatchRule about (opening words slots (first_view about))
   opens few words slots wide zeros homes = record { sound = sound; few = few; all = newcomer about; seats = seats; worded = worded words slots wide zeros homes }

@@ -13,11 +13,11 @@ use Rattle.dbtg_step.specs.Machine.Machine.{Progress}
 use Rattle.dbtg_step.specs.Core.Parts.{held_cells_of}
 use Rattle.dbtg_step.proofs.Public.{SafeUpdate, leave_is_safe}
 use Rattle.dbtg_run.specs.declared.view.About.{About}
-use Rattle.dbtg_run.specs.declared.view.Member.{Member}
-use Rattle.dbtg_run.specs.declared.view.View.{View}
+use Rattle.dbtg_run.specs.declared.view.SeatUnit.{SeatUnit}
+use Rattle.dbtg_run.specs.declared.view.SeatKnowledge.{SeatKnowledge}
 use Rattle.dbtg_run.specs.Views.{lone}
 use Rattle.dbtg_run.specs.Inside.Views.{latched, times, one_if, with_area, less_area, init}
-use Rattle.dbtg_run.specs.Inside.Kept.{net, opens, area_count, area_word, progress_of, Sat, AreaOk, Kept, FreeAlone, LooksAtArea, TakesArea, LeavesArea}
+use Rattle.dbtg_run.specs.Inside.LatchRule.{net, opens, area_count, area_word, progress_of, Sat, AreaOk, LatchRule, FreeAlone, LooksAtArea, TakesArea, LeavesArea}
 use Rattle.dbtg_run.proofs.TheRule.Areas.{had, clear, takes_shared, takes_alone, leaves_shared, leaves_alone}
 use Rattle.dbtg_run.proofs.TheRule.Facts.{init_more}
 use Rattle.dbtg_run.proofs.TheRule.Machines.{latches_is_safe}
@@ -28,7 +28,7 @@ times_more b [] a = omega arith
 times_more b (x ∷ xs) a = let h : times b (xs ++ a ∷ []) ≡ times b xs + one_if (eqb a b) = times_more b xs a in omega arith
 
 -- with one area more, the others are had as they were
-latched_more : (b : ℕ) (y x : Bool) (a : ℕ) (m : Member) → (m.areas ≡ []) ⊎ (m.exclusive ≡ x) → b ≢ a → latched y b (with_area a x m) ≡ latched y b m
+latched_more : (b : ℕ) (y x : Bool) (a : ℕ) (m : SeatUnit) → (m.areas ≡ []) ⊎ (m.exclusive ≡ x) → b ≢ a → latched y b (with_area a x m) ≡ latched y b m
 latched_more b y x a m how ne = elim how [
   | inl empty ↦ by_none y x m.exclusive empty
   | inr same ↦ by_same y x m.exclusive same
@@ -59,18 +59,18 @@ latched_more b y x a m how ne = elim how [
         zeros false false true p z = p
         zeros false false false p z = p ∙ sym z
 
-module _ (about : About) (id : ℕ) (m : Member) (slots : ℕ) (c : List (ℕ × Option Cell)) where
+module _ (about : About) (id : ℕ) (m : SeatUnit) (slots : ℕ) (c : List (ℕ × Option Cell)) where
   abbrev me : Sat
   me = (lone about m, c)
 
-  abbrev Goes : State (Option Cell) View → ℕ → (ℕ → Sat → Type 0) → ℕ → Type 0
-  Goes s i then x = (w : View) × (a : Act (Option Cell)) × Valid s.homes c a × Kept about (stepped s i x id c w a) × then (get_or s.words i 0) (w, carried_after c a)
+  abbrev Goes : State (Option Cell) SeatKnowledge → ℕ → (ℕ → Sat → Type 0) → ℕ → Type 0
+  Goes s i then x = (w : SeatKnowledge) × (a : Act (Option Cell)) × Valid s.homes c a × LatchRule about (stepped s i x id c w a) × then (get_or s.words i 0) (w, carried_after c a)
 
   less : (a : ℕ) → 1 + a - 1 ≡ a
   less a = omega arith
 
   -- a look at an area's word
-  pub looks_at_area : (a : ℕ) → a < area_count about → Allows (Kept about) slots id me (area_word a) (λ n. n) (LooksAtArea (step slots (area_word a) 0 0 none) me)
+  pub looks_at_area : (a : ℕ) → a < area_count about → Allows (LatchRule about) slots id me (area_word a) (λ n. n) (LooksAtArea (step slots (area_word a) 0 0 none) me)
   looks_at_area a l s K deep at bound = (
     lone about m,
     keeps,
@@ -92,7 +92,7 @@ module _ (about : About) (id : ℕ) (m : Member) (slots : ℕ) (c : List (ℕ ×
 
   -- kind 1
   pub takes_area_shared : (a old new : ℕ) → a < area_count about → old < 256 → (m.areas ≡ []) ⊎ (m.exclusive ≡ false) → times a m.areas ≡ 0 → new ≡ bit_or old (2 ^ m.place)
-      → Allows (Kept about) slots id me (area_word a) (λ n. either (eqb n old) new n) (TakesArea false (step slots (area_word a) old new none) me)
+      → Allows (LatchRule about) slots id me (area_word a) (λ n. either (eqb n old) new n) (TakesArea false (step slots (area_word a) old new none) me)
   takes_area_shared a old new l free how blank is s K deep at bound =
       let told : FreeAlone (1 + a - 1) (lone about m) (get_or s.words (area_word a) 0) = subst (λ (b : ℕ). FreeAlone b (lone about m) (get_or s.words (area_word a) 0)) (sym (less a)) (free_alone about s K id m at a l) in
       exchanged (get_or s.words (area_word a) 0) old new (Goes s (area_word a) (TakesArea false (step slots (area_word a) old new none) me))
@@ -100,7 +100,7 @@ module _ (about : About) (id : ℕ) (m : Member) (slots : ℕ) (c : List (ℕ ×
         lone about (with_area (1 + a - 1) false m),
         keeps,
         tt,
-        subst (λ (b : ℕ). Kept about record { words = set s.words (area_word a) new; homes = s.homes; views = set s.views id (lone about (with_area b false m)) }) (sym (less a)) (kept hit),
+        subst (λ (b : ℕ). LatchRule about record { words = set s.words (area_word a) new; homes = s.homes; views = set s.views id (lone about (with_area b false m)) }) (sym (less a)) (kept hit),
         ((λ _. refl), (λ ne. absurd (ne hit)), told),
       ))
       (λ miss. (lone about m, keeps, tt, still about s K id m at (area_word a) c, ((λ hit. absurd (miss hit)), (λ _. refl), told)))
@@ -109,7 +109,7 @@ module _ (about : About) (id : ℕ) (m : Member) (slots : ℕ) (c : List (ℕ ×
       one = let h : times a (m.areas ++ a ∷ []) ≡ times a m.areas + one_if (eqb a a) = times_more a m.areas a in
           let o : one_if (eqb a a) ≡ 1 = ap one_if (eq-eqb a a refl) in omega arith
 
-      kept : get_or s.words (area_word a) 0 ≡ old → Kept about record { words = set s.words (area_word a) new; homes = s.homes; views = set s.views id (lone about (with_area a false m)) }
+      kept : get_or s.words (area_word a) 0 ≡ old → LatchRule about record { words = set s.words (area_word a) new; homes = s.homes; views = set s.views id (lone about (with_area a false m)) }
       kept hit =
           let my = mine about s K id m at in
           area_moved about s K id m at a new (with_area a false m) l refl refl refl
@@ -123,7 +123,7 @@ module _ (about : About) (id : ℕ) (m : Member) (slots : ℕ) (c : List (ℕ ×
 
   -- kind 2
   pub takes_area_alone : (a new : ℕ) → a < area_count about → (m.areas ≡ []) ⊎ (m.exclusive ≡ true) → times a m.areas ≡ 0 → new ≡ 2 ^ (8 + m.place)
-      → Allows (Kept about) slots id me (area_word a) (λ n. either (eqb n 0) new n) (TakesArea true (step slots (area_word a) 0 new none) me)
+      → Allows (LatchRule about) slots id me (area_word a) (λ n. either (eqb n 0) new n) (TakesArea true (step slots (area_word a) 0 new none) me)
   takes_area_alone a new l how blank is s K deep at bound =
       let told : FreeAlone (1 + a - 1) (lone about m) (get_or s.words (area_word a) 0) = subst (λ (b : ℕ). FreeAlone b (lone about m) (get_or s.words (area_word a) 0)) (sym (less a)) (free_alone about s K id m at a l) in
       exchanged (get_or s.words (area_word a) 0) 0 new (Goes s (area_word a) (TakesArea true (step slots (area_word a) 0 new none) me))
@@ -131,7 +131,7 @@ module _ (about : About) (id : ℕ) (m : Member) (slots : ℕ) (c : List (ℕ ×
         lone about (with_area (1 + a - 1) true m),
         keeps,
         tt,
-        subst (λ (b : ℕ). Kept about record { words = set s.words (area_word a) new; homes = s.homes; views = set s.views id (lone about (with_area b true m)) }) (sym (less a)) (kept hit),
+        subst (λ (b : ℕ). LatchRule about record { words = set s.words (area_word a) new; homes = s.homes; views = set s.views id (lone about (with_area b true m)) }) (sym (less a)) (kept hit),
         ((λ _. refl), (λ ne. absurd (ne hit)), told),
       ))
       (λ miss. (lone about m, keeps, tt, still about s K id m at (area_word a) c, ((λ hit. absurd (miss hit)), (λ _. refl), told)))
@@ -140,7 +140,7 @@ module _ (about : About) (id : ℕ) (m : Member) (slots : ℕ) (c : List (ℕ ×
       one = let h : times a (m.areas ++ a ∷ []) ≡ times a m.areas + one_if (eqb a a) = times_more a m.areas a in
           let o : one_if (eqb a a) ≡ 1 = ap one_if (eq-eqb a a refl) in omega arith
 
-      kept : get_or s.words (area_word a) 0 ≡ 0 → Kept about record { words = set s.words (area_word a) new; homes = s.homes; views = set s.views id (lone about (with_area a true m)) }
+      kept : get_or s.words (area_word a) 0 ≡ 0 → LatchRule about record { words = set s.words (area_word a) new; homes = s.homes; views = set s.views id (lone about (with_area a true m)) }
       kept hit =
           let my = mine about s K id m at in
           area_moved about s K id m at a new (with_area a true m) l refl refl refl
@@ -154,16 +154,16 @@ module _ (about : About) (id : ℕ) (m : Member) (slots : ℕ) (c : List (ℕ ×
 
   -- kind 6
   pub leaves_area : (a k : ℕ) (as' : List ℕ) → a < area_count about → m.areas ≡ as' ++ a ∷ [] → m.held ≡ [] → k ≡ bit_not w64 (1 * 2 ^ (cond m.exclusive (8 + m.place) m.place) % 2 ^ 64)
-      → Allows (Kept about) slots id me (area_word a) (λ n. bit_and n k) (LeavesArea (step slots (area_word a) k 0 none) me)
+      → Allows (LatchRule about) slots id me (area_word a) (λ n. bit_and n k) (LeavesArea (step slots (area_word a) k 0 none) me)
   leaves_area a k as' l is empty mask s K deep at bound = (
     lone about (less_area m),
     keeps,
     tt,
-    subst (λ (w : Member). Kept about record { words = set s.words (area_word a) (bit_and (get_or s.words (area_word a) 0) k); homes = s.homes; views = set s.views id (lone about w) }) same kept,
+    subst (λ (w : SeatUnit). LatchRule about record { words = set s.words (area_word a) (bit_and (get_or s.words (area_word a) 0) k); homes = s.homes; views = set s.views id (lone about w) }) same kept,
     refl,
   )
     where
-      left : Member
+      left : SeatUnit
       left = record m { areas = as' }
 
       same : left ≡ less_area m
@@ -180,7 +180,7 @@ module _ (about : About) (id : ℕ) (m : Member) (slots : ℕ) (c : List (ℕ ×
       once = by m.exclusive refl
         where
           known : (x : Bool) → latched x a (K.all m.place) ≡ latched x a m
-          known x = ap (λ (z : Member). latched x a z) (is_known about s K id m at)
+          known x = ap (λ (z : SeatUnit). latched x a z) (is_known about s K id m at)
 
           by : (b : Bool) → m.exclusive ≡ b → times a as' ≡ 0
           by true e = let t : latched true a m ≡ times a m.areas = ap (λ b. cond b (times a m.areas) 0) e in
@@ -202,7 +202,7 @@ module _ (about : About) (id : ℕ) (m : Member) (slots : ℕ) (c : List (ℕ ×
       none_left x = off m.exclusive x
 
       before : (x b : Bool) → m.exclusive ≡ b → latched x a (K.all m.place) ≡ latched x a (record m { exclusive = b })
-      before x b e = ap (λ (z : Member). latched x a z) (is_known about s K id m at) ∙ ap (λ b. latched x a (record m { exclusive = b })) e
+      before x b e = ap (λ (z : SeatUnit). latched x a z) (is_known about s K id m at) ∙ ap (λ b. latched x a (record m { exclusive = b })) e
 
       cleared : (b : Bool) → m.exclusive ≡ b → AreaOk (clear (get_or s.words (area_word a) 0) (cond b (8 + m.place) m.place)) (had (λ y u. latched y a (K.all u)) m.place (λ y. latched y a left))
       cleared true e = leaves_alone (get_or s.words (area_word a) 0) m.place (λ y u. latched y a (K.all u)) (λ y. latched y a left) lt8 (none_left true) (none_left false ∙ sym (before false true e)) (K.worded.areas a l)
@@ -219,7 +219,7 @@ module _ (about : About) (id : ℕ) (m : Member) (slots : ℕ) (c : List (ℕ ×
           by true = ap (λ k. cond m.exclusive k 0) less_same
           by false = ap (λ k. cond m.exclusive 0 k) less_same
 
-      kept : Kept about record { words = set s.words (area_word a) (bit_and (get_or s.words (area_word a) 0) k); homes = s.homes; views = set s.views id (lone about left) }
+      kept : LatchRule about record { words = set s.words (area_word a) (bit_and (get_or s.words (area_word a) 0) k); homes = s.homes; views = set s.views id (lone about left) }
       kept =
           let my = mine about s K id m at in
           area_moved about s K id m at a (bit_and (get_or s.words (area_word a) 0) k) left l refl refl refl

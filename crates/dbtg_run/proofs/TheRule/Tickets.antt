@@ -28,12 +28,12 @@ use Rattle.dbtg_step.specs.Machine.Step.{due_cells}
 use Rattle.dbtg_step.specs.Core.Parts.{held_cells_of, note_of}
 use Rattle.dbtg_step.proofs.Public.{Drawn, draws as draws_anew, fits_more, held_are_due}
 use Rattle.dbtg_run.specs.declared.view.About.{About}
-use Rattle.dbtg_run.specs.declared.view.Member.{Member}
-use Rattle.dbtg_run.specs.declared.view.View.{View}
+use Rattle.dbtg_run.specs.declared.view.SeatUnit.{SeatUnit}
+use Rattle.dbtg_run.specs.declared.view.SeatKnowledge.{SeatKnowledge}
 use Rattle.dbtg_run.specs.Inside.Views.{put, latched, drawn, total_below}
 use Rattle.dbtg_run.specs.Views.{lone}
-use Rattle.dbtg_run.specs.Inside.Kept.{net, opens, area_word, cell_word, progress_of, hands_of, AtHome, AreaOk, Shows, Worded, Kept, Recorded, Draws}
-use Rattle.dbtg_run.specs.Kept.{entry}
+use Rattle.dbtg_run.specs.Inside.LatchRule.{net, opens, area_word, cell_word, progress_of, hands_of, AtHome, AreaOk, Shows, Worded, LatchRule, Recorded, Draws}
+use Rattle.dbtg_run.specs.LatchRule.{entry}
 use Rattle.dbtg_run.proofs.TheRule.Base.{put_here, put_else, each_put, below_put, below_same, seats_changed}
 use Rattle.dbtg_run.proofs.TheRule.Alone.{few_entries, tells_real}
 use Rattle.dbtg_run.proofs.TheRule.Areas.{ok_same}
@@ -43,16 +43,16 @@ use Rattle.dbtg_run.proofs.TheRule.History.{is_history, unit_is}
 use Rattle.dbtg_run.proofs.TheRule.Moves.{laws, sits, is_known, mine}
 
 -- what the statement comes to on a database
-pub record Comes (about : About) (m : Member) (x : Statement) (answer : Answer) (unit' : Unit) (held' : List (CellName × Cell)) (db : Database) : Type 0 where
+pub record Comes (about : About) (m : SeatUnit) (x : Statement) (answer : Answer) (unit' : Unit) (held' : List (CellName × Cell)) (db : Database) : Type 0 where
   pub answer_is : answer ≡ (effect about.schema.value about.capacity db m.unit x).answer
   pub unit_is : unit' ≡ (effect about.schema.value about.capacity db m.unit x).unit
   pub cells_are : values_of held' ≡ map (λ (e : CellName × Cell). (e.0, cell about.schema.value about.capacity (effect about.schema.value about.capacity db m.unit x).database e.0)) m.held
 
-latched_drawn : (y : Bool) (a : ℕ) (m : Member) (e : Entry) (unit : Unit) (held : List (CellName × Cell)) → latched y a (drawn e unit held m) ≡ latched y a m
+latched_drawn : (y : Bool) (a : ℕ) (m : SeatUnit) (e : Entry) (unit : Unit) (held : List (CellName × Cell)) → latched y a (drawn e unit held m) ≡ latched y a m
 latched_drawn true a m e unit held = refl
 latched_drawn false a m e unit held = refl
 
-module _ (about : About) (s : State (Option Cell) View) (K : Kept about s) (id : ℕ) (m : Member) (at : get_elem? s.views id ≡ some (lone about m)) (x : Statement) (g : List (Option Owner)) (answer : Answer) (unit' : Unit) (held' : List (CellName × Cell))
+module _ (about : About) (s : State (Option Cell) SeatKnowledge) (K : LatchRule about s) (id : ℕ) (m : SeatUnit) (at : get_elem? s.views id ≡ some (lone about m)) (x : Statement) (g : List (Option Owner)) (answer : Answer) (unit' : Unit) (held' : List (CellName × Cell))
     (fit : fits about.schema.value x ≡ true)
     (ready : (db : Database) → Agrees about.schema.value about.capacity db (hands_of m) m.unit → Ready ≡ need about.schema.value about.capacity db m.unit (record { areas = m.areas; cells = m.held; guesses = g }) x)
     (comes : (db : Database) → Agrees about.schema.value about.capacity db (hands_of m) m.unit → Comes about m x answer unit' held' db)
@@ -63,10 +63,10 @@ module _ (about : About) (s : State (Option Cell) View) (K : Kept about s) (id :
   abbrev new_entry : Entry
   new_entry = entry now (suc m.place) x answer
 
-  abbrev new_member : Member
+  abbrev new_member : SeatUnit
   new_member = drawn new_entry unit' held' m
 
-  abbrev new_all : ℕ → Member
+  abbrev new_all : ℕ → SeatUnit
   new_all = put K.all m.place new_member
 
   abbrev db : Database
@@ -114,13 +114,13 @@ module _ (about : About) (s : State (Option Cell) View) (K : Kept about s) (id :
       let before = λ (u : ℕ). length (K.all u).journal in
       let pointwise : total_below (λ u. length (new_all u).journal) about.units ≡ total_below (put before m.place (length new_member.journal)) about.units
       = below_same (λ u. length (new_all u).journal) (put before m.place (length new_member.journal)) about.units
-      (each_put (λ (u : ℕ) (y : Member). length y.journal ≡ put before m.place (length new_member.journal) u) K.all m.place new_member
+      (each_put (λ (u : ℕ) (y : SeatUnit). length y.journal ≡ put before m.place (length new_member.journal) u) K.all m.place new_member
       (sym (put_here before m.place (length new_member.journal)))
       (λ u ne. sym (put_else before m.place (length new_member.journal) u ne))) in
       let changed_one : total_below (put before m.place (length new_member.journal)) about.units + length (K.all m.place).journal ≡ total_below before about.units + length new_member.journal
       = below_put before m.place (length new_member.journal) about.units (sits about s K id m at).inside in
       let one_more : length new_member.journal ≡ length m.journal + 1 = length-append m.journal (new_entry ∷ []) in
-      let mine_is : length (K.all m.place).journal ≡ length m.journal = ap (λ (y : Member). length y.journal) (is_known about s K id m at) in
+      let mine_is : length (K.all m.place).journal ≡ length m.journal = ap (λ (y : SeatUnit). length y.journal) (is_known about s K id m at) in
       let all_of = K.worded.entries in omega arith
 
   abbrev words_now : List ℕ
@@ -140,24 +140,24 @@ module _ (about : About) (s : State (Option Cell) View) (K : Kept about s) (id :
         fitting = fits_more about.schema.value W.log new_entry W.fitting fit;
         counter = get_or-set_same s.words 0 ((now + 1) % 2 ^ 64) 0 (let w = W.wide in omega arith) ∙ (let c = count_is in let f = few_entries about s K in omega (arith, length-append W.log (new_entry ∷ [])));
         count = draw.1.count ∙ W.count;
-        shows = each_put (λ (u : ℕ) (y : Member). u < about.units → Shows about draw.0 u y) K.all m.place new_member (λ l. shown_now)
+        shows = each_put (λ (u : ℕ) (y : SeatUnit). u < about.units → Shows about draw.0 u y) K.all m.place new_member (λ l. shown_now)
             (λ u ne l. let o = W.shows u l in record { state = o.state; found = draw.1.others (suc u) (λ q. ne (cc (q))) ∙ o.found; unit = o.unit; progress = o.progress });
-        place = each_put (λ (u : ℕ) (y : Member). u < about.units → y.place ≡ u) K.all m.place new_member (λ l. refl) (λ u ne l. W.place u l);
-        journal = each_put (λ (u : ℕ) (y : Member). u < about.units → entries_of (suc u) (W.log ++ new_entry ∷ []) ≡ y.journal) K.all m.place new_member
-            (λ l. entries_mine (suc m.place) W.log new_entry refl ∙ ap (λ z. z ++ new_entry ∷ []) (W.journal m.place l ∙ ap (λ (y : Member). y.journal) (is_known about s K id m at)))
+        place = each_put (λ (u : ℕ) (y : SeatUnit). u < about.units → y.place ≡ u) K.all m.place new_member (λ l. refl) (λ u ne l. W.place u l);
+        journal = each_put (λ (u : ℕ) (y : SeatUnit). u < about.units → entries_of (suc u) (W.log ++ new_entry ∷ []) ≡ y.journal) K.all m.place new_member
+            (λ l. entries_mine (suc m.place) W.log new_entry refl ∙ ap (λ z. z ++ new_entry ∷ []) (W.journal m.place l ∙ ap (λ (y : SeatUnit). y.journal) (is_known about s K id m at)))
             (λ u ne l. entries_other (suc u) W.log new_entry (λ q. ne (cc (sym q))) ∙ W.journal u l);
-        short = each_put (λ (u : ℕ) (y : Member). u < about.units → length y.journal ≤ 65535) K.all m.place new_member (λ l. omega (arith, length-append m.journal (new_entry ∷ []))) (λ u ne l. W.short u l);
-        none = each_put (λ (u : ℕ) (y : Member). about.units ≤ u → y.areas ≡ []) K.all m.place new_member (λ l. let k = (sits about s K id m at).inside in absurd (omega arith)) (λ u ne l. W.none u l);
+        short = each_put (λ (u : ℕ) (y : SeatUnit). u < about.units → length y.journal ≤ 65535) K.all m.place new_member (λ l. omega (arith, length-append m.journal (new_entry ∷ []))) (λ u ne l. W.short u l);
+        none = each_put (λ (u : ℕ) (y : SeatUnit). about.units ≤ u → y.areas ≡ []) K.all m.place new_member (λ l. let k = (sits about s K id m at).inside in absurd (omega arith)) (λ u ne l. W.none u l);
         entries = lengths ∙ sym (length-append W.log (new_entry ∷ []));
         areas = λ a l. subst (λ (n : ℕ). AreaOk n (λ y u. latched y a (new_all u))) (sym (area a))
             (ok_same (get_or s.words (area_word a) 0) (λ y u. latched y a (K.all u)) (λ y u. latched y a (new_all u))
-            (λ y u. each_put (λ (u : ℕ) (z : Member). latched y a z ≡ latched y a (K.all u)) K.all m.place new_member (latched_drawn y a m new_entry unit' held' ∙ sym (ap (λ (z : Member). latched y a z) (is_known about s K id m at))) (λ u ne. refl) u)
+            (λ y u. each_put (λ (u : ℕ) (z : SeatUnit). latched y a z ≡ latched y a (K.all u)) K.all m.place new_member (latched_drawn y a m new_entry unit' held' ∙ sym (ap (λ (z : SeatUnit). latched y a z) (is_known about s K id m at))) (λ u ne. refl) u)
             (W.areas a l));
         home = λ k c named free. subst (λ (location : CellName → Location CellValue). AtHome location (get_elem? s.homes k) c) (sym draw.1.location) (W.home k c named (sym (cellw k) ∙ free));
         out = λ k c named busy. ap (λ (location : CellName → Location CellValue). location c) draw.1.location ∙ (W.out k c named (λ z. busy (cellw k ∙ z)) ∙ ap (λ n. HeldBy n) (sym (cellw k)));
       }
 
-  kept_now : Kept about record { words = words_now; homes = s.homes; views = set s.views id (lone about new_member) }
+  kept_now : LatchRule about record { words = words_now; homes = s.homes; views = set s.views id (lone about new_member) }
   kept_now = record { sound = K.sound; few = K.few; all = new_all; seats = seats_changed about K.all s.views id m new_member at refl K.seats; worded = drew }
 
   recorded : Recorded about new_member
@@ -167,18 +167,18 @@ module _ (about : About) (s : State (Option Cell) View) (K : Kept about s) (id :
     last = new_entry;
     mine = m.journal;
     history = is_history about words_now s.homes new_all drew;
-    unit = subst (λ (y : Member). unit_of (replay about.schema.value about.capacity (opening_state about.schema.value about.units) (K.worded.log ++ new_entry ∷ [])) (suc m.place) ≡ Some y.unit) (put_here K.all m.place new_member) (unit_is about words_now s.homes new_all drew m.place (sits about s K id m at).inside);
-    entries = subst (λ (y : Member). entries_of (suc m.place) (K.worded.log ++ new_entry ∷ []) ≡ y.journal) (put_here K.all m.place new_member) (drew.journal m.place (sits about s K id m at).inside);
+    unit = subst (λ (y : SeatUnit). unit_of (replay about.schema.value about.capacity (opening_state about.schema.value about.units) (K.worded.log ++ new_entry ∷ [])) (suc m.place) ≡ Some y.unit) (put_here K.all m.place new_member) (unit_is about words_now s.homes new_all drew m.place (sits about s K id m at).inside);
+    entries = subst (λ (y : SeatUnit). entries_of (suc m.place) (K.worded.log ++ new_entry ∷ []) ≡ y.journal) (put_here K.all m.place new_member) (drew.journal m.place (sits about s K id m at).inside);
     ends = refl;
     ticket = count_is;
   }
 
 -- kind 4
-pub draws : (about : About) (id : ℕ) (m : Member) (slots : ℕ) (rest : List (ℕ × Option Cell)) (x : Statement) (g : List (Option Owner)) (answer : Answer) (unit' : Unit) (held' : List (CellName × Cell)) → fits about.schema.value x ≡ true
+pub draws : (about : About) (id : ℕ) (m : SeatUnit) (slots : ℕ) (rest : List (ℕ × Option Cell)) (x : Statement) (g : List (Option Owner)) (answer : Answer) (unit' : Unit) (held' : List (CellName × Cell)) → fits about.schema.value x ≡ true
     → ((db : Database) → Agrees about.schema.value about.capacity db (hands_of m) m.unit → Ready ≡ need about.schema.value about.capacity db m.unit (record { areas = m.areas; cells = m.held; guesses = g }) x)
     → ((db : Database) → Agrees about.schema.value about.capacity db (hands_of m) m.unit → Comes about m x answer unit' held' db)
     → length m.journal < 65535
-    → Allows (Kept about) slots id (lone about m, rest) 0 (λ n. (n + 1) % 2 ^ 64) (Draws x answer unit' held' (step slots 0 1 0 none) (lone about m, rest))
+    → Allows (LatchRule about) slots id (lone about m, rest) 0 (λ n. (n + 1) % 2 ^ 64) (Draws x answer unit' held' (step slots 0 1 0 none) (lone about m, rest))
 draws about id m slots rest x g answer unit' held' fit ready comes room s K deep at bound = (
   lone about (drawn (entry (get_or s.words 0 0) (suc m.place) x answer) unit' held' m),
   keeps,
@@ -186,12 +186,12 @@ draws about id m slots rest x g answer unit' held' fit ready comes room s K deep
   kept_now about s K id m at x g answer unit' held' fit ready comes room,
   (
     refl,
-    (λ y is. subst (λ (z : Member). (db : Database) × Agrees about.schema.value about.capacity db (hands_of z) z.unit) (heads m y is)
+    (λ y is. subst (λ (z : SeatUnit). (db : Database) × Agrees about.schema.value about.capacity db (hands_of z) z.unit) (heads m y is)
         (database_now about K.worded.machine K.worded.lawful, agrees_now about K.worded.machine K.worded.lawful m.place m (mine about s K id m at))),
     (λ y is. subst (Recorded about) (heads (drawn (entry (get_or s.words 0 0) (suc m.place) x answer) unit' held' m) y is) (recorded about s K id m at x g answer unit' held' fit ready comes room)),
     tells_real about _ (kept_now about s K id m at x g answer unit' held' fit ready comes room) id (drawn (entry (get_or s.words 0 0) (suc m.place) x answer) unit' held' m) (there_here s.views id (lone about m) _ at),
   ),
 )
   where
-    heads : (p q : Member) → p ∷ [] ≡ q ∷ [] → p ≡ q
+    heads : (p q : SeatUnit) → p ∷ [] ≡ q ∷ [] → p ≡ q
     heads p q e = cc (e)

@@ -7,10 +7,10 @@ use mathlib.Core.Logic.{dite}
 use native.Mathlib.Decide.{ℕ_discrete}
 use Rattle.dbtg_unit.specs.Database.Laws.Replay.{entries_of, opening_state, replay as replay_entries, unit_of}
 use Rattle.dbtg_run.specs.declared.view.About.{About}
-use Rattle.dbtg_run.specs.declared.view.Member.{Member}
+use Rattle.dbtg_run.specs.declared.view.SeatUnit.{SeatUnit}
 use Rattle.dbtg_run.specs.Views.{Has, lone}
 use Rattle.dbtg_run.specs.Inside.Views.{one_if, once_below, times_place}
-use Rattle.dbtg_run.specs.Inside.Kept.{Sat, Whole, gathered}
+use Rattle.dbtg_run.specs.Inside.LatchRule.{Sat, Whole, gathered}
 use Rattle.dbtg_run.specs.UnitView.{UnitView}
 use Rattle.dbtg_run.specs.Inside.Settling.{AreAll, HaveJoined, gathering}
 use Rattle.dbtg_run.specs.Settling.{resting}
@@ -40,7 +40,7 @@ one_more all left ys came x is more = is ∙ (ap (λ l. l ++ came) more ∙ regr
 abbrev IsSeatOf : UnitView → Sat → Type 0
 IsSeatOf u me = (x : Bool) × (me ≡ (lone u.about (resting (u, x)), []))
 
-pub lone_seat : (key about : About) (u : UnitView) (me : Sat) → key ≡ about → u.about ≡ about → IsSeatOf u me → (m : Member) × (me ≡ (lone key m, []))
+pub lone_seat : (key about : About) (u : UnitView) (me : Sat) → key ≡ about → u.about ≡ about → IsSeatOf u me → (m : SeatUnit) × (me ≡ (lone key m, []))
 lone_seat key about u me known same h = (resting (u, h.0), h.1 ∙ (let same_key : u.about ≡ key = same ∙ sym known in λ j. let y : Sat = (lone (same_key j) (resting (u, h.0)), []) in y))
 
 pub first_joins : (about : About) (u : UnitView) (me : Sat) → u.about ≡ about → 0 < u.unit.number → IsSeatOf u me → HaveJoined about (u ∷ []) me
@@ -59,7 +59,7 @@ next_joins about u us me other after J same n h then = record {
   seat_is = then ∙ (λ j. let y : Sat = (gathered (J.seat_is j).0 (h.1 j).0, (J.seat_is j).1) in y);
 }
 
-pub live_seat : (key about : About) (us : List UnitView) (me : Sat) → key ≡ about → HaveJoined about us me → (ms : List Member) × (me.0 ≡ record { live = true; about = key; members = ms })
+pub live_seat : (key about : About) (us : List UnitView) (me : Sat) → key ≡ about → HaveJoined about us me → (ms : List SeatUnit) × (me.0 ≡ record { live = true; about = key; members = ms })
 live_seat key about us me known J = (map resting J.done, ap (λ (y : Sat). y.0) J.seat_is ∙ (λ j. gathering (sym known j) (map resting J.done)))
 
 -- WHERE ALL HAVE COME

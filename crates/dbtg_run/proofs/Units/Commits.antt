@@ -33,12 +33,12 @@ use Rattle.dbtg_unit.specs.Database.Laws.Replay.{IsHistoryOf, entries_of, openin
 use Rattle.dbtg_unit.proofs.Public.{agrees_same, cells_made, entries_mine, opening_is_legal, replay_keeps_legal}
 use Rattle.dbtg_step.proofs.Public.{guesses_length}
 use Rattle.dbtg_run.specs.declared.view.About.{About}
-use Rattle.dbtg_run.specs.declared.view.Member.{Member}
-use Rattle.dbtg_run.specs.declared.view.View.{View}
+use Rattle.dbtg_run.specs.declared.view.SeatUnit.{SeatUnit}
+use Rattle.dbtg_run.specs.declared.view.SeatKnowledge.{SeatKnowledge}
 use Rattle.dbtg_run.specs.Views.{Has, lone}
 use Rattle.dbtg_run.specs.Inside.Views.{bare, bared, changed, drawn}
-use Rattle.dbtg_run.specs.Inside.Kept.{Sat, Kept, Draws, IsReal, Recorded, TellsReal, area_count, hands_of}
-use Rattle.dbtg_run.specs.Kept.{entry}
+use Rattle.dbtg_run.specs.Inside.LatchRule.{Sat, LatchRule, Draws, IsReal, Recorded, TellsReal, area_count, hands_of}
+use Rattle.dbtg_run.specs.LatchRule.{entry}
 use Rattle.dbtg_run.specs.Inside.Posed.{AreInside, posed, member_of, empty_slot, empty_slots, number_or_0}
 use Rattle.dbtg_run.specs.Posed.{IsOurs}
 use Rattle.dbtg_run.specs.Drawn.{IsDone}
@@ -122,7 +122,7 @@ due_bared about db (e ∷ es) = ap (λ (l : List (CellName × CellValue)). (e.0,
 module _ (about : About) (unit : Unit) (journal : List Entry) (exclusive : Bool) (hands : Hands) (x : Statement) (plan : Plan)
     (can : CanFinish about.schema.value about.capacity unit hands x plan)
     (once : pairwise (λ (e f : CellName × Cell). not (name_eq e.0 f.0)) hands.cells ≡ true) where
-  abbrev m : Member
+  abbrev m : SeatUnit
   m = member_of unit journal exclusive hands
 
   in_hand : (db : Database) → Agrees about.schema.value about.capacity db (hands_of m) unit → Agrees about.schema.value about.capacity db hands unit
@@ -142,9 +142,9 @@ module _ (about : About) (unit : Unit) (journal : List Entry) (exclusive : Bool)
   pub draws_as : (key : About) (id slots : ℕ) (me : Sat) (picked : Statement) (answer : Answer) (unit' : Unit) (held' : List (CellName × Cell)) → key ≡ about → me ≡ posed about unit journal exclusive hands
       → picked ≡ x → answer ≡ plan.answer → unit' ≡ unit_after about.schema.value plan unit → held' ≡ cells_after plan hands.cells
       → fits about.schema.value x ≡ true → IsReady about.schema.value about.capacity unit hands x → length journal < 65535
-      → Allows (Kept key) slots id me 0 (λ n. (n + 1) % 2 ^ 64) (Draws picked answer unit' held' (step slots 0 1 0 none) me)
+      → Allows (LatchRule key) slots id me 0 (λ n. (n + 1) % 2 ^ 64) (Draws picked answer unit' held' (step slots 0 1 0 none) me)
   draws_as key id slots me picked answer unit' held' known is p a u h fit ready room =
-      subst (λ (t : About × (Sat × Statement)). Allows (Kept t.0) slots id t.1.0 0 (λ n. (n + 1) % 2 ^ 64) (Draws t.1.1 answer unit' held' (step slots 0 1 0 none) t.1.0)) (λ i. (sym known i, (sym is i, sym p i)))
+      subst (λ (t : About × (Sat × Statement)). Allows (LatchRule t.0) slots id t.1.0 0 (λ n. (n + 1) % 2 ^ 64) (Draws t.1.1 answer unit' held' (step slots 0 1 0 none) t.1.0)) (λ i. (sym known i, (sym is i, sym p i)))
       (draws about id m slots (empty_slots about hands.cells) x hands.guesses answer unit' held' fit
       (λ db agrees. sym (ready db (in_hand db agrees)) ∙ need_bared about.schema.value about.capacity db unit x hands)
       (comes answer unit' held' a u h) room)
@@ -152,7 +152,7 @@ module _ (about : About) (unit : Unit) (journal : List Entry) (exclusive : Bool)
 -- WHAT IT LEAVES
 
 -- a recorded unit is one of the schema
-pub recorded_unit : (about : About) (m : Member) → IsSound about.schema.value → (r : Recorded about m) → IsUnitIn about.schema.value about.capacity (replay_entries about.schema.value about.capacity (opening_state about.schema.value about.units) (r.before ++ r.last ∷ [])).database (suc m.place) m.unit
+pub recorded_unit : (about : About) (m : SeatUnit) → IsSound about.schema.value → (r : Recorded about m) → IsUnitIn about.schema.value about.capacity (replay_entries about.schema.value about.capacity (opening_state about.schema.value about.units) (r.before ++ r.last ∷ [])).database (suc m.place) m.unit
 recorded_unit about m sound r =
     (replay_keeps_legal about.schema.value about.capacity (opening_state about.schema.value about.units) (r.before ++ r.last ∷ []) sound (opening_is_legal about.schema.value about.capacity about.units) r.history.fitting).each m.place m.unit r.unit
 
@@ -189,7 +189,7 @@ pub record Drew (about : About) (after : Sat) (journal journal' : List Entry) (u
 module _ (about : About) (me after : Sat) (unit unit' : Unit) (journal journal' : List Entry) (exclusive : Bool) (hands new : Hands) (x picked : Statement) (answer noted : Answer) (made : Unit) (held' : List (CellName × Cell)) (found : ℕ)
     (ours : IsOurs about unit) (is : me ≡ posed about unit journal exclusive hands)
     (then : after ≡ (changed (λ m. drawn (entry found (suc m.place) picked answer) made held' m) me.0, me.1))
-    (recorded : (m : Member) → after.0.members ≡ m ∷ [] → Recorded me.0.about m)
+    (recorded : (m : SeatUnit) → after.0.members ≡ m ∷ [] → Recorded me.0.about m)
     (tells : TellsReal after.0)
     (p : picked ≡ x) (a : answer ≡ noted) (u : unit' ≡ made) (h : held' ≡ bared new.cells) (areas : new.areas ≡ hands.areas) (names : names_of new.cells ≡ names_of hands.cells)
     (j : journal' ≡ journal ++ entry found unit.number x noted ∷ []) where
@@ -199,7 +199,7 @@ module _ (about : About) (me after : Sat) (unit unit' : Unit) (journal journal' 
   comes_to : after ≡ after_is
   comes_to = then ∙ (λ i. let y : Sat = (changed (λ m. drawn (entry found (suc m.place) picked answer) made held' m) (is i).0, (is i).1) in y)
 
-  abbrev mine : Member
+  abbrev mine : SeatUnit
   mine = drawn (entry found (suc (unit.number - 1)) picked answer) made held' (member_of unit journal exclusive hands)
 
   has_mine : after.0.members ≡ mine ∷ []
@@ -238,7 +238,7 @@ module _ (about : About) (me after : Sat) (unit unit' : Unit) (journal journal' 
 
   is_real : IsReal about unit' journal' new
   is_real =
-      let told = subst (λ (v : View). TellsReal v) (ap (λ (y : Sat). y.0) tied) tells (member_of unit' journal' exclusive new) refl in
+      let told = subst (λ (v : SeatKnowledge). TellsReal v) (ap (λ (y : Sat). y.0) tied) tells (member_of unit' journal' exclusive new) refl in
       real_bared about unit' journal' (hands_of (member_of unit' journal' exclusive new)) new refl told
 
   done_is : IsDone about journal journal' unit' x noted

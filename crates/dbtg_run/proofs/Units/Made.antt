@@ -24,10 +24,10 @@ use Rattle.dbtg_unit.specs.Database.State.Units.{opening_unit}
 use Rattle.dbtg_unit.proofs.Public.{nothing_at, opening_is_legal, opening_unit_of_schema, opening_unit_within}
 use Rattle.dbtg_step.specs.Core.Openings.{homes_of, homes_shown}
 use Rattle.dbtg_run.specs.declared.view.About.{About}
-use Rattle.dbtg_run.specs.declared.view.Member.{Member}
-use Rattle.dbtg_run.specs.declared.view.View.{View}
+use Rattle.dbtg_run.specs.declared.view.SeatUnit.{SeatUnit}
+use Rattle.dbtg_run.specs.declared.view.SeatKnowledge.{SeatKnowledge}
 use Rattle.dbtg_run.specs.Views.{lone}
-use Rattle.dbtg_run.specs.Inside.Kept.{Sat, IsReal, Kept, first_view, numbered, one_of, others_of}
+use Rattle.dbtg_run.specs.Inside.LatchRule.{Sat, IsReal, LatchRule, first_view, numbered, one_of, others_of}
 use Rattle.dbtg_run.specs.Posed.{IsOurs}
 use Rattle.dbtg_run.specs.Inside.Posed.{posed}
 use Rattle.dbtg_run.specs.UnitView.{BelongsTo, UnitView, opening_view, opening_views}
@@ -56,7 +56,7 @@ opening_at schema capacity (n ∷ names) (x ∷ cells) e (suc k) c h =
 
 pub table_opens : (about : About) (schema : Lists) → about.schema.value ≡ schema → IsSound schema → about.units ≤ 8
     → (n : ℕ) (words : List ℕ) (slots : List (Option Cell)) (cells : List Cell) → n ≡ 1 + length schema.areas + cell_count schema about.capacity → words ≡ replicate n 0
-    → slots ≡ map (λ (y : Cell). Some y) cells → homes_shown cells ≡ homes_of schema about.capacity (cells_in_order schema about.capacity) → Kept about (opening words slots (first_view about))
+    → slots ≡ map (λ (y : Cell). Some y) cells → homes_shown cells ≡ homes_of schema about.capacity (cells_in_order schema about.capacity) → LatchRule about (opening words slots (first_view about))
 table_opens about schema same sound few n words slots cells wide zeros held shows =
     let own : homes_shown cells ≡ homes_of about.schema.value about.capacity (cells_in_order about.schema.value about.capacity) =
     subst (λ (s : Lists). homes_shown cells ≡ homes_of s about.capacity (cells_in_order s about.capacity)) (sym same) shows in
@@ -101,11 +101,11 @@ alone_posed about place number e =
 -- THE SEATS
 
 -- the view of the seat that has the units from this place on
-abbrev pub waiting : About → ℕ → View
+abbrev pub waiting : About → ℕ → SeatKnowledge
 waiting about place = record { live = true; about = about; members = numbered about place (about.units - place) }
 
 -- so many units from this place on
-abbrev line : About → ℕ → ℕ → View
+abbrev line : About → ℕ → ℕ → SeatKnowledge
 line about place n = record { live = true; about = about; members = numbered about place n }
 
 module _ (about : About) (place : ℕ) (inside : place < about.units) (me : Sat) (is : me ≡ (waiting about place, [])) where
@@ -117,7 +117,7 @@ module _ (about : About) (place : ℕ) (inside : place < about.units) (me : Sat)
       is ∙ along
 
   -- one may be cut off
-  pub may_cut : (key : About) → key ≡ about → (m : Member) × (ms : List Member) × (me.0 ≡ record { live = true; about = key; members = m ∷ ms })
+  pub may_cut : (key : About) → key ≡ about → (m : SeatUnit) × (ms : List SeatUnit) × (me.0 ≡ record { live = true; about = key; members = m ∷ ms })
   may_cut key known =
       let ms = numbered about (suc place) (about.units - (place + 1)) in
       let along : line about place (suc (about.units - (place + 1))) ≡ record { live = true; about = key; members = newcomer about place ∷ ms } = λ j. record { live = true; about = sym known j; members = newcomer about place ∷ ms } in

@@ -27,7 +27,7 @@ use Rattle.dbtg_step.specs.Machine.TurningBack.{count}
 use Rattle.dbtg_step.proofs.Public.{chose_area, count_length, count_up_to, needs_come_to_an_end, network_names_cells, slice_get_in}
 use Rattle.dbtg_run.specs.declared.view.About.{About}
 use Rattle.dbtg_run.specs.Inside.Views.{times, one_if}
-use Rattle.dbtg_run.specs.Inside.Kept.{area_count, cells_of_table}
+use Rattle.dbtg_run.specs.Inside.LatchRule.{area_count, cells_of_table}
 use Rattle.dbtg_run.specs.Inside.Posed.{not_held, turns_left}
 
 -- COUNTS

@@ -20,7 +20,7 @@ use Rattle.dbtg_unit.proofs.Public.{all_at, effect_step}
 use Rattle.dbtg_step.specs.Inside.Events.{HaveRings}
 use Rattle.dbtg_step.proofs.Public.{cell_wanted, cells_exist, made_have_rings, not_beyond, turned_have_rings}
 use Rattle.dbtg_run.specs.declared.view.About.{About}
-use Rattle.dbtg_run.specs.Inside.Kept.{IsReal}
+use Rattle.dbtg_run.specs.Inside.LatchRule.{IsReal}
 use Rattle.dbtg_run.specs.Posed.{IsOurs}
 use Rattle.dbtg_run.proofs.Units.Needing.{stale_needed}
 

@@ -33,11 +33,11 @@ use Rattle.dbtg_step.specs.Machine.Network.{holding}
 use Rattle.dbtg_step.specs.Core.Parts.{held_of}
 use Rattle.dbtg_step.proofs.Public.{need_of_holding}
 use Rattle.dbtg_run.specs.declared.view.About.{About}
-use Rattle.dbtg_run.specs.declared.view.Member.{Member}
-use Rattle.dbtg_run.specs.declared.view.View.{View}
+use Rattle.dbtg_run.specs.declared.view.SeatUnit.{SeatUnit}
+use Rattle.dbtg_run.specs.declared.view.SeatKnowledge.{SeatKnowledge}
 use Rattle.dbtg_run.specs.Views.{lone}
 use Rattle.dbtg_run.specs.Inside.Views.{latched, times, bare, bared, with_cell}
-use Rattle.dbtg_run.specs.Inside.Kept.{Sat, Kept, area_count, area_word, LooksAtArea, TakesArea, TakesCell, FreeAlone, CellFreeAlone, TookAt, slot_of_word, PutsCell, LeavesArea, IsReal, TellsReal, hands_of, cells_of_table, cell_word, slot_name}
+use Rattle.dbtg_run.specs.Inside.LatchRule.{Sat, LatchRule, area_count, area_word, LooksAtArea, TakesArea, TakesCell, FreeAlone, CellFreeAlone, TookAt, slot_of_word, PutsCell, LeavesArea, IsReal, TellsReal, hands_of, cells_of_table, cell_word, slot_name}
 use Rattle.dbtg_run.specs.Inside.Posed.{posed, member_of, empty_slot, empty_slots}
 use Rattle.dbtg_run.proofs.TheRule.Facts.{bared_more, shown_bare}
 use Rattle.dbtg_run.proofs.TheRule.CellSteps.{puts_cell, takes_cell}
@@ -51,10 +51,10 @@ slots_more about es e = ap reverse (go es) ∙ reverse_more (map (empty_slot abo
     go [] = refl
     go (x ∷ xs) = ap (λ ys. empty_slot about x ∷ ys) (go xs)
 
-pub puts_as : (key about : About) (id slots zeros k word : ℕ) (me : Sat) (m : Member) (c : CellName) (x : Cell) (es : List (CellName × Cell)) (slots_left : List (ℕ × Option Cell)) → key ≡ about → me ≡ (lone about m, (k, Some x) ∷ slots_left) → m.held ≡ bared (es ++ (c, x) ∷ []) → slot_name about k ≡ Some c → zeros ≡ 0 → slots ≡ cells_of_table about → word ≡ cell_word about k
-    → Allows (Kept key) slots id me word (λ n. bit_and n zeros) (PutsCell (step slots word zeros 0 none) me)
+pub puts_as : (key about : About) (id slots zeros k word : ℕ) (me : Sat) (m : SeatUnit) (c : CellName) (x : Cell) (es : List (CellName × Cell)) (slots_left : List (ℕ × Option Cell)) → key ≡ about → me ≡ (lone about m, (k, Some x) ∷ slots_left) → m.held ≡ bared (es ++ (c, x) ∷ []) → slot_name about k ≡ Some c → zeros ≡ 0 → slots ≡ cells_of_table about → word ≡ cell_word about k
+    → Allows (LatchRule key) slots id me word (λ n. bit_and n zeros) (PutsCell (step slots word zeros 0 none) me)
 puts_as key about id slots zeros k word me m c x es slots_left known is held named z size at =
-    subst (λ (t : About × (Sat × ℕ)). Allows (Kept t.0) slots id t.1.0 t.1.1 (λ n. bit_and n zeros) (PutsCell (step slots t.1.1 zeros 0 none) t.1.0)) (λ i. (sym known i, (sym is i, sym at i)))
+    subst (λ (t : About × (Sat × ℕ)). Allows (LatchRule t.0) slots id t.1.0 t.1.1 (λ n. bit_and n zeros) (PutsCell (step slots t.1.1 zeros 0 none) t.1.0)) (λ i. (sym known i, (sym is i, sym at i)))
     (puts_cell about id m slots zeros k c x (bare (shown x)) (bared es) slots_left (held ∙ bared_more es (c, x)) (sym (shown_bare (shown x))) named z size)
 
 front_agrees : (schema : Lists) (capacity : ℕ) (db : Database) (es fs : List (CellName × Cell)) → AllAgree schema capacity db (es ++ fs) → AllAgree schema capacity db es
@@ -110,19 +110,19 @@ pushed about unit journal exclusive hands es e k new me after is cells then =
 
 -- AREAS
 
-module _ (key about : About) (id slots word : ℕ) (me : Sat) (m : Member) (left : List (ℕ × Option Cell)) (a : ℕ) (known : key ≡ about) (is : me ≡ (lone about m, left)) (inside : a < area_count about) (at : word ≡ area_word a) where
-  pub looks_as : Allows (Kept key) slots id me word (λ n. n) (LooksAtArea (step slots word 0 0 none) me)
-  looks_as = subst (λ (t : About × (Sat × ℕ)). Allows (Kept t.0) slots id t.1.0 t.1.1 (λ n. n) (LooksAtArea (step slots t.1.1 0 0 none) t.1.0)) (λ i. (sym known i, (sym is i, sym at i)))
+module _ (key about : About) (id slots word : ℕ) (me : Sat) (m : SeatUnit) (left : List (ℕ × Option Cell)) (a : ℕ) (known : key ≡ about) (is : me ≡ (lone about m, left)) (inside : a < area_count about) (at : word ≡ area_word a) where
+  pub looks_as : Allows (LatchRule key) slots id me word (λ n. n) (LooksAtArea (step slots word 0 0 none) me)
+  looks_as = subst (λ (t : About × (Sat × ℕ)). Allows (LatchRule t.0) slots id t.1.0 t.1.1 (λ n. n) (LooksAtArea (step slots t.1.1 0 0 none) t.1.0)) (λ i. (sym known i, (sym is i, sym at i)))
       (looks_at_area about id m slots left a inside)
 
   pub alone_as : (new : ℕ) → (m.areas ≡ []) ⊎ (m.exclusive ≡ true) → times a m.areas ≡ 0 → m.place < 8 → new ≡ 1 * 2 ^ (8 + m.place) % 2 ^ 64
-      → Allows (Kept key) slots id me word (λ n. either (n == 0) new n) (TakesArea true (step slots word 0 new none) me)
-  alone_as new how none_held small n = subst (λ (t : About × (Sat × ℕ)). Allows (Kept t.0) slots id t.1.0 t.1.1 (λ n. either (n == 0) new n) (TakesArea true (step slots t.1.1 0 new none) t.1.0)) (λ i. (sym known i, (sym is i, sym at i)))
+      → Allows (LatchRule key) slots id me word (λ n. either (n == 0) new n) (TakesArea true (step slots word 0 new none) me)
+  alone_as new how none_held small n = subst (λ (t : About × (Sat × ℕ)). Allows (LatchRule t.0) slots id t.1.0 t.1.1 (λ n. either (n == 0) new n) (TakesArea true (step slots t.1.1 0 new none) t.1.0)) (λ i. (sym known i, (sym is i, sym at i)))
       (takes_area_alone about id m slots left a new inside how none_held (n ∙ one_shl (8 + m.place) 64 (omega arith)))
 
   pub shared_as : (old new : ℕ) → old < 256 → (m.areas ≡ []) ⊎ (m.exclusive ≡ false) → times a m.areas ≡ 0 → m.place < 8 → new ≡ bit_or old (1 * 2 ^ m.place % 2 ^ 64)
-      → Allows (Kept key) slots id me word (λ n. either (n == old) new n) (TakesArea false (step slots word old new none) me)
-  shared_as old new free how none_held small n = subst (λ (t : About × (Sat × ℕ)). Allows (Kept t.0) slots id t.1.0 t.1.1 (λ n. either (n == old) new n) (TakesArea false (step slots t.1.1 old new none) t.1.0)) (λ i. (sym known i, (sym is i, sym at i)))
+      → Allows (LatchRule key) slots id me word (λ n. either (n == old) new n) (TakesArea false (step slots word old new none) me)
+  shared_as old new free how none_held small n = subst (λ (t : About × (Sat × ℕ)). Allows (LatchRule t.0) slots id t.1.0 t.1.1 (λ n. either (n == old) new n) (TakesArea false (step slots t.1.1 old new none) t.1.0)) (λ i. (sym known i, (sym is i, sym at i)))
       (takes_area_shared about id m slots left a old new inside free how none_held (n ∙ ap (bit_or old) (one_shl m.place 64 (omega arith))))
 
 -- CELLS
@@ -175,9 +175,9 @@ need_bared schema capacity db unit x hands =
 pub takes_as : (key about : About) (id slots word k new : ℕ) (me : Sat) (unit : Unit) (journal : List Entry) (exclusive : Bool) (hands : Hands) (c : CellName) (x : Statement) → key ≡ about → me ≡ posed about unit journal exclusive hands → slot_name about k ≡ Some c → fits about.schema.value x ≡ true
     → ((db : Database) → Agrees about.schema.value about.capacity db hands unit → Take c ≡ need about.schema.value about.capacity db unit hands x)
     → new ≡ suc (unit.number - 1) → word ≡ cell_word about k
-    → Allows (Kept key) slots id me word (λ n. either (n == 0) new n) (TakesCell (step slots word 0 new none) me)
+    → Allows (LatchRule key) slots id me word (λ n. either (n == 0) new n) (TakesCell (step slots word 0 new none) me)
 takes_as key about id slots word k new me unit journal exclusive hands c x known is named fit wanted n at =
-    subst (λ (t : About × (Sat × ℕ)). Allows (Kept t.0) slots id t.1.0 t.1.1 (λ n. either (n == 0) new n) (TakesCell (step slots t.1.1 0 new none) t.1.0)) (λ i. (sym known i, (sym is i, sym at i)))
+    subst (λ (t : About × (Sat × ℕ)). Allows (LatchRule t.0) slots id t.1.0 t.1.1 (λ n. either (n == 0) new n) (TakesCell (step slots t.1.1 0 new none) t.1.0)) (λ i. (sym known i, (sym is i, sym at i)))
     (takes_cell about id (member_of unit journal exclusive hands) slots (empty_slots about hands.cells) k new c x hands.guesses named fit
     (λ db a. wanted db (record { legal = a.legal; cells = agree_unbared about.schema.value about.capacity db hands.cells a.cells; usage = a.usage }) ∙ need_bared about.schema.value about.capacity db unit x hands) n)
 
@@ -228,13 +228,13 @@ real_taken about me l unit journal exclusive old new c x is tells held =
     (t (with_cell c (bare (shown x)) (member_of unit journal exclusive old)) refl)
 
 -- the slot was emptied and has a cell again
-pub again_as : (v : View) (l : List (ℕ × Option Cell)) (one two three : Sat) (k : ℕ) (o p q : Option Cell) → one ≡ (v, (k, o) ∷ l) → two ≡ (one.0, (k, p) ∷ rest one.1) → three ≡ (two.0, (k, q) ∷ rest two.1) → three ≡ (v, (k, q) ∷ l)
+pub again_as : (v : SeatKnowledge) (l : List (ℕ × Option Cell)) (one two three : Sat) (k : ℕ) (o p q : Option Cell) → one ≡ (v, (k, o) ∷ l) → two ≡ (one.0, (k, p) ∷ rest one.1) → three ≡ (two.0, (k, q) ∷ rest two.1) → three ≡ (v, (k, q) ∷ l)
 again_as v l one two three k o p q first second third =
     third
     ∙ ((λ i. let y : Sat = ((second i).0, (k, q) ∷ rest (second i).1) in y)
     ∙ (λ i. let y : Sat = ((first i).0, (k, q) ∷ rest (first i).1) in y))
 
-pub slot_asks : (v : View) (l : List (ℕ × Option Cell)) (me : Sat) (k : ℕ) (y : Option Cell) → me ≡ (v, (k, y) ∷ l) → (old : Option Cell) × (me.1 ≡ (k, old) ∷ rest me.1)
+pub slot_asks : (v : SeatKnowledge) (l : List (ℕ × Option Cell)) (me : Sat) (k : ℕ) (y : Option Cell) → me ≡ (v, (k, y) ∷ l) → (old : Option Cell) × (me.1 ≡ (k, old) ∷ rest me.1)
 slot_asks v l me k y is = (y, ap (λ (z : Sat). z.1) is ∙ ap (λ (z : List (ℕ × Option Cell)). (k, y) ∷ z) (sym (ap (λ (z : Sat). rest z.1) is)))
 
 not_bared : (es : List (CellName × Cell)) (c : CellName) → list_any (λ (e : CellName × Cell). name_eq c e.0) es ≡ holds (bared es) c
@@ -254,7 +254,7 @@ cell_free_as about k word found me unit journal exclusive hands c is at named fr
     t (member_of unit journal exclusive hands) c refl one named (sym (not_bared hands.cells c) ∙ none_held)
 
 -- and an area that is not in hand
-pub free_as : (about : About) (a word found : ℕ) (me : Sat) (m : Member) (l : List (ℕ × Option Cell)) → me ≡ (lone about m, l) → word ≡ area_word a → FreeAlone (word - 1) me.0 found → about.units ≡ 1 → times a m.areas ≡ 0 → found ≡ 0
+pub free_as : (about : About) (a word found : ℕ) (me : Sat) (m : SeatUnit) (l : List (ℕ × Option Cell)) → me ≡ (lone about m, l) → word ≡ area_word a → FreeAlone (word - 1) me.0 found → about.units ≡ 1 → times a m.areas ≡ 0 → found ≡ 0
 free_as about a word found me m l is at free one none_held =
     let less : 1 + a - 1 ≡ a = omega arith in
     let t : FreeAlone a (lone about m) found = subst (λ (p : Sat × ℕ). FreeAlone p.1 p.0.0 found) (λ i. (is i, (ap (λ (n : ℕ). n - 1) at ∙ less) i)) free in
@@ -269,7 +269,7 @@ free_as about a word found me m l is at free one none_held =
 -- an area that was taken last is left
 pub leaves_as : (key about : About) (id slots word mask a : ℕ) (me : Sat) (unit : Unit) (journal : List Entry) (exclusive : Bool) (hands : Hands) (left : List ℕ) → key ≡ about → me ≡ posed about unit journal exclusive hands → hands.areas ≡ left ++ a ∷ [] → hands.cells ≡ [] → a < area_count about
     → mask ≡ bit_not w64 (1 * 2 ^ (cond exclusive (8 + (unit.number - 1)) (unit.number - 1)) % 2 ^ 64) → word ≡ area_word a
-    → Allows (Kept key) slots id me word (λ n. bit_and n mask) (LeavesArea (step slots word mask 0 none) me)
+    → Allows (LatchRule key) slots id me word (λ n. bit_and n mask) (LeavesArea (step slots word mask 0 none) me)
 leaves_as key about id slots word mask a me unit journal exclusive hands left known is areas cells inside m at =
-    subst (λ (t : About × (Sat × ℕ)). Allows (Kept t.0) slots id t.1.0 t.1.1 (λ n. bit_and n mask) (LeavesArea (step slots t.1.1 mask 0 none) t.1.0)) (λ i. (sym known i, (sym is i, sym at i)))
+    subst (λ (t : About × (Sat × ℕ)). Allows (LatchRule t.0) slots id t.1.0 t.1.1 (λ n. bit_and n mask) (LeavesArea (step slots t.1.1 mask 0 none) t.1.0)) (λ i. (sym known i, (sym is i, sym at i)))
     (leaves_area about id (member_of unit journal exclusive hands) slots (empty_slots about hands.cells) a mask left inside areas (ap bared cells) m)

@@ -11,13 +11,13 @@ use Rattle.dbtg_unit.specs.declared.unit.Unit.{Unit}
 use Rattle.dbtg_unit.specs.Hands.Hands.{Hands}
 use Rattle.dbtg_step.specs.Machine.TurningBack.{count}
 use Rattle.dbtg_run.specs.declared.view.About.{About}
-use Rattle.dbtg_run.specs.declared.view.Member.{Member}
+use Rattle.dbtg_run.specs.declared.view.SeatUnit.{SeatUnit}
 use Rattle.dbtg_run.specs.Views.{lone}
 use Rattle.dbtg_run.specs.Inside.Views.{bared}
-use Rattle.dbtg_run.specs.Inside.Kept.{Sat, area_count, cells_of_table}
+use Rattle.dbtg_run.specs.Inside.LatchRule.{Sat, area_count, cells_of_table}
 
 -- the unit as a member of a view: its held cells without room
-abbrev pub member_of : Unit → List Entry → Bool → Hands → Member
+abbrev pub member_of : Unit → List Entry → Bool → Hands → SeatUnit
 member_of unit journal exclusive hands = record { place = unit.number - 1; unit = unit; journal = journal; exclusive = exclusive; areas = hands.areas; held = bared hands.cells }
 
 -- the number of a cell, 0 for one that the schema has not

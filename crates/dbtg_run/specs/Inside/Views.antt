@@ -10,8 +10,8 @@ use Rattle.dbtg_cells.specs.Shown.{CellValue, UsageValue, ExtentValue, RingValue
 use Rattle.dbtg_unit.specs.declared.unit.Entry.{Entry}
 use Rattle.dbtg_unit.specs.declared.unit.Unit.{Unit}
 use Rattle.dbtg_run.specs.declared.view.About.{About}
-use Rattle.dbtg_run.specs.declared.view.Member.{Member}
-use Rattle.dbtg_run.specs.declared.view.View.{View}
+use Rattle.dbtg_run.specs.declared.view.SeatUnit.{SeatUnit}
+use Rattle.dbtg_run.specs.declared.view.SeatKnowledge.{SeatKnowledge}
 use Rattle.dbtg_run.specs.Views.{Has}
 
 -- f of each, added up
@@ -43,13 +43,13 @@ times a [] = 0
 times a (b ∷ bs) = one_if (b == a) + times a bs
 
 -- how often the member has the area so
-abbrev pub latched : Bool → ℕ → Member → ℕ
+abbrev pub latched : Bool → ℕ → SeatUnit → ℕ
 latched true a m = cond m.exclusive (times a m.areas) 0
 latched false a m = cond m.exclusive 0 (times a m.areas)
 
 -- how many members are at place u
-abbrev pub times_place : ℕ → List Member → ℕ
-times_place u ms = total (λ (m : Member). one_if (m.place == u)) ms
+abbrev pub times_place : ℕ → List SeatUnit → ℕ
+times_place u ms = total (λ (m : SeatUnit). one_if (m.place == u)) ms
 
 -- the cell of a value, with no room for more
 abbrev pub bare : CellValue → Cell
@@ -72,42 +72,42 @@ abbrev pub init : {A : Type 0} → List A → List A
 init xs = reverse (rest_of (reverse xs))
 
 -- the view with each member changed so
-abbrev pub changed : (Member → Member) → View → View
+abbrev pub changed : (SeatUnit → SeatUnit) → SeatKnowledge → SeatKnowledge
 changed f v = record { live = v.live; about = v.about; members = map f v.members }
 
 -- the member with area a as well, exclusively or not
-abbrev pub with_area : ℕ → Bool → Member → Member
+abbrev pub with_area : ℕ → Bool → SeatUnit → SeatUnit
 with_area a x m = record m { exclusive = x; areas = m.areas ++ a ∷ [] }
 
 -- the member without the area that it took last
-abbrev pub less_area : Member → Member
+abbrev pub less_area : SeatUnit → SeatUnit
 less_area m = record m { areas = init m.areas }
 
 -- the member with cell c as well
-abbrev pub with_cell : CellName → Cell → Member → Member
+abbrev pub with_cell : CellName → Cell → SeatUnit → SeatUnit
 with_cell c x m = record m { held = m.held ++ (c, x) ∷ [] }
 
 -- the member without the cell that it took last
-abbrev pub less_cell : Member → Member
+abbrev pub less_cell : SeatUnit → SeatUnit
 less_cell m = record m { held = init m.held }
 
 -- the member with one entry more, and what the statement leaves of unit and cells
-abbrev pub drawn : Entry → Unit → List (CellName × Cell) → Member → Member
+abbrev pub drawn : Entry → Unit → List (CellName × Cell) → SeatUnit → SeatUnit
 drawn e unit held m = record m { unit = unit; journal = m.journal ++ e ∷ []; held = held }
 
 -- member m is in this seat, as the unit at its place
-pub record Sits (about : About) (all : ℕ → Member) (seat : ℕ → ℕ) (id : ℕ) (m : Member) : Type 0 where
+pub record Sits (about : About) (all : ℕ → SeatUnit) (seat : ℕ → ℕ) (id : ℕ) (m : SeatUnit) : Type 0 where
   pub same : m ≡ all m.place
   pub here : seat m.place ≡ id
   pub inside : m.place < about.units
 
 -- each unit is in exactly one view
-pub record Seated (about : About) (all : ℕ → Member) (views : List View) : Type 0 where
+pub record Seated (about : About) (all : ℕ → SeatUnit) (views : List SeatKnowledge) : Type 0 where
   -- the seat of each unit
   pub seat : ℕ → ℕ
   -- a view is of this database, and its members sit there
-  pub live : (id : ℕ) (v : View) → get_elem? views id ≡ some v → v.live ≡ true → v.about ≡ about
-  pub seated : (id : ℕ) (v : View) (m : Member) → get_elem? views id ≡ some v → Has m v.members → Sits about all seat id m
+  pub live : (id : ℕ) (v : SeatKnowledge) → get_elem? views id ≡ some v → v.live ≡ true → v.about ≡ about
+  pub seated : (id : ℕ) (v : SeatKnowledge) (m : SeatUnit) → get_elem? views id ≡ some v → Has m v.members → Sits about all seat id m
   -- over all views each unit is there once, and no other
-  pub each_once : (u : ℕ) → total (λ (v : View). times_place u v.members) views ≡ once_below u about.units
-  pub all_there : total (λ (v : View). length v.members) views ≡ about.units
+  pub each_once : (u : ℕ) → total (λ (v : SeatKnowledge). times_place u v.members) views ≡ once_below u about.units
+  pub all_there : total (λ (v : SeatKnowledge). length v.members) views ≡ about.units

@@ -3,7 +3,7 @@ use Rattle.std.specs.Prelude.{◌≡◌, Bool, true, false}
 use Rattle.dbtg_unit.specs.declared.statement.Statement.{Statement}
 use Rattle.dbtg_unit.specs.Hands.Needs.{is_stale}
 use Rattle.dbtg_step.specs.Inside.Events.{HaveRings}
-use Rattle.dbtg_run.specs.Inside.Kept.{IsReal, database_after}
+use Rattle.dbtg_run.specs.Inside.LatchRule.{IsReal, database_after}
 use Rattle.dbtg_run.specs.declared.database.Database.{Database}
 use Rattle.dbtg_run.specs.declared.work.Work.{Work}
 use Rattle.dbtg_run.specs.Posed.{IsOurs}

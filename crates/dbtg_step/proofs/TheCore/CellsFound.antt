@@ -17,10 +17,10 @@ use Rattle.dbtg_unit.specs.Hands.Local.{holds}
 use Rattle.dbtg_unit.specs.Database.Laws.Replay.{opening_state, replay as replay_entries, State as DatabaseState}
 use Rattle.dbtg_unit.proofs.Public.{In as AmongKeys, held_cell_agrees, held_is_there, of_reverse}
 use Rattle.dbtg_step.specs.declared.parts.Parts.{Parts}
-use Rattle.dbtg_step.specs.declared.parts.Place.{Place}
-use Rattle.dbtg_step.specs.declared.parts.Place.TheVariants.{Home as AtHome, HeldBy as WithUnit}
+use Rattle.dbtg_step.specs.declared.parts.CellLocation.{CellLocation}
+use Rattle.dbtg_step.specs.declared.parts.CellLocation.TheVariants.{Home as AtHome, HeldBy as WithUnit}
 use Rattle.dbtg_step.specs.declared.parts.Runner.{Runner}
-use Rattle.dbtg_step.specs.declared.parts.Stage.{Stage}
+use Rattle.dbtg_step.specs.declared.parts.StatementProgress.{StatementProgress}
 use Rattle.dbtg_step.specs.Machine.SequentialDatabase.{HeldCell, In, unit_at}
 use Rattle.dbtg_step.specs.Machine.Machine.{UnitState, held_cells}
 use Rattle.dbtg_step.specs.Machine.Lawful.{HoldsCell}
@@ -89,14 +89,14 @@ entries_again schema capacity [] = refl
 entries_again schema capacity (e ∷ es) = ap (λ rest. e ∷ rest) (entries_again schema capacity es)
 
 module _ (schema : Lists) (capacity : ℕ) (parts : Parts) (well : IsWell schema capacity parts) where
-  held_there : (r : Runner) (c : CellName) → HoldsCell (network schema capacity) (progress_of schema capacity r.held r.stage) c → holds r.held.cells c ≡ true
+  held_there : (r : Runner) (c : CellName) → HoldsCell (network schema capacity) (progress_of schema capacity r.held r.progress) c → holds r.held.cells c ≡ true
   unfolding held_cells
-  held_there r c h = by r.stage h where
-    by : (o : Option Stage) → HoldsCell (network schema capacity) (progress_of schema capacity r.held o) c → holds r.held.cells c ≡ true
+  held_there r c h = by r.progress h where
+    by : (o : Option StatementProgress) → HoldsCell (network schema capacity) (progress_of schema capacity r.held o) c → holds r.held.cells c ≡ true
     by None h = absurd h.is_in
     by (Some w) h = ap (holds r.held.cells) (sym h.name) ∙ in_hand r.held.cells h.which (in_reversed h.which (map held_of r.held.cells) h.is_in)
 
-  placed : (c : CellName) (n : ℕ) → cell_number schema capacity c ≡ Some n → (p : Place) → slice_get parts.table.items n ≡ Some p → found_cell schema capacity parts c ≡ cell_in parts.runners.items c p
+  placed : (c : CellName) (n : ℕ) → cell_number schema capacity c ≡ Some n → (p : CellLocation) → slice_get parts.table.items n ≡ Some p → found_cell schema capacity parts c ≡ cell_in parts.runners.items c p
   placed c n e p f = ap (option_and_then (λ m. option_and_then (cell_in parts.runners.items c) (slice_get parts.table.items m))) e ∙ ap (option_and_then (cell_in parts.runners.items c)) f
 
   shows_home : (c : CellName) (n : ℕ) → cell_number schema capacity c ≡ Some n → (x : Cell) → slice_get parts.table.items n ≡ Some (AtHome x) → ShowsCell schema capacity (database_of schema capacity parts) (found_cell schema capacity parts) c
@@ -122,7 +122,7 @@ module _ (schema : Lists) (capacity : ℕ) (parts : Parts) (well : IsWell schema
         shows = held_cell_agrees schema capacity (database_of schema capacity parts) r.held.cells c x.0 (agrees_now schema capacity u parts r well number.0 number.1).cells x.1;
       }
 
-  shows_placed : (c : CellName) (n : ℕ) → cell_number schema capacity c ≡ Some n → (p : Place) → slice_get parts.table.items n ≡ Some p → ShowsCell schema capacity (database_of schema capacity parts) (found_cell schema capacity parts) c
+  shows_placed : (c : CellName) (n : ℕ) → cell_number schema capacity c ≡ Some n → (p : CellLocation) → slice_get parts.table.items n ≡ Some p → ShowsCell schema capacity (database_of schema capacity parts) (found_cell schema capacity parts) c
   shows_placed c n e (AtHome x) f = shows_home c n e x f
   shows_placed c n e (WithUnit u) f = shows_held c n e u f
 

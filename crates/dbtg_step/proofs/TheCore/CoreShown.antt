@@ -14,9 +14,9 @@ use Rattle.dbtg_unit.specs.Database.State.Cells.{cell}
 use Rattle.dbtg_unit.specs.Database.State.LegalWith.{LegalWith}
 use Rattle.dbtg_unit.specs.Database.Laws.Replay.{AnswersHold, State as DatabaseState, TicketsInOrder, entries_of, opening_state, replay as replay_entries}
 use Rattle.dbtg_step.specs.declared.parts.Parts.{Parts}
-use Rattle.dbtg_step.specs.declared.parts.Place.TheVariants.{Home as AtHome, HeldBy as WithUnit}
+use Rattle.dbtg_step.specs.declared.parts.CellLocation.TheVariants.{Home as AtHome, HeldBy as WithUnit}
 use Rattle.dbtg_step.specs.declared.parts.Runner.{Runner}
-use Rattle.dbtg_step.specs.declared.parts.Stage.{Stage}
+use Rattle.dbtg_step.specs.declared.parts.StatementProgress.{StatementProgress}
 use Rattle.dbtg_step.specs.Machine.SequentialDatabase.{HeldCell, In, unit_at}
 use Rattle.dbtg_step.specs.Machine.Machine.{UnitState, held_areas, held_cells, holds_exclusively, replay}
 use Rattle.dbtg_step.specs.Machine.Lawful.{HoldsCell, UnitLawful}
@@ -84,10 +84,10 @@ module _ (schema : Lists) (capacity : ℕ) (parts : Parts) (well : IsWell schema
   unfolding state_from
   home_is c x at = now_is c x (well.lawful.home c (shown x) (location_placed schema capacity parts.table.items c at.0 (AtHome x) at.1 at.2))
 
-  in_hands : (r : Runner) (c : CellName) → HoldsCell (network schema capacity) (progress_of schema capacity r.held r.stage) c → FromHand r.held.cells c
+  in_hands : (r : Runner) (c : CellName) → HoldsCell (network schema capacity) (progress_of schema capacity r.held r.progress) c → FromHand r.held.cells c
   unfolding held_cells
-  in_hands r c h = by r.stage h where
-    by : (o : Option Stage) → HoldsCell (network schema capacity) (progress_of schema capacity r.held o) c → FromHand r.held.cells c
+  in_hands r c h = by r.progress h where
+    by : (o : Option StatementProgress) → HoldsCell (network schema capacity) (progress_of schema capacity r.held o) c → FromHand r.held.cells c
     by None h = absurd h.is_in
     by (Some w) h =
         let f = from_hand r.held.cells h.which (in_reversed h.which (map held_of r.held.cells) h.is_in) in
@@ -107,7 +107,7 @@ module _ (schema : Lists) (capacity : ℕ) (parts : Parts) (well : IsWell schema
         let n = numbered parts.runners.items u r at in
         well.lawful.each u (unit_state_of schema capacity r) (found schema capacity u parts r well n.0 n.1)
 
-    settled : r.stage ≡ None → (r.held.areas ≡ []) × (r.held.cells ≡ [])
+    settled : r.progress ≡ None → (r.held.areas ≡ []) × (r.held.cells ≡ [])
     settled = let n = numbered parts.runners.items u r at in (well.runners (u - 1) r n.1).settled
 
     scripts_are : map (λ (e : Entry). e.statement) (entries_of u parts.history.items) ++ drop r.next r.script ≡ r.script
@@ -117,35 +117,35 @@ module _ (schema : Lists) (capacity : ℕ) (parts : Parts) (well : IsWell schema
         ∙ ap (λ xs. xs ++ drop r.next r.script) (statements_same schema capacity u (map note_of parts.history.items)) ∙ lawful_unit.script
 
     -- a cell in hand is one that the machine's unit holds
-    held_there : (e : CellName × Cell) → In e r.held.cells → In (held_of e) (held_cells (network schema capacity) (progress_of schema capacity r.held r.stage))
+    held_there : (e : CellName × Cell) → In e r.held.cells → In (held_of e) (held_cells (network schema capacity) (progress_of schema capacity r.held r.progress))
     unfolding held_cells
-    held_there e i = by r.stage refl
+    held_there e i = by r.progress refl
       where
-        by : (o : Option Stage) → r.stage ≡ o → In (held_of e) (held_cells (network schema capacity) (progress_of schema capacity r.held o))
+        by : (o : Option StatementProgress) → r.progress ≡ o → In (held_of e) (held_cells (network schema capacity) (progress_of schema capacity r.held o))
         by None q = absurd (subst (In e) (settled q).1 i)
         by (Some w) q = in_reverse (held_of e) (map held_of r.held.cells) (in_mapped held_of e r.held.cells i)
 
-    area_there : (a : ℕ) → In a (held_areas (network schema capacity) (progress_of schema capacity r.held r.stage)) → In a r.held.areas
+    area_there : (a : ℕ) → In a (held_areas (network schema capacity) (progress_of schema capacity r.held r.progress)) → In a r.held.areas
     unfolding held_areas
-    area_there a = by r.stage
+    area_there a = by r.progress
       where
-        by : (o : Option Stage) → In a (held_areas (network schema capacity) (progress_of schema capacity r.held o)) → In a r.held.areas
+        by : (o : Option StatementProgress) → In a (held_areas (network schema capacity) (progress_of schema capacity r.held o)) → In a r.held.areas
         by None i = absurd i
         by (Some w) i = in_reversed a r.held.areas i
 
-    area_held : (a : ℕ) → In a r.held.areas → In a (held_areas (network schema capacity) (progress_of schema capacity r.held r.stage))
+    area_held : (a : ℕ) → In a r.held.areas → In a (held_areas (network schema capacity) (progress_of schema capacity r.held r.progress))
     unfolding held_areas
-    area_held a i = by r.stage refl
+    area_held a i = by r.progress refl
       where
-        by : (o : Option Stage) → r.stage ≡ o → In a (held_areas (network schema capacity) (progress_of schema capacity r.held o))
+        by : (o : Option StatementProgress) → r.progress ≡ o → In a (held_areas (network schema capacity) (progress_of schema capacity r.held o))
         by None q = absurd (subst (In a) (settled q).0 i)
         by (Some w) q = in_reverse a r.held.areas i
 
-    alone_is : holds_exclusively (network schema capacity) (progress_of schema capacity r.held r.stage) ≡ is_alone r
+    alone_is : holds_exclusively (network schema capacity) (progress_of schema capacity r.held r.progress) ≡ is_alone r
     unfolding holds_exclusively
-    alone_is = by r.stage refl
+    alone_is = by r.progress refl
       where
-        by : (o : Option Stage) → r.stage ≡ o → holds_exclusively (network schema capacity) (progress_of schema capacity r.held o) ≡ is_alone (record r { stage = o })
+        by : (o : Option StatementProgress) → r.progress ≡ o → holds_exclusively (network schema capacity) (progress_of schema capacity r.held o) ≡ is_alone (record r { progress = o })
         by None q = refl
         by (Some w) q = refl
 

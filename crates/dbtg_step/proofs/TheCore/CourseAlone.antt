@@ -13,7 +13,7 @@ use Rattle.dbtg_unit.specs.Hands.Needs.{need}
 use Rattle.dbtg_step.specs.declared.course.Course.{Course}
 use Rattle.dbtg_step.specs.declared.parts.Parts.{Parts}
 use Rattle.dbtg_step.specs.declared.parts.Runner.{Runner}
-use Rattle.dbtg_step.specs.declared.parts.Stage.{Stage}
+use Rattle.dbtg_step.specs.declared.parts.StatementProgress.{StatementProgress}
 use Rattle.dbtg_step.specs.Machine.Machine.{State}
 use Rattle.dbtg_step.specs.Machine.Headline.{opening_of}
 use Rattle.dbtg_step.specs.Machine.Network.{network}
@@ -66,13 +66,13 @@ module _ (schema : Lists) (capacity u : ℕ) (old new : Parts) (r : Runner) (num
   pub onward_there : slice_get new.runners.items (u - 1) ≡ Some (record r { course = course })
   onward_there = ap (λ (rs : List Runner). slice_get rs (u - 1)) runners ∙ set_there old.runners.items (u - 1) r (record r { course = course }) at
 
-  pub onward_stands : (w : Stage) → StandsNeeding r w → (n : Runner) → slice_get new.runners.items (u - 1) ≡ Some n → StandsNeeding n w
+  pub onward_stands : (w : StatementProgress) → StandsNeeding r w → (n : Runner) → slice_get new.runners.items (u - 1) ≡ Some n → StandsNeeding n w
   onward_stands w s n e =
       subst (λ (q : Runner). StandsNeeding q w) (same_Some _ n (sym onward_there ∙ e))
-      (record { before = record { left = s.before.left; stage = s.before.stage; ticket = s.before.ticket }; turned = s.turned })
+      (record { before = record { left = s.before.left; progress = s.before.progress; ticket = s.before.ticket }; turned = s.turned })
 
   -- what the unit needs next is so there
-  pub onward_needs : IsWell schema capacity new → (w : Stage) → StandsNeeding r w → (n : Need) → ((x : Statement) (db : Database) → slice_get r.script r.next ≡ Some x → Agrees schema capacity db r.held r.unit → n ≡ need schema capacity db r.unit r.held x) → NeedsNext schema capacity new u w n
+  pub onward_needs : IsWell schema capacity new → (w : StatementProgress) → StandsNeeding r w → (n : Need) → ((x : Statement) (db : Database) → slice_get r.script r.next ≡ Some x → Agrees schema capacity db r.held r.unit → n ≡ need schema capacity db r.unit r.held x) → NeedsNext schema capacity new u w n
   onward_needs well w s n h = let x = there_is r.script r.next s.before.left in needs_next schema capacity u new (record r { course = course }) well numbered onward_there w x.0 n x.1 (λ db agrees. h x.0 db x.1 agrees)
 
   pub onward_areas : ((x : Statement) → slice_get r.script r.next ≡ Some x → HasItsAreas schema r.unit r.held x) → (n : Runner) (x : Statement) → slice_get new.runners.items (u - 1) ≡ Some n → slice_get n.script n.next ≡ Some x → HasItsAreas schema n.unit n.held x

@@ -35,14 +35,14 @@ use Rattle.dbtg_unit.specs.Database.State.Versions.{VersionsUpTo}
 use Rattle.dbtg_unit.proofs.Public.{versions_are_bounded}
 use Rattle.dbtg_step.specs.declared.parts.Parts.{Parts}
 use Rattle.dbtg_step.specs.declared.parts.Runner.{Runner}
-use Rattle.dbtg_step.specs.declared.parts.Stage.{Stage}
+use Rattle.dbtg_step.specs.declared.parts.StatementProgress.{StatementProgress}
 use Rattle.dbtg_unit.specs.declared.moves.Stepped.TheVariants.{Moved, NoMemory}
 use Rattle.dbtg_step.specs.Machine.SequentialDatabase.{HeldCell, NeedsNothing, with_unit_at}
 use Rattle.dbtg_step.specs.Machine.Machine.{unless_over}
 use Rattle.dbtg_step.specs.Machine.Step.{MovedTo, due_cells, follows_need, with_ticket}
 use Rattle.dbtg_step.specs.Machine.Network.{network}
 use Rattle.dbtg_step.specs.Core.Parts.{held_cells_of, held_of, location_at, note_of, progress_of, state_from, unit_state_of}
-use Rattle.dbtg_step.specs.Inside.Parts.{stage_while_held}
+use Rattle.dbtg_step.specs.Inside.Parts.{progress_while_held}
 use Rattle.dbtg_step.specs.Inside.Stands.{StandsNeeding}
 use Rattle.dbtg_step.specs.Inside.Leaves.{IsDrawn, IsUnmade}
 use Rattle.dbtg_step.specs.Inside.Events.{IsStepped, IsWell, NeedsNext, RunnerFits, RunnersFit, opening_for}
@@ -151,13 +151,13 @@ module _ (schema : Lists) (capacity : ℕ) (db : Database) (bound : ℕ) (upto :
           omega (arith, most, l)
       by false e rest = rest e
 
-progress_shows : (schema : Lists) (capacity : ℕ) (old new : Hands) → new.areas ≡ old.areas → held_cells_of new.cells ≡ held_cells_of old.cells → (o : Option Stage) → progress_of schema capacity new o ≡ progress_of schema capacity old o
+progress_shows : (schema : Lists) (capacity : ℕ) (old new : Hands) → new.areas ≡ old.areas → held_cells_of new.cells ≡ held_cells_of old.cells → (o : Option StatementProgress) → progress_of schema capacity new o ≡ progress_of schema capacity old o
 progress_shows schema capacity old new a c None = refl
 progress_shows schema capacity old new a c (Some w) = λ i. Some (record { exclusive = w.exclusive; areas = reverse (a i); cells = c i; turning_back = w.turning_back; ticket = w.ticket; linked = w.linked })
 
 -- THE TICKET
 
-module _ (schema : Lists) (capacity u : ℕ) (old : Parts) (r : Runner) (well : IsWell schema capacity old) (numbered : 0 < u) (at : slice_get old.runners.items (u - 1) ≡ Some r) (w : Stage) (s : StandsNeeding r w) (needs : NeedsNext schema capacity old u w Ready) where
+module _ (schema : Lists) (capacity u : ℕ) (old : Parts) (r : Runner) (well : IsWell schema capacity old) (numbered : 0 < u) (at : slice_get old.runners.items (u - 1) ≡ Some r) (w : StatementProgress) (s : StandsNeeding r w) (needs : NeedsNext schema capacity old u w Ready) where
   abbrev db : Database
   db = database_now schema capacity u old r well numbered at
 
@@ -191,12 +191,12 @@ module _ (schema : Lists) (capacity u : ℕ) (old : Parts) (r : Runner) (well : 
         guesses = m.shows.guesses i;
         script = r.script;
         remaining = drop r.next r.script;
-        progress = progress_shows schema capacity r.held n.held m.shows.areas cells r.stage i;
+        progress = progress_shows schema capacity r.held n.held m.shows.areas cells r.progress i;
       } in
       let y = statement schema capacity u old r well numbered at w s in
       let wanting = wants schema capacity u old r well numbered at w s _ (follows schema capacity u old r well numbered at w s Ready needs) NeedsNothing (needs r y.0 at y.1).is (λ others q. absurd (cc (q))) in
       refused_is schema capacity u old r well numbered at w s wanting new n t h runners (ap (unit_state_of schema capacity) m.rest ∙ state)
-      (subst (RunnerFits schema capacity) (sym m.rest) (record { settled = λ q. absurd (cc (q, s.before.stage)); guesses = ap length m.shows.guesses ∙ (well.runners (u - 1) r at).guesses; course = λ v q t x is. no_course schema capacity n.held r.unit x }))
+      (subst (RunnerFits schema capacity) (sym m.rest) (record { settled = λ q. absurd (cc (q, s.before.progress)); guesses = ap length m.shows.guesses ∙ (well.runners (u - 1) r at).guesses; course = λ v q t x is. no_course schema capacity n.held r.unit x }))
 
   pub drawn_is : (new : Parts) (n : Runner) → new.table.items ≡ old.table.items → new.runners.items ≡ slice_set old.runners.items (u - 1) n → ((x : Statement) (d : Database) → slice_get r.script r.next ≡ Some x → Agrees schema capacity d r.held r.unit → IsDrawn schema capacity d x u w old.history.items new.history.items r n) → IsStepped schema capacity u Moved old new
   unfolding follows_need with_ticket state_from
@@ -204,11 +204,11 @@ module _ (schema : Lists) (capacity u : ℕ) (old : Parts) (r : Runner) (well : 
       let x = there_is r.script r.next s.before.left in
       let d = f x.0 db x.1 (agrees_now schema capacity u old r well numbered at) in
       let done : Outcome = effect schema capacity db r.unit x.0 in
-      let ticket : Stage = record { exclusive = w.exclusive; turning_back = false; ticket = Some (length old.history.items); linked = 0 } in
+      let ticket : StatementProgress = record { exclusive = w.exclusive; turning_back = false; ticket = Some (length old.history.items); linked = 0 } in
       let entry : Entry = record { ticket = length old.history.items; unit = u; statement = x.0; answer = done.answer } in
       let due : held_cells_of n.held.cells ≡ due_cells (network schema capacity) done.database (held_cells_of r.held.cells) = held_are_due schema capacity done.database r.held.cells n.held.cells d.made.cells_are in
       let next : r.next + 1 ≡ suc r.next = omega arith in
-      let progress : progress_of schema capacity n.held (stage_while_held n.held.areas n.held.cells (Some ticket)) ≡ unless_over (network schema capacity) (record { exclusive = w.exclusive; areas = reverse r.held.areas; cells = due_cells (network schema capacity) done.database (held_cells_of r.held.cells); turning_back = false; ticket = Some (length old.history.items); linked = 0 }) (reverse r.held.areas) (due_cells (network schema capacity) done.database (held_cells_of r.held.cells)) =
+      let progress : progress_of schema capacity n.held (progress_while_held n.held.areas n.held.cells (Some ticket)) ≡ unless_over (network schema capacity) (record { exclusive = w.exclusive; areas = reverse r.held.areas; cells = due_cells (network schema capacity) done.database (held_cells_of r.held.cells); turning_back = false; ticket = Some (length old.history.items); linked = 0 }) (reverse r.held.areas) (due_cells (network schema capacity) done.database (held_cells_of r.held.cells)) =
       while_held_is schema capacity n.held ticket ∙ (λ i. unless_over (network schema capacity) (record { exclusive = w.exclusive; areas = reverse (d.made.areas_are i); cells = due i; turning_back = false; ticket = Some (length old.history.items); linked = 0 }) (reverse (d.made.areas_are i)) (due i)) in
       let state = ap (unit_state_of schema capacity) d.rest ∙ (λ i. record { unit = d.made.unit_is i; guesses = d.made.guesses_are i; script = r.script; remaining = drop (next i) r.script; progress = progress i }) in
       let units = ap (map (unit_state_of schema capacity)) (runners ∙ unit_written old.runners.items u n numbered) ∙ map_set (unit_state_of schema capacity) old.runners.items u n ∙ ap (with_unit_at (map (unit_state_of schema capacity) old.runners.items) u) state in

@@ -16,10 +16,10 @@ use Rattle.dbtg_unit.specs.declared.statement.Statement.{Statement}
 use Rattle.dbtg_unit.specs.Hands.Guesses.{with_owners}
 use Rattle.dbtg_unit.specs.Hands.Hands.{Hands}
 use Rattle.dbtg_step.specs.declared.parts.Parts.{Parts}
-use Rattle.dbtg_step.specs.declared.parts.Place.{Place}
-use Rattle.dbtg_step.specs.declared.parts.Place.TheVariants.{Home as AtHome, HeldBy as WithUnit}
+use Rattle.dbtg_step.specs.declared.parts.CellLocation.{CellLocation}
+use Rattle.dbtg_step.specs.declared.parts.CellLocation.TheVariants.{Home as AtHome, HeldBy as WithUnit}
 use Rattle.dbtg_step.specs.declared.parts.Runner.{Runner}
-use Rattle.dbtg_step.specs.declared.parts.Stage.{Stage}
+use Rattle.dbtg_step.specs.declared.parts.StatementProgress.{StatementProgress}
 use Rattle.dbtg_unit.specs.declared.moves.Stepped.{Stepped}
 use Rattle.dbtg_unit.specs.declared.moves.Stepped.TheVariants.{Moved, Blocked, Idle, NoMemory}
 use Rattle.dbtg_step.specs.Machine.SequentialDatabase.{NextNeed, NeedsArea, NeedsCell, StaleGuesses}
@@ -28,9 +28,9 @@ use Rattle.dbtg_step.specs.Machine.Step.{any_but, any_other, conflicts, follows_
 use Rattle.dbtg_step.specs.Machine.Network.{network, next_need_of}
 use Rattle.dbtg_step.specs.Inside.Courses.{HasMore}
 use Rattle.dbtg_step.specs.Core.Courses.{IsCourseKept}
-use Rattle.dbtg_step.specs.Core.Parts.{held_cells_of, held_of, location_at, location_of, note_of, progress_of, stage_of, state_from, unit_state_of}
+use Rattle.dbtg_step.specs.Core.Parts.{held_cells_of, held_of, location_at, location_of, note_of, progress_of, shown_progress, state_from, unit_state_of}
 use Rattle.dbtg_step.specs.Inside.Parts.{state_of}
-use Rattle.dbtg_step.specs.Inside.Stands.{holds_against, StandsNeeding, stage_holds_against}
+use Rattle.dbtg_step.specs.Inside.Stands.{holds_against, StandsNeeding, progress_holds_against}
 use Rattle.dbtg_step.specs.Inside.Leaves.{IsTaken}
 use Rattle.dbtg_step.specs.Inside.Events.{IsStepped, IsWell, NeedsNext, RunnerFits, RunnersFit, opening_for}
 use Rattle.dbtg_step.specs.Core.Events.{WantsMemory}
@@ -54,9 +54,9 @@ or_grouped false b c = refl
 module _ (schema : Lists) (capacity : ℕ) (exclusive : Bool) (a : ℕ) where
   pub conflict_is : (r : Runner) → conflicts (network schema capacity) exclusive a (unit_state_of schema capacity r) ≡ holds_against exclusive a r
   unfolding conflicts held_areas holds_exclusively
-  conflict_is r = by r.stage
+  conflict_is r = by r.progress
     where
-      by : (o : Option Stage) → list_any (eqb a) (held_areas (network schema capacity) (progress_of schema capacity r.held o)) && (exclusive || holds_exclusively (network schema capacity) (progress_of schema capacity r.held o)) ≡ stage_holds_against exclusive a r.held.areas o
+      by : (o : Option StatementProgress) → list_any (eqb a) (held_areas (network schema capacity) (progress_of schema capacity r.held o)) && (exclusive || holds_exclusively (network schema capacity) (progress_of schema capacity r.held o)) ≡ progress_holds_against exclusive a r.held.areas o
       by None = refl
       by (Some w) = ap (λ b. b && (exclusive || w.exclusive)) (eq_turned a (reverse r.held.areas) ∙ any_reverse (λ b. eqb b a) r.held.areas)
 
@@ -91,26 +91,26 @@ set_same (z ∷ xs) (suc i) x e = ap (λ ys. z ∷ ys) (set_same xs i x e)
 
 -- WHAT A STATEMENT DOES BEFORE ITS TICKET
 
-module _ (schema : Lists) (capacity u : ℕ) (old : Parts) (r : Runner) (well : IsWell schema capacity old) (numbered : 0 < u) (at : slice_get old.runners.items (u - 1) ≡ Some r) (w : Stage) (s : StandsNeeding r w) where
+module _ (schema : Lists) (capacity u : ℕ) (old : Parts) (r : Runner) (well : IsWell schema capacity old) (numbered : 0 < u) (at : slice_get old.runners.items (u - 1) ≡ Some r) (w : StatementProgress) (s : StandsNeeding r w) where
   abbrev pub statement : (x : Statement) × (slice_get r.script r.next ≡ Some x)
   statement = there_is r.script r.next s.before.left
 
   pub follows : (n : Need) → NeedsNext schema capacity old u w n →
-      step (network schema capacity) (opening_for schema capacity old) (state_of schema capacity old) u ≡ follows_need (network schema capacity) (opening_for schema capacity old) (state_of schema capacity old) u (unit_state_of schema capacity r) (stage_of schema capacity r.held w) statement.0 (drop (suc r.next) r.script) (next_need_of r.held.guesses n)
+      step (network schema capacity) (opening_for schema capacity old) (state_of schema capacity old) u ≡ follows_need (network schema capacity) (opening_for schema capacity old) (state_of schema capacity old) u (unit_state_of schema capacity r) (shown_progress schema capacity r.held w) statement.0 (drop (suc r.next) r.script) (next_need_of r.held.guesses n)
   follows n needs =
-      step_follows (network schema capacity) (opening_for schema capacity old) (state_of schema capacity old) u (unit_state_of schema capacity r) (found schema capacity u old r well numbered at) (stage_of schema capacity r.held w) (ap (progress_of schema capacity r.held) s.before.stage) statement.0 (drop (suc r.next) r.script) s.before.ticket (drop_found r.script r.next statement.0 statement.1)
+      step_follows (network schema capacity) (opening_for schema capacity old) (state_of schema capacity old) u (unit_state_of schema capacity r) (found schema capacity u old r well numbered at) (shown_progress schema capacity r.held w) (ap (progress_of schema capacity r.held) s.before.progress) statement.0 (drop (suc r.next) r.script) s.before.ticket (drop_found r.script r.next statement.0 statement.1)
       (λ t. ap held_cells_of (s.turned t)) (next_need_of r.held.guesses n) (needs r statement.0 at statement.1).is
 
   -- where the step is an event and no turn back, memory may be refused in its place
   pub wants : (after : State (network schema capacity)) → step (network schema capacity) (opening_for schema capacity old) (state_of schema capacity old) u ≡ MovedTo after
-      → (n : NextNeed CellName (List (Option Owner))) → next_need (network schema capacity) (opening_for schema capacity old) (state_of schema capacity old) (unit_state_of schema capacity r) (stage_of schema capacity r.held w) statement.0 ≡ n
+      → (n : NextNeed CellName (List (Option Owner))) → next_need (network schema capacity) (opening_for schema capacity old) (state_of schema capacity old) (unit_state_of schema capacity r) (shown_progress schema capacity r.held w) statement.0 ≡ n
       → ((others : List (Option Owner)) → n ≢ StaleGuesses others) → WantsMemory (opening_for schema capacity old) (state_of schema capacity old) u
   wants after e n is onward = record {
     before = record {
       state = unit_state_of schema capacity r;
       found = found schema capacity u old r well numbered at;
-      w = stage_of schema capacity r.held w;
-      progress = ap (progress_of schema capacity r.held) s.before.stage;
+      w = shown_progress schema capacity r.held w;
+      progress = ap (progress_of schema capacity r.held) s.before.progress;
       ticket = s.before.ticket;
       turned = λ t. ap held_cells_of (s.turned t);
       left = (let l = ap length (drop_found r.script r.next statement.0 statement.1) in omega (arith, l));
@@ -119,12 +119,12 @@ module _ (schema : Lists) (capacity u : ℕ) (old : Parts) (r : Runner) (well : 
     event = e;
     onward = λ x xs others remaining stale.
         let same : x ≡ statement.0 = (let both = sym remaining ∙ drop_found r.script r.next statement.0 statement.1 in cc (both)) in
-        onward others (sym is ∙ ap (next_need (network schema capacity) (opening_for schema capacity old) (state_of schema capacity old) (unit_state_of schema capacity r) (stage_of schema capacity r.held w)) (sym same) ∙ stale);
+        onward others (sym is ∙ ap (next_need (network schema capacity) (opening_for schema capacity old) (state_of schema capacity old) (unit_state_of schema capacity r) (shown_progress schema capacity r.held w)) (sym same) ∙ stale);
   }
 
   -- what is kept of its course stays right while more comes to hand
   goes_on : (held : Hands) → HasMore r.held held → w.ticket ≡ None → (x : Statement) → slice_get r.script r.next ≡ Some x → IsCourseKept schema capacity held r.unit x r.course
-  goes_on held more t x is = course_stays schema capacity r.held r.unit held more x r.course ((well.runners (u - 1) r at).course w s.before.stage t x is)
+  goes_on held more t x is = course_stays schema capacity r.held r.unit held more x r.course ((well.runners (u - 1) r at).course w s.before.progress t x is)
 
   pub blocked_is : (new : Parts) → step (network schema capacity) (opening_for schema capacity old) (state_of schema capacity old) u ≡ IsBlocked → new.table.items ≡ old.table.items → new.history.items ≡ old.history.items → new.runners.items ≡ old.runners.items → IsStepped schema capacity u Blocked old new
   blocked_is new e t h n = record { tells = (e, λ i. state_from schema capacity (t i) (h i) (n i)); table = ap length t; count = ap length n; runners = subst (RunnersFit schema capacity) (sym n) well.runners }
@@ -144,11 +144,11 @@ module _ (schema : Lists) (capacity u : ℕ) (old : Parts) (r : Runner) (well : 
   -- an area
   module _ (a : ℕ) (needs : NeedsNext schema capacity old u w (Area a)) where
     pub area_step : (b : Bool) → list_any (holds_against w.exclusive a) (take (u - 1) old.runners.items) || list_any (holds_against w.exclusive a) (drop u old.runners.items) ≡ b →
-        step (network schema capacity) (opening_for schema capacity old) (state_of schema capacity old) u ≡ takes_area (network schema capacity) (state_of schema capacity old) u (unit_state_of schema capacity r) (stage_of schema capacity r.held w) a b
+        step (network schema capacity) (opening_for schema capacity old) (state_of schema capacity old) u ≡ takes_area (network schema capacity) (state_of schema capacity old) u (unit_state_of schema capacity r) (shown_progress schema capacity r.held w) a b
     unfolding state_from
     area_step b e =
         follows (Area a) needs
-        ∙ follows_area (network schema capacity) (opening_for schema capacity old) (state_of schema capacity old) u (unit_state_of schema capacity r) (found schema capacity u old r well numbered at) (stage_of schema capacity r.held w) (ap (progress_of schema capacity r.held) s.before.stage) statement.0 (drop (suc r.next) r.script) s.before.ticket (drop_found r.script r.next statement.0 statement.1)
+        ∙ follows_area (network schema capacity) (opening_for schema capacity old) (state_of schema capacity old) u (unit_state_of schema capacity r) (found schema capacity u old r well numbered at) (shown_progress schema capacity r.held w) (ap (progress_of schema capacity r.held) s.before.progress) statement.0 (drop (suc r.next) r.script) s.before.ticket (drop_found r.script r.next statement.0 statement.1)
         a b (others_hold schema capacity w.exclusive a u old.runners.items numbered ∙ e)
 
     pub area_blocked : (new : Parts) → list_any (holds_against w.exclusive a) (take (u - 1) old.runners.items) || list_any (holds_against w.exclusive a) (drop u old.runners.items) ≡ true → new.table.items ≡ old.table.items → new.history.items ≡ old.history.items → new.runners.items ≡ old.runners.items → IsStepped schema capacity u Blocked old new
@@ -160,10 +160,10 @@ module _ (schema : Lists) (capacity u : ℕ) (old : Parts) (r : Runner) (well : 
     unfolding takes_area state_from
     area_taken new n mid e t h runners m is =
         let all : n ≡ record r { held = record r.held { areas = r.held.areas ++ a ∷ [] } } = is ∙ ap (λ (x : Hands). record r { held = x }) m in
-        let staged : record r { held = record r.held { areas = r.held.areas ++ a ∷ [] } } ≡ record r { held = record r.held { areas = r.held.areas ++ a ∷ [] }; stage = Some w } = λ i. record r { held = record r.held { areas = r.held.areas ++ a ∷ [] }; stage = s.before.stage i } in
-        moved_is schema capacity u old r well numbered at new n h runners (location_at schema capacity old.table.items) r.held.guesses (Some (record (stage_of schema capacity r.held w) { areas = a ∷ reverse r.held.areas }))
+        let staged : record r { held = record r.held { areas = r.held.areas ++ a ∷ [] } } ≡ record r { held = record r.held { areas = r.held.areas ++ a ∷ [] }; progress = Some w } = λ i. record r { held = record r.held { areas = r.held.areas ++ a ∷ [] }; progress = s.before.progress i } in
+        moved_is schema capacity u old r well numbered at new n h runners (location_at schema capacity old.table.items) r.held.guesses (Some (record (shown_progress schema capacity r.held w) { areas = a ∷ reverse r.held.areas }))
         (area_step false e) (ap length t) (ap (location_at schema capacity) t)
-        (ap (unit_state_of schema capacity) (all ∙ staged) ∙ (λ i. record { unit = r.unit; guesses = r.held.guesses; script = r.script; remaining = drop r.next r.script; progress = Some (record (stage_of schema capacity r.held w) { areas = reverse_more r.held.areas a i }) }))
+        (ap (unit_state_of schema capacity) (all ∙ staged) ∙ (λ i. record { unit = r.unit; guesses = r.held.guesses; script = r.script; remaining = drop r.next r.script; progress = Some (record (shown_progress schema capacity r.held w) { areas = reverse_more r.held.areas a i }) }))
         (subst (RunnerFits schema capacity) (sym (all ∙ staged)) (staged_fits schema capacity r (record r.held { areas = r.held.areas ++ a ∷ [] }) w r.course (well.runners (u - 1) r at) refl (goes_on (record r.held { areas = r.held.areas ++ a ∷ [] }) (more_by_area r.held (record r.held { areas = r.held.areas ++ a ∷ [] }) a refl))))
 
     pub area_refused : (new : Parts) (n : Runner) (mid : Hands) → list_any (holds_against w.exclusive a) (take (u - 1) old.runners.items) || list_any (holds_against w.exclusive a) (drop u old.runners.items) ≡ false → new.table.items ≡ old.table.items → new.history.items ≡ old.history.items → new.runners.items ≡ slice_set old.runners.items (u - 1) n → mid ≡ r.held → n ≡ record r { held = mid } → IsStepped schema capacity u NoMemory old new
@@ -174,24 +174,24 @@ module _ (schema : Lists) (capacity u : ℕ) (old : Parts) (r : Runner) (well : 
 
   -- a cell
   module _ (c : CellName) (needs : NeedsNext schema capacity old u w (Take c)) (number : ℕ) (is_number : cell_number schema capacity c ≡ Some number) where
-    cell_step : (p : Place) → slice_get old.table.items number ≡ Some p → step (network schema capacity) (opening_for schema capacity old) (state_of schema capacity old) u ≡ takes_cell (network schema capacity) (state_of schema capacity old) u (unit_state_of schema capacity r) (stage_of schema capacity r.held w) c (location_of p)
+    cell_step : (p : CellLocation) → slice_get old.table.items number ≡ Some p → step (network schema capacity) (opening_for schema capacity old) (state_of schema capacity old) u ≡ takes_cell (network schema capacity) (state_of schema capacity old) u (unit_state_of schema capacity r) (shown_progress schema capacity r.held w) c (location_of p)
     unfolding state_from
     cell_step p e =
         follows (Take c) needs
-        ∙ follows_cell (network schema capacity) (opening_for schema capacity old) (state_of schema capacity old) u (unit_state_of schema capacity r) (found schema capacity u old r well numbered at) (stage_of schema capacity r.held w) (ap (progress_of schema capacity r.held) s.before.stage) statement.0 (drop (suc r.next) r.script) s.before.ticket (drop_found r.script r.next statement.0 statement.1)
+        ∙ follows_cell (network schema capacity) (opening_for schema capacity old) (state_of schema capacity old) u (unit_state_of schema capacity r) (found schema capacity u old r well numbered at) (shown_progress schema capacity r.held w) (ap (progress_of schema capacity r.held) s.before.progress) statement.0 (drop (suc r.next) r.script) s.before.ticket (drop_found r.script r.next statement.0 statement.1)
         c (location_of p) (location_placed schema capacity old.table.items c number p is_number e)
 
     pub cell_followed : (new : Parts) (n : Runner) (mid : Hands) (result : Stepped) → IsTaken u number c old.table.items new.table.items r.held mid result → new.history.items ≡ old.history.items → new.runners.items ≡ slice_set old.runners.items (u - 1) n → n ≡ record r { held = mid } → IsStepped schema capacity u result old new
     unfolding takes_cell state_from
     cell_followed new n mid Moved m h runners is =
         let all : n ≡ record r { held = record r.held { cells = r.held.cells ++ (c, m.taken) ∷ [] } } = is ∙ ap (λ (x : Hands). record r { held = x }) m.held in
-        let staged : record r { held = record r.held { cells = r.held.cells ++ (c, m.taken) ∷ [] } } ≡ record r { held = record r.held { cells = r.held.cells ++ (c, m.taken) ∷ [] }; stage = Some w } = λ i. record r { held = record r.held { cells = r.held.cells ++ (c, m.taken) ∷ [] }; stage = s.before.stage i } in
+        let staged : record r { held = record r.held { cells = r.held.cells ++ (c, m.taken) ∷ [] } } ≡ record r { held = record r.held { cells = r.held.cells ++ (c, m.taken) ∷ [] }; progress = Some w } = λ i. record r { held = record r.held { cells = r.held.cells ++ (c, m.taken) ∷ [] }; progress = s.before.progress i } in
         moved_is schema capacity u old r well numbered at new n h runners (relocated (network schema capacity) (location_at schema capacity old.table.items) c (HeldBy u)) r.held.guesses
-        (Some (record (stage_of schema capacity r.held w) { cells = held_of (c, m.taken) ∷ held_cells_of r.held.cells }))
+        (Some (record (shown_progress schema capacity r.held w) { cells = held_of (c, m.taken) ∷ held_cells_of r.held.cells }))
         (cell_step (AtHome m.taken) m.was)
         (ap length m.after_is ∙ length-set old.table.items number (WithUnit u))
         (ap (location_at schema capacity) m.after_is ∙ written_is schema capacity old.table.items c number (WithUnit u) is_number (slice_get_within old.table.items number (AtHome m.taken) m.was))
-        (ap (unit_state_of schema capacity) (all ∙ staged) ∙ (λ i. record { unit = r.unit; guesses = r.held.guesses; script = r.script; remaining = drop r.next r.script; progress = Some (record (stage_of schema capacity r.held w) { cells = held_behind r.held.cells (c, m.taken) i }) }))
+        (ap (unit_state_of schema capacity) (all ∙ staged) ∙ (λ i. record { unit = r.unit; guesses = r.held.guesses; script = r.script; remaining = drop r.next r.script; progress = Some (record (shown_progress schema capacity r.held w) { cells = held_behind r.held.cells (c, m.taken) i }) }))
         (subst (RunnerFits schema capacity) (sym (all ∙ staged)) (staged_fits schema capacity r (record r.held { cells = r.held.cells ++ (c, m.taken) ∷ [] }) w r.course (well.runners (u - 1) r at) refl (goes_on (record r.held { cells = r.held.cells ++ (c, m.taken) ∷ [] }) (more_by_cell r.held (record r.held { cells = r.held.cells ++ (c, m.taken) ∷ [] }) (c, m.taken) refl))))
     cell_followed new n mid Blocked m h runners is =
         let same : n ≡ r = is ∙ ap (λ (x : Hands). record r { held = x }) m.0.held in
@@ -207,12 +207,12 @@ module _ (schema : Lists) (capacity u : ℕ) (old : Parts) (r : Runner) (well : 
     owners_count = (well.runners (u - 1) r at).guesses ∙ sym (needs r statement.0 at statement.1).owners
 
     pub owners_noted : (new : Parts) (n : Runner) → new.table.items ≡ old.table.items → new.history.items ≡ old.history.items → new.runners.items ≡ slice_set old.runners.items (u - 1) n →
-        n ≡ record r { held = record r.held { guesses = with_owners r.held.guesses owners }; stage = Some (record w { turning_back = nat_lt 0 (length r.held.cells) }); course = None } → IsStepped schema capacity u Moved old new
+        n ≡ record r { held = record r.held { guesses = with_owners r.held.guesses owners }; progress = Some (record w { turning_back = nat_lt 0 (length r.held.cells) }); course = None } → IsStepped schema capacity u Moved old new
     unfolding follows_need state_from
     owners_noted new n t h runners is =
         let turning : nat_lt 0 (length r.held.cells) ≡ is_nonempty (held_cells_of r.held.cells) = ap (nat_lt 0) (sym (length_held r.held.cells)) ∙ sym (nonempty_length (held_cells_of r.held.cells)) in
         moved_is schema capacity u old r well numbered at new n h runners (location_at schema capacity old.table.items) (with_owners r.held.guesses owners)
-        (Some (record (stage_of schema capacity r.held w) { turning_back = is_nonempty (held_cells_of r.held.cells) }))
+        (Some (record (shown_progress schema capacity r.held w) { turning_back = is_nonempty (held_cells_of r.held.cells) }))
         (follows (Stale owners) needs) (ap length t) (ap (location_at schema capacity) t)
-        (ap (unit_state_of schema capacity) is ∙ (λ i. record { unit = r.unit; guesses = with_owners r.held.guesses owners; script = r.script; remaining = drop r.next r.script; progress = Some (record (stage_of schema capacity r.held w) { turning_back = turning i }) }))
+        (ap (unit_state_of schema capacity) is ∙ (λ i. record { unit = r.unit; guesses = with_owners r.held.guesses owners; script = r.script; remaining = drop r.next r.script; progress = Some (record (shown_progress schema capacity r.held w) { turning_back = turning i }) }))
         (subst (RunnerFits schema capacity) (sym is) (record { settled = λ q. absurd (cc (q)); guesses = merged_length r.held.guesses owners owners_count ∙ (well.runners (u - 1) r at).guesses; course = λ v q t x e. no_course schema capacity r.held r.unit x }))

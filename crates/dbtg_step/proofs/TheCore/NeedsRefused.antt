@@ -25,13 +25,13 @@ use Rattle.dbtg_unit.specs.Hands.Hands.{Hands}
 use Rattle.dbtg_unit.specs.Hands.Needs.{areas_in_order, cells_of, is_stale, is_wrong_guess, need, next_of, stale_owners}
 use Rattle.dbtg_step.specs.declared.parts.Parts.{Parts}
 use Rattle.dbtg_step.specs.declared.parts.Runner.{Runner}
-use Rattle.dbtg_step.specs.declared.parts.Stage.{Stage}
+use Rattle.dbtg_step.specs.declared.parts.StatementProgress.{StatementProgress}
 use Rattle.dbtg_step.specs.Machine.SequentialDatabase.{NeedsArea, StaleGuesses}
 use Rattle.dbtg_step.specs.Machine.Machine.{State}
 use Rattle.dbtg_step.specs.Machine.Step.{MovedTo, next_need, step}
 use Rattle.dbtg_step.specs.Inside.NeverStuck.{InTurn}
 use Rattle.dbtg_step.specs.Machine.Network.{is_delete, network, next_need_of}
-use Rattle.dbtg_step.specs.Core.Parts.{held_cells_of, progress_of, stage_of, unit_state_of}
+use Rattle.dbtg_step.specs.Core.Parts.{held_cells_of, progress_of, shown_progress, unit_state_of}
 use Rattle.dbtg_step.specs.Inside.Parts.{state_of}
 use Rattle.dbtg_step.specs.Machine.NeedOrder.{HasItsAreas}
 use Rattle.dbtg_step.specs.Inside.Stands.{StandsNeeding}
@@ -89,7 +89,7 @@ delete_goes_onward schema capacity db unit hands x deletes others =
     not_stale_choice hands.guesses others (is_some (refused_at_once schema capacity unit x)) (find (λ a. not (list_any (λ b. b == a) hands.areas)) (areas_in_order schema unit x)) (find (λ c. not (list_any (λ (f : CellName × Cell). name_eq c f.0) hands.cells)) (cells_of schema capacity db unit hands.guesses x))
     (is_stale schema capacity db unit hands.guesses x) (stale_owners schema capacity db unit hands.guesses x) (delete_is_not_stale schema capacity db unit hands.guesses x deletes)
 
-module _ (schema : Lists) (capacity u : ℕ) (old : Parts) (r : Runner) (well : IsWell schema capacity old) (numbered : 0 < u) (at : slice_get old.runners.items (u - 1) ≡ Some r) (w : Stage) (s : StandsNeeding r w) where
+module _ (schema : Lists) (capacity u : ℕ) (old : Parts) (r : Runner) (well : IsWell schema capacity old) (numbered : 0 < u) (at : slice_get old.runners.items (u - 1) ≡ Some r) (w : StatementProgress) (s : StandsNeeding r w) where
   -- a DELETE that has its areas waits for nobody
   pub delete_moves : ((x : Statement) → slice_get r.script r.next ≡ Some x → HasItsAreas schema r.unit r.held x) →
       (after : State (network schema capacity)) × (step (network schema capacity) (opening_for schema capacity old) (state_of schema capacity old) u ≡ MovedTo after)
@@ -99,9 +99,9 @@ module _ (schema : Lists) (capacity u : ℕ) (old : Parts) (r : Runner) (well : 
       let has = f x.0 x.1 in
       let opening = opening_for schema capacity old in
       let state = unit_state_of schema capacity r in
-      let progress = stage_of schema capacity r.held w in
+      let progress = shown_progress schema capacity r.held w in
       let here = found schema capacity u old r well numbered at in
-      let is = ap (progress_of schema capacity r.held) s.before.stage in
+      let is = ap (progress_of schema capacity r.held) s.before.progress in
       let remaining = drop_found r.script r.next x.0 x.1 in
       let order = ordered (network schema capacity) (network_is_sequential schema capacity well.sound) name_below (needs_in_order schema capacity well.sound) opening (state_of schema capacity old) well.lawful well.in_turn in
       let turn : InTurn (network schema capacity) name_below state progress = well.in_turn.each u state progress here is s.before.ticket in
@@ -127,13 +127,13 @@ pub err_also : {T E : Type 0} (r : Result T E) (P Q : Type 0) → (P → Q) → 
 err_also (Ok t) P Q f h = tt
 err_also (Err e) P Q f h = f h
 
-module _ (schema : Lists) (capacity u : ℕ) (old : Parts) (r : Runner) (well : IsWell schema capacity old) (numbered : 0 < u) (at : slice_get old.runners.items (u - 1) ≡ Some r) (w : Stage) (s : StandsNeeding r w) where
+module _ (schema : Lists) (capacity u : ℕ) (old : Parts) (r : Runner) (well : IsWell schema capacity old) (numbered : 0 < u) (at : slice_get old.runners.items (u - 1) ≡ Some r) (w : StatementProgress) (s : StandsNeeding r w) where
   -- a cell that is needed has a number
   pub needed_has_number : (c : CellName) → NeedsNext schema capacity old u w (Take c) → cell_number schema capacity c ≡ None → ⊥
   needed_has_number c needs e =
       let x = statement schema capacity u old r well numbered at w s in
       let here = found schema capacity u old r well numbered at in
-      let exists = needed_is_cell schema capacity well.sound (opening_for schema capacity old) (state_of schema capacity old) well.lawful u (unit_state_of schema capacity r) (stage_of schema capacity r.held w) x.0 (drop (suc r.next) r.script) c here (well.guesses u (unit_state_of schema capacity r) here) (drop_found r.script r.next x.0 x.1) (needs r x.0 at x.1).is in
+      let exists = needed_is_cell schema capacity well.sound (opening_for schema capacity old) (state_of schema capacity old) well.lawful u (unit_state_of schema capacity r) (shown_progress schema capacity r.held w) x.0 (drop (suc r.next) r.script) c here (well.guesses u (unit_state_of schema capacity r) here) (drop_found r.script r.next x.0 x.1) (needs r x.0 at x.1).is in
       false≢true (sym (ap is_some e) ∙ (has_number schema capacity c ∙ exists))
 
   -- and isn't in hand

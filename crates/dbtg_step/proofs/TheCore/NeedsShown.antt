@@ -35,9 +35,9 @@ use Rattle.dbtg_schema.specs.Structure.{set_numbers}
 use Rattle.dbtg_cells.proofs.Public.{or_nothing, same_name}
 use Rattle.dbtg_unit.proofs.Public.{any_mapped}
 use Rattle.dbtg_step.specs.declared.parts.Parts.{Parts}
-use Rattle.dbtg_step.specs.declared.parts.Place.TheVariants.{HeldBy as WithUnit}
+use Rattle.dbtg_step.specs.declared.parts.CellLocation.TheVariants.{HeldBy as WithUnit}
 use Rattle.dbtg_step.specs.declared.parts.Runner.{Runner}
-use Rattle.dbtg_step.specs.declared.parts.Stage.{Stage}
+use Rattle.dbtg_step.specs.declared.parts.StatementProgress.{StatementProgress}
 use Rattle.dbtg_step.specs.Machine.SequentialDatabase.{HeldCell, In, unit_at}
 use Rattle.dbtg_step.specs.Machine.Machine.{held_cells, replay}
 use Rattle.dbtg_step.specs.Machine.Step.{next_need}
@@ -190,11 +190,11 @@ module _ (schema : Lists) (capacity u : ℕ) (parts : Parts) (r : Runner) (well 
   unfolding held_cells state_from
   agrees_now = record {
     legal = well.lawful.legal.legal;
-    cells = by r.stage refl;
+    cells = by r.progress refl;
     usage = unit_in.usage;
   }
     where
-      by : (o : Option Stage) → r.stage ≡ o → AllAgree schema capacity database_now r.held.cells
+      by : (o : Option StatementProgress) → r.progress ≡ o → AllAgree schema capacity database_now r.held.cells
       by None e = subst (AllAgree schema capacity database_now) (sym ((well.runners (u - 1) r there).settled e).1) tt
       by (Some w) e = agree_each schema capacity database_now r.held.cells (λ f i.
           (well.lawful.each u (unit_state_of schema capacity r) (found schema capacity u parts r well numbered there)).holding.values (held_of f)
@@ -202,18 +202,18 @@ module _ (schema : Lists) (capacity u : ℕ) (parts : Parts) (r : Runner) (well 
 
   pub once_now : pairwise (λ (e f : CellName × Cell). not (name_eq e.0 f.0)) r.held.cells ≡ true
   unfolding held_cells state_from
-  once_now = by r.stage refl
+  once_now = by r.progress refl
     where
-      by : (o : Option Stage) → r.stage ≡ o → pairwise (λ (e f : CellName × Cell). not (name_eq e.0 f.0)) r.held.cells ≡ true
+      by : (o : Option StatementProgress) → r.progress ≡ o → pairwise (λ (e f : CellName × Cell). not (name_eq e.0 f.0)) r.held.cells ≡ true
       by None e = ap (pairwise (λ (e f : CellName × Cell). not (name_eq e.0 f.0))) ((well.runners (u - 1) r there).settled e).1
       by (Some w) e = once_of_distinct schema capacity r.held.cells (subst (λ o. AreDistinct (network schema capacity) (held_cells (network schema capacity) (progress_of schema capacity r.held o))) e (well.lawful.each u (unit_state_of schema capacity r) (found schema capacity u parts r well numbered there)).holding.distinct)
 
   -- the table has a place for each cell in hand
   pub have_places : HavePlaces schema capacity r.held.cells parts.table.items
   unfolding held_cells state_from
-  have_places f i = by r.stage refl
+  have_places f i = by r.progress refl
     where
-      by : (o : Option Stage) → r.stage ≡ o → HasPlace schema capacity f.0 parts.table.items
+      by : (o : Option StatementProgress) → r.progress ≡ o → HasPlace schema capacity f.0 parts.table.items
       by None e = absurd (subst (In f) ((well.runners (u - 1) r there).settled e).1 i)
       by (Some w) e =
           let held = (well.lawful.each u (unit_state_of schema capacity r) (found schema capacity u parts r well numbered there)).holding.held (held_of f)
@@ -226,7 +226,7 @@ module _ (schema : Lists) (capacity u : ℕ) (parts : Parts) (r : Runner) (well 
   statement_fits x e = (well.lawful.each u (unit_state_of schema capacity r) (found schema capacity u parts r well numbered there)).fits x (slice_get_in r.script r.next x e)
 
   -- the machine's need
-  pub need_is : (w : Stage) (x : Statement) (n : Need) → ((db : Database) → Agrees schema capacity db r.held r.unit → n ≡ need schema capacity db r.unit r.held x) → IsNext schema capacity parts r x w n
+  pub need_is : (w : StatementProgress) (x : Statement) (n : Need) → ((db : Database) → Agrees schema capacity db r.held r.unit → n ≡ need schema capacity db r.unit r.held x) → IsNext schema capacity parts r x w n
   unfolding next_need
   need_is w x n h = record {
     is = ap (next_need_of r.held.guesses) (need_of_holding schema capacity database_now r.unit x r.held ∙ sym (h database_now agrees_now));
@@ -234,7 +234,7 @@ module _ (schema : Lists) (capacity u : ℕ) (parts : Parts) (r : Runner) (well 
     everywhere = h;
   }
 
-pub needs_next : (schema : Lists) (capacity u : ℕ) (parts : Parts) (r : Runner) → IsWell schema capacity parts → 0 < u → slice_get parts.runners.items (u - 1) ≡ Some r → (w : Stage) (y : Statement) (n : Need) → slice_get r.script r.next ≡ Some y →
+pub needs_next : (schema : Lists) (capacity u : ℕ) (parts : Parts) (r : Runner) → IsWell schema capacity parts → 0 < u → slice_get parts.runners.items (u - 1) ≡ Some r → (w : StatementProgress) (y : Statement) (n : Need) → slice_get r.script r.next ≡ Some y →
     ((db : Database) → Agrees schema capacity db r.held r.unit → n ≡ need schema capacity db r.unit r.held y) → NeedsNext schema capacity parts u w n
 needs_next schema capacity u parts r well numbered at w y n e h r' x at' e' =
     let same : r ≡ r' = cc (at, at') in

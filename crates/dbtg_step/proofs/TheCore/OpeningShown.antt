@@ -23,7 +23,7 @@ use Rattle.dbtg_unit.specs.Database.State.Base.{opening}
 use Rattle.dbtg_unit.specs.Database.State.Cells.{cell, number_of, ring_of}
 use Rattle.dbtg_unit.specs.Hands.Local.{AllAgree, names_of}
 use Rattle.dbtg_step.specs.declared.parts.Parts.{Parts}
-use Rattle.dbtg_step.specs.declared.parts.Place.{Place}
+use Rattle.dbtg_step.specs.declared.parts.CellLocation.{CellLocation}
 use Rattle.dbtg_step.specs.Machine.Machine.{Home}
 use Rattle.dbtg_step.specs.Machine.Network.{network}
 use Rattle.dbtg_step.specs.Machine.Headline.{machine_of, opening_of, units_from}
@@ -103,11 +103,11 @@ module _ (schema : Lists) (capacity : ℕ) where
 
   -- THE OPENING STATE
 
-  get_of_map : (o : Option Place) (c : CellName) → option_map location_of o ≡ Some (Home (cell schema capacity (opening schema) c)) → found_location schema capacity c o ≡ Home (cell schema capacity (opening schema) c)
+  get_of_map : (o : Option CellLocation) (c : CellName) → option_map location_of o ≡ Some (Home (cell schema capacity (opening schema) c)) → found_location schema capacity c o ≡ Home (cell schema capacity (opening schema) c)
   get_of_map None c e = refl
   get_of_map (Some p) c e = cc (e)
 
-  pub table_opens : (table : List Place) → locations_of table ≡ homes_of schema capacity (cells_in_order schema capacity) → (c : CellName) → location_at schema capacity table c ≡ Home (cell schema capacity (opening schema) c)
+  pub table_opens : (table : List CellLocation) → locations_of table ≡ homes_of schema capacity (cells_in_order schema capacity) → (c : CellName) → location_at schema capacity table c ≡ Home (cell schema capacity (opening schema) c)
   unfolding location_at
   table_opens table e c = by (cell_number schema capacity c) refl
     where
@@ -118,7 +118,7 @@ module _ (schema : Lists) (capacity : ℕ) where
           (sym (slice_get-map location_of table n) ∙ ap (λ l. slice_get l n) e ∙ slice_get-map (λ d. Home (cell schema capacity (opening schema) d)) (cells_in_order schema capacity) n
           ∙ ap (option_map (λ d. Home (cell schema capacity (opening schema) d))) (stands_at c (cells_in_order schema capacity) n f))
 
-  pub table_count : (table : List Place) → locations_of table ≡ homes_of schema capacity (cells_in_order schema capacity) → length table ≡ cell_count schema capacity
+  pub table_count : (table : List CellLocation) → locations_of table ≡ homes_of schema capacity (cells_in_order schema capacity) → length table ≡ cell_count schema capacity
   table_count table e = sym (length-map table location_of) ∙ ap length e ∙ length-map (cells_in_order schema capacity) (λ d. Home (cell schema capacity (opening schema) d))
 
   units_open : (n : ℕ) (scripts : List (List Statement)) → map (unit_state_of schema capacity) (runners_from schema n scripts) ≡ units_from schema capacity n scripts

@@ -11,9 +11,9 @@ use Rattle.dbtg_cells.specs.Shown.{CellValue}
 use Rattle.dbtg_unit.specs.declared.unit.Entry.{Entry}
 use Rattle.dbtg_unit.specs.Hands.Hands.{Hands}
 use Rattle.dbtg_step.specs.declared.parts.Parts.{Parts}
-use Rattle.dbtg_step.specs.declared.parts.Place.{Place}
+use Rattle.dbtg_step.specs.declared.parts.CellLocation.{CellLocation}
 use Rattle.dbtg_step.specs.declared.parts.Runner.{Runner}
-use Rattle.dbtg_step.specs.declared.parts.Stage.{Stage}
+use Rattle.dbtg_step.specs.declared.parts.StatementProgress.{StatementProgress}
 use Rattle.dbtg_unit.specs.declared.moves.Stepped.{Stepped}
 use Rattle.dbtg_unit.specs.declared.moves.Stepped.TheVariants.{Moved, Blocked, Idle, NoMemory}
 use Rattle.dbtg_step.specs.Machine.SequentialDatabase.{HeldCell, In, unit_at}
@@ -25,7 +25,7 @@ use Rattle.dbtg_step.specs.Inside.NeverStuck.{AllInTurn}
 use Rattle.dbtg_step.specs.Machine.Network.{network}
 use Rattle.dbtg_step.specs.Machine.Headline.{opening_of}
 use Rattle.dbtg_step.specs.Inside.Parts.{core_of, state_of, written_home, written_homes}
-use Rattle.dbtg_step.specs.Core.Parts.{held_cells_of, held_of, location_at, progress_of, stage_of, state_from, unit_state_of, with_state}
+use Rattle.dbtg_step.specs.Core.Parts.{held_cells_of, held_of, location_at, progress_of, shown_progress, state_from, unit_state_of, with_state}
 use Rattle.dbtg_step.specs.Inside.Stands.{HavePlaces, StandsUnticketed}
 use Rattle.dbtg_step.specs.Inside.Events.{HaveRings, IsQuit, IsStepped, IsWell, RunnerFits, RunnersFit, opening_for}
 use Rattle.dbtg_step.specs.Core.CoreSteps.{IsNeverStuck, IsQuitStep, IsStep}
@@ -44,17 +44,17 @@ use Rattle.dbtg_step.proofs.TheCore.PlacesOfCells.{length_home, updated_is, writ
 use Rattle.dbtg_step.proofs.EachEvent.UnitLists.{relocated_elsewhere}
 
 -- one cell more goes home
-pub homes_step : (schema : Lists) (capacity : ℕ) (old new : List (CellName × Cell)) (e : CellName × Cell) (table after : List Place) → old ≡ new ++ e ∷ [] → after ≡ written_home schema capacity e.0 e.1 table → written_homes schema capacity (reverse new) after ≡ written_homes schema capacity (reverse old) table
+pub homes_step : (schema : Lists) (capacity : ℕ) (old new : List (CellName × Cell)) (e : CellName × Cell) (table after : List CellLocation) → old ≡ new ++ e ∷ [] → after ≡ written_home schema capacity e.0 e.1 table → written_homes schema capacity (reverse new) after ≡ written_homes schema capacity (reverse old) table
 homes_step schema capacity old new e table after q h =
     ap (written_homes schema capacity (reverse new)) h ∙ sym (ap (λ es. written_homes schema capacity es table) (ap reverse q ∙ reverse-append new (e ∷ [])))
 
 module _ (schema : Lists) (capacity : ℕ) where
-  length_homes : (es : List (CellName × Cell)) (table : List Place) → length (written_homes schema capacity es table) ≡ length table
+  length_homes : (es : List (CellName × Cell)) (table : List CellLocation) → length (written_homes schema capacity es table) ≡ length table
   length_homes [] table = refl
   length_homes (e ∷ es) table = length_homes es (written_home schema capacity e.0 e.1 table) ∙ length_home schema capacity table e.0 e.1
 
   -- cells that one unit holds, none twice, go home
-  homes_are : (u : ℕ) (es : List (CellName × Cell)) (table : List Place) → AreDistinct (network schema capacity) (map held_of es) → ((h : HeldCell CellName CellValue) → In h (map held_of es) → location_at schema capacity table h.name ≡ HeldBy u) →
+  homes_are : (u : ℕ) (es : List (CellName × Cell)) (table : List CellLocation) → AreDistinct (network schema capacity) (map held_of es) → ((h : HeldCell CellName CellValue) → In h (map held_of es) → location_at schema capacity table h.name ≡ HeldBy u) →
       location_at schema capacity (written_homes schema capacity es table) ≡ all_home (network schema capacity) (location_at schema capacity table) (map held_of es)
   unfolding AreDistinct all_home
   homes_are u [] table d h = refl
@@ -65,7 +65,7 @@ module _ (schema : Lists) (capacity : ℕ) where
       ∙ ap (λ l. all_home (network schema capacity) l (map held_of es)) first
 
 -- and the table has a place for each of the others
-pub places_left : (schema : Lists) (capacity : ℕ) (old new : List (CellName × Cell)) (e : CellName × Cell) (table after : List Place) → old ≡ new ++ e ∷ [] → after ≡ written_home schema capacity e.0 e.1 table → HavePlaces schema capacity old table → HavePlaces schema capacity new after
+pub places_left : (schema : Lists) (capacity : ℕ) (old new : List (CellName × Cell)) (e : CellName × Cell) (table after : List CellLocation) → old ≡ new ++ e ∷ [] → after ≡ written_home schema capacity e.0 e.1 table → HavePlaces schema capacity old table → HavePlaces schema capacity new after
 places_left schema capacity old new e table after q h places f i =
     let p = places f (subst (In f) (sym q) (in_front_of f new (e ∷ []) i)) in
     record { number = p.number; is = p.is; within = subst (λ n. p.number < n) (sym (ap length h ∙ length_home schema capacity table e.0 e.1)) p.within }
@@ -90,29 +90,29 @@ module _ (schema : Lists) (capacity u : ℕ) (old : Parts) (well : IsWell schema
   no_unit_quits h = stays_quiet (ap (quit_if_unit (network schema capacity) (state_of schema capacity old) u) (no_unit (map (unit_state_of schema capacity) old.runners.items) u (elim h [ inl e ↦ inl e | inr l ↦ inr (let m = length-map old.runners.items (unit_state_of schema capacity) in omega (arith, m, l)) ])))
 
   module _ (r : Runner) (numbered : 0 < u) (at : slice_get old.runners.items (u - 1) ≡ Some r) where
-    quit_here : quit (network schema capacity) (state_of schema capacity old) u ≡ quit_of_unit (network schema capacity) (state_of schema capacity old) u (unit_state_of schema capacity r) (progress_of schema capacity r.held r.stage)
+    quit_here : quit (network schema capacity) (state_of schema capacity old) u ≡ quit_of_unit (network schema capacity) (state_of schema capacity old) u (unit_state_of schema capacity r) (progress_of schema capacity r.held r.progress)
     unfolding quit quit_if_unit
     quit_here = ap (quit_if_unit (network schema capacity) (state_of schema capacity old) u) (found schema capacity u old r well numbered at)
 
-    pub between_quits : r.stage ≡ None → IsQuit schema capacity u Idle old old
+    pub between_quits : r.progress ≡ None → IsQuit schema capacity u Idle old old
     unfolding quit_of_unit
     between_quits e = stays_quiet (quit_here ∙ ap (λ o. quit_of_unit (network schema capacity) (state_of schema capacity old) u (unit_state_of schema capacity r) (progress_of schema capacity r.held o)) e)
 
-    pub ticketed_quits : (w : Stage) (t : ℕ) → r.stage ≡ Some w → w.ticket ≡ Some t → IsQuit schema capacity u Idle old old
+    pub ticketed_quits : (w : StatementProgress) (t : ℕ) → r.progress ≡ Some w → w.ticket ≡ Some t → IsQuit schema capacity u Idle old old
     unfolding quit_of_unit quit_unless_ticket
     ticketed_quits w t e f =
         stays_quiet (quit_here ∙ ap (λ o. quit_of_unit (network schema capacity) (state_of schema capacity old) u (unit_state_of schema capacity r) (progress_of schema capacity r.held o)) e
-        ∙ ap (quit_unless_ticket (network schema capacity) (state_of schema capacity old) u (unit_state_of schema capacity r) (stage_of schema capacity r.held w)) f)
+        ∙ ap (quit_unless_ticket (network schema capacity) (state_of schema capacity old) u (unit_state_of schema capacity r) (shown_progress schema capacity r.held w)) f)
 
     pub quits_is : (s : StandsUnticketed r) (new : Parts) (n : Runner) (cells areas : Hands) → new.history.items ≡ old.history.items → new.runners.items ≡ slice_set old.runners.items (u - 1) n → new.table.items ≡ written_homes schema capacity (reverse r.held.cells) old.table.items →
-        cells ≡ record r.held { cells = [] } → areas ≡ record cells { areas = [] } → n ≡ record { unit = r.unit; held = areas; script = r.script; next = r.next; stage = None; course = r.course } → IsQuit schema capacity u Moved old new
+        cells ≡ record r.held { cells = [] } → areas ≡ record cells { areas = [] } → n ≡ record { unit = r.unit; held = areas; script = r.script; next = r.next; progress = None; course = r.course } → IsQuit schema capacity u Moved old new
     unfolding quit_of_unit quit_unless_ticket state_from held_cells
     quits_is s new n cells areas history runners table c a is =
         let held : areas ≡ record r.held { cells = []; areas = [] } = a ∙ ap (λ (h : Hands). record h { areas = [] }) c in
-        let all : n ≡ record r { held = record r.held { cells = []; areas = [] }; stage = None } = is ∙ ap (λ (h : Hands). record { unit = r.unit; held = h; script = r.script; next = r.next; stage = None; course = r.course }) held in
+        let all : n ≡ record r { held = record r.held { cells = []; areas = [] }; progress = None } = is ∙ ap (λ (h : Hands). record { unit = r.unit; held = h; script = r.script; next = r.next; progress = None; course = r.course }) held in
         let units = runners ∙ unit_written old.runners.items u n numbered in
         let holding = (well.lawful.each u (unit_state_of schema capacity r) (found schema capacity u old r well numbered at)).holding in
-        let at_stage = ap (λ o. held_cells (network schema capacity) (progress_of schema capacity r.held o)) s.stage in
+        let at_stage = ap (λ o. held_cells (network schema capacity) (progress_of schema capacity r.held o)) s.progress in
         let reversed = map_reversed r.held.cells in
         let home : location_at schema capacity new.table.items ≡ all_home (network schema capacity) (location_at schema capacity old.table.items) (held_cells_of r.held.cells) =
         ap (location_at schema capacity) table
@@ -121,8 +121,8 @@ module _ (schema : Lists) (capacity u : ℕ) (old : Parts) (well : IsWell schema
         (λ h i. holding.held h (subst (In h) (reversed ∙ sym at_stage) i))
         ∙ ap (all_home (network schema capacity) (location_at schema capacity old.table.items)) reversed in
         record {
-          tells = quit_here ∙ ap (λ o. quit_of_unit (network schema capacity) (state_of schema capacity old) u (unit_state_of schema capacity r) (progress_of schema capacity r.held o)) s.stage
-              ∙ ap (quit_unless_ticket (network schema capacity) (state_of schema capacity old) u (unit_state_of schema capacity r) (stage_of schema capacity r.held s.w)) s.ticket
+          tells = quit_here ∙ ap (λ o. quit_of_unit (network schema capacity) (state_of schema capacity old) u (unit_state_of schema capacity r) (progress_of schema capacity r.held o)) s.progress
+              ∙ ap (quit_unless_ticket (network schema capacity) (state_of schema capacity old) u (unit_state_of schema capacity r) (shown_progress schema capacity r.held s.w)) s.ticket
               ∙ ap MovedTo (sym ((λ i. state_from schema capacity new.table.items (history i) (units i))
               ∙ updated_is schema capacity old.table.items new.table.items old.history.items old.runners.items u r n (all_home (network schema capacity) (location_at schema capacity old.table.items) (held_cells_of r.held.cells)) r.held.guesses None home (ap (unit_state_of schema capacity) all)));
           table = ap length table ∙ length_homes schema capacity (reverse r.held.cells) old.table.items;
@@ -201,7 +201,7 @@ never_stuck_well schema capacity parts well =
     never_stuck (network schema capacity) facts (opening_for schema capacity parts) name_below names_are_ordered (state_of schema capacity parts) well.lawful order
 
 -- the units that the core shows
-pub unit_shown : (schema : Lists) (capacity u : ℕ) (table : List Place) (history : List Entry) (runners : List Runner) → option_map (λ (x : Runner). x.unit) (unit_at runners u) ≡ option_map (λ (x : UnitState (network schema capacity)). x.unit) (unit_at (state_from schema capacity table history runners).units u)
+pub unit_shown : (schema : Lists) (capacity u : ℕ) (table : List CellLocation) (history : List Entry) (runners : List Runner) → option_map (λ (x : Runner). x.unit) (unit_at runners u) ≡ option_map (λ (x : UnitState (network schema capacity)). x.unit) (unit_at (state_from schema capacity table history runners).units u)
 unfolding state_from unit_at
 unit_shown schema capacity zero table history runners = refl
 unit_shown schema capacity (suc i) table history runners = by runners i

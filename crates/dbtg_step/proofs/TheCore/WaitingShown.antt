@@ -18,7 +18,7 @@ use Rattle.dbtg_unit.specs.Hands.Hands.{cell_of}
 use Rattle.dbtg_unit.proofs.Public.{any_mapped}
 use Rattle.dbtg_step.specs.declared.parts.Parts.{Parts}
 use Rattle.dbtg_step.specs.declared.parts.Runner.{Runner}
-use Rattle.dbtg_step.specs.declared.parts.Stage.{Stage}
+use Rattle.dbtg_step.specs.declared.parts.StatementProgress.{StatementProgress}
 use Rattle.dbtg_step.specs.declared.waiting.Awaited.{Awaited}
 use Rattle.dbtg_step.specs.declared.waiting.Awaited.TheVariants as awaits
 use Rattle.dbtg_step.specs.declared.waiting.Blocking.{Blocking}
@@ -27,7 +27,7 @@ use Rattle.dbtg_step.specs.Machine.Machine.{Location, Home, HeldBy, State, UnitS
 use Rattle.dbtg_step.specs.Machine.Step.{IsBlocked, IsIdle, MovedTo, Transition, conflicts, follows_need, step, takes_area, takes_cell}
 use Rattle.dbtg_step.specs.Machine.Network.{network, next_need_of}
 use Rattle.dbtg_step.specs.Machine.NeedOrder.{HasItsAreas}
-use Rattle.dbtg_step.specs.Core.Parts.{CoreState, held_cells_of, held_of, location_at, progress_of, stage_of, state_from, unit_state_of}
+use Rattle.dbtg_step.specs.Core.Parts.{CoreState, held_cells_of, held_of, location_at, progress_of, shown_progress, state_from, unit_state_of}
 use Rattle.dbtg_step.specs.Core.Waiting.{awaited, awaited_of, blocking_of, has_in_hand, holders_from, taken_next, taken_next_by, where_blocked}
 use Rattle.dbtg_step.specs.Inside.Events.{IsWell, NeedsNext, opening_for}
 use Rattle.dbtg_step.specs.Inside.Parts.{core_of, state_of}
@@ -78,7 +78,7 @@ module _ (c : CoreState) (u : ℕ) (a : Awaited) where
 -- WHAT IT WAITS FOR
 
 module _ (schema : Lists) (capacity u : ℕ) (old : Parts) (well : IsWell schema capacity old) where
-  has_cell : (x : CellName) (r : Runner) (o : Option Stage) → is_some o && list_any (λ (e : CellName × CellHeld). name_eq x e.0) r.held.cells ≡ list_any (λ (h : HeldCell CellName CellValue). name_eq x h.name) (held_cells (network schema capacity) (progress_of schema capacity r.held o))
+  has_cell : (x : CellName) (r : Runner) (o : Option StatementProgress) → is_some o && list_any (λ (e : CellName × CellHeld). name_eq x e.0) r.held.cells ≡ list_any (λ (h : HeldCell CellName CellValue). name_eq x h.name) (held_cells (network schema capacity) (progress_of schema capacity r.held o))
   unfolding held_cells
   has_cell x r None = refl
   has_cell x r (Some w) = sym (any_reverse (λ (h : HeldCell CellName CellValue). name_eq x h.name) (map held_of r.held.cells) ∙ any_mapped (λ (h : HeldCell CellName CellValue). name_eq x h.name) held_of r.held.cells)
@@ -99,26 +99,26 @@ module _ (schema : Lists) (capacity u : ℕ) (old : Parts) (well : IsWell schema
     pub between_waits : StandsBetween r → IsAwaited (core_of schema capacity old) u None
     between_waits s =
         let x = there_is r.script r.next s.left in
-        moves_on _ (step_begins (network schema capacity) (opening_for schema capacity old) (state_of schema capacity old) u (unit_state_of schema capacity r) (found schema capacity u old r well numbered at) x.0 (drop (suc r.next) r.script) (ap (progress_of schema capacity r.held) s.stage) (drop_found r.script r.next x.0 x.1))
+        moves_on _ (step_begins (network schema capacity) (opening_for schema capacity old) (state_of schema capacity old) u (unit_state_of schema capacity r) (found schema capacity u old r well numbered at) x.0 (drop (suc r.next) r.script) (ap (progress_of schema capacity r.held) s.progress) (drop_found r.script r.next x.0 x.1))
 
-    pub turning_waits : (w : Stage) → StandsTurning r w → IsAwaited (core_of schema capacity old) u None
+    pub turning_waits : (w : StatementProgress) → StandsTurning r w → IsAwaited (core_of schema capacity old) u None
     turning_waits w s = by (held_cells_of r.held.cells) refl
       where
         by : (cells : List (HeldCell CellName CellValue)) → held_cells_of r.held.cells ≡ cells → IsAwaited (core_of schema capacity old) u None
         by [] e = let l = length_held r.held.cells in let none = ap length e in absurd (omega (arith, l, none, s.cells))
         by (h ∷ hs) e =
             let x = there_is r.script r.next s.before.left in
-            moves_on _ (step_turns_back (network schema capacity) (opening_for schema capacity old) (state_of schema capacity old) u (unit_state_of schema capacity r) (found schema capacity u old r well numbered at) (stage_of schema capacity r.held w) (ap (progress_of schema capacity r.held) s.before.stage) x.0 (drop (suc r.next) r.script) s.before.ticket (drop_found r.script r.next x.0 x.1) h hs s.turning e)
+            moves_on _ (step_turns_back (network schema capacity) (opening_for schema capacity old) (state_of schema capacity old) u (unit_state_of schema capacity r) (found schema capacity u old r well numbered at) (shown_progress schema capacity r.held w) (ap (progress_of schema capacity r.held) s.before.progress) x.0 (drop (suc r.next) r.script) s.before.ticket (drop_found r.script r.next x.0 x.1) h hs s.turning e)
 
-    pub ticketed_waits : (w : Stage) → StandsTicketed r w → IsAwaited (core_of schema capacity old) u None
-    ticketed_waits w s = moves_on _ (step_after_ticket (network schema capacity) (opening_for schema capacity old) (state_of schema capacity old) u (unit_state_of schema capacity r) (found schema capacity u old r well numbered at) (stage_of schema capacity r.held w) (ap (progress_of schema capacity r.held) s.stage) s.ticket s.has)
+    pub ticketed_waits : (w : StatementProgress) → StandsTicketed r w → IsAwaited (core_of schema capacity old) u None
+    ticketed_waits w s = moves_on _ (step_after_ticket (network schema capacity) (opening_for schema capacity old) (state_of schema capacity old) u (unit_state_of schema capacity r) (found schema capacity u old r well numbered at) (shown_progress schema capacity r.held w) (ap (progress_of schema capacity r.held) s.progress) s.ticket s.has)
 
-    module _ (w : Stage) (s : StandsNeeding r w) where
+    module _ (w : StatementProgress) (s : StandsNeeding r w) where
       next_is : (n : Need) → NeedsNext schema capacity old u w n → taken_next_by (core_of schema capacity old) (unit_at (state_of schema capacity old).units u) ≡ awaited_of w.exclusive (next_need_of r.held.guesses n)
       next_is n needs =
           let x = statement schema capacity u old r well numbered at w s in
           ap (taken_next_by (core_of schema capacity old)) (found schema capacity u old r well numbered at)
-          ∙ (λ i. taken_next (core_of schema capacity old) (unit_state_of schema capacity r) (progress_of schema capacity r.held (s.before.stage i)) (drop_found r.script r.next x.0 x.1 i))
+          ∙ (λ i. taken_next (core_of schema capacity old) (unit_state_of schema capacity r) (progress_of schema capacity r.held (s.before.progress i)) (drop_found r.script r.next x.0 x.1 i))
           ∙ ap (awaited_of w.exclusive) (needs r x.0 at x.1).is
 
       waits_as : (n : Need) → NeedsNext schema capacity old u w n → (t : Transition (network schema capacity)) → step (network schema capacity) (opening_for schema capacity old) (state_of schema capacity old) u ≡ t → awaited (core_of schema capacity old) u ≡ where_blocked (core_of schema capacity old) t (awaited_of w.exclusive (next_need_of r.held.guesses n))
@@ -136,10 +136,10 @@ module _ (schema : Lists) (capacity u : ℕ) (old : Parts) (well : IsWell schema
       unfolding state_from
       not_own c needs v e same =
           let mine = holder_has_cell (network schema capacity) (opening_for schema capacity old) (state_of schema capacity old) well.lawful u (unit_state_of schema capacity r) (found schema capacity u old r well numbered at) c (e ∙ ap HeldBy same) in
-          let has = any_name c (held_cells (network schema capacity) (progress_of schema capacity r.held r.stage)) mine.which mine.is_in mine.name in
+          let has = any_name c (held_cells (network schema capacity) (progress_of schema capacity r.held r.progress)) mine.which mine.is_in mine.name in
           let free = needed_is_free schema capacity u old r well numbered at w s c needs in
-          let stage : is_some r.stage ≡ true = ap is_some s.before.stage in
-          false≢true (sym (ap (λ (b : Bool). is_some r.stage && b) free ∙ ap (λ (b : Bool). b && false) stage) ∙ (has_cell c r r.stage ∙ has))
+          let progress : is_some r.progress ≡ true = ap is_some s.before.progress in
+          false≢true (sym (ap (λ (b : Bool). is_some r.progress && b) free ∙ ap (λ (b : Bool). b && false) progress) ∙ (has_cell c r r.progress ∙ has))
 
       -- another unit has the cell
       cell_held : (c : CellName) → NeedsNext schema capacity old u w (Take c) → (v : ℕ) → location_at schema capacity old.table.items c ≡ HeldBy v → holders_from (core_of schema capacity old) u (awaits.Cell c) 1 (state_of schema capacity old).units ≢ []
@@ -154,12 +154,12 @@ module _ (schema : Lists) (capacity u : ℕ) (old : Parts) (well : IsWell schema
       area_awaited a needs false e = moves_on _ (area_step schema capacity u old r well numbered at w s a needs false e)
 
       cell_step : (c : CellName) → NeedsNext schema capacity old u w (Take c) → (p : Location CellValue) → location_at schema capacity old.table.items c ≡ p →
-          step (network schema capacity) (opening_for schema capacity old) (state_of schema capacity old) u ≡ takes_cell (network schema capacity) (state_of schema capacity old) u (unit_state_of schema capacity r) (stage_of schema capacity r.held w) c p
+          step (network schema capacity) (opening_for schema capacity old) (state_of schema capacity old) u ≡ takes_cell (network schema capacity) (state_of schema capacity old) u (unit_state_of schema capacity r) (shown_progress schema capacity r.held w) c p
       unfolding state_from
       cell_step c needs p e =
           let x = statement schema capacity u old r well numbered at w s in
           follows schema capacity u old r well numbered at w s (Take c) needs
-          ∙ follows_cell (network schema capacity) (opening_for schema capacity old) (state_of schema capacity old) u (unit_state_of schema capacity r) (found schema capacity u old r well numbered at) (stage_of schema capacity r.held w) (ap (progress_of schema capacity r.held) s.before.stage) x.0 (drop (suc r.next) r.script) s.before.ticket (drop_found r.script r.next x.0 x.1) c p e
+          ∙ follows_cell (network schema capacity) (opening_for schema capacity old) (state_of schema capacity old) u (unit_state_of schema capacity r) (found schema capacity u old r well numbered at) (shown_progress schema capacity r.held w) (ap (progress_of schema capacity r.held) s.before.progress) x.0 (drop (suc r.next) r.script) s.before.ticket (drop_found r.script r.next x.0 x.1) c p e
 
       pub cell_awaited : (c : CellName) → NeedsNext schema capacity old u w (Take c) → (b : Bool) → is_with_unit (location_at schema capacity old.table.items c) ≡ b → IsAwaited (core_of schema capacity old) u (if b then Some (awaits.Cell c) else None)
       unfolding takes_cell
@@ -186,7 +186,7 @@ module _ (schema : Lists) (capacity u : ℕ) (old : Parts) (well : IsWell schema
 
   has_shown : (a : Awaited) (r : Runner) → has_awaited a r ≡ has_in_hand (core_of schema capacity old) a (unit_state_of schema capacity r)
   has_shown (awaits.Area a exclusive) r = sym (conflict_is schema capacity exclusive a r)
-  has_shown (awaits.Cell x) r = has_cell x r r.stage
+  has_shown (awaits.Cell x) r = has_cell x r r.progress
 
   numbers_shown : (a : Awaited) (n : ℕ) (runners : List Runner) → numbers_from u a n runners ≡ holders_from (core_of schema capacity old) u a n (map (unit_state_of schema capacity) runners)
   numbers_shown a n [] = refl

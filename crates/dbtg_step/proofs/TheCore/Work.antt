@@ -130,7 +130,7 @@ module _ (schema : Lists) (capacity : ℕ) where
     abbrev pub turn_left : SequentialState (network schema capacity) → M → ℕ → ℕ
     turn_left opening s u = work_found (replay (network schema capacity) opening s.history).database (unit_at s.units u)
 
-    -- a stage with a ticket that may be over
+    -- a progress with a ticket that may be over
     over : (db : Database) (unit : Unit) (g : Guesses) (xs : List Statement) (v : W) (t : ℕ) (areas : List ℕ) (cells : Held) → v.ticket ≡ Some t → v.areas ≡ areas → v.cells ≡ cells →
         work_by db unit g (unless_over (network schema capacity) v areas cells) xs ≤ to_end v.linked areas cells + to_begin db unit g xs
     unfolding unless_over
@@ -192,7 +192,7 @@ module _ (schema : Lists) (capacity : ℕ) where
           now_ends : work_of db a.state ≡ to_end w.linked w.areas w.cells + rest
           now_ends = now_in ∙ ap (λ o. in_work db a.state.unit a.state.guesses w o a.state.remaining) has
 
-          -- of a stage with the ticket
+          -- of a progress with the ticket
           staged : (v : W) → v.ticket ≡ Some t → work_by db a.state.unit a.state.guesses (Some v) a.state.remaining ≡ to_end v.linked v.areas v.cells + rest
           staged v e = ap (λ o. in_work db a.state.unit a.state.guesses v o a.state.remaining) e
 

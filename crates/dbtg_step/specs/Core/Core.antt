@@ -11,8 +11,8 @@ use Rattle.dbtg_unit.specs.Database.State.Cells.{cell}
 use Rattle.dbtg_unit.specs.Database.State.Image.{image_of}
 use Rattle.dbtg_unit.specs.Database.State.LegalWith.{LegalWith}
 use Rattle.dbtg_unit.specs.Database.Laws.Replay.{AnswersHold, State, TicketsInOrder, entries_of, opening_state, replay}
-use Rattle.dbtg_step.specs.declared.parts.Place.{Place}
-use Rattle.dbtg_step.specs.declared.parts.Place.TheVariants.{Home, HeldBy}
+use Rattle.dbtg_step.specs.declared.parts.CellLocation.{CellLocation}
+use Rattle.dbtg_step.specs.declared.parts.CellLocation.TheVariants.{Home, HeldBy}
 use Rattle.dbtg_step.specs.declared.parts.Runner.{Runner}
 use Rattle.dbtg_step.specs.Machine.SequentialDatabase.{In, unit_at}
 use Rattle.dbtg_step.specs.Machine.Headline.{IsSequential}
@@ -35,12 +35,12 @@ abbrev pub IsRunner : CoreParts → ℕ → Runner → Type 0
 IsRunner core u r = unit_at core.runners u ≡ Some r
 
 -- where a cell is
-abbrev pub IsAt : CoreParts → CellName → Place → Type 0
+abbrev pub IsAt : CoreParts → CellName → CellLocation → Type 0
 IsAt core c p = (n : ℕ) × (cell_number core.schema core.capacity c ≡ Some n) × (slice_get core.table n ≡ Some p)
 
 -- a unit in mid-statement has its areas for itself
 abbrev pub is_alone : Runner → Bool
-is_alone r = option_map_or (λ stage. stage.exclusive) r.stage false
+is_alone r = option_map_or (λ progress. progress.exclusive) r.progress false
 
 -- what unit u has in hand: each cell was taken from its place, lies in an area in hand, and is as the database has it, also where its
 -- new value, behind the ticket, is not given back yet; between statements nothing is in hand
@@ -48,7 +48,7 @@ pub record HandsFit (core : CoreParts) (u : ℕ) (r : Runner) : Type 0 where
   pub taken : (e : CellName × Cell) → In e r.held.cells → IsAt core e.0 (HeldBy u)
   pub values : (e : CellName × Cell) → In e r.held.cells → HasNow core e.0 e.1
   pub in_area : (e : CellName × Cell) → In e r.held.cells → In (area_of_cell core.schema e.0) r.held.areas
-  pub settled : r.stage ≡ None → (r.held.areas ≡ []) × (r.held.cells ≡ [])
+  pub settled : r.progress ≡ None → (r.held.areas ≡ []) × (r.held.cells ≡ [])
 
 -- two units that have an area in hand share it
 abbrev pub AreasShared : Runner → Runner → Type 0

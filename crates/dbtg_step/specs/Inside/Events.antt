@@ -1,6 +1,6 @@
 -- The parts between events: in a lawful state, with what a unit needs next there; and what a step or a quit of a unit comes to.
 -- `Stands` has what an event finds, and `Leaves` what it leaves.
--- r is a runner, w a stage, u the number of a unit, x a statement, n a need.
+-- r is a runner, w a progress, u the number of a unit, x a statement, n a need.
 use Rattle.std.specs.List.{list_all}
 use Rattle.std.specs.Prelude.{ℕ, ◌≡◌, ◌-◌, true, List, [], Option, Some, None, length, slice_get, slice_set, ⊤}
 use Rattle.dbtg_schema.specs.Lists.{Lists}
@@ -19,7 +19,7 @@ use Rattle.dbtg_unit.specs.Hands.Needs.{need, ring_names}
 use Rattle.dbtg_step.specs.declared.course.Course.{Course}
 use Rattle.dbtg_step.specs.declared.parts.Parts.{Parts}
 use Rattle.dbtg_step.specs.declared.parts.Runner.{Runner}
-use Rattle.dbtg_step.specs.declared.parts.Stage.{Stage}
+use Rattle.dbtg_step.specs.declared.parts.StatementProgress.{StatementProgress}
 use Rattle.dbtg_unit.specs.declared.moves.Stepped.{Stepped}
 use Rattle.dbtg_unit.specs.declared.moves.Stepped.TheVariants.{Moved, Blocked, Idle, NoMemory}
 use Rattle.dbtg_step.specs.Machine.SequentialDatabase.{NextNeed, unit_at}
@@ -30,20 +30,20 @@ use Rattle.dbtg_step.specs.Inside.NeverStuck.{AllInTurn}
 use Rattle.dbtg_step.specs.Machine.Network.{network, next_need_of}
 use Rattle.dbtg_step.specs.Machine.Headline.{opening_of}
 use Rattle.dbtg_step.specs.Core.Courses.{IsCourseKept}
-use Rattle.dbtg_step.specs.Core.Parts.{stage_of, unit_state_of}
+use Rattle.dbtg_step.specs.Core.Parts.{shown_progress, unit_state_of}
 use Rattle.dbtg_step.specs.Inside.Parts.{state_of}
 use Rattle.dbtg_step.specs.Core.Events.{WantsMemory}
 
 -- while its statement has no ticket, what a runner keeps of the statement's needs is right of what it has in hand
 abbrev pub CourseFits : Lists → ℕ → Runner → Type 0
 CourseFits schema capacity r =
-    (w : Stage) → r.stage ≡ Some w → w.ticket ≡ None
+    (w : StatementProgress) → r.progress ≡ Some w → w.ticket ≡ None
     → (x : Statement) → slice_get r.script r.next ≡ Some x
     → IsCourseKept schema capacity r.held r.unit x r.course
 
 -- between statements a runner holds nothing; it has a guess for each set
 pub record RunnerFits (schema : Lists) (capacity : ℕ) (r : Runner) : Type 0 where
-  pub settled : r.stage ≡ None → (r.held.areas ≡ []) × (r.held.cells ≡ [])
+  pub settled : r.progress ≡ None → (r.held.areas ≡ []) × (r.held.cells ≡ [])
   pub guesses : length r.held.guesses ≡ length schema.sets
   pub course : CourseFits schema capacity r
 
@@ -77,21 +77,21 @@ abbrev pub owners_fit : Lists → Need → Type 0
 owners_fit schema (Stale owners) = length owners ≡ length schema.sets
 owners_fit schema _ = ⊤
 
--- what the machine says that this runner needs next, with the statement x in this stage
-abbrev pub machine_need : (schema : Lists) (capacity : ℕ) → Parts → Runner → Statement → Stage → NextNeed CellName (List (Option Owner))
+-- what the machine says that this runner needs next, with the statement x in this progress
+abbrev pub machine_need : (schema : Lists) (capacity : ℕ) → Parts → Runner → Statement → StatementProgress → NextNeed CellName (List (Option Owner))
 machine_need schema capacity parts r x w =
     let D = network schema capacity in
-    next_need D (opening_for schema capacity parts) (state_of schema capacity parts) (unit_state_of schema capacity r) (stage_of schema capacity r.held w) x
+    next_need D (opening_for schema capacity parts) (state_of schema capacity parts) (unit_state_of schema capacity r) (shown_progress schema capacity r.held w) x
 
--- the runner needs n next, with the statement x in this stage: so says the machine, on the database of the history
-pub record IsNext (schema : Lists) (capacity : ℕ) (parts : Parts) (r : Runner) (x : Statement) (w : Stage) (n : Need) : Type 0 where
+-- the runner needs n next, with the statement x in this progress: so says the machine, on the database of the history
+pub record IsNext (schema : Lists) (capacity : ℕ) (parts : Parts) (r : Runner) (x : Statement) (w : StatementProgress) (n : Need) : Type 0 where
   pub is : machine_need schema capacity parts r x w ≡ next_need_of r.held.guesses n
   pub owners : owners_fit schema n
   -- and on every other that agrees with what is held
   pub everywhere : (db : Database) → Agrees schema capacity db r.held r.unit → n ≡ need schema capacity db r.unit r.held x
 
 -- what unit u needs next, with the statement that its script has next
-abbrev pub NeedsNext : (schema : Lists) (capacity : ℕ) → Parts → ℕ → Stage → Need → Type 0
+abbrev pub NeedsNext : (schema : Lists) (capacity : ℕ) → Parts → ℕ → StatementProgress → Need → Type 0
 NeedsNext schema capacity parts u w n =
     (r : Runner) (x : Statement) → slice_get parts.runners.items (u - 1) ≡ Some r → slice_get r.script r.next ≡ Some x → IsNext schema capacity parts r x w n
 

@@ -4,13 +4,13 @@ use Rattle.dbtg_schema.specs.Lists.{Lists}
 use Rattle.dbtg_cells.specs.Shown.{CellValue}
 use Rattle.dbtg_unit.specs.declared.statement.Statement.{Statement}
 use Rattle.dbtg_unit.specs.Database.State.Units.{opening_unit}
-use Rattle.dbtg_step.specs.declared.parts.Place.{Place}
+use Rattle.dbtg_step.specs.declared.parts.CellLocation.{CellLocation}
 use Rattle.dbtg_step.specs.declared.parts.Runner.{Runner}
 use Rattle.dbtg_step.specs.Machine.Machine.{Location}
 use Rattle.dbtg_step.specs.Core.Parts.{location_of}
 
 -- where the cells of a table are
-abbrev pub locations_of : List Place → List (Location CellValue)
+abbrev pub locations_of : List CellLocation → List (Location CellValue)
 locations_of = map location_of
 
 -- a unit that stands before its script
@@ -20,7 +20,7 @@ opening_runner schema n script = record {
   held = record { areas = []; cells = []; guesses = replicate (length schema.sets) None };
   script = script;
   next = 0;
-  stage = None;
+  progress = None;
   course = None;
 }
 

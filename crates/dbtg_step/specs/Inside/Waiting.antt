@@ -29,7 +29,7 @@ is_with_unit (HeldBy u) = true
 -- the unit has it in hand, in a way that conflicts
 abbrev pub has_awaited : Awaited → Runner → Bool
 has_awaited (Area a exclusive) r = holds_against exclusive a r
-has_awaited (Cell x) r = is_some r.stage && list_any (λ (e : CellName × CellHeld). name_eq x e.0) r.held.cells
+has_awaited (Cell x) r = is_some r.progress && list_any (λ (e : CellName × CellHeld). name_eq x e.0) r.held.cells
 
 -- the numbers of the units other than u that have it, where the first of these has the number n
 abbrev pub numbers_from : ℕ → Awaited → ℕ → List Runner → List ℕ

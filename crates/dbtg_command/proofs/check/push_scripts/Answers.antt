@@ -1,7 +1,7 @@
 use Rattle.std.proofs.Common.{◌≡◌, ◌++◌, ℕ, ◌+◌, List, [], inl, inr, refl, sym, subst, arith}
 use Rattle.std.proofs.lemmas.List.{append-nil}
 use Rattle.std.proofs.lemmas.Result.{err_from_is_err_and}
-use Rattle.dbtg_command.specs.declared.place.Place.TheVariants.{Script}
+use Rattle.dbtg_command.specs.declared.place.TextPlace.TheVariants.{Script}
 use Rattle.dbtg_command.specs.Checking.{script_lines}
 use Rattle.dbtg_command.specs.Sources.{ReadScripts}
 use Rattle.dbtg_command.proofs.TextsRead.{line_behind, told_here}

@@ -13,7 +13,7 @@ need_of-requires-clause-kept c =
     let items = c.args.parts.now.runners.items in
     let at : slice_get items (c.args.unit - 1) ≡ Some runner = slice_get_read items (length items) (c.args.unit - 1) runner refl (omega (arith, c.requires.within, c.requires.numbered)) c.index_mut.ensures.value in
     let before = (c.requires.stands runner at).before in
-    (c.requires.well.runners (c.args.unit - 1) runner at).course c.args.stage before.stage before.ticket
+    (c.requires.well.runners (c.args.unit - 1) runner at).course c.args.progress before.progress before.ticket
 
 pub need_of-requires-clause-fits : goal.need_of-requires-clause-fits
 need_of-requires-clause-fits c =
@@ -56,7 +56,7 @@ returns-clause-stands c =
     let items = c.args.parts.now.runners.items in
     let at : slice_get items (c.args.unit - 1) ≡ Some runner = slice_get_read items (length items) (c.args.unit - 1) runner refl (omega (arith, c.requires.within, c.requires.numbered)) c.index_mut.ensures.value in
     let after : Parts = record c.args.parts.now { runners = with_item c.args.parts.now.runners (c.args.unit - 1) c.need_of.new.runner } in
-    onward_stands c.args.schema.now c.args.capacity c.args.unit c.args.parts.now after runner c.requires.numbered at c.need_of.new.runner.course refl refl (ap (slice_set items (c.args.unit - 1)) c.need_of.ensures.rest) c.args.stage (c.requires.stands runner at)
+    onward_stands c.args.schema.now c.args.capacity c.args.unit c.args.parts.now after runner c.requires.numbered at c.need_of.new.runner.course refl refl (ap (slice_set items (c.args.unit - 1)) c.need_of.ensures.rest) c.args.progress (c.requires.stands runner at)
 
 pub returns-clause-need : goal.returns-clause-need
 returns-clause-need c =
@@ -64,7 +64,7 @@ returns-clause-need c =
     let items = c.args.parts.now.runners.items in
     let at : slice_get items (c.args.unit - 1) ≡ Some runner = slice_get_read items (length items) (c.args.unit - 1) runner refl (omega (arith, c.requires.within, c.requires.numbered)) c.index_mut.ensures.value in
     let well = onward_well c.args.schema.now c.args.capacity c.args.unit c.args.parts.now _ runner c.requires.numbered at c.need_of.new.runner.course refl refl (ap (slice_set items (c.args.unit - 1)) c.need_of.ensures.rest) c.requires.well c.need_of.ensures.kept in
-    ok_also c.need_of.result _ _ (onward_needs c.args.schema.now c.args.capacity c.args.unit c.args.parts.now _ runner c.requires.numbered at c.need_of.new.runner.course refl refl (ap (slice_set items (c.args.unit - 1)) c.need_of.ensures.rest) well c.args.stage (c.requires.stands runner at)) c.need_of.ensures.need
+    ok_also c.need_of.result _ _ (onward_needs c.args.schema.now c.args.capacity c.args.unit c.args.parts.now _ runner c.requires.numbered at c.need_of.new.runner.course refl refl (ap (slice_set items (c.args.unit - 1)) c.need_of.ensures.rest) well c.args.progress (c.requires.stands runner at)) c.need_of.ensures.need
 
 pub returns-clause-refused : goal.returns-clause-refused
 returns-clause-refused c =

@@ -1,6 +1,6 @@
 use Rattle.std.proofs.Common.{◌≡◌, Some, slice_get, slice_set, length, refl, sym, ap, ◌∙◌}
 use Rattle.std.proofs.lemmas.Option.{slice_get_read}
-use Rattle.dbtg_step.specs.declared.parts.Place.TheVariants.{Home, HeldBy}
+use Rattle.dbtg_step.specs.declared.parts.CellLocation.TheVariants.{Home, HeldBy}
 use Rattle.dbtg_step.proofs.TheCore.FollowsShown.{set_same}
 use Rattle.dbtg_step.proofs.needing.take_cell.Goals as goal
 

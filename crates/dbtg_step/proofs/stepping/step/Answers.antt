@@ -15,44 +15,44 @@ pub returns-in-Over : goal.returns-in-Over
 returns-in-Over c =
     let items = c.args.parts.now.runners.items in
     let at : slice_get items (c.args.unit - 1) ≡ Some c.index.result.now = slice_get_read items (length items) (c.args.unit - 1) c.index.result.now refl (omega arith) c.index.ensures in
-    over_idle c.args.schema.now c.args.capacity c.args.unit c.args.parts.now c.requires.well c.index.result.now (omega arith) at (rw c.in-Over.is at c.where_it_stands.ensures)
+    over_idle c.args.schema.now c.args.capacity c.args.unit c.args.parts.now c.requires.well c.index.result.now (omega arith) at (rw c.in-Over.is at c.phase_of.ensures)
 
 pub returns-in-Between : goal.returns-in-Between
-returns-in-Between c = c.begins.ensures c.args.schema.now c.args.capacity c.requires.well
+returns-in-Between c = c.begin_event.ensures c.args.schema.now c.args.capacity c.requires.well
 
 pub returns-in-TurningBack : goal.returns-in-TurningBack
-returns-in-TurningBack c = c.turns_back.ensures
+returns-in-TurningBack c = c.turn_back_event.ensures
 
-pub begins-requires-clause-stands : goal.begins-requires-clause-stands
-begins-requires-clause-stands c r is =
+pub begin_event-requires-clause-stands : goal.begin_event-requires-clause-stands
+begin_event-requires-clause-stands c r is =
     let items = c.args.parts.now.runners.items in
     let at : slice_get items (c.args.unit - 1) ≡ Some c.index.result.now = slice_get_read items (length items) (c.args.unit - 1) c.index.result.now refl (omega arith) c.index.ensures in
     let same : c.index.result.now ≡ r = same_Some _ r (sym at ∙ is) in
-    subst (λ (x : Runner). StandsBetween x) same (rw c.in-Between.is at c.where_it_stands.ensures)
+    subst (λ (x : Runner). StandsBetween x) same (rw c.in-Between.is at c.phase_of.ensures)
 
-pub turns_back-requires-clause-stands : goal.turns_back-requires-clause-stands
-turns_back-requires-clause-stands c r is =
+pub turn_back_event-requires-clause-stands : goal.turn_back_event-requires-clause-stands
+turn_back_event-requires-clause-stands c r is =
     let items = c.args.parts.now.runners.items in
     let at : slice_get items (c.args.unit - 1) ≡ Some c.index.result.now = slice_get_read items (length items) (c.args.unit - 1) c.index.result.now refl (omega arith) c.index.ensures in
     let same : c.index.result.now ≡ r = same_Some _ r (sym at ∙ is) in
-    subst (λ (x : Runner). StandsTurning x c.in-TurningBack.stage) same (rw c.in-TurningBack.is at c.where_it_stands.ensures)
+    subst (λ (x : Runner). StandsTurning x c.in-TurningBack.progress) same (rw c.in-TurningBack.is at c.phase_of.ensures)
 
-pub follows-requires-clause-stands : goal.follows-requires-clause-stands
-follows-requires-clause-stands c r is =
+pub event_before_ticket-requires-clause-stands : goal.event_before_ticket-requires-clause-stands
+event_before_ticket-requires-clause-stands c r is =
     let items = c.args.parts.now.runners.items in
     let at : slice_get items (c.args.unit - 1) ≡ Some c.index.result.now = slice_get_read items (length items) (c.args.unit - 1) c.index.result.now refl (omega arith) c.index.ensures in
     let same : c.index.result.now ≡ r = same_Some _ r (sym at ∙ is) in
-    subst (λ (x : Runner). StandsNeeding x c.in-Needing.stage) same (rw c.in-Needing.is at c.where_it_stands.ensures)
+    subst (λ (x : Runner). StandsNeeding x c.in-Needing.progress) same (rw c.in-Needing.is at c.phase_of.ensures)
 
-pub ends-requires-clause-stands : goal.ends-requires-clause-stands
-ends-requires-clause-stands c r is =
+pub end_event-requires-clause-stands : goal.end_event-requires-clause-stands
+end_event-requires-clause-stands c r is =
     let items = c.args.parts.now.runners.items in
     let at : slice_get items (c.args.unit - 1) ≡ Some c.index.result.now = slice_get_read items (length items) (c.args.unit - 1) c.index.result.now refl (omega arith) c.index.ensures in
     let same : c.index.result.now ≡ r = same_Some _ r (sym at ∙ is) in
-    subst (λ (x : Runner). StandsTicketed x c.in-Ticketed.stage) same (rw c.in-Ticketed.is at c.where_it_stands.ensures)
+    subst (λ (x : Runner). StandsTicketed x c.in-Ticketed.progress) same (rw c.in-Ticketed.is at c.phase_of.ensures)
 
-pub where_it_stands-requires : goal.where_it_stands-requires
-where_it_stands-requires c =
+pub phase_of-requires : goal.phase_of-requires
+phase_of-requires c =
     let items = c.args.parts.now.runners.items in
     let at : slice_get items (c.args.unit - 1) ≡ Some c.index.result.now = slice_get_read items (length items) (c.args.unit - 1) c.index.result.now refl (omega arith) c.index.ensures in
     has_statement c.args.schema.now c.args.capacity c.args.unit c.args.parts.now c.requires.well c.index.result.now (omega arith) at

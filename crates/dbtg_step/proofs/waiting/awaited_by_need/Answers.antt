@@ -12,9 +12,9 @@ returns-in-Area c = c.awaits_area.ensures c.args.schema.now c.args.capacity c.re
 pub returns-in-Stale : goal.returns-in-Stale
 returns-in-Stale c =
     let it = there_is c.args.parts.now.runners.items (c.args.unit - 1) (omega (arith, c.requires.within, c.requires.numbered)) in
-    stale_goes_on c.args.schema.now c.args.capacity c.args.unit c.args.parts.now c.requires.well it.0 c.requires.numbered it.1 c.args.stage (c.requires.stands it.0 it.1) (rw c.in-Stale.is at c.requires.needs)
+    stale_goes_on c.args.schema.now c.args.capacity c.args.unit c.args.parts.now c.requires.well it.0 c.requires.numbered it.1 c.args.progress (c.requires.stands it.0 it.1) (rw c.in-Stale.is at c.requires.needs)
 
 pub returns-in-Ready : goal.returns-in-Ready
 returns-in-Ready c =
     let it = there_is c.args.parts.now.runners.items (c.args.unit - 1) (omega (arith, c.requires.within, c.requires.numbered)) in
-    ready_goes_on c.args.schema.now c.args.capacity c.args.unit c.args.parts.now c.requires.well it.0 c.requires.numbered it.1 c.args.stage (c.requires.stands it.0 it.1) (rw c.in-Ready.is at c.requires.needs)
+    ready_goes_on c.args.schema.now c.args.capacity c.args.unit c.args.parts.now c.requires.well it.0 c.requires.numbered it.1 c.args.progress (c.requires.stands it.0 it.1) (rw c.in-Ready.is at c.requires.needs)

@@ -35,10 +35,10 @@ awaited_by_need-requires-clause-needs c =
     let at : slice_get items (c.args.unit - 1) ≡ Some c.index.result.now = slice_get_read items (length items) (c.args.unit - 1) c.index.result.now refl (omega (arith, c.requires.within, c.requires.numbered)) c.index.ensures in
     let x = there_is c.index.result.now.script c.index.result.now.next (c.requires.stands c.index.result.now at).before.left in
     let is = rw c.in-Some.is at c.need_of_runner.ensures in
-    needs_next c.args.schema.now c.args.capacity c.args.unit c.args.parts.now c.index.result.now c.requires.well c.requires.numbered at c.args.stage x.0 c.in-Some.need x.1 (λ db agrees. is x.0 db x.1 agrees)
+    needs_next c.args.schema.now c.args.capacity c.args.unit c.args.parts.now c.index.result.now c.requires.well c.requires.numbered at c.args.progress x.0 c.in-Some.need x.1 (λ db agrees. is x.0 db x.1 agrees)
 
 pub returns-in-None : goal.returns-in-None
 returns-in-None c =
     let items = c.args.parts.now.runners.items in
     let at : slice_get items (c.args.unit - 1) ≡ Some c.index.result.now = slice_get_read items (length items) (c.args.unit - 1) c.index.result.now refl (omega (arith, c.requires.within, c.requires.numbered)) c.index.ensures in
-    delete_goes_on c.args.schema.now c.args.capacity c.args.unit c.args.parts.now c.requires.well c.index.result.now c.requires.numbered at c.args.stage (c.requires.stands c.index.result.now at) (rw c.in-None.is at c.need_of_runner.ensures)
+    delete_goes_on c.args.schema.now c.args.capacity c.args.unit c.args.parts.now c.requires.well c.index.result.now c.requires.numbered at c.args.progress (c.requires.stands c.index.result.now at) (rw c.in-None.is at c.need_of_runner.ensures)

@@ -16,35 +16,35 @@ pub returns-in-Over : goal.returns-in-Over
 returns-in-Over c =
     let items = c.args.parts.now.runners.items in
     let at : slice_get items (c.args.unit - 1) ≡ Some c.index.result.now = slice_get_read items (length items) (c.args.unit - 1) c.index.result.now refl (omega arith) c.index.ensures in
-    over_waits c.args.schema.now c.args.capacity c.args.unit c.args.parts.now c.requires.well c.index.result.now (omega arith) at (rw c.in-Over.is at c.where_it_stands.ensures)
+    over_waits c.args.schema.now c.args.capacity c.args.unit c.args.parts.now c.requires.well c.index.result.now (omega arith) at (rw c.in-Over.is at c.phase_of.ensures)
 
 pub returns-in-Between : goal.returns-in-Between
 returns-in-Between c =
     let items = c.args.parts.now.runners.items in
     let at : slice_get items (c.args.unit - 1) ≡ Some c.index.result.now = slice_get_read items (length items) (c.args.unit - 1) c.index.result.now refl (omega arith) c.index.ensures in
-    between_waits c.args.schema.now c.args.capacity c.args.unit c.args.parts.now c.requires.well c.index.result.now (omega arith) at (rw c.in-Between.is at c.where_it_stands.ensures)
+    between_waits c.args.schema.now c.args.capacity c.args.unit c.args.parts.now c.requires.well c.index.result.now (omega arith) at (rw c.in-Between.is at c.phase_of.ensures)
 
 pub returns-in-TurningBack : goal.returns-in-TurningBack
 returns-in-TurningBack c =
     let items = c.args.parts.now.runners.items in
     let at : slice_get items (c.args.unit - 1) ≡ Some c.index.result.now = slice_get_read items (length items) (c.args.unit - 1) c.index.result.now refl (omega arith) c.index.ensures in
-    turning_waits c.args.schema.now c.args.capacity c.args.unit c.args.parts.now c.requires.well c.index.result.now (omega arith) at _ (rw c.in-TurningBack.is at c.where_it_stands.ensures)
+    turning_waits c.args.schema.now c.args.capacity c.args.unit c.args.parts.now c.requires.well c.index.result.now (omega arith) at _ (rw c.in-TurningBack.is at c.phase_of.ensures)
 
 pub returns-in-Ticketed : goal.returns-in-Ticketed
 returns-in-Ticketed c =
     let items = c.args.parts.now.runners.items in
     let at : slice_get items (c.args.unit - 1) ≡ Some c.index.result.now = slice_get_read items (length items) (c.args.unit - 1) c.index.result.now refl (omega arith) c.index.ensures in
-    ticketed_waits c.args.schema.now c.args.capacity c.args.unit c.args.parts.now c.requires.well c.index.result.now (omega arith) at _ (rw c.in-Ticketed.is at c.where_it_stands.ensures)
+    ticketed_waits c.args.schema.now c.args.capacity c.args.unit c.args.parts.now c.requires.well c.index.result.now (omega arith) at _ (rw c.in-Ticketed.is at c.phase_of.ensures)
 
 pub awaited_by_needing-requires-clause-stands : goal.awaited_by_needing-requires-clause-stands
 awaited_by_needing-requires-clause-stands c r is =
     let items = c.args.parts.now.runners.items in
     let at : slice_get items (c.args.unit - 1) ≡ Some c.index.result.now = slice_get_read items (length items) (c.args.unit - 1) c.index.result.now refl (omega arith) c.index.ensures in
     let same : c.index.result.now ≡ r = same_Some _ r (sym at ∙ is) in
-    subst (λ (x : Runner). StandsNeeding x c.in-Needing.stage) same (rw c.in-Needing.is at c.where_it_stands.ensures)
+    subst (λ (x : Runner). StandsNeeding x c.in-Needing.progress) same (rw c.in-Needing.is at c.phase_of.ensures)
 
-pub where_it_stands-requires : goal.where_it_stands-requires
-where_it_stands-requires c =
+pub phase_of-requires : goal.phase_of-requires
+phase_of-requires c =
     let items = c.args.parts.now.runners.items in
     let at : slice_get items (c.args.unit - 1) ≡ Some c.index.result.now = slice_get_read items (length items) (c.args.unit - 1) c.index.result.now refl (omega arith) c.index.ensures in
     has_statement c.args.schema.now c.args.capacity c.args.unit c.args.parts.now c.requires.well c.index.result.now (omega arith) at

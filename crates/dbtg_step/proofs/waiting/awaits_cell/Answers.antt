@@ -13,4 +13,4 @@ returns c =
     let it = there_is c.args.parts.now.runners.items (c.args.unit - 1) (omega (arith, c.requires.within, c.requires.numbered)) in
     let there : is_with_unit (location_at c.args.schema.now c.args.capacity c.args.parts.now.table.items c.args.name) ≡ c.is_with_unit-is_held.result = rw (c.as_slice.ensures.value) at (sym c.is_with_unit-is_held.ensures) in
     subst (IsAwaited (core_of c.args.schema.now c.args.capacity c.args.parts.now) c.args.unit) (sym (c.where_held.ensures ∙ ap (λ (a : Awaited). if c.is_with_unit-is_held.result then Some a else None) c.awaited_cell.ensures))
-    (cell_awaited c.args.schema.now c.args.capacity c.args.unit c.args.parts.now c.requires.well it.0 c.requires.numbered it.1 c.args.stage (c.requires.stands it.0 it.1) c.args.name c.requires.needs c.is_with_unit-is_held.result there)
+    (cell_awaited c.args.schema.now c.args.capacity c.args.unit c.args.parts.now c.requires.well it.0 c.requires.numbered it.1 c.args.progress (c.requires.stands it.0 it.1) c.args.name c.requires.needs c.is_with_unit-is_held.result there)

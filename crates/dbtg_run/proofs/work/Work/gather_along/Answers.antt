@@ -9,7 +9,7 @@ use Rattle.dbtg_unit.specs.Hands.Making.{IsReady}
 use Rattle.dbtg_unit.specs.Hands.Needs.{is_stale, need}
 use Rattle.dbtg_run.specs.declared.view.About.{About}
 use Rattle.dbtg_run.specs.declared.work.Work.{Work}
-use Rattle.dbtg_run.specs.Inside.Kept.{database_after}
+use Rattle.dbtg_run.specs.Inside.LatchRule.{database_after}
 use Rattle.dbtg_run.specs.Inside.Posed.{turns_left}
 use Rattle.dbtg_run.specs.Inside.Tries.{Suffice}
 use Rattle.dbtg_run.specs.declared.tries.Tries.{Tries}

@@ -2,7 +2,7 @@ use Rattle.std.proofs.Common.{◌≡◌, ◌⊎◌, ◌-◌, ◌<◌, false}
 use Rattle.dbtg_unit.specs.Hands.Making.{IsReady}
 use Rattle.dbtg_unit.specs.Hands.Needs.{is_stale}
 use Rattle.dbtg_step.specs.Core.Courses.{IsCourseKept}
-use Rattle.dbtg_run.specs.Inside.Kept.{database_after}
+use Rattle.dbtg_run.specs.Inside.LatchRule.{database_after}
 use Rattle.dbtg_run.specs.Inside.Posed.{HoldsSo, turns_left}
 use Rattle.dbtg_run.specs.Inside.Tries.{Suffice}
 use Rattle.dbtg_run.specs.Inside.Works.{Belongs, IsAtWork, IsSameUnit}

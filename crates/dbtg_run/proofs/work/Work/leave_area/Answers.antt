@@ -4,7 +4,7 @@ use Rattle.std.specs.Prelude.{nat_lt}
 use Rattle.std.specs.List.{list_all}
 use Rattle.std.proofs.lemmas.Bool.{ltb-true}
 use Rattle.dbtg_run.specs.declared.view.About.{About}
-use Rattle.dbtg_run.specs.Inside.Kept.{area_count}
+use Rattle.dbtg_run.specs.Inside.LatchRule.{area_count}
 use Rattle.dbtg_run.specs.Inside.Posed.{posed}
 use Rattle.dbtg_run.proofs.Units.Uses.{last_all, leaves_as}
 use Rattle.dbtg_run.proofs.work.Work.leave_area.Goals as goal

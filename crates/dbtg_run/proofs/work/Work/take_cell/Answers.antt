@@ -17,7 +17,7 @@ use Rattle.dbtg_cells.specs.Cells.{shown}
 use Rattle.dbtg_cells.proofs.Public.{stands_at}
 use Rattle.dbtg_run.specs.Inside.Views.{bare, bared, with_cell}
 use Rattle.dbtg_run.specs.Views.{lone}
-use Rattle.dbtg_run.specs.Inside.Kept.{area_count, cells_of_table, slot_name}
+use Rattle.dbtg_run.specs.Inside.LatchRule.{area_count, cells_of_table, slot_name}
 use Rattle.dbtg_run.specs.Inside.Posed.{AreInside, empty_slots, member_of, posed}
 use Rattle.dbtg_run.proofs.TheRule.Facts.{bared_more}
 use Rattle.dbtg_run.proofs.Units.Uses.{again_as, all_more, cell_free_as, puts_as, real_taken, slot_asks, taken_as, takes_as, took_as, took_it}

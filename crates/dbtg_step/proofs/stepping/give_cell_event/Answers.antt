@@ -1,18 +1,18 @@
 use Rattle.std.proofs.Common.{◌≡◌, Some, slice_get, length, refl, ◌-◌, arith}
 use Rattle.std.proofs.lemmas.Option.{slice_get_read}
+use Rattle.dbtg_step.proofs.TheCore.EventsShown.{gives_cell_is}
 use Rattle.dbtg_step.proofs.TheCore.NeedsShown.{have_places}
-use Rattle.dbtg_step.proofs.TheCore.QuitShown.{quits_is}
-use Rattle.dbtg_step.proofs.quitting.gives_back.Goals as goal
+use Rattle.dbtg_step.proofs.stepping.give_cell_event.Goals as goal
 
 pub returns : goal.returns
 returns c =
     let runner = c.index_mut-runner.result.now in
     let items = c.args.parts.now.runners.items in
     let at : slice_get items (c.args.unit - 1) ≡ Some runner = slice_get_read items (length items) (c.args.unit - 1) runner refl (omega (arith, c.requires.within, c.requires.numbered)) c.index_mut-runner.ensures.value in
-    quits_is c.args.schema.now c.args.capacity c.args.unit c.args.parts.now c.requires.well runner c.requires.numbered at (c.requires.stands runner at) _ _ c.give_cells.new.held c.leave_areas.new.held refl refl c.give_cells.ensures.table c.give_cells.ensures.held c.leave_areas.ensures refl
+    gives_cell_is c.args.schema.now c.args.capacity c.args.unit c.args.parts.now runner c.requires.well c.requires.numbered at _ c.close.new.runner refl refl c.args.progress (c.requires.stands runner at).progress c.give_cell.new.held c.give_cell.ensures (c.requires.stands runner at) (c.requires.linked runner at) c.close.ensures
 
-pub give_cells-requires : goal.give_cells-requires
-give_cells-requires c =
+pub give_cell-requires-clause-places : goal.give_cell-requires-clause-places
+give_cell-requires-clause-places c =
     let runner = c.index_mut-runner.result.now in
     let items = c.args.parts.now.runners.items in
     let at : slice_get items (c.args.unit - 1) ≡ Some runner = slice_get_read items (length items) (c.args.unit - 1) runner refl (omega (arith, c.requires.within, c.requires.numbered)) c.index_mut-runner.ensures.value in

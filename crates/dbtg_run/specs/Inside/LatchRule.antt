@@ -35,11 +35,11 @@ use Rattle.dbtg_step.specs.Machine.Network.{network}
 use Rattle.dbtg_step.specs.Machine.Headline.{opening_of}
 use Rattle.dbtg_step.specs.Core.Parts.{held_cells_of, note_of}
 use Rattle.dbtg_run.specs.declared.view.About.{About}
-use Rattle.dbtg_run.specs.declared.view.Member.{Member}
-use Rattle.dbtg_run.specs.declared.view.View.{View}
+use Rattle.dbtg_run.specs.declared.view.SeatUnit.{SeatUnit}
+use Rattle.dbtg_run.specs.declared.view.SeatKnowledge.{SeatKnowledge}
 use Rattle.dbtg_run.specs.Views.{Has}
 use Rattle.dbtg_run.specs.Inside.Views.{Seated, rest_of, times_place, once_below, latched, total_below, changed, with_area, less_area, with_cell, less_cell, drawn, bare}
-use Rattle.dbtg_run.specs.Kept.{entry}
+use Rattle.dbtg_run.specs.LatchRule.{entry}
 
 -- the machine's database
 abbrev pub net : About → SequentialDatabase
@@ -74,11 +74,11 @@ abbrev pub database_after : About → List Entry → Database
 database_after about log = (replay_entries about.schema.value about.capacity (opening_state about.schema.value about.units) log).database
 
 -- what a member is as a unit of the machine
-abbrev pub progress_of : (about : About) → Member → Progress (net about)
+abbrev pub progress_of : (about : About) → SeatUnit → Progress (net about)
 progress_of about m = record { exclusive = m.exclusive; areas = reverse m.areas; cells = held_cells_of m.held; turning_back = false; ticket = None; linked = 0 }
 
 -- the machine has the member as its unit at place u, numbered from 0, in mid-statement
-pub record Shows (about : About) (machine : Machine (net about)) (u : ℕ) (m : Member) : Type 0 where
+pub record Shows (about : About) (machine : Machine (net about)) (u : ℕ) (m : SeatUnit) : Type 0 where
   pub state : UnitState (net about)
   pub found : unit_at machine.units (suc u) ≡ Some state
   pub unit : state.unit ≡ m.unit
@@ -97,7 +97,7 @@ pub record AtHome (location : CellName → Location CellValue) (home : maybe.Opt
   pub location_is : location c ≡ Home (shown value)
 
 -- the words and the homes show the machine
-pub record Worded (about : About) (words : List ℕ) (homes : List (maybe.Option (Option Cell))) (all : ℕ → Member) : Type 0 where
+pub record Worded (about : About) (words : List ℕ) (homes : List (maybe.Option (Option Cell))) (all : ℕ → SeatUnit) : Type 0 where
   -- there is such a state, lawful and with a history of statements that fit; and the table has its words
   pub log : List Entry
   pub machine : Machine (net about)
@@ -123,27 +123,27 @@ pub record Worded (about : About) (words : List ℕ) (homes : List (maybe.Option
   pub out : (k : ℕ) (c : CellName) → slot_name about k ≡ Some c → slice_index words (cell_word about k) ≢ 0 → machine.location c ≡ HeldBy (slice_index words (cell_word about k))
 
 -- the rule: a sound schema, no more than eight units, each of them in a seat, and words and homes that show the machine
-pub record Kept (about : About) (s : State (Option Cell) View) : Type 0 where
+pub record LatchRule (about : About) (s : State (Option Cell) SeatKnowledge) : Type 0 where
   pub sound : IsSound about.schema.value
   pub few : about.units ≤ 8
-  pub all : ℕ → Member
+  pub all : ℕ → SeatUnit
   pub seats : Seated about all s.views
   pub worded : Worded about s.words s.homes all
 
 -- what a seat has in a step: its view, and the slots in its hands
 abbrev pub Sat : Type 0
-Sat = Me (Option Cell) View
+Sat = Me (Option Cell) SeatKnowledge
 
 -- a step on a word of the table
 abbrev pub At : Type 0
 At = Step (Option Cell)
 
 -- in a database of one unit an area's word is 0 where this unit does not have the area
-abbrev pub FreeAlone : ℕ → View → ℕ → Type 0
-FreeAlone a v found = (m : Member) → v.members ≡ m ∷ [] → v.about.units ≡ 1 → latched false a m ≡ 0 → latched true a m ≡ 0 → found ≡ 0
+abbrev pub FreeAlone : ℕ → SeatKnowledge → ℕ → Type 0
+FreeAlone a v found = (m : SeatUnit) → v.members ≡ m ∷ [] → v.about.units ≡ 1 → latched false a m ≡ 0 → latched true a m ≡ 0 → found ≡ 0
 
 -- what a member holds, without guesses
-abbrev pub hands_of : Member → Hands
+abbrev pub hands_of : SeatUnit → Hands
 hands_of m = record { areas = m.areas; cells = m.held; guesses = [] }
 
 -- some database agrees with what the unit holds; in a database of one unit it is that of the unit's own entries. No cell is
@@ -156,8 +156,8 @@ pub record IsReal (about : About) (unit : Unit) (journal : List Entry) (hands : 
   pub versions : HaveNextVersions hands.cells
 
 -- where a view has one member, some database agrees with what it holds
-abbrev pub TellsReal : View → Type 0
-TellsReal v = (m : Member) → v.members ≡ m ∷ [] → IsReal v.about m.unit m.journal (hands_of m)
+abbrev pub TellsReal : SeatKnowledge → Type 0
+TellsReal v = (m : SeatUnit) → v.members ≡ m ∷ [] → IsReal v.about m.unit m.journal (hands_of m)
 
 -- a look at an area's word: nothing changes
 abbrev pub LooksAtArea : At → Sat → ℕ → Sat → Type 0
@@ -174,7 +174,7 @@ abbrev pub LeavesArea : At → Sat → ℕ → Sat → Type 0
 LeavesArea st me found after = after ≡ (changed less_area me.0, me.1)
 
 -- the number of the slot that a word guards
-abbrev pub slot_of_word : View → ℕ → ℕ
+abbrev pub slot_of_word : SeatKnowledge → ℕ → ℕ
 slot_of_word v word = word - (1 + area_count v.about)
 
 -- slot k came into the hands, with the cell of that number
@@ -184,8 +184,8 @@ TookAt k me after =
     × (after ≡ (changed (with_cell c (bare (shown x))) me.0, (k, Some x) ∷ me.1))
 
 -- in a database of one unit, a cell that it does not hold is at home
-abbrev pub CellFreeAlone : ℕ → View → ℕ → Type 0
-CellFreeAlone k v found = (m : Member) (c : CellName) → v.members ≡ m ∷ [] → v.about.units ≡ 1 → slot_name v.about k ≡ Some c → holds m.held c ≡ false → found ≡ 0
+abbrev pub CellFreeAlone : ℕ → SeatKnowledge → ℕ → Type 0
+CellFreeAlone k v found = (m : SeatUnit) (c : CellName) → v.members ≡ m ∷ [] → v.about.units ≡ 1 → slot_name v.about k ≡ Some c → holds m.held c ≡ false → found ≡ 0
 
 -- slot k is taken where its word was 0, and else nothing changes
 abbrev pub TakesAt : ℕ → Sat → ℕ → Sat → Type 0
@@ -201,7 +201,7 @@ PutsCell st me found after = after ≡ (changed less_cell me.0, rest me.1)
 
 -- there is a history of the sequential database that gives the unit as it is; it ends with the unit's last entry, and has just
 -- the unit's journal of it
-pub record Recorded (about : About) (m : Member) : Type 0 where
+pub record Recorded (about : About) (m : SeatUnit) : Type 0 where
   pub before : List Entry
   pub last : Entry
   pub mine : List Entry
@@ -215,17 +215,17 @@ pub record Recorded (about : About) (m : Member) : Type 0 where
 abbrev pub Draws : Statement → Answer → Unit → List (CellName × Cell) → At → Sat → ℕ → Sat → Type 0
 Draws x a unit held st me found after =
     (after ≡ (changed (λ m. drawn (entry found (suc m.place) x a) unit held m) me.0, me.1))
-    × ((m : Member) → me.0.members ≡ m ∷ [] → (db : Database) × Agrees me.0.about.schema.value me.0.about.capacity db (hands_of m) m.unit)
-    × ((m : Member) → after.0.members ≡ m ∷ [] → Recorded me.0.about m)
+    × ((m : SeatUnit) → me.0.members ≡ m ∷ [] → (db : Database) × Agrees me.0.about.schema.value me.0.about.capacity db (hands_of m) m.unit)
+    × ((m : SeatUnit) → after.0.members ≡ m ∷ [] → Recorded me.0.about m)
     × TellsReal after.0
 
 -- n units before their first statements, numbered from this place on
-abbrev pub numbered : (about : About) → ℕ → ℕ → List Member
+abbrev pub numbered : (about : About) → ℕ → ℕ → List SeatUnit
 numbered about place zero = []
 numbered about place (suc n) = record { place = place; unit = opening_unit about.schema.value (suc place); journal = []; exclusive = false; areas = []; held = [] } ∷ numbered about (suc place) n
 
 -- the view before the first cut: all units
-abbrev pub first_view : About → View
+abbrev pub first_view : About → SeatKnowledge
 first_view about = record { live = true; about = about; members = numbered about 0 about.units }
 
 -- the first of a list, as a list
@@ -234,15 +234,15 @@ first_of [] = []
 first_of (x ∷ xs) = x ∷ []
 
 -- the view without its first member
-abbrev pub others_of : View → View
+abbrev pub others_of : SeatKnowledge → SeatKnowledge
 others_of v = record { live = v.live; about = v.about; members = rest_of v.members }
 
 -- the view of the first member alone
-abbrev pub one_of : View → View
+abbrev pub one_of : SeatKnowledge → SeatKnowledge
 one_of v = record { live = v.live; about = v.about; members = first_of v.members }
 
 -- the members of both views in one
-abbrev pub gathered : View → View → View
+abbrev pub gathered : SeatKnowledge → SeatKnowledge → SeatKnowledge
 gathered v w = record { live = v.live; about = v.about; members = w.members ++ v.members }
 
 -- a schema with nothing in it
@@ -250,14 +250,14 @@ abbrev pub no_schema : Lists
 no_schema = record { name = []; areas = []; types = []; sets = [] }
 
 -- what a join leaves of the view that was joined
-abbrev pub spent : View
+abbrev pub spent : SeatKnowledge
 spent = record { live = false; about = record { schema = record { marker = record {}; value = no_schema }; capacity = 0; units = 0 }; members = [] }
 
 -- all units are in this view
-pub record Whole (v : View) : Type 0 where
+pub record Whole (v : SeatKnowledge) : Type 0 where
   pub log : List Entry
   pub history : IsHistoryOf v.about.schema.value v.about.capacity v.about.units log
-  pub each : (m : Member) → Has m v.members → (m.place < v.about.units) × (entries_of (suc m.place) log ≡ m.journal)
+  pub each : (m : SeatUnit) → Has m v.members → (m.place < v.about.units) × (entries_of (suc m.place) log ≡ m.journal)
       × (unit_of (replay_entries v.about.schema.value v.about.capacity (opening_state v.about.schema.value v.about.units) log) (suc m.place) ≡ Some m.unit)
   pub once : (u : ℕ) → times_place u v.members ≡ once_below u v.about.units
 

@@ -1,7 +1,7 @@
 use Rattle.std.proofs.Common.{◌≡◌, Some, slice_get, length, refl, ◌-◌, arith}
 use Rattle.std.proofs.lemmas.Option.{slice_get_read}
 use Rattle.dbtg_step.proofs.TheCore.EventsShown.{begins_is}
-use Rattle.dbtg_step.proofs.stepping.begins.Goals as goal
+use Rattle.dbtg_step.proofs.stepping.begin_event.Goals as goal
 
 pub returns : goal.returns
 returns c schema capacity well =
