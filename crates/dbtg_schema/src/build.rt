@@ -9,6 +9,7 @@ ghost use Rattle.dbtg_schema.specs.Inside.Views.{views};
 
 use crate::entries::front_entry;
 use crate::find::find_name;
+use crate::limits::{MOST_AREAS, MOST_ITEMS, MOST_RECORD_TYPES};
 use crate::numbers::{AreaNo, ItemNo, RecordNo};
 use crate::pictures::spelled_picture;
 use crate::queries::{Labelled, any, first_named, has_role};
@@ -65,7 +66,7 @@ fn items(alloc: Global, entry: &[Labelled]) -> Result<Vec<Item>, AllocError>
 
 /// The numbers of the CALC items among the items of their record type.
 fn calc_items(alloc: Global, items: &[Item], entry: &[Labelled]) -> Result<Vec<ItemNo>, AllocError>
-    requires { length items.now ≤ 16 }
+    requires { length items.now ≤ MOST_ITEMS }
     ensures { IfOk result (λ v. v.items ≡ calc_items_from items.now (views entry.now)) }
 {
     let mut out = Vec::new(alloc);
@@ -78,7 +79,7 @@ fn calc_items(alloc: Global, items: &[Item], entry: &[Labelled]) -> Result<Vec<I
 }
 
 fn calc(alloc: Global, items: &[Item], entry: &[Labelled]) -> Result<Option<Calc>, AllocError>
-    requires { length items.now ≤ 16 }
+    requires { length items.now ≤ MOST_ITEMS }
     ensures { IfOk result (λ c. c ≡ calc_from items.now (views entry.now)) }
 {
     if !any(entry, Role::CalcItem) {
@@ -94,8 +95,8 @@ fn calc(alloc: Global, items: &[Item], entry: &[Labelled]) -> Result<Option<Calc
 
 /// The record type whose words these are.
 fn record_type(alloc: Global, areas: &[Area], entry: &[Labelled]) -> Result<RecordType, AllocError>
-    requires areas_fit { length areas.now ≤ 16 }
-    requires items_fit { count_of role.ItemEntry (views entry.now) ≤ 16 }
+    requires areas_fit { length areas.now ≤ MOST_AREAS }
+    requires items_fit { count_of role.ItemEntry (views entry.now) ≤ MOST_ITEMS }
     ensures { IfOk result (λ r. r ≡ record_type_from areas.now (views entry.now)) }
 {
     let name = text_of(alloc, entry, Role::RecordName)?;
@@ -161,8 +162,8 @@ pub fn types(
     areas: &[Area],
     words: &[Labelled],
 ) -> Result<Vec<RecordType>, AllocError>
-    requires areas_fit { length areas.now ≤ 16 }
-    requires items_fit { AllByRecursion (λ e. count_of role.ItemEntry e ≤ 16) (entries role.RecordEntry (views words.now)) }
+    requires areas_fit { length areas.now ≤ MOST_AREAS }
+    requires items_fit { AllByRecursion (λ e. count_of role.ItemEntry e ≤ MOST_ITEMS) (entries role.RecordEntry (views words.now)) }
     ensures { IfOk result (λ v. v.items ≡ map (record_type_from areas.now) (entries role.RecordEntry (views words.now))) }
 {
     let mut out = Vec::new(alloc);
@@ -177,9 +178,9 @@ pub fn types(
 
 /// The items of the record type of this number.
 fn items_at(types: &[RecordType], rtype: RecordNo) -> &[Item]
-    requires { All (λ r. length r.items ≤ 16) types.now }
+    requires { All (λ r. length r.items ≤ MOST_ITEMS) types.now }
     ensures items { result.now ≡ items_at types.now rtype }
-    ensures few { length result.now ≤ 16 }
+    ensures few { length result.now ≤ MOST_ITEMS }
 {
     match types.get(rtype.index() as usize) {
         Some(rtype) => rtype.items.as_slice(),
@@ -188,7 +189,7 @@ fn items_at(types: &[RecordType], rtype: RecordNo) -> &[Item]
 }
 
 fn key(types: &[RecordType], rtype: RecordNo, entry: &[Labelled]) -> Option<ItemNo>
-    requires { All (λ r. length r.items ≤ 16) types.now }
+    requires { All (λ r. length r.items ≤ MOST_ITEMS) types.now }
     ensures { result ≡ key_from types.now rtype (views entry.now) }
 {
     if any(entry, Role::KeyItem) {
@@ -201,8 +202,8 @@ fn key(types: &[RecordType], rtype: RecordNo, entry: &[Labelled]) -> Option<Item
 
 /// The member clause whose words these are.
 fn member(types: &[RecordType], entry: &[Labelled]) -> Member
-    requires types_fit { length types.now ≤ 16 }
-    requires items_fit { All (λ r. length r.items ≤ 16) types.now }
+    requires types_fit { length types.now ≤ MOST_RECORD_TYPES }
+    requires items_fit { All (λ r. length r.items ≤ MOST_ITEMS) types.now }
     ensures { result ≡ member_from types.now (views entry.now) }
 {
     let rtype = RecordNo::new(find_name(types, first_named(entry, Role::MemberName)).unwrap_or(0));
@@ -218,8 +219,8 @@ fn members(
     types: &[RecordType],
     entry: &[Labelled],
 ) -> Result<Vec<Member>, AllocError>
-    requires types_fit { length types.now ≤ 16 }
-    requires items_fit { All (λ r. length r.items ≤ 16) types.now }
+    requires types_fit { length types.now ≤ MOST_RECORD_TYPES }
+    requires items_fit { All (λ r. length r.items ≤ MOST_ITEMS) types.now }
     ensures { IfOk result (λ v. v.items ≡ map (member_from types.now) (entries role.MemberEntry (views entry.now))) }
 {
     let mut out = Vec::new(alloc);
@@ -232,7 +233,7 @@ fn members(
 }
 
 fn owner(types: &[RecordType], entry: &[Labelled]) -> Option<RecordNo>
-    requires { length types.now ≤ 16 }
+    requires { length types.now ≤ MOST_RECORD_TYPES }
     ensures { result ≡ owner_from types.now (views entry.now) }
 {
     if any(entry, Role::OwnerName) {
@@ -244,8 +245,8 @@ fn owner(types: &[RecordType], entry: &[Labelled]) -> Option<RecordNo>
 
 /// The set whose words these are.
 fn set(alloc: Global, types: &[RecordType], entry: &[Labelled]) -> Result<SetType, AllocError>
-    requires types_fit { length types.now ≤ 16 }
-    requires items_fit { All (λ r. length r.items ≤ 16) types.now }
+    requires types_fit { length types.now ≤ MOST_RECORD_TYPES }
+    requires items_fit { All (λ r. length r.items ≤ MOST_ITEMS) types.now }
     ensures { IfOk result (λ s. s ≡ set_from types.now (views entry.now)) }
 {
     let name = text_of(alloc, entry, Role::SetName)?;
@@ -266,8 +267,8 @@ pub fn sets(
     types: &[RecordType],
     words: &[Labelled],
 ) -> Result<Vec<SetType>, AllocError>
-    requires types_fit { length types.now ≤ 16 }
-    requires items_fit { All (λ r. length r.items ≤ 16) types.now }
+    requires types_fit { length types.now ≤ MOST_RECORD_TYPES }
+    requires items_fit { All (λ r. length r.items ≤ MOST_ITEMS) types.now }
     ensures { IfOk result (λ v. v.items ≡ sets_from types.now (views words.now)) }
 {
     let mut out = Vec::new(alloc);

@@ -15,6 +15,7 @@ ghost use Rattle.dbtg_schema.specs.declared.role.Role.TheVariants as role;
 use crate::automaton::{Kind, Start, State};
 use crate::entries::{count_named, has_other_key, record_named};
 use crate::fault::{Cause, Fault};
+use crate::limits::{MOST_AREAS, MOST_CALC_ITEMS, MOST_ITEMS, MOST_MEMBERS, MOST_RECORD_TYPES, MOST_SETS};
 use crate::queries::{Labelled, any, count, first_named, has_role, is_named, open_record, since};
 use crate::role::Role;
 use crate::scanner::Word;
@@ -63,12 +64,12 @@ pub fn is_surplus(words: &[Labelled], role: Role) -> bool
     ensures { result ≡ is_surplus (views words.now) role }
 {
     match role {
-        Role::AreaEntry => 8 <= count(words, Role::AreaEntry),
-        Role::RecordEntry => 16 <= count(words, Role::RecordEntry),
-        Role::SetEntry => 16 <= count(words, Role::SetEntry),
-        Role::ItemEntry => 16 <= count(since(words, Role::RecordEntry), Role::ItemEntry),
-        Role::MemberEntry => 4 <= count(since(words, Role::SetEntry), Role::MemberEntry),
-        Role::CalcItem => 4 <= count(since(words, Role::RecordEntry), Role::CalcItem),
+        Role::AreaEntry => MOST_AREAS <= count(words, Role::AreaEntry),
+        Role::RecordEntry => MOST_RECORD_TYPES <= count(words, Role::RecordEntry),
+        Role::SetEntry => MOST_SETS <= count(words, Role::SetEntry),
+        Role::ItemEntry => MOST_ITEMS <= count(since(words, Role::RecordEntry), Role::ItemEntry),
+        Role::MemberEntry => MOST_MEMBERS <= count(since(words, Role::SetEntry), Role::MemberEntry),
+        Role::CalcItem => MOST_CALC_ITEMS <= count(since(words, Role::RecordEntry), Role::CalcItem),
         _ => false,
     }
 }

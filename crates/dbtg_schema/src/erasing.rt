@@ -6,6 +6,7 @@ ghost use Rattle.dbtg_schema.specs.Structure.{erase_areas, home, member_clause, 
 ghost use Rattle.dbtg_schema.specs.Inside.Erasing.{leads_to, is_home_of, touches, marked_in, is_given, AreWays, AreErased, AreErasedOfEach};
 ghost use Rattle.dbtg_schema.specs.Erasing.{marked};
 
+use crate::limits::{MOST_AREAS, MOST_RECORD_TYPES};
 use crate::numbers::{AreaNo, RecordNo, SetNo};
 use crate::row::Row;
 use crate::schema::Schema;
@@ -90,7 +91,7 @@ fn is_area_or_home(schema: &Schema, sets: u8, rtype: RecordNo, area: AreaNo) -> 
 /// Marks the member types to which this type leads.
 fn leads_from(schema: &Schema, sets: u8, types: u8, owner: RecordNo) -> [bool; 16]
     requires sets { sets ≡ length schema.now.sets }
-    requires few { types ≤ 16 }
+    requires few { types ≤ MOST_RECORD_TYPES }
     ensures { (y : ℕ) → y < types → marked result y ≡ leads_to schema.now owner y }
 {
     let mut members = [false; 16];
@@ -103,7 +104,7 @@ fn leads_from(schema: &Schema, sets: u8, types: u8, owner: RecordNo) -> [bool; 1
 /// Marks the areas that this type touches.
 fn touched_by(schema: &Schema, sets: u8, rtype: RecordNo) -> [bool; 16]
     requires { sets ≡ length schema.now.sets }
-    ensures { (a : ℕ) → a < 8 → marked result a ≡ touches schema.now rtype a }
+    ensures { (a : ℕ) → a < MOST_AREAS → marked result a ≡ touches schema.now rtype a }
 {
     let mut areas = [false; 16];
     for a in 0..8u8 {
@@ -163,7 +164,7 @@ fn is_given(table: &[[bool; 16]], rows: u8, marks: &[bool], number: u8) -> bool
 
 /// The first type, and the types to which a marked type leads.
 fn one_step(leads: &[[bool; 16]], types: u8, marks: &[bool], start: RecordNo) -> [bool; 16]
-    requires { types ≤ 16 }
+    requires { types ≤ MOST_RECORD_TYPES }
     ensures { (y : ℕ) → y < types → marked result y ≡ (y == start || is_given leads.now types marks.now y) }
 {
     let mut next = [false; 16];
@@ -179,7 +180,7 @@ fn one_step(leads: &[[bool; 16]], types: u8, marks: &[bool], start: RecordNo) ->
 fn reachable(schema: &Schema, ways: &Ways, types: u8, start: RecordNo) -> [bool; 16]
     requires ways { AreWays schema.now ways.now.leads ways.now.touched }
     requires types { types ≡ length schema.now.types }
-    requires few { types ≤ 16 }
+    requires few { types ≤ MOST_RECORD_TYPES }
     ensures { filter (marked result) (range_with_len 0 (length schema.now.types)) ≡ reachable_types schema.now start }
 {
     let mut marks = [false; 16];
@@ -231,7 +232,7 @@ impl Schema {
     /// The areas that a DELETE of a record of this type may reach: over the types that can be reached from it by
     /// going from owner type to member type, the type's area and the homes of the sets in which it is a member.
     pub fn erase_areas(&self, rtype: RecordNo) -> AreaSet
-        ensures areas { (a : ℕ) → a < 8 → marked result a ≡ list_any (λ b. b == a) (erase_areas self.now rtype) }
+        ensures areas { (a : ℕ) → a < MOST_AREAS → marked result a ≡ list_any (λ b. b == a) (erase_areas self.now rtype) }
         ensures known { list_all (λ a. nat_lt a (length self.now.areas)) (erase_areas self.now rtype) ≡ true }
     {
         self.is_well_formed();

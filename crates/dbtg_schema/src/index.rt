@@ -7,6 +7,7 @@ ghost use Rattle.std.specs.Str.{bytes_eq};
 ghost use Rattle.dbtg_schema.specs.Inside.NameIndexes.{leads_to, IsIndexOf, AreItemIndexes, IsSchemaIndex};
 
 use crate::find::HasName;
+use crate::limits::{MOST_AREAS, MOST_ITEMS, MOST_RECORD_TYPES, MOST_SETS};
 use crate::numbers::{AreaNo, ItemNo, RecordNo, SetNo};
 use crate::row::Row;
 use crate::shape::{Area, RecordType, SetType};
@@ -55,7 +56,7 @@ impl NameIndex {
 
 /// An index for the items of each record type.
 fn item_indexes(alloc: Global, types: &[RecordType]) -> Result<Vec<NameIndex>, AllocError>
-    requires { All (λ r. length r.items ≤ 16) types.now }
+    requires { All (λ r. length r.items ≤ MOST_ITEMS) types.now }
     ensures { IfOk result (λ v. AreItemIndexes v.items types.now) }
 {
     let mut out = Vec::new(alloc);
@@ -82,10 +83,10 @@ impl SchemaIndex {
         types: &[RecordType],
         sets: &[SetType],
     ) -> Result<Self, AllocError>
-        requires areas_fit { length areas.now ≤ 8 }
-        requires types_fit { length types.now ≤ 16 }
-        requires sets_fit { length sets.now ≤ 16 }
-        requires items_fit { All (λ r. length r.items ≤ 16) types.now }
+        requires areas_fit { length areas.now ≤ MOST_AREAS }
+        requires types_fit { length types.now ≤ MOST_RECORD_TYPES }
+        requires sets_fit { length sets.now ≤ MOST_SETS }
+        requires items_fit { All (λ r. length r.items ≤ MOST_ITEMS) types.now }
         ensures { IfOk result (λ index. IsSchemaIndex index areas.now types.now sets.now) }
     {
         let items = Row::of(item_indexes(alloc, types)?);

@@ -11,6 +11,7 @@ mod fault;
 mod find;
 mod index;
 pub mod laws;
+mod limits;
 mod names;
 mod numbers;
 mod pictures;
@@ -25,6 +26,7 @@ mod shape;
 
 pub use erasing::AreaSet;
 pub use fault::{Cause, SchemaFault};
+pub use limits::{MOST_AREAS, MOST_CALC_ITEMS, MOST_DIGITS, MOST_ITEMS, MOST_MEMBERS, MOST_RECORD_TYPES, MOST_SETS, MOST_TEXT_BYTES, SCHEMA_BYTES};
 pub use names::is_name;
 pub use numbers::{AreaNo, ItemNo, RecordNo, SetNo};
 pub use pictures::spelled_picture;

@@ -4,6 +4,7 @@ ghost use Rattle.dbtg_schema.specs.Texts.Spelling.{in_parentheses, is_digit, of_
 ghost use Rattle.std.specs.Prelude.{◌≡◌, ◌==◌, ◌+◌, ◌<◌, ◌≤◌, ◌^◌, ℕ, length, option_map, IfSome};
 ghost use Rattle.std.specs.List.{list_all};
 
+use crate::limits::{MOST_DIGITS, MOST_TEXT_BYTES};
 use crate::shape::Picture;
 
 fn in_parentheses(word: &[u8]) -> Option<u8>
@@ -21,9 +22,9 @@ fn in_parentheses(word: &[u8]) -> Option<u8>
 fn of_size(letter: u8, size: usize) -> Option<Picture>
     ensures { result ≡ of_size letter size }
 {
-    if letter == b'9' && 1 <= size && size <= 18 {
+    if letter == b'9' && 1 <= size && size <= MOST_DIGITS {
         Some(Picture::Number(size as u8))
-    } else if letter == b'X' && 1 <= size && size <= 64 {
+    } else if letter == b'X' && 1 <= size && size <= MOST_TEXT_BYTES {
         Some(Picture::Text(size as u8))
     } else {
         None

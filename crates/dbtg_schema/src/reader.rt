@@ -19,6 +19,7 @@ ghost use Rattle.dbtg_schema.specs.declared.fault.Fault.{Fault as SeenFault};
 use crate::automaton::{State, follow};
 use crate::checks::{at_end, at_other, at_word};
 use crate::fault::{Cause, Fault, SchemaFault};
+use crate::limits::SCHEMA_BYTES;
 use crate::queries::Labelled;
 use crate::scanner::{Scanner, Word};
 use std::alloc::Global;
@@ -78,10 +79,10 @@ pub fn read(alloc: Global, text: &[u8]) -> Result<Vec<Labelled<'_>>, SchemaFault
     ensures sound { IfOk result (λ v. IsSchema (schema_of (views v.items))) }
     ensures fitting { IfOk result (λ v. IsSound (schema_of (views v.items))) }
     ensures limits { IfOk result (λ v. WithinLimits (views v.items)) }
-    ensures too_long { 65536 < length text.now → MatchResult result (λ _. ⊥) (λ e. e ≡ SchemaFault.Refused 1 Cause.TextTooLong) }
+    ensures too_long { SCHEMA_BYTES < length text.now → MatchResult result (λ _. ⊥) (λ e. e ≡ SchemaFault.Refused 1 Cause.TextTooLong) }
     ensures at_once { RefusedAtOnce text.now (MatchResult result (λ _. ⊥) (λ e. e ≡ SchemaFault.Memory → ⊥)) }
 {
-    if text.len() > 65536 {
+    if text.len() > SCHEMA_BYTES {
         return Err(SchemaFault::of(Fault {
             line: 1,
             cause: Cause::TextTooLong,

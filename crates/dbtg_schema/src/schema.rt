@@ -28,6 +28,7 @@ use crate::entries::front;
 use crate::erasing::{AreaSet, areas_of_each};
 use crate::fault::SchemaFault;
 use crate::index::SchemaIndex;
+use crate::limits::{MOST_AREAS, MOST_ITEMS, MOST_RECORD_TYPES, MOST_SETS, SCHEMA_BYTES};
 use crate::numbers::{AreaNo, ItemNo, RecordNo, SetNo};
 use crate::queries::Labelled;
 use crate::reader::read as read_words;
@@ -118,10 +119,10 @@ fn look_ups(
     types: &[RecordType],
     sets: &[SetType],
 ) -> Result<(SchemaIndex, Row<SetsOfType>), AllocError>
-    requires areas_fit { length areas.now ≤ 8 }
-    requires types_fit { length types.now ≤ 16 }
-    requires sets_fit { length sets.now ≤ 16 }
-    requires items_fit { All (λ r. length r.items ≤ 16) types.now }
+    requires areas_fit { length areas.now ≤ MOST_AREAS }
+    requires types_fit { length types.now ≤ MOST_RECORD_TYPES }
+    requires sets_fit { length sets.now ≤ MOST_SETS }
+    requires items_fit { All (λ r. length r.items ≤ MOST_ITEMS) types.now }
     ensures index { IfOk result (λ found. IsSchemaIndex found.0 areas.now types.now sets.now) }
     ensures each { IfOk result (λ found. AreSetsOfEach found.1 (length types.now) sets.now) }
 {
@@ -230,7 +231,7 @@ impl Schema {
         ensures derived { OnOk result (Derives fits schema (labels fits schema (text_words text.now))) }
         ensures sound { IfOk result (λ s. IsSound s) }
         ensures named { IfOk result (λ s. IsNamed s) }
-        ensures too_long { 65536 < length text.now → MatchResult result (λ _. ⊥) (λ e. e ≡ Refused 1 TextTooLong) }
+        ensures too_long { SCHEMA_BYTES < length text.now → MatchResult result (λ _. ⊥) (λ e. e ≡ Refused 1 TextTooLong) }
         ensures at_once { RefusedAtOnce text.now (MatchResult result (λ _. ⊥) (λ e. e ≡ Memory → ⊥)) }
     {
         let words = read_words(alloc, text)?;
@@ -245,21 +246,21 @@ impl Schema {
 
     pub fn areas(&self) -> &[Area]
         ensures areas { result.now ≡ self.now.areas }
-        ensures few { length result.now ≤ 8 }
+        ensures few { length result.now ≤ MOST_AREAS }
     {
         self.areas.as_slice()
     }
 
     pub fn types(&self) -> &[RecordType]
         ensures types { result.now ≡ self.now.types }
-        ensures few { length result.now ≤ 16 }
+        ensures few { length result.now ≤ MOST_RECORD_TYPES }
     {
         self.types.as_slice()
     }
 
     pub fn sets(&self) -> &[SetType]
         ensures sets { result.now ≡ self.now.sets }
-        ensures few { length result.now ≤ 16 }
+        ensures few { length result.now ≤ MOST_SETS }
     {
         self.sets.as_slice()
     }
@@ -451,7 +452,7 @@ impl Schema {
     /// The items of a record type, in order.
     pub fn items(&self, rtype: RecordNo) -> &[Item]
         ensures items { result.now ≡ item_list self.now rtype }
-        ensures few { length result.now ≤ 16 }
+        ensures few { length result.now ≤ MOST_ITEMS }
     {
         match self.types.get(rtype.index() as usize) {
             Some(record) => record.items.as_slice(),

@@ -7,6 +7,7 @@ ghost use Rattle.dbtg_schema.specs.Lookups.{some_and};
 ghost use Rattle.dbtg_schema.specs.Inside.SetsOfTypes.{sets_alone, AreSetsOf, AreSetsOfEach};
 ghost use Rattle.dbtg_schema.specs.Structure.{is_automatic};
 
+use crate::limits::MOST_SETS;
 use crate::numbers::{RecordNo, SetNo};
 use crate::row::Row;
 use crate::schema::clause_for;
@@ -54,7 +55,7 @@ fn list_if(passed: bool, list: &mut Row<SetNo>, set: SetNo) -> Result<(), AllocE
 
 /// The sets of this record type.
 fn sets_of_type(alloc: Global, sets: &[SetType], rtype: RecordNo) -> Result<SetsOfType, AllocError>
-    requires { length sets.now ≤ 16 }
+    requires { length sets.now ≤ MOST_SETS }
     ensures { IfOk result (λ listed. AreSetsOf (sets_alone sets.now) rtype listed) }
 {
     let mut automatic = Row::of(Vec::new(alloc));
@@ -73,7 +74,7 @@ pub fn sets_of_each(
     sets: &[SetType],
     types: u8,
 ) -> Result<Row<SetsOfType>, AllocError>
-    requires { length sets.now ≤ 16 }
+    requires { length sets.now ≤ MOST_SETS }
     ensures { IfOk result (λ each. AreSetsOfEach each types sets.now) }
 {
     let mut each = Row::of(Vec::new(alloc));

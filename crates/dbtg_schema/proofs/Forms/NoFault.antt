@@ -3,6 +3,7 @@ use Rattle.std.proofs.Common.{◌≡◌, ℕ, Bool, true, false, ◌&&◌, ◌||
 use Rattle.std.specs.Prelude.{nat_lt, length, filter}
 use Rattle.std.specs.List.{flat_map, list_any}
 use Rattle.std.proofs.lemmas.List.Folds.{list_any-append}
+use Rattle.dbtg_schema.specs.declared.limits.TheConstants.{SCHEMA_BYTES}
 use Rattle.dbtg_schema.specs.declared.fault.Fault.{Fault}
 use Rattle.dbtg_schema.specs.declared.fault.Cause.{Cause}
 use Rattle.dbtg_schema.specs.declared.fault.Cause.TheVariants.{TextTooLong, NameTaken, ItemNameTwice, UnknownArea, UnknownRecordType, UnknownItem, UnknownSet, OwnerIsMember, MemberTwice, KeyPicturesDiffer, KeyMisplaced, OverLimit, NoItems, CalcItemTwice}
@@ -115,5 +116,5 @@ clean (l ∷ left) end ws f t d = by_case l left end ws f (start_with fits l.wor
 
 pub clean_text : DerivedHasNoFaultOfGrammar
 clean_text text d =
-    clean_both (too_long text) (flat_map (λ here. here) (places (last_line text) [] schema (text_words text))) (clean_when (nat_lt 65536 (length text)) TextTooLong 1 refl)
+    clean_both (too_long text) (flat_map (λ here. here) (places (last_line text) [] schema (text_words text))) (clean_when (nat_lt SCHEMA_BYTES (length text)) TextTooLong 1 refl)
     (subst (λ (z : List Word). Clean (flat_map (λ here. here) (places (last_line text) [] schema z))) d.1 (clean d.0 (last_line text) [] schema (ranked apart schema schema_is_told) d.2))

@@ -3,6 +3,7 @@ use Rattle.std.proofs.Common.{◌≡◌, ℕ, ◌≤◌, true, false, List, [], 
 use Rattle.std.specs.Prelude.{filter, not}
 use Rattle.std.proofs.lemmas.Bool.{le-ltb}
 use Rattle.std.proofs.lemmas.List.{append-nil}
+use Rattle.dbtg_schema.specs.declared.limits.TheConstants.{SCHEMA_BYTES}
 use Rattle.dbtg_schema.specs.declared.fault.Fault.{Fault}
 use Rattle.dbtg_schema.specs.Lookups.{first}
 use Rattle.dbtg_schema.specs.Texts.Words.{is_noise, last_line, text_words, Word, words}
@@ -23,9 +24,9 @@ seen_noise line line2 rest rest2 w e h = rw (e, h) refl
 pub seen_end : (line : ℕ) (rest : List ℕ) → words line rest ≡ [] → seen line rest ≡ []
 seen_end line rest e = rw e refl
 
-pub short_text : (text : List ℕ) → length text ≤ 65536 → refusal text ≡ verdict (last_line text) [] schema (text_words text)
+pub short_text : (text : List ℕ) → length text ≤ SCHEMA_BYTES → refusal text ≡ verdict (last_line text) [] schema (text_words text)
 unfolding verdict
-short_text text le = rw (le-ltb 65536 (length text) le) refl
+short_text text le = rw (le-ltb SCHEMA_BYTES (length text) le) refl
 
 pub at_the_end : (end : ℕ) (ws : List Labelled) (f : Form) → verdict end ws f [] ≡ first (at_end end ws f)
 unfolding verdict

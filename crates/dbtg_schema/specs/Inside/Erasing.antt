@@ -1,6 +1,7 @@
 -- How the areas of a DELETE are found: record types that lead to others are marked until nothing changes.
 use Rattle.std.specs.Prelude.{ℕ, ◌≡◌, ◌<◌, Bool, ◌&&◌, ◌||◌, ◌==◌, List, [], is_some, length, slice_index_or}
 use Rattle.std.specs.List.{list_any, range_with_len}
+use Rattle.dbtg_schema.specs.declared.limits.TheConstants.{MOST_AREAS}
 use Rattle.dbtg_schema.specs.Lists.{Lists}
 use Rattle.dbtg_schema.specs.Inside.Lookups.{EachAt}
 use Rattle.dbtg_schema.specs.Structure.{owns, member_clause, set_numbers, home, area_of, erase_areas}
@@ -29,7 +30,7 @@ is_given table rows marks n = list_any (λ x. marked marks x && marked_in table 
 -- a row for each record type: the types to which it leads, the areas that it touches
 pub record AreWays (schema : Lists) (leads touched : List (List Bool)) : Type 0 where
   pub leads_right : (x y : ℕ) → x < length schema.types → y < length schema.types → marked_in leads x y ≡ leads_to schema x y
-  pub touched_right : (t a : ℕ) → t < length schema.types → a < 8 → marked_in touched t a ≡ touches schema t a
+  pub touched_right : (t a : ℕ) → t < length schema.types → a < MOST_AREAS → marked_in touched t a ≡ touches schema t a
 
 -- a type that is marked leads to y
 unfoldable pub is_next : Lists → List Bool → ℕ → Bool
@@ -41,7 +42,7 @@ is_touched schema marks a = list_any (λ t. marked marks t && touches schema t a
 
 -- the areas that are marked are those of a DELETE of a record of type t
 abbrev pub AreErased : Lists → ℕ → List Bool → Type 0
-AreErased schema t marks = (a : ℕ) → a < 8 → marked marks a ≡ list_any (λ b. b == a) (erase_areas schema t)
+AreErased schema t marks = (a : ℕ) → a < MOST_AREAS → marked marks a ≡ list_any (λ b. b == a) (erase_areas schema t)
 
 -- they are marked for each record type, from number 0 on, as far as the list goes
 abbrev pub AreErasedOfEach : List (List Bool) → Lists → Type 0

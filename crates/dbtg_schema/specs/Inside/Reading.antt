@@ -1,6 +1,7 @@
 -- Words beside `Reading` that private functions and lemmas use.
 use Rattle.std.specs.Prelude.{ℕ, ◌≤◌, List, Option}
 use Rattle.std.specs.List.{flat_map, AllByRecursion}
+use Rattle.dbtg_schema.specs.declared.limits.TheConstants.{MOST_AREAS, MOST_CALC_ITEMS, MOST_ITEMS, MOST_MEMBERS, MOST_RECORD_TYPES, MOST_SETS}
 use Rattle.dbtg_schema.specs.declared.fault.Fault.{Fault}
 use Rattle.dbtg_schema.specs.declared.role.Role.TheVariants as role
 use Rattle.dbtg_schema.specs.Lookups.{first}
@@ -15,9 +16,9 @@ verdict end ws wanted left = first (flat_map (λ here. here) (places end ws want
 
 -- there are no more entries in these words than numbers for them
 pub record WithinLimits (ws : List Labelled) : Type 0 where
-  pub areas : count_of role.AreaEntry ws ≤ 8
-  pub types : count_of role.RecordEntry (until role.SetEntry ws) ≤ 16
-  pub sets : count_of role.SetEntry ws ≤ 16
-  pub items : AllByRecursion (λ e. count_of role.ItemEntry e ≤ 16) (entries role.RecordEntry (until role.SetEntry ws))
-  pub calc : AllByRecursion (λ e. count_of role.CalcItem e ≤ 4) (entries role.RecordEntry (until role.SetEntry ws))
-  pub members : AllByRecursion (λ e. count_of role.MemberEntry e ≤ 4) (entries role.SetEntry ws)
+  pub areas : count_of role.AreaEntry ws ≤ MOST_AREAS
+  pub types : count_of role.RecordEntry (until role.SetEntry ws) ≤ MOST_RECORD_TYPES
+  pub sets : count_of role.SetEntry ws ≤ MOST_SETS
+  pub items : AllByRecursion (λ e. count_of role.ItemEntry e ≤ MOST_ITEMS) (entries role.RecordEntry (until role.SetEntry ws))
+  pub calc : AllByRecursion (λ e. count_of role.CalcItem e ≤ MOST_CALC_ITEMS) (entries role.RecordEntry (until role.SetEntry ws))
+  pub members : AllByRecursion (λ e. count_of role.MemberEntry e ≤ MOST_MEMBERS) (entries role.SetEntry ws)

@@ -2,6 +2,7 @@
 use Rattle.std.specs.Prelude.{ℕ, Bool, true, false, ◌&&◌, ◌||◌, not, List, [], ◌∷◌, ◌++◌, length, filter, Option, Some, None, if◌then◌else◌, codes, nat_le, nat_lt, ◌==◌, count_by}
 use Rattle.std.specs.List.{list_any, list_all, flat_map}
 use Rattle.std.specs.Str.{bytes_eq}
+use Rattle.dbtg_schema.specs.declared.limits.TheConstants.{MOST_AREAS, MOST_CALC_ITEMS, MOST_ITEMS, MOST_MEMBERS, MOST_RECORD_TYPES, MOST_SETS, SCHEMA_BYTES}
 use Rattle.dbtg_schema.specs.declared.role.Role.{Role}
 use Rattle.dbtg_schema.specs.declared.role.Role.TheVariants as role
 use Rattle.dbtg_schema.specs.declared.fault.Fault.{Fault}
@@ -51,12 +52,12 @@ record_end (w ∷ ws) =
 
 -- a word that begins an entry or a CALC item past the limit
 abbrev pub is_surplus : List Labelled → Role → Bool
-is_surplus ws role.AreaEntry = nat_le 8 (count_of role.AreaEntry ws)
-is_surplus ws role.RecordEntry = nat_le 16 (count_of role.RecordEntry ws)
-is_surplus ws role.SetEntry = nat_le 16 (count_of role.SetEntry ws)
-is_surplus ws role.ItemEntry = nat_le 16 (count_of role.ItemEntry (since role.RecordEntry ws))
-is_surplus ws role.MemberEntry = nat_le 4 (count_of role.MemberEntry (since role.SetEntry ws))
-is_surplus ws role.CalcItem = nat_le 4 (count_of role.CalcItem (since role.RecordEntry ws))
+is_surplus ws role.AreaEntry = nat_le MOST_AREAS (count_of role.AreaEntry ws)
+is_surplus ws role.RecordEntry = nat_le MOST_RECORD_TYPES (count_of role.RecordEntry ws)
+is_surplus ws role.SetEntry = nat_le MOST_SETS (count_of role.SetEntry ws)
+is_surplus ws role.ItemEntry = nat_le MOST_ITEMS (count_of role.ItemEntry (since role.RecordEntry ws))
+is_surplus ws role.MemberEntry = nat_le MOST_MEMBERS (count_of role.MemberEntry (since role.SetEntry ws))
+is_surplus ws role.CalcItem = nat_le MOST_CALC_ITEMS (count_of role.CalcItem (since role.RecordEntry ws))
 is_surplus ws _ = false
 
 -- the picture of the item of this name, among these item entries
@@ -203,7 +204,7 @@ places end ws wanted (w ∷ rest) =
 
 -- more than 65,536 bytes
 abbrev pub too_long : List ℕ → List Fault
-too_long text = when (nat_lt 65536 (length text)) (fault TextTooLong 1)
+too_long text = when (nat_lt SCHEMA_BYTES (length text)) (fault TextTooLong 1)
 
 -- every fault of a text, in the order of their places, and at a place in their order there
 abbrev pub faults : List ℕ → List Fault

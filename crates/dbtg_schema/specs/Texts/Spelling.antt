@@ -2,6 +2,7 @@
 use Rattle.std.specs.Prelude.{ℕ, Bool, ◌&&◌, ◌||◌, not, List, [], ◌∷◌, length, Option, Some, None, is_some, if◌then◌else◌, codes, nat_le, nat_lt, slice_index, ◌==◌, ◌+◌, ◌*◌, ◌-◌}
 use Rattle.std.specs.List.{list_any, list_all}
 use Rattle.std.specs.Str.{bytes_eq}
+use Rattle.dbtg_schema.specs.declared.limits.TheConstants.{MOST_DIGITS, MOST_TEXT_BYTES}
 use Rattle.dbtg_schema.specs.declared.shape.Picture.{Picture}
 use Rattle.dbtg_schema.specs.declared.shape.Picture.TheVariants.{Number, Text}
 
@@ -46,8 +47,8 @@ in_parentheses _ = None
 -- a picture of 1 to 18 characters 9, or of 1 to 64 characters X
 abbrev pub of_size : ℕ → ℕ → Option Picture
 of_size c n =
-    if c == 57 && nat_le 1 n && nat_le n 18 then Some (Number n)
-    else (if c == 88 && nat_le 1 n && nat_le n 64 then Some (Text n)
+    if c == 57 && nat_le 1 n && nat_le n MOST_DIGITS then Some (Number n)
+    else (if c == 88 && nat_le 1 n && nat_le n MOST_TEXT_BYTES then Some (Text n)
     else None)
 
 -- a picture of a length within the limit of its kind
