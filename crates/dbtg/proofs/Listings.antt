@@ -18,6 +18,7 @@ use Rattle.dbtg_outcomes.specs.declared.outcomes.OneResult.{OneResult}
 use Rattle.dbtg_outcomes.specs.declared.outcomes.Outcomes.{Outcomes}
 use Rattle.dbtg_outcomes.specs.Outcomes.{AreOutcomes, AreStatuses, Comes, HasStatus}
 use Rattle.dbtg_outcomes.specs.Results.{Meeting}
+use Rattle.dbtg_script.specs.declared.limits.TheConstants.{MOST_MOVES}
 use Rattle.dbtg_script.specs.Statements.{script}
 use Rattle.dbtg_script.specs.Printing.WordTexts.{moves_words_text, turns_text}
 use Rattle.dbtg_step.specs.declared.results.Run.{Run}
@@ -107,7 +108,7 @@ texts_behind old a b c d = ap (λ x. x ++ c ++ d) (append_assoc old a b) ∙ ap 
 -- of a result that is made by its turns
 module _ (m : Meeting) (one : OneResult) (moves : List Move) (given : Run) (run : IsRunByTurns m.schema m.capacity m.scripts one.turns moves given) where
   -- the text, where so many turns and moves in front are left out
-  pub result_told : (front : Front) (k : ℕ) (shown : List Move) (old new : List ℕ) → IsFront m front → shown ≡ moves → length moves ≤ 1000000
+  pub result_told : (front : Front) (k : ℕ) (shown : List Move) (old new : List ℕ) → IsFront m front → shown ≡ moves → length moves ≤ MOST_MOVES
       → new ≡ old ++ result_line k one ++ worded (codes "turns") (turns_text (drop front.turns one.turns)) ++ worded (codes "moves") (moves_words_text (drop front.moves shown)) ++ given_text m.schema given
       → (text : List ℕ) × (new ≡ old ++ text) × IsResultText m k one text
   result_told front k shown old new is_front shown_is few new_is =
@@ -123,9 +124,9 @@ module _ (m : Meeting) (one : OneResult) (moves : List Move) (given : Run) (run 
       )
 
   -- where its moves are not given it is too long
-  pub long_told : (said : Option (List Move)) → AreGiven 1000000 moves said → (told : Fault) → (told ≡ Memory) ⊎ ((told ≡ MovesOver) × (said ≡ None)) → (told ≡ Memory) ⊎ ((told ≡ MovesOver) × IsLong m one)
+  pub long_told : (said : Option (List Move)) → AreGiven MOST_MOVES moves said → (told : Fault) → (told ≡ Memory) ⊎ ((told ≡ MovesOver) × (said ≡ None)) → (told ≡ Memory) ⊎ ((told ≡ MovesOver) × IsLong m one)
   long_told said are told (inl e) = inl e
-  long_told said are told (inr h) = inr (h.0, record { moves = moves; stand = (given, run); many = subst (AreGiven 1000000 moves) h.1 are })
+  long_told said are told (inr h) = inr (h.0, record { moves = moves; stand = (given, run); many = subst (AreGiven MOST_MOVES moves) h.1 are })
 
 -- the next of the results that can come out
 module _ (m : Meeting) (all : Outcomes) (i : ℕ) (one : OneResult) (below : i < length all.results.items) (at : one ≡ get_or all.results.items i one) where

@@ -5,6 +5,7 @@ use Rattle.std.specs.List.{range_with_len}
 use Rattle.std.proofs.lemmas.List.{get_or-map, length-append, length-map, nil_from_length}
 use Rattle.std.proofs.lemmas.List.FromFn.{get_or-range_with_len, length-range_with_len}
 use Rattle.std.proofs.lemmas.Option.{get_or_from_slice_get, slice_get_within}
+use Rattle.dbtg_unit.specs.declared.limits.TheConstants.{MOST_STATEMENTS}
 use Rattle.dbtg_unit.specs.declared.statement.Statement.{Statement}
 use Rattle.dbtg_unit.specs.declared.unit.Entry.{Entry}
 use Rattle.dbtg_unit.specs.Database.Laws.Replay.{entries_of}
@@ -46,7 +47,7 @@ are_of script number db after history ran whole own = record {
   script_is = ran.script_is ∙ ap (λ es. map (λ (e : Entry). e.statement) es ++ ran.left) made_are;
   whole = ⊎_elim
       (λ (long : length after.journal ≡ 0 + length script). inl (none_left (long_as_made long)))
-      (λ (full : 65535 ≤ length after.journal). inr (subst (λ n. 65535 ≤ n) (sym (ap length own)) full))
+      (λ (full : MOST_STATEMENTS ≤ length after.journal). inr (subst (λ n. MOST_STATEMENTS ≤ n) (sym (ap length own)) full))
       whole;
 }
   where

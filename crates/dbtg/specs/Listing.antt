@@ -12,6 +12,7 @@ use Rattle.dbtg_outcomes.specs.declared.outcomes.OneResult.{OneResult}
 use Rattle.dbtg_outcomes.specs.declared.outcomes.Outcomes.{Outcomes}
 use Rattle.dbtg_outcomes.specs.Outcomes.{AreOutcomes, count_states}
 use Rattle.dbtg_outcomes.specs.Results.{Meeting}
+use Rattle.dbtg_script.specs.declared.limits.TheConstants.{MOST_MOVES}
 use Rattle.dbtg_script.specs.Statements.{script}
 use Rattle.dbtg_script.specs.Printing.Texts.{four_digits}
 use Rattle.dbtg_script.specs.Printing.WordTexts.{moves_words_text, turns_text}
@@ -69,7 +70,7 @@ pub record IsResultText (m : Meeting) (k : ℕ) (one : OneResult) (out : List �
   pub moves : List Move
   pub given : Run
   pub by_turns : IsRunByTurns m.schema m.capacity m.scripts one.turns moves given
-  pub few : length moves ≤ 1000000
+  pub few : length moves ≤ MOST_MOVES
   pub before : List Move
   pub are_first : AreFirstMoves m.first m.schema m.capacity m.scripts before
   pub is_text : out ≡ result_text m.schema k one (drop (length (first_turns m.first m.scripts)) one.turns) (drop (length before) moves) given
@@ -84,7 +85,7 @@ AreResultTexts m k (one ∷ rest) out =
 pub record IsLong (m : Meeting) (one : OneResult) : Type 0 where
   pub moves : List Move
   pub stand : StandFor m.schema m.capacity m.scripts one.turns moves
-  pub many : 1000000 < length moves
+  pub many : MOST_MOVES < length moves
 
 -- the text is the summary of what comes out, and then that of each result
 pub record AreTold (m : Meeting) (all : Outcomes) (out : List ℕ) : Type 0 where

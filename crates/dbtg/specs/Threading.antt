@@ -2,6 +2,7 @@
 -- lists is the schema that a text says; script k + 1 is that of the unit with number k + 1.
 use Rattle.std.specs.Prelude.{ℕ, ◌≡◌, ◌≤◌, ◌⊎◌, ◌+◌, true, List, [], ◌∷◌, ◌++◌, length, map, None, Some, slice_get, codes}
 use Rattle.dbtg_schema.specs.Lists.{Lists}
+use Rattle.dbtg_unit.specs.declared.limits.TheConstants.{MOST_STATEMENTS}
 use Rattle.dbtg_unit.specs.declared.statement.Statement.{Statement}
 use Rattle.dbtg_unit.specs.declared.unit.Entry.{Entry}
 use Rattle.dbtg_unit.specs.declared.unit.Unit.{Unit}
@@ -23,7 +24,7 @@ use Rattle.dbtg_replay.specs.Replaying.{IsReplay}
 pub record AreOf (script : List Statement) (entries : List Entry) : Type 0 where
   pub left : List Statement
   pub script_is : script ≡ map (λ (e : Entry). e.statement) entries ++ left
-  pub whole : (left ≡ []) ⊎ (65535 ≤ length entries)
+  pub whole : (left ≡ []) ⊎ (MOST_STATEMENTS ≤ length entries)
 
 -- a history of the sequential database in which each unit makes its script from its opening state, and the image and the units
 -- to which it leads

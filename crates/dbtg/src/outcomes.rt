@@ -18,13 +18,10 @@ use dbtg_outcomes::{Answered, Meeting, OneResult, Outcomes, Stop, all_outcomes};
 use dbtg_replay::replay::{push_given, schema_for_run};
 use dbtg_replay::{behind, first_turns, moves_behind_first, read_scripts};
 use dbtg_schema::Schema;
-use dbtg_script::{moves_words_text, push_number, push_status, turns_text};
+use dbtg_script::{MOST_MOVES, moves_words_text, push_number, push_status, turns_text};
 use dbtg_step::{Run, Turned, run_turns};
 use dbtg_unit::Move;
 use std::alloc::{AllocError, Global};
-
-// So many moves a text of moves may have.
-const MOST_MOVES: usize = 1_000_000;
 
 /// What a listing is asked for.
 #[derive(Clone, Copy)]

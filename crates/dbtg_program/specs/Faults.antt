@@ -8,6 +8,7 @@ use Rattle.dbtg_schema.specs.declared.shape.Picture.{Picture}
 use Rattle.dbtg_schema.specs.declared.shape.Picture.TheVariants.{Number, Text as TextPicture}
 use Rattle.dbtg_cells.specs.declared.key.Value.{Value}
 use Rattle.dbtg_cells.specs.declared.key.Value.TheVariants as value
+use Rattle.dbtg_script.specs.declared.limits.TheConstants.{SCRIPT_BYTES}
 use Rattle.dbtg_script.specs.declared.fault.Cause.TheVariants as cause
 use Rattle.dbtg_script.specs.Lines.{ends_in_text, is_allowed, is_statement, lines, trimmed}
 use Rattle.dbtg_script.specs.Lookups.{type_named}
@@ -29,6 +30,7 @@ use Rattle.dbtg_program.specs.States.{beginning_with}
 use Rattle.dbtg_program.specs.Going.{said_word}
 use Rattle.dbtg_program.specs.Sentences.{Holding, Text, counters_of, cut, field_named, fields_in, is_own_name, is_word, marked, paragraph_at, picture_in, plain_text, sentences_of, text_in, verb_of, word_at, word_of}
 use Rattle.dbtg_program.specs.Grammar.{fits, form, is_literal}
+use Rattle.dbtg_unit.specs.declared.limits.TheConstants.{MOST_STATEMENTS}
 
 -- the number by which a cause is printed
 abbrev pub cause_number : ProgramCause → ℕ
@@ -134,7 +136,7 @@ sentence_faults text at l = faults_of text at l.words l.paragraph (verb_of l.wor
 -- the faults of a line as a whole, where `at` sentences stand before it
 abbrev pub whole_faults : ℕ → List ℕ → List ProgramCause
 whole_faults at line =
-    when (is_statement line && nat_le 65535 at) (AsInScript cause.TooMuch) ++ when (not (is_allowed line)) (AsInScript cause.LineNotAllowed)
+    when (is_statement line && nat_le MOST_STATEMENTS at) (AsInScript cause.TooMuch) ++ when (not (is_allowed line)) (AsInScript cause.LineNotAllowed)
     ++ when (is_statement line && ends_in_text false line) (AsInScript cause.UnexpectedWord)
 
 -- the faults of a line, then those of its sentence
@@ -152,7 +154,7 @@ lines_faults text at number (l ∷ ls) = map (λ c. record { line = number; caus
 
 -- more than 1,048,576 bytes
 abbrev pub too_long : List ℕ → List Fault
-too_long text = if nat_lt 1048576 (length text) then record { line = 1; cause = AsInScript cause.TooMuch } ∷ [] else []
+too_long text = if nat_lt SCRIPT_BYTES (length text) then record { line = 1; cause = AsInScript cause.TooMuch } ∷ [] else []
 
 -- every fault of a program
 abbrev pub faults : Lists → List ℕ → List Fault

@@ -5,6 +5,7 @@ use Rattle.std.specs.List.{list_all}
 use Rattle.std.proofs.lemmas.Bool.{and_from, and_parts, le-leb, leb-true}
 use Rattle.std.proofs.lemmas.List.{length-append, length-map}
 use Rattle.dbtg_schema.specs.Lists.{Lists}
+use Rattle.dbtg_unit.specs.declared.limits.TheConstants.{MOST_STATEMENTS}
 use Rattle.dbtg_unit.specs.declared.statement.Statement.{Statement}
 use Rattle.dbtg_unit.specs.declared.unit.Entry.{Entry}
 use Rattle.dbtg_unit.specs.declared.unit.Unit.{Unit}
@@ -15,6 +16,7 @@ use Rattle.dbtg_step.specs.Machine.SequentialDatabase.{unit_at}
 use Rattle.dbtg_step.specs.Machine.Headline.{IsSequential}
 use Rattle.dbtg_step.specs.Core.Turns.{made_turns}
 use Rattle.dbtg_step.proofs.Public.{map_at}
+use Rattle.dbtg_script.specs.declared.limits.TheConstants.{MOST_MOVES}
 use Rattle.dbtg_script.specs.Laws.{is_unit_number}
 use Rattle.dbtg_script.specs.Statements.{script}
 use Rattle.dbtg_script.specs.Turns.{turns_refusal}
@@ -43,11 +45,11 @@ few : (scripts : List (List Statement)) (history : List Entry) → Begins script
 few scripts history begin u k at = few_of scripts history begin u k (unit_at scripts u) refl (sym (map_at length scripts u) ∙ at)
 
 -- a script that is accepted has at most 65,535
-few_each : (lists : Lists) (texts : List (List ℕ)) → AllAccepted lists texts → (k : ℕ) → k < length (map length (map (script lists) texts)) → (j : ℕ) → slice_get (map length (map (script lists) texts)) k ≡ Some j → j ≤ 65535
+few_each : (lists : Lists) (texts : List (List ℕ)) → AllAccepted lists texts → (k : ℕ) → k < length (map length (map (script lists) texts)) → (j : ℕ) → slice_get (map length (map (script lists) texts)) k ≡ Some j → j ≤ MOST_STATEMENTS
 few_each lists [] accepted k below j at = absurd (cc (at))
 few_each lists (text ∷ texts) accepted zero below j at =
     let e : length (script lists text) ≡ j = cc (at) in
-    subst (λ n. n ≤ 65535) e (few_statements lists text accepted.0)
+    subst (λ n. n ≤ MOST_STATEMENTS) e (few_statements lists text accepted.0)
 few_each lists (text ∷ texts) accepted (suc k) below j at = few_each lists texts accepted.1 k (omega (arith, below)) j at
 
 numbers : (n : ℕ) (es : List Entry) → n ≤ 99 → AllWithin n es → list_all is_unit_number (map (λ (e : Entry). e.unit) es) ≡ true
@@ -87,9 +89,9 @@ made_again text scripts capacity history image after turns right accepted law ar
     made : (made_turns (map length all) units ≡ units) × (length history ≤ total (map length all))
     made = all_made (map length all) history (subst (λ n. AllWithin n history) (sym lefts) within) (few all history law.scripts_begin)
 
-    short : length units ≤ 1000000
+    short : length units ≤ MOST_MOVES
     short =
-        let t = total_few (map length all) 65535 (few_each lists scripts accepted.1) in
+        let t = total_few (map length all) MOST_STATEMENTS (few_each lists scripts accepted.1) in
         let h = made.1 in
         let u = length-map history (λ (e : Entry). e.unit) in
         omega (arith, t, h, u, lefts, many, most)

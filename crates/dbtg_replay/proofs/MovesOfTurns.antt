@@ -12,6 +12,7 @@ use Rattle.dbtg_step.specs.Machine.Machine.{SequentialState, State}
 use Rattle.dbtg_step.specs.Machine.Headline.{machine_after, machine_of, opening_of}
 use Rattle.dbtg_step.specs.Machine.Network.{network}
 use Rattle.dbtg_step.specs.Core.Turns.{AreEvents, AreTurns, IsRunByTurns, IsTurn, IsTurnOf, left_of}
+use Rattle.dbtg_script.specs.declared.limits.TheConstants.{MOST_MOVES}
 use Rattle.dbtg_script.specs.Laws.{has_unit_number, is_unit_number}
 use Rattle.dbtg_script.specs.Moves.{refusal as moves_refusal}
 use Rattle.dbtg_script.specs.Statements.{script}
@@ -57,7 +58,7 @@ module _ (D : SequentialDatabase) (opening : SequentialState D) where
       ∙ and_from (list_all has_unit_number e.0) (list_all has_unit_number e.1) (turn_named u both.0 s e.2 e.0 e.4) (turns_named us both.1 e.2 t e.1 e.5)
 
 pub moves_said : (lists : Lists) (capacity : ℕ) (scripts : List (List Statement)) (turns : List ℕ) (moves : List Move) (given : Run) (out : List ℕ)
-    → IsRunByTurns lists capacity scripts turns moves given → list_all (λ u. nat_le u 99) turns ≡ true → length moves ≤ 1000000 → out ≡ moves_words_text moves → AreMovesOf lists capacity scripts turns out
+    → IsRunByTurns lists capacity scripts turns moves given → list_all (λ u. nat_le u 99) turns ≡ true → length moves ≤ MOST_MOVES → out ≡ moves_words_text moves → AreMovesOf lists capacity scripts turns out
 moves_said lists capacity scripts turns moves given out run small few is =
     let named = turns_named (network lists capacity) (opening_of lists capacity (length scripts)) turns small (machine_of lists capacity scripts) (machine_after lists capacity scripts moves) moves run.moves_are in
     let back = moves_read_back moves named few in

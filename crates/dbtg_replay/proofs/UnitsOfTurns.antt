@@ -3,6 +3,7 @@ use Rattle.std.proofs.Common.{◌≡◌, ℕ, zero, suc, ◌&&◌, Bool, true, f
 use Rattle.std.specs.List.{list_all}
 use Rattle.std.specs.Prelude.{⊤}
 use Rattle.std.proofs.lemmas.List.Folds.{list_all-append}
+use Rattle.dbtg_script.specs.declared.limits.TheConstants.{MOST_MOVES}
 use Rattle.dbtg_script.specs.Moves.{begins_with, counted, plain_number, repeated, said, spelled_turn, times}
 use Rattle.dbtg_script.specs.Printing.Spelling.{is_number, number, in_front, behind, has_byte}
 use Rattle.dbtg_script.specs.Turns.{turns_of}
@@ -29,7 +30,7 @@ small_of true x y p q = p
 small_of false x y p q = q
 
 small_turn : (t : List ℕ) → IsSmall (spelled_turn t)
-small_turn t = small_of (has_byte 42 t) (counted (in_front 42 t) (plain_number 1000000 (behind 42 t))) (times (plain_number 99 t) 1) (small_counted (in_front 42 t) (plain_number 1000000 (behind 42 t))) (small_times t 1)
+small_turn t = small_of (has_byte 42 t) (counted (in_front 42 t) (plain_number MOST_MOVES (behind 42 t))) (times (plain_number 99 t) 1) (small_counted (in_front 42 t) (plain_number MOST_MOVES (behind 42 t))) (small_times t 1)
 
 many_small : (k u : ℕ) → nat_le u 99 ≡ true → list_all (λ v. nat_le v 99) (replicate k u) ≡ true
 many_small zero u e = refl

@@ -5,6 +5,7 @@ use Rattle.dbtg_schema.specs.Lists.{Lists}
 use Rattle.dbtg_unit.specs.declared.moves.Move.{Move}
 use Rattle.dbtg_unit.specs.declared.moves.Stepped.{Stepped}
 use Rattle.dbtg_unit.specs.declared.statement.Statement.{Statement}
+use Rattle.dbtg_script.specs.declared.limits.TheConstants.{MOST_MOVES}
 use Rattle.dbtg_script.specs.Moves.{refusal as moves_refusal}
 use Rattle.dbtg_script.specs.Statements.{script}
 use Rattle.dbtg_script.specs.Printing.Texts.{moves_text}
@@ -29,7 +30,7 @@ pub record AreMovesOf (lists : Lists) (capacity : ℕ) (scripts : List (List Sta
 -- the turns stand for more moves than a text of moves may have, and the fault says so, unless memory ran out
 abbrev pub AreMoreMoves : Lists → ℕ → List (List Statement) → List ℕ → Fault → Type 0
 AreMoreMoves lists capacity scripts turns fault.Memory = Unit {0}
-AreMoreMoves lists capacity scripts turns fault.MovesOver = (moves : List Move) × StandFor lists capacity scripts turns moves × (1000000 < length moves)
+AreMoreMoves lists capacity scripts turns fault.MovesOver = (moves : List Move) × StandFor lists capacity scripts turns moves × (MOST_MOVES < length moves)
 AreMoreMoves lists capacity scripts turns (fault.Schema line cause) = ⊥
 AreMoreMoves lists capacity scripts turns (fault.Script n line cause) = ⊥
 AreMoreMoves lists capacity scripts turns (fault.Moves word cause) = ⊥

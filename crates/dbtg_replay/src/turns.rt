@@ -12,13 +12,10 @@ use crate::replay::schema_for_run;
 use crate::scripts::read_scripts;
 use dbtg_command::{Fault, Source, read_turns};
 use dbtg_schema::{Row, Schema};
-use dbtg_script::moves_words_text;
+use dbtg_script::{MOST_MOVES, moves_words_text};
 use dbtg_step::run_turns;
 use dbtg_unit::Statement;
 use std::alloc::Global;
-
-// So many moves a text of moves may have.
-const MOST_MOVES: usize = 1_000_000;
 
 /// The text of the moves that these turns stand for.
 fn moves_of(

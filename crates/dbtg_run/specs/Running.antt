@@ -1,5 +1,6 @@
 -- Units that make scripts on threads.
 use Rattle.std.specs.Prelude.{◌≡◌, ◌⊎◌, ℕ, ◌+◌, ◌<◌, ◌≤◌, List, [], ◌++◌, length, map, Some, get_or}
+use Rattle.dbtg_unit.specs.declared.limits.TheConstants.{MOST_STATEMENTS}
 use Rattle.dbtg_unit.specs.declared.statement.Statement.{Statement}
 use Rattle.dbtg_unit.specs.declared.unit.Entry.{Entry}
 use Rattle.dbtg_unit.specs.Database.Laws.Replay.{IsHistoryOf, entries_of, opening_state, replay as replay_entries, unit_of}
@@ -31,7 +32,7 @@ pub record Ran (script : List Statement) (before after : UnitView) : Type 0 wher
 
 -- all statements of the script are made, or the journal has no room for another entry
 abbrev pub IsWhole : List Statement → UnitView → UnitView → Type 0
-IsWhole script before after = (length after.journal ≡ length before.journal + length script) ⊎ (65535 ≤ length after.journal)
+IsWhole script before after = (length after.journal ≡ length before.journal + length script) ⊎ (MOST_STATEMENTS ≤ length after.journal)
 
 -- so holds of each script, of the unit to which it was given, and of that unit afterwards; all three stand at one place
 pub record AtEach (P : List Statement → UnitView → UnitView → Type 0) (scripts : List (List Statement)) (before after : List UnitView) : Type 0 where

@@ -10,7 +10,7 @@ use crate::database::Database;
 use crate::outcome::{Gate, NoGate, Outcome};
 use crate::tries::Tries;
 use crate::unit::RunUnit;
-use dbtg_unit::Statement;
+use dbtg_unit::{MOST_STATEMENTS, Statement};
 use std::alloc::Global;
 use std::sync::Wait;
 use std::thread;
@@ -31,7 +31,7 @@ impl Database {
         ensures number { unit.new.unit.number ≡ unit.old.unit.number }
         ensures done { IfDone result (λ a. IsDone self.now.about unit.old.journal unit.new.journal unit.new.unit statement.now a) }
         ensures unchanged { IfNotDone result (unit.new ≡ unit.old) }
-        ensures spent { (result ≡ Outcome.Spent) ↔ (65535 ≤ length unit.old.journal) }
+        ensures spent { (result ≡ Outcome.Spent) ↔ (MOST_STATEMENTS ≤ length unit.old.journal) }
         ensures free { NeedsNoLatch self.now.about unit.old.unit statement.now → result ≢ Outcome.Busy }
         ensures alone { self.now.about.units ≡ 1 → 0 < tries → result ≢ Outcome.Busy }
     {
@@ -53,7 +53,7 @@ impl Database {
         ensures number { unit.new.unit.number ≡ unit.old.unit.number }
         ensures done { IfDone result (λ a. IsDone self.now.about unit.old.journal unit.new.journal unit.new.unit statement.now a) }
         ensures unchanged { IfNotDone result (unit.new ≡ unit.old) }
-        ensures spent { (result ≡ Outcome.Spent) ↔ (65535 ≤ length unit.old.journal) }
+        ensures spent { (result ≡ Outcome.Spent) ↔ (MOST_STATEMENTS ≤ length unit.old.journal) }
         ensures free { NeedsNoLatch self.now.about unit.old.unit statement.now → result ≢ Outcome.Busy }
         ensures alone { self.now.about.units ≡ 1 → 0 < tries → result ≢ Outcome.Busy }
     {
@@ -75,7 +75,7 @@ impl Database {
         ensures number { unit.new.unit.number ≡ unit.old.unit.number }
         ensures done { IfDone result.0 (λ a. IsDone self.now.about unit.old.journal unit.new.journal unit.new.unit statement.now a) }
         ensures unchanged { IfNotDone result.0 (unit.new ≡ unit.old) }
-        ensures spent { (result.0 ≡ Outcome.Spent) ↔ (65535 ≤ length unit.old.journal) }
+        ensures spent { (result.0 ≡ Outcome.Spent) ↔ (MOST_STATEMENTS ≤ length unit.old.journal) }
         ensures given { result.1.given ≡ 64 }
         ensures busy { result.0 ≡ Outcome.Busy → AreUsedUp result.1 }
         ensures tries { IfDone result.0 (λ _. Suffice result.1) }
@@ -99,7 +99,7 @@ impl Database {
         ensures number { unit.new.unit.number ≡ unit.old.unit.number }
         ensures done { IfDone result (λ a. IsDone self.now.about unit.old.journal unit.new.journal unit.new.unit statement.now a) }
         ensures unchanged { IfNotDone result (unit.new ≡ unit.old) }
-        ensures spent { (result ≡ Outcome.Spent) ↔ (65535 ≤ length unit.old.journal) }
+        ensures spent { (result ≡ Outcome.Spent) ↔ (MOST_STATEMENTS ≤ length unit.old.journal) }
         ensures busy { result ≢ Outcome.Busy }
     {
         self.insist_at(rt, alloc, unit, statement, &NoGate)
@@ -120,7 +120,7 @@ impl Database {
         ensures number { unit.new.unit.number ≡ unit.old.unit.number }
         ensures done { IfDone result (λ a. IsDone self.now.about unit.old.journal unit.new.journal unit.new.unit statement.now a) }
         ensures unchanged { IfNotDone result (unit.new ≡ unit.old) }
-        ensures spent { (result ≡ Outcome.Spent) ↔ (65535 ≤ length unit.old.journal) }
+        ensures spent { (result ≡ Outcome.Spent) ↔ (MOST_STATEMENTS ≤ length unit.old.journal) }
         ensures busy { result ≢ Outcome.Busy }
     {
         'tries: for _ in rt.forever() {

@@ -13,7 +13,7 @@ use crate::database::Database;
 use crate::outcome::{Gate, Point};
 use crate::plays::{Draw, Picked};
 use crate::work::Work;
-use dbtg_unit::{Answer, Entry, Prepared, Statement, finish};
+use dbtg_unit::{Answer, Entry, MOST_STATEMENTS, Prepared, Statement, finish};
 
 impl Work {
     // Draws the ticket, and makes what was prepared. It takes no memory.
@@ -27,7 +27,7 @@ impl Work {
     ) -> Answer
         requires belongs { Belongs db.now self.old }
         requires work { IsAtWork self.old }
-        requires room { (vec_len self.old.journal < vec_capacity self.old.journal) × (length self.old.journal.items < 65535) }
+        requires room { (vec_len self.old.journal < vec_capacity self.old.journal) × (length self.old.journal.items < MOST_STATEMENTS) }
         requires fits { fits self.old.about.schema.value statement ≡ true }
         requires ready { IsReady self.old.about.schema.value self.old.about.capacity self.old.unit self.old.held statement }
         requires so { HoldsSo (is_delete statement) self.old.exclusive self.old.held }

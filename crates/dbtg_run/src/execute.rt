@@ -14,7 +14,7 @@ use crate::outcome::{Gate, Outcome, Point};
 use crate::tries::Tries;
 use crate::work::Work;
 use dbtg_step::prepare;
-use dbtg_unit::{Answer, Prepared, Statement};
+use dbtg_unit::{Answer, MOST_STATEMENTS, Prepared, Statement};
 use std::alloc::{AllocError, Global};
 use std::marker::Brand;
 
@@ -73,7 +73,7 @@ impl Work {
         requires belongs { Belongs db.now self.old }
         requires work { IsAtWork self.old }
         requires fits { fits self.old.about.schema.value statement.now ≡ true }
-        requires room { (vec_len self.old.journal < vec_capacity self.old.journal) × (length self.old.journal.items < 65535) }
+        requires room { (vec_len self.old.journal < vec_capacity self.old.journal) × (length self.old.journal.items < MOST_STATEMENTS) }
         requires ready { IsReady self.old.about.schema.value self.old.about.capacity self.old.unit self.old.held statement.now }
         requires so { HoldsSo (is_delete statement.now) self.old.exclusive self.old.held }
         requires copied { copy ≡ statement.now }
@@ -108,7 +108,7 @@ impl Work {
         requires work { IsAtWork self.old }
         requires idle { (self.old.held.areas ≡ []) × (self.old.held.cells ≡ []) }
         requires fits { fits self.old.about.schema.value statement.now ≡ true }
-        requires room { length self.old.journal.items < 65535 }
+        requires room { length self.old.journal.items < MOST_STATEMENTS }
         requires fresh { tries.old.vain ≡ 0 }
         ensures same { (self.new.about ≡ self.old.about) × (self.new.seat.table_id ≡ self.old.seat.table_id) × (self.new.unit.number ≡ self.old.unit.number) }
         ensures work { IsAtWork self.new }
@@ -159,14 +159,14 @@ impl Work {
         ensures idle { (self.new.held.areas ≡ []) × (self.new.held.cells ≡ []) }
         ensures done { IfDone result (λ a. IsDone self.old.about self.old.journal.items self.new.journal.items self.new.unit statement.now a) }
         ensures unchanged { IfNotDone result ((self.new.unit ≡ self.old.unit) × (self.new.journal.items ≡ self.old.journal.items)) }
-        ensures spent { (result ≡ Outcome.Spent) ↔ (65535 ≤ length self.old.journal.items) }
+        ensures spent { (result ≡ Outcome.Spent) ↔ (MOST_STATEMENTS ≤ length self.old.journal.items) }
         ensures given { tries.new.given ≡ tries.old.given }
         ensures busy { result ≡ Outcome.Busy → AreUsedUp tries.new }
         ensures tries { IfDone result (λ _. Suffice tries.new) }
         ensures free { NeedsNoLatch self.old.about self.old.unit statement.now → result ≢ Outcome.Busy }
         ensures alone { self.old.about.units ≡ 1 → 0 < tries.old.given → result ≢ Outcome.Busy }
     {
-        if self.journal.as_slice().len() >= 65535 {
+        if self.journal.as_slice().len() >= MOST_STATEMENTS {
             return Outcome::Spent;
         }
         let attempted = self.attempt(alloc, db, statement, tries, gate);

@@ -7,7 +7,7 @@ ghost use Rattle.dbtg_run.specs.UnitView.{BelongsTo};
 use crate::database::Database;
 use crate::outcome::{Gate, Outcome};
 use crate::unit::RunUnit;
-use dbtg_unit::Statement;
+use dbtg_unit::{MOST_STATEMENTS, Statement};
 use std::alloc::{AllocError, Global};
 use std::sync::Wait;
 
@@ -26,7 +26,7 @@ pub fn run_script<R: Wait, G: Gate>(
     requires fits { All (λ x. fits db.now.schema x ≡ true) script.now }
     ensures belongs { BelongsTo db.now unit.new }
     ensures ran { Ran script.now unit.old unit.new }
-    ensures room { OnErr result (length unit.new.journal < 65535) }
+    ensures room { OnErr result (length unit.new.journal < MOST_STATEMENTS) }
     ensures whole { IfOk result (λ _. IsWhole script.now unit.old unit.new) }
 {
     'script: for statement in script {

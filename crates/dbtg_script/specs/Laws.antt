@@ -17,6 +17,7 @@ use Rattle.dbtg_unit.specs.declared.moves.Move.{Move}
 use Rattle.dbtg_unit.specs.declared.statement.Statement.{Statement}
 use Rattle.dbtg_unit.specs.declared.unit.Entry.{Entry}
 use Rattle.dbtg_unit.specs.declared.moves.Move.TheVariants.{Step, Quit}
+use Rattle.dbtg_script.specs.declared.limits.TheConstants.{MOST_MOVES, SCRIPT_BYTES}
 use Rattle.dbtg_script.specs.Printing.Echo.{lines_beside}
 use Rattle.dbtg_script.specs.declared.fault.Cause.{Cause}
 use Rattle.dbtg_script.specs.declared.fault.Cause.TheVariants.{NoStatementWord, UnexpectedWord}
@@ -106,13 +107,13 @@ has_unit_number (Quit u) = is_unit_number u
 -- the text of moves has no fault, and says these moves
 abbrev pub PrintedMovesAreReadBack : Type 0
 PrintedMovesAreReadBack =
-    (ms : List Move) → list_all has_unit_number ms ≡ true → length ms ≤ 1000000
+    (ms : List Move) → list_all has_unit_number ms ≡ true → length ms ≤ MOST_MOVES
     → (refusal (moves_words_text ms) ≡ None) × (moves_of (words (moves_words_text ms)) ≡ ms)
 
 -- the text of turns has no fault, and says these turns
 abbrev pub PrintedTurnsAreReadBack : Type 0
 PrintedTurnsAreReadBack =
-    (us : List ℕ) → list_all is_unit_number us ≡ true → length us ≤ 1000000
+    (us : List ℕ) → list_all is_unit_number us ≡ true → length us ≤ MOST_MOVES
     → (turns_refusal (turns_text us) ≡ None) × (turns_of (words (turns_text us)) ≡ us)
 
 -- the entries of each unit are the beginning of its script
@@ -132,7 +133,7 @@ EchoedLinesSayTheirStatements =
 -- a line without a fault behind a script of whole lines: the script is accepted still, and says what it said and the line's statement
 abbrev pub LineBehindScriptIsRead : Type 0
 LineBehindScriptIsRead =
-    (schema : Lists) (text line : List ℕ) → closes true text ≡ true → length text + length line < 1048576 → script_text.refusal schema text ≡ None
+    (schema : Lists) (text line : List ℕ) → closes true text ≡ true → length text + length line < SCRIPT_BYTES → script_text.refusal schema text ≡ None
     → first (line_faults schema (length (script schema text)) (trimmed line)) ≡ None
     → (script_text.refusal schema (text ++ line ++ 10 ∷ []) ≡ None) × (script schema (text ++ line ++ 10 ∷ []) ≡ script schema text ++ prepend (line_statement schema (trimmed line)) [])
     × (closes true (text ++ line ++ 10 ∷ []) ≡ true)

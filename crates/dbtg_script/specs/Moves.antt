@@ -3,6 +3,7 @@ use Rattle.std.specs.Prelude.{◌≡◌, ℕ, ◌+◌, Bool, false, not, ◌&&�
 use Rattle.dbtg_schema.specs.Lookups.{first}
 use Rattle.dbtg_unit.specs.declared.moves.Move.{Move}
 use Rattle.dbtg_unit.specs.declared.moves.Move.TheVariants.{Step, Quit}
+use Rattle.dbtg_script.specs.declared.limits.TheConstants.{MOST_MOVES}
 use Rattle.dbtg_script.specs.declared.moves.MovesCause.{MovesCause}
 use Rattle.dbtg_script.specs.declared.moves.MovesCause.TheVariants.{NotAMove, TooManyMoves}
 use Rattle.dbtg_script.specs.declared.moves.MovesFault.{MovesFault}
@@ -46,7 +47,7 @@ counted t (Some k) = times (plain_number 99 t) k
 -- u*k or u: a unit, and how many turns it has
 abbrev pub spelled_turn : List ℕ → Option (ℕ × ℕ)
 spelled_turn t =
-    if has_byte 42 t then counted (in_front 42 t) (plain_number 1000000 (behind 42 t))
+    if has_byte 42 t then counted (in_front 42 t) (plain_number MOST_MOVES (behind 42 t))
     else times (plain_number 99 t) 1
 
 -- the quit of a unit, once
@@ -85,7 +86,7 @@ total_after total (Some m) = total + m.1
 -- what is wrong with a word behind `total` entries: it is of another shape, or it brings the total over 1,000,000
 abbrev pub word_faults : {A : Type 0} → ℕ → Option (A × ℕ) → List MovesCause
 word_faults total None = NotAMove ∷ []
-word_faults total (Some m) = if nat_lt 1000000 (total + m.1) then TooManyMoves ∷ [] else []
+word_faults total (Some m) = if nat_lt MOST_MOVES (total + m.1) then TooManyMoves ∷ [] else []
 
 -- every fault of what words say, behind `total` entries. The first word has this number; a fault has its word's number and its cause
 abbrev pub faults_from : {A : Type 0} → ℕ → ℕ → List (Option (A × ℕ)) → List (ℕ × MovesCause)

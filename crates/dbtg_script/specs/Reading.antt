@@ -14,6 +14,7 @@ use Rattle.dbtg_script.specs.Lines.{ends_in_text, is_allowed, is_statement, line
 use Rattle.dbtg_script.specs.Tokens.{Token, tokens}
 use Rattle.dbtg_script.specs.StatementGrammar.{Form, Labelled, fits, statement}
 use Rattle.dbtg_script.specs.StatementFaults.{at_other, faults_from, said, too_long, when}
+use Rattle.dbtg_unit.specs.declared.limits.TheConstants.{MOST_STATEMENTS}
 
 -- the first fault of a line from here on
 unfoldable pub verdict : Lists → List Labelled → Form → List Token → Option Cause
@@ -31,7 +32,7 @@ first_word_faults schema (t ∷ ts) = faults_at schema [] statement t
 -- the faults of a line that are found before a word of it is kept
 abbrev pub faults_at_once : Lists → ℕ → List ℕ → List Cause
 faults_at_once schema count line =
-    when (is_statement line && nat_le 65535 count) cause.TooMuch ++ when (not (is_allowed line)) cause.LineNotAllowed
+    when (is_statement line && nat_le MOST_STATEMENTS count) cause.TooMuch ++ when (not (is_allowed line)) cause.LineNotAllowed
     ++ (if is_statement line then when (ends_in_text false line) cause.UnexpectedWord ++ first_word_faults schema (tokens false line) else [])
 
 -- the first of these faults is told, and not want of memory

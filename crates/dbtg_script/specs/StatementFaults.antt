@@ -9,6 +9,7 @@ use Rattle.dbtg_schema.specs.WellFormed.{is_sorted}
 use Rattle.dbtg_schema.specs.Texts.Forms.{starts, may_end, start_with, by_start, labelled}
 use Rattle.dbtg_schema.specs.declared.shape.Calc.{Calc}
 use Rattle.dbtg_schema.specs.declared.shape.Picture.{Picture}
+use Rattle.dbtg_script.specs.declared.limits.TheConstants.{SCRIPT_BYTES}
 use Rattle.dbtg_script.specs.declared.role.Role.{Role}
 use Rattle.dbtg_script.specs.declared.role.Role.TheVariants as role
 use Rattle.dbtg_script.specs.declared.fault.Cause.{Cause}
@@ -21,6 +22,7 @@ use Rattle.dbtg_script.specs.StatementGrammar.{fits, Form, Labelled, statement}
 use Rattle.dbtg_script.specs.Labels.{has, text_of, texts, named, first_word}
 use Rattle.dbtg_script.specs.Lookups.{area_named, type_named, set_named, item_named, type_no, set_no, area_no, item_no, item_picture, sort_picture}
 use Rattle.dbtg_script.specs.Values.{is_of_kind, spelled, up_to}
+use Rattle.dbtg_unit.specs.declared.limits.TheConstants.{MOST_STATEMENTS}
 
 -- the fault, where the test holds
 abbrev pub when : Bool → Cause → List Cause
@@ -133,7 +135,7 @@ statement_faults schema line = when (ends_in_text false line) cause.UnexpectedWo
 -- the faults of a line behind `count` statements
 abbrev pub line_faults : Lists → ℕ → List ℕ → List Cause
 line_faults schema count line =
-    when (is_statement line && nat_le 65535 count) cause.TooMuch
+    when (is_statement line && nat_le MOST_STATEMENTS count) cause.TooMuch
     ++ when (not (is_allowed line)) cause.LineNotAllowed
     ++ (if is_statement line then statement_faults schema line else [])
 
@@ -149,7 +151,7 @@ lines_faults schema count number (l ∷ ls) =
 
 -- more than 1,048,576 bytes
 abbrev pub too_long : List ℕ → List Fault
-too_long text = if nat_lt 1048576 (length text) then record { line = 1; cause = cause.TooMuch } ∷ [] else []
+too_long text = if nat_lt SCRIPT_BYTES (length text) then record { line = 1; cause = cause.TooMuch } ∷ [] else []
 
 -- every fault of a script
 abbrev pub faults : Lists → List ℕ → List Fault

@@ -10,6 +10,7 @@ mod image;
 mod keyword;
 mod known;
 mod laws;
+mod limits;
 mod line;
 mod lookups;
 mod moves;
@@ -39,6 +40,7 @@ pub use laws::{
     a_printed_moves_text_is_read_back, a_printed_turns_text_is_read_back,
     different_units_print_differently, echoed_lines_say_their_statements,
 };
+pub use limits::{MOST_MOVES, SCRIPT_BYTES};
 pub use line::{Lines, ends_in_text, is_allowed, is_statement, trimmed, without_last};
 pub use moves::{MovesCause, MovesFault, read_moves};
 pub use print::{push_number, push_status};

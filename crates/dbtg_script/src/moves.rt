@@ -4,6 +4,7 @@ ghost use Rattle.dbtg_script.specs.Moves.{RefusedAtOnce, Refuses, begins_with, c
 ghost use Rattle.dbtg_script.specs.declared.moves.MovesFault.TheVariants.{Memory};
 ghost use Rattle.std.specs.Prelude.{◌≡◌, ◌+◌, ◌-◌, ◌++◌, ◌<◌, ◌≤◌, ◌∷◌, ℕ, List, [], IfErr, IfOk, IfSome, MatchOption, MatchResult, None, OnOk, OnSome, Option, Some, false, length, replicate, slice_index, true};
 
+use crate::limits::MOST_MOVES;
 use crate::spelling::{behind, has_byte, in_front, is_number, number};
 use dbtg_unit::Move;
 use std::alloc::{AllocError, AllocFailed, Global};
@@ -113,7 +114,7 @@ fn begins_with(text: &[u8], c: u8) -> bool
 
 /// Digits without a leading zero, up to the greatest that is allowed.
 fn plain_number(text: &[u8], most: u64) -> Option<u64>
-    requires { most ≤ 1000000 }
+    requires { most ≤ MOST_MOVES }
     ensures value { result ≡ plain_number most text.now }
     ensures bound { IfSome result (λ n. n ≤ most) }
 {
@@ -128,9 +129,9 @@ fn plain_number(text: &[u8], most: u64) -> Option<u64>
 }
 
 fn times(text: &[u8], count: u64) -> Option<(u8, u64)>
-    requires { count ≤ 1000000 }
+    requires { count ≤ MOST_MOVES }
     ensures value { result ≡ times (plain_number 99 text.now) count }
-    ensures bound { IfSome result (λ r. r.1 ≤ 1000000) }
+    ensures bound { IfSome result (λ r. r.1 ≤ MOST_MOVES) }
 {
     match plain_number(text, 99) {
         Some(unit) => Some((unit as u8, count)),
@@ -139,10 +140,10 @@ fn times(text: &[u8], count: u64) -> Option<(u8, u64)>
 }
 
 fn counted(text: &[u8], count: &[u8]) -> Option<(u8, u64)>
-    ensures value { result ≡ counted text.now (plain_number 1000000 count.now) }
-    ensures bound { IfSome result (λ r. r.1 ≤ 1000000) }
+    ensures value { result ≡ counted text.now (plain_number MOST_MOVES count.now) }
+    ensures bound { IfSome result (λ r. r.1 ≤ MOST_MOVES) }
 {
-    match plain_number(count, 1_000_000) {
+    match plain_number(count, MOST_MOVES as u64) {
         Some(count) => times(text, count),
         None => None,
     }
@@ -151,7 +152,7 @@ fn counted(text: &[u8], count: &[u8]) -> Option<(u8, u64)>
 /// The unit that a word says, and how often it has a turn.
 pub fn spelled_turn(text: &[u8]) -> Option<(u8, u64)>
     ensures value { result ≡ spelled_turn text.now }
-    ensures bound { IfSome result (λ r. r.1 ≤ 1000000) }
+    ensures bound { IfSome result (λ r. r.1 ≤ MOST_MOVES) }
 {
     if has_byte(text, b'*') {
         counted(in_front(text, b'*'), behind(text, b'*'))
@@ -162,7 +163,7 @@ pub fn spelled_turn(text: &[u8]) -> Option<(u8, u64)>
 
 fn quit_of(text: &[u8]) -> Option<(Move, u64)>
     ensures value { result ≡ quit_of (plain_number 99 text.now) }
-    ensures bound { IfSome result (λ m. m.1 ≤ 1000000) }
+    ensures bound { IfSome result (λ m. m.1 ≤ MOST_MOVES) }
 {
     match plain_number(text, 99) {
         Some(unit) => Some((Move::Quit(unit as u8), 1)),
@@ -172,7 +173,7 @@ fn quit_of(text: &[u8]) -> Option<(Move, u64)>
 
 fn steps_of(text: &[u8]) -> Option<(Move, u64)>
     ensures value { result ≡ steps_of (spelled_turn text.now) }
-    ensures bound { IfSome result (λ m. m.1 ≤ 1000000) }
+    ensures bound { IfSome result (λ m. m.1 ≤ MOST_MOVES) }
 {
     match spelled_turn(text) {
         Some((unit, count)) => Some((Move::Step(unit), count)),
@@ -196,7 +197,7 @@ fn digit(b: u8) -> Option<u8>
 /// What a short word says, `u` or `u*k` of one digit each, which most words of moves are; none of all other words.
 fn short_steps(text: &[u8]) -> Option<(Move, u64)>
     ensures value { IfSome result (λ m. spelled_move text.now ≡ Some m) }
-    ensures bound { IfSome result (λ m. m.1 ≤ 1000000) }
+    ensures bound { IfSome result (λ m. m.1 ≤ MOST_MOVES) }
 {
     match text {
         [unit] => Some((Move::Step(digit(*unit)?), 1)),
@@ -211,7 +212,7 @@ fn short_steps(text: &[u8]) -> Option<(Move, u64)>
 /// The move that a word says, and how often it is made.
 fn spelled_move(text: &[u8]) -> Option<(Move, u64)>
     ensures value { result ≡ spelled_move text.now }
-    ensures bound { IfSome result (λ m. m.1 ≤ 1000000) }
+    ensures bound { IfSome result (λ m. m.1 ≤ MOST_MOVES) }
 {
     if let Some(steps) = short_steps(text) {
         return Some(steps);
@@ -239,7 +240,7 @@ pub fn take_word<T: Copy>(
     number: u64,
     said: Option<(T, u64)>,
 ) -> Result<(), MovesFault>
-    requires { IfSome said (λ m. m.1 ≤ 1000000) }
+    requires { IfSome said (λ m. m.1 ≤ MOST_MOVES) }
     ensures at_once { said ≡ None → MatchResult result (λ _. ⊥) (λ e. e ≡ MovesFault.Refused number MovesCause.NotAMove) }
     ensures taken { OnOk result (entries.new.items ≡ entries.old.items ++ repeated said) }
     ensures reached { (left : List (Option (T × ℕ))) → OnOk result (refused_word (length entries.old.items) number (said ∷ left) ≡ refused_word (length entries.new.items) (number + 1) left) }
@@ -251,7 +252,7 @@ pub fn take_word<T: Copy>(
             cause: MovesCause::NotAMove,
         }),
         Some(found) => {
-            if 1_000_000 < entries.len() as u64 + found.1 {
+            if (MOST_MOVES as u64) < entries.len() as u64 + found.1 {
                 return Err(MovesFault::Refused {
                     word: number,
                     cause: MovesCause::TooManyMoves,

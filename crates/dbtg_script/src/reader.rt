@@ -22,6 +22,7 @@ use crate::automaton::{State, follow};
 use crate::checks::{at_other, end_fault, said};
 use crate::fault::{Cause, LineFault, ScriptFault};
 use crate::known::LineCache;
+use crate::limits::SCRIPT_BYTES;
 use crate::line::{Lines, ends_in_text, is_allowed, is_statement, trimmed};
 use crate::queries::Labelled;
 use crate::statement::statement_of;
@@ -29,7 +30,7 @@ use crate::token::{Token, Tokens};
 use crate::usual::usual_statement;
 use crate::words::Words;
 use dbtg_schema::Schema;
-use dbtg_unit::Statement;
+use dbtg_unit::{MOST_STATEMENTS, Statement};
 use std::alloc::{AllocError, Global};
 
 /// Takes the next word: the state behind it, or the fault that the word is.
@@ -125,7 +126,7 @@ fn read_line<'a>(
     ensures note { is_statement line.now ≡ false → IfErr result (λ e. e ≡ LineFault.Memory → ⊥) }
 {
     let holds_one = is_statement(line);
-    if holds_one && 65535 <= count {
+    if holds_one && MOST_STATEMENTS <= count {
         return Err(LineFault::Refused(Cause::TooMuch));
     }
     if !is_allowed(line) {
@@ -166,7 +167,7 @@ fn said_again(
     ensures says { (schema : Lists) → IsKnown schema statements.now known.now.places → IfOk result (λ found. IfSome found (λ s. Says schema (length statements.now) line.now s)) }
     ensures memory { (schema : Lists) → IsKnown schema statements.now known.now.places → OnErr result (MayTakeMemory schema (length statements.now) line.now) }
 {
-    if 65535 <= statements.len() {
+    if MOST_STATEMENTS <= statements.len() {
         return Ok(None);
     }
     match known.find(line) {
@@ -192,7 +193,7 @@ fn said_at_once(
     ensures says { IfOk result (λ found. IfSome found (λ s. Says schema.now (length statements.now) line.now s)) }
     ensures memory { OnErr result (MayTakeMemory schema.now (length statements.now) line.now) }
 {
-    if 65535 <= statements.len() {
+    if MOST_STATEMENTS <= statements.len() {
         return Ok(None);
     }
     match said_again(alloc, known, statements, line)? {
@@ -282,7 +283,7 @@ pub fn read_script(
     ensures refused { IfErr result (λ e. RefusesScript e (refusal schema.now text.now)) }
     ensures at_once { (fault : SeenFault) → first (script_faults_at_once schema.now text.now) ≡ Some fault → MatchResult result (λ _. ⊥) (λ e. e ≡ ScriptFault.Refused fault.line fault.cause) }
 {
-    if text.len() > 1_048_576 {
+    if text.len() > SCRIPT_BYTES {
         return Err(ScriptFault::Refused {
             line: 1,
             cause: Cause::TooMuch,

@@ -21,7 +21,7 @@ use crate::token::{Token, Tokens};
 use crate::values::{blank, spelled, up_to};
 use dbtg_cells::Value;
 use dbtg_schema::{Item, ItemNo, RecordNo, Row, Schema, SetNo};
-use dbtg_unit::{Form, Statement, Suppress, Which};
+use dbtg_unit::{Form, MOST_STATEMENTS, Statement, Suppress, Which};
 use std::alloc::{AllocError, Global};
 
 /// The next word, where it is a plain one.
@@ -306,8 +306,8 @@ pub fn usual_statement(
     schema: &Schema,
     line: &[u8],
 ) -> Result<Option<Statement>, AllocError>
-    ensures says { IfOk result (λ found. IfSome found (λ s. (count : ℕ) → count < 65535 → Says schema.now count line.now s)) }
-    ensures memory { OnErr result ((count : ℕ) → count < 65535 → MayTakeMemory schema.now count line.now) }
+    ensures says { IfOk result (λ found. IfSome found (λ s. (count : ℕ) → count < MOST_STATEMENTS → Says schema.now count line.now s)) }
+    ensures memory { OnErr result ((count : ℕ) → count < MOST_STATEMENTS → MayTakeMemory schema.now count line.now) }
 {
     if !is_statement(line) {
         return Ok(None);

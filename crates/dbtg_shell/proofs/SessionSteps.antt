@@ -12,6 +12,7 @@ use Rattle.dbtg_unit.specs.declared.unit.Entry.{Entry}
 use Rattle.dbtg_unit.proofs.Public.{entries_mine, entries_other}
 use Rattle.dbtg_step.specs.Core.Whole.{Making}
 use Rattle.dbtg_step.proofs.Public.{found_of}
+use Rattle.dbtg_script.specs.declared.limits.TheConstants.{SCRIPT_BYTES}
 use Rattle.dbtg_script.specs.Lines.{closes, trimmed}
 use Rattle.dbtg_script.specs.StatementFaults.{line_faults, refusal as script_refusal}
 use Rattle.dbtg_script.specs.Statements.{line_statement, prepend, script}
@@ -104,7 +105,7 @@ module _ (schema : Lists) (old new : Making) (scripts : List Script) (session : 
         read.1 ∙ (λ i. own.says i ++ prepend (m.says i) []) ∙ sym (map_push (λ (e : Entry). e.statement) (entries_of u old.history) entry)
         ∙ ap (map (λ (e : Entry). e.statement)) (sym more)
 
-    short_then : length (one.text.items ++ line ++ 10 ∷ []) ≤ 1048576
+    short_then : length (one.text.items ++ line ++ 10 ∷ []) ≤ SCRIPT_BYTES
     short_then =
         let long = length-append (one.text.items ++ line) (10 ∷ []) in
         let front = length-append one.text.items line in

@@ -10,6 +10,7 @@ use Rattle.dbtg_unit.specs.Database.Laws.Replay.{entries_of}
 use Rattle.dbtg_unit.specs.declared.statement.Statement.{Statement}
 use Rattle.dbtg_unit.specs.declared.unit.Entry.{Entry}
 use Rattle.dbtg_step.specs.Core.Whole.{HasMade, Making, state_now}
+use Rattle.dbtg_script.specs.declared.limits.TheConstants.{SCRIPT_BYTES}
 use Rattle.dbtg_script.specs.Lines.{trimmed}
 use Rattle.dbtg_script.specs.Printing.Causes.{cause_number}
 use Rattle.dbtg_script.specs.StatementFaults.{line_faults}
@@ -61,7 +62,7 @@ Takes old u line false new = (new ≡ old) × (line_statement old.making.schema 
 abbrev pub RefusesBehind : Refusal → Lists → ℕ → ℕ → List ℕ → Type 0
 RefusesBehind Memory schema count size line = Unit {0}
 RefusesBehind (Fault cause) schema count size line =
-    (first (line_faults schema count (trimmed line)) ≡ Some cause) ⊎ ((cause ≡ TooMuch) × (1048576 ≤ size + length line))
+    (first (line_faults schema count (trimmed line)) ≡ Some cause) ⊎ ((cause ≡ TooMuch) × (SCRIPT_BYTES ≤ size + length line))
 
 -- so it is behind what unit u has made, and behind its script
 abbrev pub RefusesLine : Refusal → Typed → ℕ → List ℕ → Type 0

@@ -11,14 +11,11 @@ ghost use Rattle.dbtg_shell.specs.declared.session.Refusal.TheVariants.{Fault, M
 
 use dbtg_replay::units_in_turn;
 use dbtg_schema::Schema;
-use dbtg_script::{Cause, LineFault, read_script_line, turns_text};
+use dbtg_script::{Cause, LineFault, SCRIPT_BYTES, read_script_line, turns_text};
 use dbtg_step::WholeDatabase;
-use dbtg_unit::{Entry, Image, Statement, Unit};
+use dbtg_unit::{Entry, Image, MOST_STATEMENTS, Statement, Unit};
 use std::alloc::{AllocError, AllocFailed, Global};
 use std::marker::Model;
-
-// No script has more bytes.
-const SCRIPT_BYTES: usize = 1_048_576;
 
 /// Why a line is not made.
 #[derive(Drop)]
@@ -65,7 +62,7 @@ impl Script {
 
     /// Appends a line. If no room is found, the script stays as it was.
     fn push_line(&mut self, line: &[u8]) -> Result<(), AllocError>
-        requires { self.old.count < 65535 }
+        requires { self.old.count < MOST_STATEMENTS }
         ensures taken { OnOk result (self.new.text.items ≡ self.old.text.items ++ line.now ++ 10 ∷ []) }
         ensures counted { OnOk result (self.new.count ≡ self.old.count + 1) }
         ensures text { OnErr result (self.new.text.items ≡ self.old.text.items) }
@@ -83,9 +80,9 @@ impl Script {
 
     /// Appends a line, unless the script would become too long.
     fn enter(&mut self, line: &[u8]) -> Result<(), Refusal>
-        requires { self.old.count < 65535 }
+        requires { self.old.count < MOST_STATEMENTS }
         ensures entered { OnOk result (HasEntered self.old line.now self.new) }
-        ensures room { OnOk result (length self.old.text.items + length line.now < 1048576) }
+        ensures room { OnOk result (length self.old.text.items + length line.now < SCRIPT_BYTES) }
         ensures as_before { OnErr result (IsAsBefore self.old self.new) }
         ensures refused { IfErr result (λ refusal. HasNoRoom refusal (length self.old.text.items + length line.now)) }
     {
@@ -131,10 +128,10 @@ fn make_and_enter(
     requires numbered { 0 < unit }
     requires within { unit ≤ database.old.units }
     requires fitting { fits database.old.schema statement ≡ true }
-    requires few { script.old.count < 65535 }
+    requires few { script.old.count < MOST_STATEMENTS }
     ensures made { OnOk result (HasMade database.old unit statement database.new) }
     ensures entered { OnOk result (HasEntered script.old line.now script.new) }
-    ensures room { OnOk result (length script.old.text.items + length line.now < 1048576) }
+    ensures room { OnOk result (length script.old.text.items + length line.now < SCRIPT_BYTES) }
     ensures database { OnErr result (database.new ≡ database.old) }
     ensures script { OnErr result (IsAsBefore script.old script.new) }
     ensures refused { IfErr result (λ refusal. HasNoRoom refusal (length script.old.text.items + length line.now)) }

@@ -18,6 +18,7 @@ mod in_hand;
 mod kept;
 mod laws;
 mod legality;
+mod limits;
 mod moves;
 mod names;
 mod order;
@@ -51,6 +52,7 @@ pub use laws::{
 pub use legality::{
     effect_keeps_legal, opening_is_legal, replay_keeps_legal, units_never_conflict,
 };
+pub use limits::MOST_STATEMENTS;
 pub use moves::{Move, Stepped};
 pub use order::{has_area, next_area};
 pub use owners::{Owners, with_true_owners};

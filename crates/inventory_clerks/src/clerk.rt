@@ -10,7 +10,7 @@ ghost use Rattle.inventory_clerks.specs.Orders.{AreFilled, Begins, HasChanged, H
 use crate::order::{Order, Stop, change, find, stock_after, stock_shown};
 use dbtg_run::{Database, Outcome, RunUnit};
 use dbtg_script::read_script;
-use dbtg_unit::{Answer, Cause, Statement, Status};
+use dbtg_unit::{Answer, Cause, MOST_STATEMENTS, Statement, Status};
 use std::alloc::Global;
 use std::sync::Wait;
 use std::thread;
@@ -31,7 +31,7 @@ fn enter<R: Wait>(
     ensures belongs { BelongsTo db.now unit.new }
     ensures done { IfDone result (λ a. IsDone db.now.about unit.old.journal unit.new.journal unit.new.unit statement.now a) }
     ensures unchanged { IfNotDone result (unit.new ≡ unit.old) }
-    ensures spent { (result ≡ Outcome.Spent) ↔ (65535 ≤ length unit.old.journal) }
+    ensures spent { (result ≡ Outcome.Spent) ↔ (MOST_STATEMENTS ≤ length unit.old.journal) }
     ensures busy { result ≢ Outcome.Busy }
 {
     'tries: for _ in rt.forever() {

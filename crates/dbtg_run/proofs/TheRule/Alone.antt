@@ -11,6 +11,7 @@ use Rattle.dbtg_cells.specs.declared.cell.Cell.{Cell}
 use Rattle.dbtg_cells.specs.declared.name.CellName.{CellName}
 use Rattle.dbtg_cells.specs.Names.{name_eq}
 use Rattle.dbtg_cells.specs.Shown.{CellValue}
+use Rattle.dbtg_unit.specs.declared.limits.TheConstants.{MOST_STATEMENTS}
 use Rattle.dbtg_unit.specs.declared.unit.Entry.{Entry}
 use Rattle.dbtg_unit.specs.Database.State.Base.{Database}
 use Rattle.dbtg_unit.specs.Hands.Local.{Agrees, holds}
@@ -56,7 +57,7 @@ holds_shown h es i = mapped_in h es (subst (λ (l : List (HeldCell CellName Cell
 
 -- eight units with few entries each
 pub few_entries : (about : About) (s : State (Option Cell) SeatKnowledge) (K : LatchRule about s) → length K.worded.log ≤ 524280
-few_entries about s K = let h : total_below (λ u. length (K.all u).journal) about.units ≤ 65535 * about.units = below_le (λ u. length (K.all u).journal) about.units (λ u l. K.worded.short u l) in
+few_entries about s K = let h : total_below (λ u. length (K.all u).journal) about.units ≤ MOST_STATEMENTS * about.units = below_le (λ u. length (K.all u).journal) about.units (λ u l. K.worded.short u l) in
     let e = K.worded.entries in let f = K.few in omega arith
 
 module _ (about : About) (s : State (Option Cell) SeatKnowledge) (K : LatchRule about s) (id : ℕ) (m : SeatUnit) (at : get_elem? s.views id ≡ some (lone about m)) where

@@ -10,6 +10,7 @@ use Rattle.dbtg_run.specs.declared.view.SeatUnit.{SeatUnit}
 use Rattle.dbtg_run.specs.declared.view.SeatKnowledge.{SeatKnowledge}
 use Rattle.dbtg_run.specs.Views.{Has, lone}
 use Rattle.dbtg_run.specs.Inside.Views.{total, total_below, put, one_if, Sits, Seated, times_place}
+use Rattle.dbtg_unit.specs.declared.limits.TheConstants.{MOST_STATEMENTS}
 
 module _ {A : Type 0} where
   pub put_here : (f : ℕ → A) (k : ℕ) (x : A) → put f k x k ≡ x
@@ -69,9 +70,9 @@ below_put f k x (suc n) h = dite (ℕ_discrete k n)
     (λ ne. let a : total_below (put f k x) n + f k ≡ total_below f n + x = below_put f k x n (omega arith) in
     let b : put f k x n ≡ f n = put_else f k x n (λ e. ne (sym e)) in omega arith)
 
-pub below_le : (f : ℕ → ℕ) (n : ℕ) → ((u : ℕ) → u < n → f u ≤ 65535) → total_below f n ≤ 65535 * n
+pub below_le : (f : ℕ → ℕ) (n : ℕ) → ((u : ℕ) → u < n → f u ≤ MOST_STATEMENTS) → total_below f n ≤ MOST_STATEMENTS * n
 below_le f zero h = omega arith
-below_le f (suc n) h = let a : total_below f n ≤ 65535 * n = below_le f n (λ u l. h u (omega arith)) in let c : f n ≤ 65535 = h n (omega arith) in omega arith
+below_le f (suc n) h = let a : total_below f n ≤ MOST_STATEMENTS * n = below_le f n (λ u l. h u (omega arith)) in let c : f n ≤ MOST_STATEMENTS = h n (omega arith) in omega arith
 
 pub below_same : (f g : ℕ → ℕ) (n : ℕ) → ((u : ℕ) → f u ≡ g u) → total_below f n ≡ total_below g n
 below_same f g zero h = refl

@@ -15,6 +15,7 @@ use Rattle.atomic_table.proofs.Lists.{set_again}
 use Rattle.dbtg_cells.specs.declared.cell.Cell.{Cell}
 use Rattle.dbtg_cells.specs.declared.name.CellName.{CellName}
 use Rattle.dbtg_cells.specs.Shown.{CellValue}
+use Rattle.dbtg_unit.specs.declared.limits.TheConstants.{MOST_STATEMENTS}
 use Rattle.dbtg_unit.specs.declared.unit.Entry.{Entry}
 use Rattle.dbtg_unit.specs.Database.Laws.Replay.{entries_of}
 use Rattle.dbtg_step.specs.Inside.SequentialDatabase.{IsSequentialDatabase}
@@ -104,8 +105,8 @@ module _ (about : About) (s : State (Option Cell) SeatKnowledge) (K : LatchRule 
         place = each_put (λ (u : ℕ) (y : SeatUnit). u < about.units → y.place ≡ u) K.all m.place w (λ l. place) (λ u ne l. W.place u l);
         journal = each_put (λ (u : ℕ) (y : SeatUnit). u < about.units → entries_of (suc u) W.log ≡ y.journal) K.all m.place w
             (λ l. W.journal m.place l ∙ (ap (λ (y : SeatUnit). y.journal) is_known ∙ sym journal)) (λ u ne l. W.journal u l);
-        short = each_put (λ (u : ℕ) (y : SeatUnit). u < about.units → length y.journal ≤ 65535) K.all m.place w
-            (λ l. subst (λ (j : List Entry). length j ≤ 65535) (ap (λ (y : SeatUnit). y.journal) is_known ∙ sym journal) (W.short m.place l)) (λ u ne l. W.short u l);
+        short = each_put (λ (u : ℕ) (y : SeatUnit). u < about.units → length y.journal ≤ MOST_STATEMENTS) K.all m.place w
+            (λ l. subst (λ (j : List Entry). length j ≤ MOST_STATEMENTS) (ap (λ (y : SeatUnit). y.journal) is_known ∙ sym journal) (W.short m.place l)) (λ u ne l. W.short u l);
         none = each_put (λ (u : ℕ) (y : SeatUnit). about.units ≤ u → y.areas ≡ []) K.all m.place w (λ l. let k = sits.inside in absurd (omega arith)) (λ u ne l. W.none u l);
         entries = below_same (λ u. length (put K.all m.place w u).journal) (λ u. length (K.all u).journal) about.units
             (each_put (λ (u : ℕ) (y : SeatUnit). length y.journal ≡ length (K.all u).journal) K.all m.place w (ap (λ (j : List Entry). length j) journal ∙ sym (ap (λ (y : SeatUnit). length y.journal) is_known)) (λ u ne. refl)) ∙ W.entries;

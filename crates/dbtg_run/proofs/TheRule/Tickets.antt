@@ -8,6 +8,7 @@ use Rattle.dbtg_cells.specs.declared.cell.Cell.{Cell}
 use Rattle.dbtg_cells.specs.declared.name.CellName.{CellName}
 use Rattle.dbtg_cells.specs.declared.key.Owner.{Owner}
 use Rattle.dbtg_cells.specs.Shown.{CellValue}
+use Rattle.dbtg_unit.specs.declared.limits.TheConstants.{MOST_STATEMENTS}
 use Rattle.dbtg_unit.specs.declared.held.Need.TheVariants.{Ready}
 use Rattle.dbtg_unit.specs.declared.statement.Statement.{Statement}
 use Rattle.dbtg_unit.specs.declared.unit.Answer.{Answer}
@@ -56,7 +57,7 @@ module _ (about : About) (s : State (Option Cell) SeatKnowledge) (K : LatchRule 
     (fit : fits about.schema.value x ≡ true)
     (ready : (db : Database) → Agrees about.schema.value about.capacity db (hands_of m) m.unit → Ready ≡ need about.schema.value about.capacity db m.unit (record { areas = m.areas; cells = m.held; guesses = g }) x)
     (comes : (db : Database) → Agrees about.schema.value about.capacity db (hands_of m) m.unit → Comes about m x answer unit' held' db)
-    (room : length m.journal < 65535) where
+    (room : length m.journal < MOST_STATEMENTS) where
   abbrev now : ℕ
   now = get_or s.words 0 0
 
@@ -146,7 +147,7 @@ module _ (about : About) (s : State (Option Cell) SeatKnowledge) (K : LatchRule 
         journal = each_put (λ (u : ℕ) (y : SeatUnit). u < about.units → entries_of (suc u) (W.log ++ new_entry ∷ []) ≡ y.journal) K.all m.place new_member
             (λ l. entries_mine (suc m.place) W.log new_entry refl ∙ ap (λ z. z ++ new_entry ∷ []) (W.journal m.place l ∙ ap (λ (y : SeatUnit). y.journal) (is_known about s K id m at)))
             (λ u ne l. entries_other (suc u) W.log new_entry (λ q. ne (cc (sym q))) ∙ W.journal u l);
-        short = each_put (λ (u : ℕ) (y : SeatUnit). u < about.units → length y.journal ≤ 65535) K.all m.place new_member (λ l. omega (arith, length-append m.journal (new_entry ∷ []))) (λ u ne l. W.short u l);
+        short = each_put (λ (u : ℕ) (y : SeatUnit). u < about.units → length y.journal ≤ MOST_STATEMENTS) K.all m.place new_member (λ l. omega (arith, length-append m.journal (new_entry ∷ []))) (λ u ne l. W.short u l);
         none = each_put (λ (u : ℕ) (y : SeatUnit). about.units ≤ u → y.areas ≡ []) K.all m.place new_member (λ l. let k = (sits about s K id m at).inside in absurd (omega arith)) (λ u ne l. W.none u l);
         entries = lengths ∙ sym (length-append W.log (new_entry ∷ []));
         areas = λ a l. subst (λ (n : ℕ). AreaOk n (λ y u. latched y a (new_all u))) (sym (area a))
@@ -177,7 +178,7 @@ module _ (about : About) (s : State (Option Cell) SeatKnowledge) (K : LatchRule 
 pub draws : (about : About) (id : ℕ) (m : SeatUnit) (slots : ℕ) (rest : List (ℕ × Option Cell)) (x : Statement) (g : List (Option Owner)) (answer : Answer) (unit' : Unit) (held' : List (CellName × Cell)) → fits about.schema.value x ≡ true
     → ((db : Database) → Agrees about.schema.value about.capacity db (hands_of m) m.unit → Ready ≡ need about.schema.value about.capacity db m.unit (record { areas = m.areas; cells = m.held; guesses = g }) x)
     → ((db : Database) → Agrees about.schema.value about.capacity db (hands_of m) m.unit → Comes about m x answer unit' held' db)
-    → length m.journal < 65535
+    → length m.journal < MOST_STATEMENTS
     → Allows (LatchRule about) slots id (lone about m, rest) 0 (λ n. (n + 1) % 2 ^ 64) (Draws x answer unit' held' (step slots 0 1 0 none) (lone about m, rest))
 draws about id m slots rest x g answer unit' held' fit ready comes room s K deep at bound = (
   lone about (drawn (entry (get_or s.words 0 0) (suc m.place) x answer) unit' held' m),

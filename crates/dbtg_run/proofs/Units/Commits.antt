@@ -12,6 +12,7 @@ use Rattle.dbtg_cells.specs.CellNumbers.{cell_number}
 use Rattle.dbtg_cells.specs.Names.{name_eq}
 use Rattle.dbtg_cells.specs.Cells.{shown}
 use Rattle.dbtg_cells.specs.Shown.{CellValue}
+use Rattle.dbtg_unit.specs.declared.limits.TheConstants.{MOST_STATEMENTS}
 use Rattle.dbtg_unit.specs.declared.edit.CellEdit.{CellEdit}
 use Rattle.dbtg_unit.specs.declared.statement.Statement.{Statement}
 use Rattle.dbtg_unit.specs.declared.unit.Answer.{Answer}
@@ -141,7 +142,7 @@ module _ (about : About) (unit : Unit) (journal : List Entry) (exclusive : Bool)
 
   pub draws_as : (key : About) (id slots : ℕ) (me : Sat) (picked : Statement) (answer : Answer) (unit' : Unit) (held' : List (CellName × Cell)) → key ≡ about → me ≡ posed about unit journal exclusive hands
       → picked ≡ x → answer ≡ plan.answer → unit' ≡ unit_after about.schema.value plan unit → held' ≡ cells_after plan hands.cells
-      → fits about.schema.value x ≡ true → IsReady about.schema.value about.capacity unit hands x → length journal < 65535
+      → fits about.schema.value x ≡ true → IsReady about.schema.value about.capacity unit hands x → length journal < MOST_STATEMENTS
       → Allows (LatchRule key) slots id me 0 (λ n. (n + 1) % 2 ^ 64) (Draws picked answer unit' held' (step slots 0 1 0 none) me)
   draws_as key id slots me picked answer unit' held' known is p a u h fit ready room =
       subst (λ (t : About × (Sat × Statement)). Allows (LatchRule t.0) slots id t.1.0 0 (λ n. (n + 1) % 2 ^ 64) (Draws t.1.1 answer unit' held' (step slots 0 1 0 none) t.1.0)) (λ i. (sym known i, (sym is i, sym p i)))

@@ -15,6 +15,7 @@ use Rattle.dbtg_cells.specs.CellNumbers.{cell_at, cell_count}
 use Rattle.dbtg_cells.specs.Cells.{shown}
 use Rattle.dbtg_cells.specs.Names.{name_eq}
 use Rattle.dbtg_cells.specs.Shown.{CellValue}
+use Rattle.dbtg_unit.specs.declared.limits.TheConstants.{MOST_STATEMENTS}
 use Rattle.dbtg_unit.specs.declared.statement.Statement.{Statement}
 use Rattle.dbtg_unit.specs.declared.unit.Answer.{Answer}
 use Rattle.dbtg_unit.specs.declared.unit.Entry.{Entry}
@@ -112,7 +113,7 @@ pub record Worded (about : About) (words : List ℕ) (homes : List (maybe.Option
   pub shows : (u : ℕ) → u < about.units → Shows about machine u (all u)
   pub place : (u : ℕ) → u < about.units → (all u).place ≡ u
   pub journal : (u : ℕ) → u < about.units → entries_of (suc u) log ≡ (all u).journal
-  pub short : (u : ℕ) → u < about.units → length (all u).journal ≤ 65535
+  pub short : (u : ℕ) → u < about.units → length (all u).journal ≤ MOST_STATEMENTS
   -- where there is no unit, no area is held; there are no other entries
   pub none : (u : ℕ) → about.units ≤ u → (all u).areas ≡ []
   pub entries : total_below (λ u. length (all u).journal) about.units ≡ length log

@@ -7,6 +7,7 @@ use Rattle.dbtg_schema.specs.Texts.Forms.{labelled, labels, some, Derives}
 use Rattle.dbtg_schema.specs.Lists.{Lists}
 use Rattle.dbtg_schema.specs.Lookups.{first}
 use Rattle.dbtg_schema.specs.Sound.{IsSound}
+use Rattle.dbtg_unit.specs.declared.limits.TheConstants.{MOST_STATEMENTS}
 use Rattle.dbtg_unit.specs.Database.Statements.Fits.{fits as statement_fits, is_set, is_type, if_named}
 use Rattle.dbtg_unit.specs.declared.statement.Statement.{Statement}
 use Rattle.dbtg_unit.specs.declared.statement.Statement.TheVariants as unit_statement
@@ -106,8 +107,8 @@ one_line schema sound count line more h rest = by_kind (is_statement line) refl
   where
     parts : (b : Bool) → is_statement line ≡ b → (is_allowed line ≡ true) × (cond b (statement_faults schema line) [] ≡ [])
     parts b e =
-        let a = both_nil (when (is_statement line && nat_le 65535 count) TooMuch ++ when (not (is_allowed line)) LineNotAllowed) (cond (is_statement line) (statement_faults schema line) []) h in
-        let x = both_nil (when (is_statement line && nat_le 65535 count) TooMuch) (when (not (is_allowed line)) LineNotAllowed) a.0 in
+        let a = both_nil (when (is_statement line && nat_le MOST_STATEMENTS count) TooMuch ++ when (not (is_allowed line)) LineNotAllowed) (cond (is_statement line) (statement_faults schema line) []) h in
+        let x = both_nil (when (is_statement line && nat_le MOST_STATEMENTS count) TooMuch) (when (not (is_allowed line)) LineNotAllowed) a.0 in
         (not-false (is_allowed line) (not_when (not (is_allowed line)) LineNotAllowed x.1), ap (λ k. cond k (statement_faults schema line) []) (sym e) ∙ a.1)
 
     by_kind : (b : Bool) → is_statement line ≡ b → list_all (statement_fits schema) (prepend (cond b (Some (statement_of schema (labels fits statement (tokens false line)))) None) more) ≡ true

@@ -10,6 +10,7 @@ use Rattle.std.proofs.lemmas.List.Folds.{list_all-append}
 use Rattle.dbtg_schema.specs.Texts.Spelling.{is_digit}
 use Rattle.dbtg_unit.specs.declared.moves.Move.{Move}
 use Rattle.dbtg_unit.specs.declared.moves.Move.TheVariants.{Step, Quit}
+use Rattle.dbtg_script.specs.declared.limits.TheConstants.{MOST_MOVES}
 use Rattle.dbtg_script.specs.Printing.Spelling.{number, has_byte}
 use Rattle.dbtg_script.specs.Moves.{is_gap, words, onto_word, begins_with, plain_number, spelled_turn, spelled_move, refused_word, said}
 use Rattle.dbtg_script.specs.Printing.WordTexts.{in_one_word, onto_run, runs, times_text, move_word, run_words, gap_before, line_of, moves_words_text, turns_text}
@@ -118,13 +119,13 @@ words_back (w ∷ ws) h =
 
 -- WHAT A WORD SAYS
 
-turn_back : (u k : ℕ) → 1 ≤ u → u ≤ 99 → 1 ≤ k → k ≤ 1000000 → spelled_turn (decimal u ++ times_text k) ≡ Some (u, k)
+turn_back : (u k : ℕ) → 1 ≤ u → u ≤ 99 → 1 ≤ k → k ≤ MOST_MOVES → spelled_turn (decimal u ++ times_text k) ≡ Some (u, k)
 turn_back u k some fits more few = by_cases (eqb k 1) refl where
   unit : plain_number 99 (decimal u) ≡ Some u
   unit = plain 99 u some fits (omega arith)
 
-  count : plain_number 1000000 (decimal k) ≡ Some k
-  count = plain 1000000 k more few (omega arith)
+  count : plain_number MOST_MOVES (decimal k) ≡ Some k
+  count = plain MOST_MOVES k more few (omega arith)
 
   clear : has_byte 42 (decimal u) ≡ false
   clear = no_digit 42 (omega arith) u (omega arith)
@@ -140,7 +141,7 @@ no_letter (d ∷ ds) t h long =
     let high : d ≤ 57 = leb-true d 57 (and_parts (nat_le 48 d) (nat_le d 57) p.0).1 in
     let e : eqb d 81 ≡ false = grind (arith, nat_tests) in e
 
-step_back : (u k : ℕ) → 1 ≤ u → u ≤ 99 → 1 ≤ k → k ≤ 1000000 → spelled_move (decimal u ++ times_text k) ≡ Some (Step u, k)
+step_back : (u k : ℕ) → 1 ≤ u → u ≤ 99 → 1 ≤ k → k ≤ MOST_MOVES → spelled_move (decimal u ++ times_text k) ≡ Some (Step u, k)
 step_back u k some fits more few =
     rw (no_letter (decimal u) (times_text k) (digits u (omega arith)) (decimal_nonempty u (omega arith)), turn_back u k some fits more few) refl
 
@@ -224,11 +225,11 @@ counts_all (m ∷ ms) = onto_counts m (runs ms) ∙ ap (λ (n : ℕ). 1 + n) (co
 
 -- RUNS ARE WORDS
 
-word_of_run : (m : Move) (k : ℕ) → IsRun m k → k ≤ 1000000 → is_word (move_word m k) ≡ true
+word_of_run : (m : Move) (k : ℕ) → IsRun m k → k ≤ MOST_MOVES → is_word (move_word m k) ≡ true
 word_of_run (Step u) k h few = step_word u k (omega (arith, h.1)) (omega arith)
 word_of_run (Quit u) k h few = quit_word u (omega (arith, h.1))
 
-all_words : (rs : List (Move × ℕ)) → AllRuns IsRun rs → counts rs ≤ 1000000 → list_all is_word (run_words rs) ≡ true
+all_words : (rs : List (Move × ℕ)) → AllRuns IsRun rs → counts rs ≤ MOST_MOVES → list_all is_word (run_words rs) ≡ true
 all_words [] h few = refl
 all_words (r ∷ rs) h few = rw (word_of_run r.0 r.1 h.0 (omega arith), all_words rs h.1 (omega arith)) refl
 
@@ -236,12 +237,12 @@ all_words (r ∷ rs) h few = rw (word_of_run r.0 r.1 h.0 (omega arith), all_word
 abbrev told : {A : Type 0} → (Move → A) → List (Move × ℕ) → List (Option (A × ℕ))
 told f rs = map (λ r. Some (f r.0, r.1)) rs
 
-all_told : {A : Type 0} (f : Move → A) (spelled : List ℕ → Option (A × ℕ)) (P : Move → ℕ → Type 0) → ((m : Move) (k : ℕ) → P m k → k ≤ 1000000 → spelled (move_word m k) ≡ Some (f m, k))
-    → (rs : List (Move × ℕ)) → AllRuns P rs → counts rs ≤ 1000000 → map spelled (run_words rs) ≡ told f rs
+all_told : {A : Type 0} (f : Move → A) (spelled : List ℕ → Option (A × ℕ)) (P : Move → ℕ → Type 0) → ((m : Move) (k : ℕ) → P m k → k ≤ MOST_MOVES → spelled (move_word m k) ≡ Some (f m, k))
+    → (rs : List (Move × ℕ)) → AllRuns P rs → counts rs ≤ MOST_MOVES → map spelled (run_words rs) ≡ told f rs
 all_told f spelled P each [] h few = refl
 all_told f spelled P each (r ∷ rs) h few = rw (each r.0 r.1 h.0 (omega arith), all_told f spelled P each rs h.1 (omega arith)) refl
 
-run_back : (m : Move) (k : ℕ) → IsRun m k → k ≤ 1000000 → spelled_move (move_word m k) ≡ Some (m, k)
+run_back : (m : Move) (k : ℕ) → IsRun m k → k ≤ MOST_MOVES → spelled_move (move_word m k) ≡ Some (m, k)
 run_back (Step u) k h few = step_back u k h.0 h.1 h.2 few
 run_back (Quit u) k h few = quit_back u h.0 h.1 ∙ ap (λ (n : ℕ). Some (Quit u, n)) (sym h.2)
 
@@ -249,14 +250,14 @@ unit_of : Move → ℕ
 unit_of (Step u) = u
 unit_of (Quit u) = u
 
-turn_run_back : (m : Move) (k : ℕ) → IsTurnRun m k → k ≤ 1000000 → spelled_turn (move_word m k) ≡ Some (unit_of m, k)
+turn_run_back : (m : Move) (k : ℕ) → IsTurnRun m k → k ≤ MOST_MOVES → spelled_turn (move_word m k) ≡ Some (unit_of m, k)
 unfolding unit_of
 turn_run_back (Step u) k h few = turn_back u k h.0 h.1 h.2 few
 turn_run_back (Quit u) k h few = absurd h
 
 -- NO FAULT, AND THE SAME
 
-no_fault : {A : Type 0} (f : Move → A) (total number : ℕ) (rs : List (Move × ℕ)) → total + counts rs ≤ 1000000 → refused_word total number (told f rs) ≡ None
+no_fault : {A : Type 0} (f : Move → A) (total number : ℕ) (rs : List (Move × ℕ)) → total + counts rs ≤ MOST_MOVES → refused_word total number (told f rs) ≡ None
 no_fault f total number [] few = no_words total number [] refl
 no_fault f total number (r ∷ rs) few =
     word_fits total number (Some (f r.0, r.1)) (told f rs) (f r.0) r.1 refl (omega arith) ∙ no_fault f (total + r.1) (number + 1) rs (omega arith)
@@ -277,7 +278,7 @@ all_said : {A : Type 0} (f : Move → A) (ms : List Move) → said (told f (runs
 all_said f [] = refl
 all_said f (m ∷ ms) = onto_said f m (runs ms) ∙ ap (λ xs. f m ∷ xs) (all_said f ms)
 
-few_in_runs : (ms : List Move) → length ms ≤ 1000000 → counts (runs ms) ≤ 1000000
+few_in_runs : (ms : List Move) → length ms ≤ MOST_MOVES → counts (runs ms) ≤ MOST_MOVES
 few_in_runs ms few = let e = counts_all ms in omega (arith, e)
 
 pub moves_read_back : PrintedMovesAreReadBack

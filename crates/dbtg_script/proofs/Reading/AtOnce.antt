@@ -5,7 +5,9 @@ use Rattle.std.proofs.lemmas.Bool.Decides.{nat_tests}
 use Rattle.dbtg_schema.specs.Lists.{Lists}
 use Rattle.dbtg_schema.specs.Lookups.{first}
 use Rattle.dbtg_schema.specs.Texts.Forms.{by_start, labelled, labels, start_with, starts}
+use Rattle.dbtg_unit.specs.declared.limits.TheConstants.{MOST_STATEMENTS}
 use Rattle.dbtg_unit.specs.declared.statement.Statement.{Statement}
+use Rattle.dbtg_script.specs.declared.limits.TheConstants.{SCRIPT_BYTES}
 use Rattle.dbtg_script.specs.declared.fault.Cause.{Cause}
 use Rattle.dbtg_script.specs.declared.fault.Cause.TheVariants as cause
 use Rattle.dbtg_script.specs.declared.fault.Fault.{Fault}
@@ -55,7 +57,7 @@ none_at_once schema count line =
     let word = first_word_faults schema (tokens false line) in
     let open_text = when (ends_in_text false line) cause.UnexpectedWord in
     let one = is_statement line in
-    both_begin (when (one && nat_le 65535 count) cause.TooMuch ++ when (not (is_allowed line)) cause.LineNotAllowed) _ _
+    both_begin (when (one && nat_le MOST_STATEMENTS count) cause.TooMuch ++ when (not (is_allowed line)) cause.LineNotAllowed) _ _
     (where_one one (open_text ++ words) (open_text ++ word) (both_begin open_text words word (at_first_word schema (tokens false line))))
 
 pub not_at_once : (schema : Lists) (count : ℕ) (line : List ℕ) (c : Cause) → first (line_faults schema count line) ≡ None → first (faults_at_once schema count line) ≡ Some c → ⊥
@@ -64,22 +66,22 @@ not_at_once schema count line c h wrong = let none = none_at_once schema count l
 -- WHERE MEMORY MAY BE TAKEN
 
 -- a line that was read before
-pub known_may : (schema : Lists) (ss : List Statement) (line : List ℕ) (at : ℕ) → IsRead schema ss line at → length ss < 65535 → MayTakeMemory schema (length ss) line
+pub known_may : (schema : Lists) (ss : List Statement) (line : List ℕ) (at : ℕ) → IsRead schema ss line at → length ss < MOST_STATEMENTS → MayTakeMemory schema (length ss) line
 known_may schema ss line at h few = record { holds_one = h.holds_one; goes_on = none_at_once schema (length ss) line (h.faultless (length ss) few) }
 
 -- a line whose first word begins a statement
 pub begun_may : (schema : Lists) (line : List ℕ) → is_statement line ≡ true → is_allowed line ≡ true → ends_in_text false line ≡ false → first_word_faults schema (tokens false line) ≡ []
-    → (count : ℕ) → count < 65535 → MayTakeMemory schema count line
+    → (count : ℕ) → count < MOST_STATEMENTS → MayTakeMemory schema count line
 begun_may schema line one allowed closed wanted count few =
-    let room : nat_le 65535 count ≡ false = grind (arith, nat_tests) in
+    let room : nat_le MOST_STATEMENTS count ≡ false = grind (arith, nat_tests) in
     record { holds_one = one; goes_on = rw (one, room, allowed, closed, wanted) refl }
 
 pub begun_where : {A E : Type 0} (r : Result A E) (schema : Lists) (line : List ℕ) → is_statement line ≡ true → is_allowed line ≡ true → ends_in_text false line ≡ false
-    → (is_err r ≡ true → first_word_faults schema (tokens false line) ≡ []) → OnErr r ((count : ℕ) → count < 65535 → MayTakeMemory schema count line)
+    → (is_err r ≡ true → first_word_faults schema (tokens false line) ≡ []) → OnErr r ((count : ℕ) → count < MOST_STATEMENTS → MayTakeMemory schema count line)
 begun_where (Ok x) schema line one allowed closed wanted = tt
 begun_where (Err e) schema line one allowed closed wanted = begun_may schema line one allowed closed (wanted refl)
 
-pub roomy_where : {A E : Type 0} (r : Result A E) (schema : Lists) (line : List ℕ) (n : ℕ) → n < 65535 → OnErr r ((count : ℕ) → count < 65535 → MayTakeMemory schema count line) → OnErr r (MayTakeMemory schema n line)
+pub roomy_where : {A E : Type 0} (r : Result A E) (schema : Lists) (line : List ℕ) (n : ℕ) → n < MOST_STATEMENTS → OnErr r ((count : ℕ) → count < MOST_STATEMENTS → MayTakeMemory schema count line) → OnErr r (MayTakeMemory schema n line)
 roomy_where (Ok x) schema line n few h = tt
 roomy_where (Err e) schema line n few h = h n few
 
@@ -153,13 +155,13 @@ line_told schema number l ls e f told note refused h = by_case (faults_at_once s
 
 -- THE WHOLE
 
-pub long_told : (schema : Lists) (text : List ℕ) (f : Fault) → 1048576 < length text → first (script_faults_at_once schema text) ≡ Some f → script.Refused 1 cause.TooMuch ≡ script.Refused f.line f.cause
+pub long_told : (schema : Lists) (text : List ℕ) (f : Fault) → SCRIPT_BYTES < length text → first (script_faults_at_once schema text) ≡ Some f → script.Refused 1 cause.TooMuch ≡ script.Refused f.line f.cause
 long_told schema text f long h =
-    let e : nat_lt 1048576 (length text) ≡ true = grind (arith, nat_tests) in
+    let e : nat_lt SCRIPT_BYTES (length text) ≡ true = grind (arith, nat_tests) in
     first_numbered 1 cause.TooMuch [] (lines_faults_at_once schema 1 (lines text)) f (subst (λ (b : Bool). first ((if b then record { line = 1; cause = cause.TooMuch } ∷ [] else []) ++ lines_faults_at_once schema 1 (lines text)) ≡ Some f) e h)
 
-pub short_told : (schema : Lists) (text : List ℕ) → length text ≤ 1048576 → script_faults_at_once schema text ≡ lines_faults_at_once schema 1 (lines text)
-short_told schema text h = let e : nat_lt 1048576 (length text) ≡ false = grind (arith, nat_tests) in rw e refl
+pub short_told : (schema : Lists) (text : List ℕ) → length text ≤ SCRIPT_BYTES → script_faults_at_once schema text ≡ lines_faults_at_once schema 1 (lines text)
+short_told schema text h = let e : nat_lt SCRIPT_BYTES (length text) ≡ false = grind (arith, nat_tests) in rw e refl
 
 pub over : (schema : Lists) (number : ℕ) (ls : List (List ℕ)) (f : Fault) → ls ≡ [] → first (lines_faults_at_once schema number ls) ≡ Some f → ⊥
 over schema number ls f e h = let none = subst (λ (z : List (List ℕ)). first (lines_faults_at_once schema number z) ≡ Some f) e h in cc

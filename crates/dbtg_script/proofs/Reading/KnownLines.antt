@@ -6,6 +6,7 @@ use Rattle.std.proofs.lemmas.Option.{slice_get_within}
 use Rattle.dbtg_schema.specs.Lists.{Lists}
 use Rattle.dbtg_schema.specs.Lookups.{first}
 use Rattle.dbtg_cells.proofs.Public.{get_behind}
+use Rattle.dbtg_unit.specs.declared.limits.TheConstants.{MOST_STATEMENTS}
 use Rattle.dbtg_unit.specs.declared.statement.Statement.{Statement}
 use Rattle.dbtg_unit.proofs.Public.{slice_get_front}
 use Rattle.dbtg_script.specs.declared.fault.Cause.{Cause}
@@ -78,13 +79,13 @@ new_read schema ss s line h =
     record {
       holds_one = one;
       faultless = λ count few.
-          let room : nat_le 65535 count ≡ false = grind (arith, nat_tests) in
-          roomy (is_statement line) (nat_le 65535 (length ss)) (nat_le 65535 count) (not (is_allowed line)) (statement_faults schema line) one room h.faultless;
+          let room : nat_le MOST_STATEMENTS count ≡ false = grind (arith, nat_tests) in
+          roomy (is_statement line) (nat_le MOST_STATEMENTS (length ss)) (nat_le MOST_STATEMENTS count) (not (is_allowed line)) (statement_faults schema line) one room h.faultless;
       said = get_behind ss s [] ∙ sym h.said;
     }
 
 -- what a line says that was read
-pub says_again : (schema : Lists) (ss : List Statement) (line : List ℕ) (at : ℕ) (s : Statement) → IsRead schema ss line at → length ss < 65535 → slice_get ss at ≡ Some s → Says schema (length ss) line s
+pub says_again : (schema : Lists) (ss : List Statement) (line : List ℕ) (at : ℕ) (s : Statement) → IsRead schema ss line at → length ss < MOST_STATEMENTS → slice_get ss at ≡ Some s → Says schema (length ss) line s
 says_again schema ss line at s h few e = record { faultless = h.faultless (length ss) few; said = sym h.said ∙ e }
 
 pub said_behind : (schema : Lists) (line : List ℕ) (ss : List Statement) (s : Statement) → line_statement schema line ≡ Some s → ss ++ s ∷ [] ≡ ss ++ prepend (line_statement schema line) []

@@ -8,6 +8,7 @@ use Rattle.std.proofs.lemmas.Bool.{eqb-true, ne_eqb, and_parts, leb-true, ltb-tr
 use Rattle.dbtg_schema.specs.Lists.{Lists}
 use Rattle.dbtg_schema.specs.Lookups.{first}
 use Rattle.dbtg_schema.proofs.Public.{both_nil, none_at_all}
+use Rattle.dbtg_unit.specs.declared.limits.TheConstants.{MOST_STATEMENTS}
 use Rattle.dbtg_unit.specs.declared.statement.Statement.{Statement}
 use Rattle.dbtg_script.specs.declared.fault.Cause.{Cause}
 use Rattle.dbtg_script.specs.declared.fault.Cause.TheVariants.{LineNotAllowed, TooMuch}
@@ -58,8 +59,8 @@ no_feed line h =
 
 faultless_allowed : (schema : Lists) (count : ℕ) (line : List ℕ) → line_faults schema count line ≡ [] → is_allowed line ≡ true
 faultless_allowed schema count line h =
-    let a = both_nil (when (is_statement line && nat_le 65535 count) TooMuch ++ when (not (is_allowed line)) LineNotAllowed) (cond (is_statement line) (statement_faults schema line) []) h in
-    let x = both_nil (when (is_statement line && nat_le 65535 count) TooMuch) (when (not (is_allowed line)) LineNotAllowed) a.0 in
+    let a = both_nil (when (is_statement line && nat_le MOST_STATEMENTS count) TooMuch ++ when (not (is_allowed line)) LineNotAllowed) (cond (is_statement line) (statement_faults schema line) []) h in
+    let x = both_nil (when (is_statement line && nat_le MOST_STATEMENTS count) TooMuch) (when (not (is_allowed line)) LineNotAllowed) a.0 in
     not-false (is_allowed line) (not_when (not (is_allowed line)) LineNotAllowed x.1)
 
 -- ONE LINE MORE

@@ -4,6 +4,7 @@ use Rattle.std.specs.Prelude.{nat_lt, replicate}
 use Rattle.std.proofs.lemmas.List.{length-replicate}
 use Rattle.std.proofs.lemmas.Bool.{false≢true}
 use Rattle.std.proofs.lemmas.Bool.Decides.{nat_tests}
+use Rattle.dbtg_script.specs.declared.limits.TheConstants.{MOST_MOVES}
 use Rattle.dbtg_script.specs.declared.moves.MovesCause.TheVariants.{NotAMove, TooManyMoves}
 use Rattle.dbtg_script.specs.Moves.{is_gap, onto_word, words, refused_word}
 
@@ -56,17 +57,17 @@ unfolding refused_word
 no_move total number s left h = rw h refl
 
 -- a word with which the total passes the limit
-pub too_many : {A : Type 0} (total number : ℕ) (s : Option (A × ℕ)) (left : List (Option (A × ℕ))) (m : A) (k : ℕ) → s ≡ Some (m, k) → 1000000 < total + k → refused_word total number (s ∷ left) ≡ Some (number, TooManyMoves)
+pub too_many : {A : Type 0} (total number : ℕ) (s : Option (A × ℕ)) (left : List (Option (A × ℕ))) (m : A) (k : ℕ) → s ≡ Some (m, k) → MOST_MOVES < total + k → refused_word total number (s ∷ left) ≡ Some (number, TooManyMoves)
 unfolding refused_word
-too_many total number s left m k h more = let e : nat_lt 1000000 (total + k) ≡ true = grind (arith, nat_tests) in rw (h, e) refl
+too_many total number s left m k h more = let e : nat_lt MOST_MOVES (total + k) ≡ true = grind (arith, nat_tests) in rw (h, e) refl
 
 -- a word with its entries
-pub word_fits : {A : Type 0} (total number : ℕ) (s : Option (A × ℕ)) (left : List (Option (A × ℕ))) (m : A) (k : ℕ) → s ≡ Some (m, k) → total + k ≤ 1000000
+pub word_fits : {A : Type 0} (total number : ℕ) (s : Option (A × ℕ)) (left : List (Option (A × ℕ))) (m : A) (k : ℕ) → s ≡ Some (m, k) → total + k ≤ MOST_MOVES
     → refused_word total number (s ∷ left) ≡ refused_word (total + k) (number + 1) left
 unfolding refused_word
-word_fits total number s left m k h few = let e : nat_lt 1000000 (total + k) ≡ false = grind (arith, nat_tests) in rw (h, e) refl
+word_fits total number s left m k h few = let e : nat_lt MOST_MOVES (total + k) ≡ false = grind (arith, nat_tests) in rw (h, e) refl
 
-pub moves_on : {A : Type 0} (ms : List A) (number : ℕ) (s : Option (A × ℕ)) (left : List (Option (A × ℕ))) (m : A) (k : ℕ) → s ≡ Some (m, k) → length ms + k ≤ 1000000
+pub moves_on : {A : Type 0} (ms : List A) (number : ℕ) (s : Option (A × ℕ)) (left : List (Option (A × ℕ))) (m : A) (k : ℕ) → s ≡ Some (m, k) → length ms + k ≤ MOST_MOVES
     → refused_word (length ms) number (s ∷ left) ≡ refused_word (length (ms ++ replicate k m)) (number + 1) left
 moves_on ms number s left m k h few =
     let n : length (ms ++ replicate k m) ≡ length ms + k = length-append ms (replicate k m) ∙ ap (λ (x : ℕ). length ms + x) (length-replicate k m) in

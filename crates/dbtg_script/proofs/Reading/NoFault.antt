@@ -9,6 +9,7 @@ use Rattle.dbtg_schema.specs.Texts.Forms.{starts, labelled, start_with, by_start
 use Rattle.dbtg_schema.specs.Texts.Spelling.{among}
 use Rattle.dbtg_schema.specs.declared.shape.Picture.{Picture}
 use Rattle.dbtg_schema.proofs.Public.{may_stop, ranked, words_of}
+use Rattle.dbtg_script.specs.declared.limits.TheConstants.{SCRIPT_BYTES}
 use Rattle.dbtg_script.specs.declared.role.Role.{Role}
 use Rattle.dbtg_script.specs.declared.role.Role.TheVariants as role
 use Rattle.dbtg_script.specs.declared.fault.Cause.{Cause}
@@ -29,6 +30,7 @@ use Rattle.dbtg_script.specs.Values.{is_of_kind, spelled, up_to}
 use Rattle.dbtg_script.proofs.Reading.Accepted.{derived_line, none_rest}
 use Rattle.dbtg_script.proofs.Reading.Derived.{KeywordsFirst, found_for, read_so, takes_keywords}
 use Rattle.dbtg_script.proofs.Reading.Kinds.{before, statement_is_named, statement_is_told}
+use Rattle.dbtg_unit.specs.declared.limits.TheConstants.{MOST_STATEMENTS}
 
 -- none of the causes is of the grammar
 abbrev Clean : List Cause → Type 0
@@ -138,7 +140,7 @@ clean_where schema line false e d = refl
 
 clean_whole : (schema : Lists) (count : ℕ) (line : List ℕ) → (is_statement line ≡ true → Derivation line) → Clean (line_faults schema count line)
 clean_whole schema count line d =
-    let many = is_statement line && nat_le 65535 count in
+    let many = is_statement line && nat_le MOST_STATEMENTS count in
     let bad = not (is_allowed line) in
     let rest = cond (is_statement line) (statement_faults schema line) [] in
     clean_both (when many cause.TooMuch ++ when bad cause.LineNotAllowed) rest
@@ -156,7 +158,7 @@ clean_long false = refl
 
 pub clean_script : DerivedScriptHasNoFaultOfGrammar
 clean_script schema text all =
-    list_any-append (λ (f : Fault). is_of_grammar f.cause) (too_long text) (lines_faults schema 0 1 (lines text)) ∙ (λ i. clean_long (nat_lt 1048576 (length text)) i || clean_lines (lines text) schema 0 1 all i)
+    list_any-append (λ (f : Fault). is_of_grammar f.cause) (too_long text) (lines_faults schema 0 1 (lines text)) ∙ (λ i. clean_long (nat_lt SCRIPT_BYTES (length text)) i || clean_lines (lines text) schema 0 1 all i)
 
 -- A LINE WITHOUT FAULTS
 

@@ -7,6 +7,7 @@ use Rattle.dbtg_schema.specs.Texts.Forms.{labels}
 use Rattle.dbtg_schema.specs.Lists.{Lists}
 use Rattle.dbtg_schema.specs.Lookups.{first}
 use Rattle.dbtg_unit.specs.declared.statement.Statement.{Statement}
+use Rattle.dbtg_script.specs.declared.limits.TheConstants.{SCRIPT_BYTES}
 use Rattle.dbtg_script.specs.declared.fault.Cause.{Cause}
 use Rattle.dbtg_script.specs.declared.fault.LineFault.{LineFault}
 use Rattle.dbtg_script.specs.declared.fault.LineFault.TheVariants.{Refused, Memory}
@@ -62,9 +63,9 @@ one_more None ss rest = ap (λ (xs : List Statement). xs ++ rest) (append-nil ss
 one_more (Some s) ss rest = append_assoc ss (s ∷ []) rest
 
 -- a text that is not too long
-pub short_script : (schema : Lists) (text : List ℕ) → length text ≤ 1048576 → refusal schema text ≡ lines_verdict schema 0 1 (lines text)
+pub short_script : (schema : Lists) (text : List ℕ) → length text ≤ SCRIPT_BYTES → refusal schema text ≡ lines_verdict schema 0 1 (lines text)
 unfolding lines_verdict
-short_script schema text h = let e : nat_lt 1048576 (length text) ≡ false = grind (arith, nat_tests) in rw e refl
+short_script schema text h = let e : nat_lt SCRIPT_BYTES (length text) ≡ false = grind (arith, nat_tests) in rw e refl
 
 pub no_lines : (schema : Lists) (count number : ℕ) (ls : List (List ℕ)) → ls ≡ [] → lines_verdict schema count number ls ≡ None
 unfolding lines_verdict

@@ -12,6 +12,7 @@ use Rattle.dbtg_schema.specs.Structure.{order_of}
 use Rattle.dbtg_schema.specs.WellFormed.{is_sorted}
 use Rattle.dbtg_cells.specs.declared.key.Value.{Value}
 use Rattle.dbtg_schema.specs.Texts.Forms.{labelled, labels, start_with, starts}
+use Rattle.dbtg_unit.specs.declared.limits.TheConstants.{MOST_STATEMENTS}
 use Rattle.dbtg_unit.specs.declared.statement.Statement.{Statement}
 use Rattle.dbtg_unit.specs.declared.statement.Statement.TheVariants as statement
 use Rattle.dbtg_unit.specs.declared.statement.Form.TheVariants as form
@@ -40,21 +41,21 @@ use Rattle.dbtg_script.proofs.Reading.UsualStores.{spelled_faultless}
 
 -- A LINE
 
-line_faultless : (schema : Lists) (count : ℕ) (line : List ℕ) → count < 65535 → is_statement line ≡ true → is_allowed line ≡ true → ends_in_text false line ≡ false
+line_faultless : (schema : Lists) (count : ℕ) (line : List ℕ) → count < MOST_STATEMENTS → is_statement line ≡ true → is_allowed line ≡ true → ends_in_text false line ≡ false
     → verdict schema [] grammar.statement (tokens false line) ≡ None → (s : Statement) → statement_of schema (labels fits grammar.statement (tokens false line)) ≡ s → Says schema count line s
 line_faultless schema count line few one allowed closed none s said =
-    let room : nat_le 65535 count ≡ false = grind (arith, nat_tests) in
+    let room : nat_le MOST_STATEMENTS count ≡ false = grind (arith, nat_tests) in
     record {
       faultless = rw (one, room, allowed) (closed_line schema line closed ∙ none);
       said = rw one (ap Some said);
     }
 
 pub line_says : (schema : Lists) (line : List ℕ) (s : Statement) → is_statement line ≡ true → is_allowed line ≡ true → ends_in_text false line ≡ false
-    → AreSaid schema (tokens false line) s → (count : ℕ) → count < 65535 → Says schema count line s
+    → AreSaid schema (tokens false line) s → (count : ℕ) → count < MOST_STATEMENTS → Says schema count line s
 line_says schema line s one allowed closed h count few = line_faultless schema count line few one allowed closed h.faultless s h.said
 
 pub what_is_said_is_so : {E : Type 0} (schema : Lists) (line : List ℕ) (r : Result (Option Statement) E) → is_statement line ≡ true → is_allowed line ≡ true → ends_in_text false line ≡ false
-    → IfOk r (λ found. IfSome found (λ s. AreSaid schema (tokens false line) s)) → IfOk r (λ found. IfSome found (λ s. (count : ℕ) → count < 65535 → Says schema count line s))
+    → IfOk r (λ found. IfSome found (λ s. AreSaid schema (tokens false line) s)) → IfOk r (λ found. IfSome found (λ s. (count : ℕ) → count < MOST_STATEMENTS → Says schema count line s))
 what_is_said_is_so schema line (Err e) one allowed closed h = tt
 what_is_said_is_so schema line (Ok None) one allowed closed h = tt
 what_is_said_is_so schema line (Ok (Some s)) one allowed closed h = line_says schema line s one allowed closed h

@@ -2,6 +2,7 @@
 use Rattle.std.specs.Prelude.{◌≡◌, ℕ, ◌<◌, true, List, [], ◌∷◌, Option, Some, None, slice_get}
 use Rattle.dbtg_schema.specs.Lists.{Lists}
 use Rattle.dbtg_schema.specs.Lookups.{first}
+use Rattle.dbtg_unit.specs.declared.limits.TheConstants.{MOST_STATEMENTS}
 use Rattle.dbtg_unit.specs.declared.statement.Statement.{Statement}
 use Rattle.dbtg_script.specs.declared.known.Seen.{Seen}
 use Rattle.dbtg_script.specs.Lines.{is_statement}
@@ -16,7 +17,7 @@ pub record Says (schema : Lists) (count : ℕ) (line : List ℕ) (s : Statement)
 -- the line has no fault wherever there is room for its statement, and this is the one at this place
 pub record IsRead (schema : Lists) (ss : List Statement) (line : List ℕ) (at : ℕ) : Type 0 where
   pub holds_one : is_statement line ≡ true
-  pub faultless : (count : ℕ) → count < 65535 → first (line_faults schema count line) ≡ None
+  pub faultless : (count : ℕ) → count < MOST_STATEMENTS → first (line_faults schema count line) ≡ None
   pub said : slice_get ss at ≡ line_statement schema line
 
 -- nothing, or a line that is kept and was read so

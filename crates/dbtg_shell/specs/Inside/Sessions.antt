@@ -7,6 +7,7 @@ use Rattle.dbtg_unit.specs.Database.Laws.Replay.{entries_of}
 use Rattle.dbtg_unit.specs.declared.statement.Statement.{Statement}
 use Rattle.dbtg_unit.specs.declared.unit.Entry.{Entry}
 use Rattle.dbtg_step.specs.Core.Whole.{HasMade, Making}
+use Rattle.dbtg_script.specs.declared.limits.TheConstants.{SCRIPT_BYTES}
 use Rattle.dbtg_script.specs.Lines.{closes, trimmed}
 use Rattle.dbtg_script.specs.StatementFaults.{line_faults, refusal as script_refusal}
 use Rattle.dbtg_script.specs.Statements.{line_statement, script}
@@ -21,7 +22,7 @@ pub record IsScriptOf (schema : Lists) (text : List ℕ) (count : ℕ) (entries 
   pub accepted : script_refusal schema text ≡ None
   pub says : script schema text ≡ map (λ e. e.statement) entries
   pub closed : closes true text ≡ true
-  pub short : length text ≤ 1048576
+  pub short : length text ≤ SCRIPT_BYTES
   pub count_is : count ≡ length entries
 
 -- a sound schema, and a script for each of 1 to 8 units
@@ -47,7 +48,7 @@ pub record HasMadeLine (schema : Lists) (old : Making) (one : Script) (u : ℕ) 
   pub statement : Statement
   pub says : line_statement schema (trimmed line) ≡ Some statement
   pub fine : first (line_faults schema one.count (trimmed line)) ≡ None
-  pub room : length one.text.items + length line < 1048576
+  pub room : length one.text.items + length line < SCRIPT_BYTES
   pub made : HasMade old u statement new
   pub entered : HasEntered one line next
 
@@ -59,4 +60,4 @@ MakesLine schema old one u line false new next = (new ≡ old) × IsAsBefore one
 -- the script has no room for a line that would bring it to `size` bytes, unless memory ran out
 abbrev pub HasNoRoom : Refusal → ℕ → Type 0
 HasNoRoom Memory size = Unit {0}
-HasNoRoom (Fault cause) size = (cause ≡ TooMuch) × (1048576 ≤ size)
+HasNoRoom (Fault cause) size = (cause ≡ TooMuch) × (SCRIPT_BYTES ≤ size)
