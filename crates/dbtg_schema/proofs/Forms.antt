@@ -19,3 +19,4 @@ pub mod Seen
 pub mod Steps
 pub mod Walks
 pub mod Wanted
+pub mod WantedRows

@@ -12,4 +12,5 @@ pub mod SchemaFaults
 pub mod SchemaGrammar
 pub mod SchemaLists
 pub mod Spelling
+pub mod Wanted
 pub mod Words

@@ -23,6 +23,7 @@ mod scanner;
 mod schema;
 mod sets_of_type;
 mod shape;
+mod wanted;
 
 pub use erasing::AreaSet;
 pub use fault::{Cause, SchemaFault};
@@ -33,3 +34,4 @@ pub use pictures::spelled_picture;
 pub use row::Row;
 pub use schema::Schema;
 pub use shape::{Area, Calc, Class, Duplicates, Item, Member, Order, Picture, RecordType, SetType};
+pub use wanted::wanted_in_schema;

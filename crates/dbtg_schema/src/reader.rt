@@ -24,7 +24,7 @@ use crate::queries::Labelled;
 use crate::scanner::{Scanner, Word};
 use std::alloc::Global;
 
-fn is_noise(word: Word) -> bool
+pub fn is_noise(word: Word) -> bool
     ensures { result ≡ is_noise (view word.entry) }
 {
     (word.text == b"IS".as_slice()) | (word.text == b"ARE".as_slice())

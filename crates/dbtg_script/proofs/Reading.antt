@@ -21,4 +21,5 @@ pub mod Suppressed
 pub mod TokenSteps
 pub mod UsualLines
 pub mod UsualStores
+pub mod WantedRows
 pub mod WordSteps

@@ -6,6 +6,7 @@ pub mod Lookups
 pub mod Values
 pub mod StatementFaults
 pub mod FaultyWord
+pub mod Wanted
 pub mod Reading
 pub mod Statements
 pub mod Moves

@@ -73,7 +73,7 @@ fn way_on<'a>(words: &Words<'a>, state: State, token: Token<'a>) -> Result<Start
 }
 
 /// One word more, with its role.
-fn push_word<'a>(words: &mut Words<'a>, token: Token<'a>, role: Role) -> Result<(), AllocError>
+pub fn push_word<'a>(words: &mut Words<'a>, token: Token<'a>, role: Role) -> Result<(), AllocError>
     ensures { OnOk result (words.new ≡ record { schema = words.old.schema; words = words.old.words ++ labelled role (view token.entry) ∷ [] }) }
 {
     let names = words.named_by(token, role);

@@ -27,6 +27,7 @@ mod token;
 mod turns;
 mod usual;
 mod values;
+mod wanted;
 mod word_texts;
 mod words;
 
@@ -52,4 +53,5 @@ pub use texts::{answers_text, push_answer, push_named_answer, push_unit, units_t
 pub use token::{Token, Tokens};
 pub use turns::{TurnsFault, read_turns};
 pub use values::is_spelled;
+pub use wanted::wanted_in_line;
 pub use word_texts::{moves_words_text, turns_text};

@@ -81,6 +81,11 @@ abbrev pub labels : {K R W : Type 0} → (K → W → Bool) → Form K R → Lis
 labels fits wanted [] = []
 labels fits wanted (w ∷ rest) = by_start (start_with fits w (starts wanted)) (λ s. labelled s.role w ∷ labels fits s.rest rest) []
 
+-- what the form wants behind the words that it goes along with: behind all of them, or in front of the first that it does not want
+abbrev pub left_behind : {K R W : Type 0} → (K → W → Bool) → Form K R → List W → Form K R
+left_behind fits wanted [] = wanted
+left_behind fits wanted (w ∷ rest) = by_start (start_with fits w (starts wanted)) (λ s. left_behind fits s.rest rest) wanted
+
 -- these words with these roles are derived by the form
 abbrev pub Derives : {K R W : Type 0} → (K → W → Bool) → Form K R → List (Labelled W R) → Type 0
 Derives fits nothing ws = ws ≡ []
