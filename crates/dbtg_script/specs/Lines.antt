@@ -33,9 +33,13 @@ is_comment (b ∷ bs) = b == 42
 abbrev pub is_statement : List ℕ → Bool
 is_statement line = not (is_comment line) && not (list_all (λ b. b == 32) line)
 
--- at most 1,000 bytes, all of them printable ASCII
+-- all bytes are printable ASCII
+abbrev pub is_printable : List ℕ → Bool
+is_printable line = list_all (λ b. nat_le 32 b && nat_le b 126) line
+
+-- and there are at most 1,000 of them
 abbrev pub is_allowed : List ℕ → Bool
-is_allowed line = list_all (λ b. nat_le 32 b && nat_le b 126) line && nat_le (length line) 1000
+is_allowed line = is_printable line && nat_le (length line) 1000
 
 -- does the line end inside a text literal? The flag says that it begins in one
 abbrev pub ends_in_text : Bool → List ℕ → Bool

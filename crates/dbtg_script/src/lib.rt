@@ -31,6 +31,7 @@ mod wanted;
 mod word_texts;
 mod words;
 
+pub use checks::key_fault;
 pub use echo::statement_lines;
 pub use fault::{Cause, LineFault, ScriptFault};
 pub use faulty::faulty_word;
@@ -42,16 +43,17 @@ pub use laws::{
     different_units_print_differently, echoed_lines_say_their_statements,
 };
 pub use limits::{MOST_MOVES, SCRIPT_BYTES};
-pub use line::{Lines, ends_in_text, is_allowed, is_statement, trimmed, without_last};
+pub use line::{Lines, ends_in_text, is_allowed, is_printable, is_statement, trimmed, without_last};
 pub use moves::{MovesCause, MovesFault, read_moves};
 pub use print::{push_number, push_status};
 pub use reader::{read_script, read_script_line};
 pub use said_words::read_statement_words;
 pub use sizes::{push_echoed_run, push_run, push_schema_line, push_script_line};
-pub use spelling::{behind, has_byte, in_front, is_number, number};
+pub use spelling::{behind, has_byte, in_front, is_key, is_number, number};
+pub use statement::key_of;
 pub use texts::{answers_text, push_answer, push_named_answer, push_unit, units_text};
 pub use token::{Token, Tokens};
 pub use turns::{TurnsFault, read_turns};
-pub use values::is_spelled;
+pub use values::{is_spelled, spelled};
 pub use wanted::wanted_in_line;
 pub use word_texts::{moves_words_text, turns_text};

@@ -1,6 +1,6 @@
 //! The lines of a script.
 
-ghost use Rattle.dbtg_script.specs.Lines.{ends_in_text, is_allowed, is_comment, is_statement, lines, trimmed, without_last};
+ghost use Rattle.dbtg_script.specs.Lines.{ends_in_text, is_allowed, is_comment, is_printable, is_statement, lines, trimmed, without_last};
 ghost use Rattle.std.specs.Prelude.{◌≡◌, ◌==◌, ◌&&◌, ◌<◌, ◌≤◌, ◌∷◌, nat_le, ℕ, [], MatchOption, OnSome, drop, false, length, slice_index};
 ghost use Rattle.std.specs.List.{list_all};
 
@@ -92,8 +92,9 @@ pub fn is_statement(line: &[u8]) -> bool
     !is_comment(line) && !is_blank(line)
 }
 
-fn is_printable(line: &[u8]) -> bool
-    ensures { result ≡ list_all (λ b. nat_le 32 b && nat_le b 126) line.now }
+/// Are all bytes printable ASCII?
+pub fn is_printable(line: &[u8]) -> bool
+    ensures { result ≡ is_printable line.now }
 {
     line.iter().all(|b| matches!(*b, b' '..=b'~'))
 }

@@ -138,6 +138,22 @@ fn read_line<'a>(
     Ok(Some(read_statement(alloc, words, line)?))
 }
 
+/// The statement of a line of a usual form, if there is room for it behind `count` statements; of some such lines none.
+fn said_by_form(
+    alloc: Global,
+    schema: &Schema,
+    count: usize,
+    line: &[u8],
+) -> Result<Option<Statement>, AllocError>
+    ensures says { IfOk result (λ found. IfSome found (λ s. Says schema.now count line.now s)) }
+    ensures memory { OnErr result (MayTakeMemory schema.now count line.now) }
+{
+    if 65535 <= count {
+        return Ok(None);
+    }
+    usual_statement(alloc, schema, line)
+}
+
 /// The statement of one more line, behind `count` statements of a script; none where the line is a note or blank. Want of memory is
 /// never told of such a line, nor in place of a fault of the line as a whole or of its first word.
 pub fn read_script_line(
@@ -153,8 +169,12 @@ pub fn read_script_line(
     ensures at_once { IsToldAtOnce (faults_at_once schema.now count (trimmed line.now)) result }
     ensures note { is_statement (trimmed line.now) ≡ false → IfErr result (λ e. e ≡ LineFault.Memory → ⊥) }
 {
+    let line = trimmed(line);
+    if let Some(statement) = said_by_form(alloc, schema, count, line)? {
+        return Ok(Some(statement));
+    }
     let mut words = Words::new(alloc, schema);
-    read_line(alloc, &mut words, count, trimmed(line))
+    read_line(alloc, &mut words, count, line)
 }
 
 /// The statement of a line, if the line was read before and there is room for one more.
