@@ -45,7 +45,7 @@ pub use laws::{
 pub use limits::{MOST_MOVES, SCRIPT_BYTES};
 pub use line::{Lines, ends_in_text, is_allowed, is_printable, is_statement, trimmed, without_last};
 pub use moves::{MovesCause, MovesFault, read_moves};
-pub use print::{push_number, push_status};
+pub use print::{push_items, push_number, push_status};
 pub use reader::{read_script, read_script_line};
 pub use said_words::read_statement_words;
 pub use sizes::{push_echoed_run, push_run, push_schema_line, push_script_line};
