@@ -51,7 +51,7 @@ pub use said_words::read_statement_words;
 pub use sizes::{push_echoed_run, push_run, push_schema_line, push_script_line};
 pub use spelling::{behind, has_byte, in_front, is_key, is_number, number};
 pub use statement::key_of;
-pub use texts::{answers_text, push_answer, push_named_answer, push_unit, units_text};
+pub use texts::{answers_text, push_answer, push_answered, push_named_answer, push_unit, units_text};
 pub use token::{Token, Tokens};
 pub use turns::{TurnsFault, read_turns};
 pub use values::{is_spelled, spelled};

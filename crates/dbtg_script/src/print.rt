@@ -64,7 +64,6 @@ pub fn push_number(out: &mut Vec<u8>, n: u64) -> Result<(), AllocError>
 
 /// A status as four digits.
 pub fn push_status(out: &mut Vec<u8>, status: u16) -> Result<(), AllocError>
-    requires { status < 10000 }
     ensures { OnOk result (out.new.items ≡ out.old.items ++ four_digits status) }
 {
     let digits = [

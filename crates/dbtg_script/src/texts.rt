@@ -1,8 +1,7 @@
 //! The printed texts: answers and units.
 
-ghost use Rattle.dbtg_script.specs.Printing.Texts.{answer_front, answer_text, answers_text, current_text, found_text, named_answer_text, unit_text, units_text};
-ghost use Rattle.dbtg_unit.specs.Database.Statements.Codes.{status_code};
-ghost use Rattle.std.specs.Prelude.{◌≡◌, ◌++◌, ◌<◌, IfOk, OnOk, codes, decimal, option_map};
+ghost use Rattle.dbtg_script.specs.Printing.Texts.{answer_front, answer_text, answered_text, answers_text, current_text, found_text, named_answer_text, unit_text, units_text};
+ghost use Rattle.std.specs.Prelude.{◌≡◌, ◌++◌, IfOk, OnOk, codes, decimal, option_map};
 
 use crate::print::{
     push_current, push_currents, push_items, push_kept, push_number, push_places, push_spaced_key,
@@ -10,7 +9,7 @@ use crate::print::{
 };
 use dbtg_cells::{DbKey, Value};
 use dbtg_schema::{Row, Schema};
-use dbtg_unit::{Entry, Statement, Status, Unit};
+use dbtg_unit::{Entry, Unit};
 use std::alloc::{AllocError, Global};
 
 fn push_found(
@@ -33,11 +32,18 @@ fn push_found(
     }
 }
 
-fn status_code(status: Status, statement: &Statement) -> u16
-    ensures value { result ≡ status_code statement.now status }
-    ensures four { result < 10000 }
+/// What was answered, behind a text: a status, and a key and items where there are any.
+pub fn push_answered(
+    out: &mut Vec<u8>,
+    schema: &Schema,
+    status: u16,
+    key: Option<DbKey>,
+    items: Option<&Row<Value>>,
+) -> Result<(), AllocError>
+    ensures { OnOk result (out.new.items ≡ out.old.items ++ answered_text schema.now status key (option_map (λ r. r.now) items.entry)) }
 {
-    status.code(statement)
+    push_status(out, status)?;
+    push_found(out, schema, key, items)
 }
 
 fn push_answer_front(out: &mut Vec<u8>, schema: &Schema, entry: &Entry) -> Result<(), AllocError>
@@ -47,8 +53,9 @@ fn push_answer_front(out: &mut Vec<u8>, schema: &Schema, entry: &Entry) -> Resul
     out.push(b' ')?;
     push_number(out, entry.unit as u64)?;
     out.push(b' ')?;
-    push_status(out, status_code(entry.answer.status, &entry.statement))?;
-    push_found(out, schema, entry.answer.key, entry.answer.items.as_ref())
+    let answer = &entry.answer;
+    let status = answer.status.code(&entry.statement);
+    push_answered(out, schema, status, answer.key, answer.items.as_ref())
 }
 
 /// A line of a history behind a text: the ticket, unit and answer of an entry.

@@ -66,10 +66,14 @@ found_text schema None items = []
 found_text schema (Some k) None = spaced_key schema k
 found_text schema (Some k) (Some vs) = spaced_key schema k ++ items_text vs (item_list schema k.rtype)
 
+-- status, key, items
+abbrev pub answered_text : Lists → ℕ → Option DbKey → Option (List Value) → List ℕ
+answered_text schema status key items = four_digits status ++ found_text schema key items
+
 -- ticket, unit, status, key, items
 abbrev pub answer_front : Lists → Entry → List ℕ
 answer_front schema e =
-    decimal e.ticket ++ 32 ∷ decimal e.unit ++ 32 ∷ four_digits (status_code e.statement e.answer.status) ++ found_text schema e.answer.key e.answer.items
+    decimal e.ticket ++ 32 ∷ decimal e.unit ++ 32 ∷ answered_text schema (status_code e.statement e.answer.status) e.answer.key e.answer.items
 
 -- the line of an answer
 abbrev pub answer_text : Lists → Entry → List ℕ
