@@ -4,6 +4,7 @@
 pub mod EffectIsPlan
 pub mod GetKeepFree
 pub mod IsEffect
+pub mod MadeAtOnce
 pub mod ModifyHolds
 pub mod OpenClose
 pub mod PartByPart

@@ -1,2 +1,3 @@
 pub mod Locality
+pub mod Looking
 pub mod Inside

@@ -5,6 +5,7 @@ ghost use Rattle.dbtg_unit.specs.Database.State.Belongs.{IsUnitOf, IsWithin};
 ghost use Rattle.dbtg_unit.specs.Database.Statements.Checks.{refused_at_once};
 ghost use Rattle.dbtg_unit.specs.Database.Statements.Fits.{form_fits};
 ghost use Rattle.dbtg_unit.specs.Hands.Local.{Agrees};
+ghost use Rattle.dbtg_unit.specs.Hands.Locality.{IsMadeOnEach, made_by, seen};
 ghost use Rattle.dbtg_unit.specs.Hands.Making.{CanFinish, MayPrepare};
 ghost use Rattle.dbtg_unit.specs.Hands.Needs.{cells_to_find, current_owner, find_cells, first_missing};
 ghost use Rattle.dbtg_unit.specs.declared.statement.Statement.TheVariants.{Find};
@@ -18,10 +19,12 @@ mod set;
 
 use crate::joining::current_owner;
 use crate::missing::{missing, missing_ring, missing_slot};
-use crate::outcomes::done;
+use crate::outcomes::{done, refusal};
 use dbtg_cells::{CellName, DbKey};
 use dbtg_schema::Schema;
-use dbtg_unit::{Cause, Form, Held, Owners, Prepared, Suppress, Unit, UnitEdit, refused, stored};
+use dbtg_unit::{
+    Answer, Cause, Form, Held, Owners, Prepared, Status, Suppress, Unit, UnitEdit, refused, stored,
+};
 use std::alloc::Global;
 
 // The key that is found, or the cause why none is.
@@ -162,4 +165,46 @@ pub(crate) fn prepare_find(
 {
     let found = find_key(schema, capacity, unit, form, held);
     plan_of_found(alloc, held, suppress, found)
+}
+
+// What is found is seen: what the plan of it would make.
+fn see_found(
+    schema: &Schema,
+    unit: &mut Unit,
+    held: &mut Held,
+    suppress: &Suppress,
+    found: Result<DbKey, Cause>,
+) -> Answer
+    ensures { seen result unit.new held.new ≡ made_by schema.now unit.old held.old (plan_of_found held.old suppress.now found) }
+{
+    match found {
+        Ok(key) => {
+            let owners = owners_of(held, &key);
+            unit.see(schema, key, owners.as_slice(), suppress);
+            held.set_guesses(owners);
+            Answer {
+                status: Status::Done,
+                key: Some(key),
+                items: None,
+            }
+        }
+        Err(cause) => refusal(cause),
+    }
+}
+
+/// Makes a FIND that needs nothing more, without a plan.
+pub(crate) fn make_find(
+    schema: &Schema,
+    capacity: u16,
+    unit: &mut Unit,
+    form: &Form,
+    suppress: &Suppress,
+    held: &mut Held,
+) -> Answer
+    requires may { MayPrepare schema.now capacity unit.old held.old (Find form.now suppress.now) }
+    requires passes { refused_at_once schema.now capacity unit.old (Find form.now suppress.now) ≡ None }
+    ensures { IsMadeOnEach schema.now capacity unit.old held.old (Find form.now suppress.now) (seen result unit.new held.new) }
+{
+    let found = find_key(schema, capacity, unit, form, held);
+    see_found(schema, unit, held, suppress, found)
 }

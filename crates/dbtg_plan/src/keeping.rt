@@ -3,10 +3,12 @@ ghost use Rattle.std.specs.Prelude.{◌≡◌, IfOk};
 ghost use Rattle.dbtg_unit.specs.Hands.InHand.{in_hand};
 ghost use Rattle.dbtg_unit.specs.Inside.PlanOf.{plan_of};
 
-use crate::outcomes::done;
+use crate::outcomes::{done, refusal};
 use dbtg_cells::copy_items;
 use dbtg_schema::{RecordNo, Schema};
-use dbtg_unit::{Cause, Held, Prepared, Statement, Unit, UnitEdit, refused, stored};
+use dbtg_unit::{
+    Answer, Cause, Held, Prepared, Statement, Status, Unit, UnitEdit, refused, stored,
+};
 use std::alloc::{AllocError, Global};
 
 /// GET of the current of run-unit.
@@ -28,6 +30,29 @@ pub(crate) fn get(
             Ok(done(alloc, UnitEdit::Same, Some(key), Some(items)))
         }
         None => Ok(refused(alloc, Cause::Deleted)),
+    }
+}
+
+/// The answer of a GET that needs nothing more, without a plan. It changes nothing.
+pub(crate) fn answer_get(
+    alloc: Global,
+    schema: &Schema,
+    unit: &Unit,
+    rtype: Option<RecordNo>,
+    held: &Held,
+) -> Result<Answer, AllocError>
+    ensures { IfOk result (λ answer. answer ≡ (plan_of schema.now (in_hand held.now) unit.now (Statement.Get rtype)).answer) }
+{
+    let Some(key) = unit.currency.run_unit else {
+        return Ok(refusal(Cause::NoCurrentOfRunUnit));
+    };
+    match stored(held, &key) {
+        Some(record) => Ok(Answer {
+            status: Status::Done,
+            key: Some(key),
+            items: Some(copy_items(&record.items, alloc)?),
+        }),
+        None => Ok(refusal(Cause::Deleted)),
     }
 }
 

@@ -7,6 +7,7 @@ mod inserting;
 mod joining;
 mod keeping;
 mod laws;
+mod looking;
 mod members;
 mod missing;
 mod modifying;
@@ -19,5 +20,6 @@ mod stale;
 mod storing;
 
 pub use laws::each_statement_is_determined;
+pub use looking::{look, looks_alone};
 pub use need::{need_with_areas, next_need};
 pub use preparing::prepare;

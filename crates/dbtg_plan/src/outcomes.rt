@@ -1,10 +1,11 @@
-//! What is prepared where the unit alone changes.
+//! What is prepared, or answered at once, where the unit alone changes.
 ghost use Rattle.std.specs.Prelude.{◌≡◌};
 ghost use Rattle.dbtg_unit.specs.Hands.PlanOf.{done_plan};
+ghost use Rattle.dbtg_unit.specs.Hands.Prepared.{refusal};
 
 use dbtg_cells::{DbKey, Value};
 use dbtg_schema::Row;
-use dbtg_unit::{Answer, Prepared, Status, UnitEdit};
+use dbtg_unit::{Answer, Cause, Prepared, Status, UnitEdit};
 use std::alloc::Global;
 
 /// Done, with this change of the unit, and with a key and items for the answer, or none.
@@ -27,4 +28,15 @@ pub(crate) fn done(
         Row::of(Vec::new(alloc)),
         change,
     )
+}
+
+/// The answer of a statement that is refused for a cause.
+pub(crate) fn refusal(cause: Cause) -> Answer
+    ensures { result ≡ (refusal cause).answer }
+{
+    Answer {
+        status: Status::Refused(cause),
+        key: None,
+        items: None,
+    }
 }

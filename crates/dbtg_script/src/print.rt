@@ -75,6 +75,28 @@ pub fn push_status(out: &mut Vec<u8>, status: u16) -> Result<(), AllocError>
     out.extend_from_slice(&digits)
 }
 
+/// The number of a unit and a status, each behind a space. Where the unit has one digit, all are pushed at once.
+pub fn push_unit_and_status(out: &mut Vec<u8>, unit: u8, status: u16) -> Result<(), AllocError>
+    ensures { OnOk result (out.new.items ≡ out.old.items ++ 32 ∷ decimal unit ++ 32 ∷ four_digits status) }
+{
+    if unit < 10 {
+        let bytes = [
+            b' ',
+            b'0' + unit,
+            b' ',
+            b'0' + (status / 1000) as u8,
+            b'0' + (status / 100 % 10) as u8,
+            b'0' + (status / 10 % 10) as u8,
+            b'0' + (status % 10) as u8,
+        ];
+        return out.extend_from_slice(&bytes);
+    }
+    out.push(b' ')?;
+    push_number(out, unit as u64)?;
+    out.push(b' ')?;
+    push_status(out, status)
+}
+
 fn type_name(schema: &Schema, rtype: RecordNo) -> &[u8]
     ensures { result.now ≡ type_name schema.now rtype }
 {

@@ -2,12 +2,12 @@
 
 ghost use Rattle.dbtg_script.specs.Printing.Echo.{echoed_run_text};
 ghost use Rattle.dbtg_script.specs.Printing.Texts.{count_part, name_part, run_text, schema_line, script_line, text_behind};
-ghost use Rattle.std.specs.Prelude.{◌≡◌, ◌++◌, IfOk, OnOk};
+ghost use Rattle.std.specs.Prelude.{◌≡◌, ◌++◌, [], IfOk, OnOk};
 
 use crate::echo::echo_text;
 use crate::image::image_text;
 use crate::print::push_number;
-use crate::texts::{answers_text, units_text};
+use crate::texts::{push_answers, units_text};
 use dbtg_schema::{Row, Schema};
 use dbtg_unit::{Entry, Image, Unit};
 use std::alloc::{AllocError, Global};
@@ -46,18 +46,16 @@ pub fn push_script_line(out: &mut Vec<u8>, number: usize, count: usize) -> Resul
     push_count(out, count, b" statements\n")
 }
 
-// A line of two hyphens, the image and the units, behind answers that are a text already.
+// A line of two hyphens, the image and the units.
 fn push_rest(
     alloc: Global,
     out: &mut Vec<u8>,
-    answers: &[u8],
     schema: &Schema,
     image: &Image,
     units: &[Unit],
 ) -> Result<(), AllocError>
-    ensures { OnOk result (out.new.items ≡ out.old.items ++ text_behind answers.now schema.now image.now.records image.now.lists image.now.next image.now.usage units.now) }
+    ensures { OnOk result (out.new.items ≡ out.old.items ++ text_behind [] schema.now image.now.records image.now.lists image.now.next image.now.usage units.now) }
 {
-    out.extend_from_slice(answers)?;
     out.extend_from_slice(b"--\n")?;
     out.extend_from_slice(image_text(alloc, schema, image)?.as_slice())?;
     out.extend_from_slice(units_text(alloc, schema, units)?.as_slice())
@@ -74,8 +72,8 @@ pub fn push_run(
 ) -> Result<(), AllocError>
     ensures { OnOk result (out.new.items ≡ out.old.items ++ run_text schema.now history.now image.now.records image.now.lists image.now.next image.now.usage units.now) }
 {
-    let answers = answers_text(alloc, schema, history)?;
-    push_rest(alloc, out, answers.as_slice(), schema, image, units)
+    push_answers(out, schema, history)?;
+    push_rest(alloc, out, schema, image, units)
 }
 
 /// The same, with the statement of each answer in front of it, as the texts of the scripts have it.
@@ -91,5 +89,6 @@ pub fn push_echoed_run(
     ensures { OnOk result (out.new.items ≡ out.old.items ++ echoed_run_text schema.now texts.now history.now image.now.records image.now.lists image.now.next image.now.usage units.now) }
 {
     let answers = echo_text(alloc, schema, texts, history)?;
-    push_rest(alloc, out, answers.as_slice(), schema, image, units)
+    out.extend_from_slice(answers.as_slice())?;
+    push_rest(alloc, out, schema, image, units)
 }

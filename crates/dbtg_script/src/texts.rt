@@ -5,12 +5,15 @@ ghost use Rattle.std.specs.Prelude.{◌≡◌, ◌++◌, IfOk, OnOk, codes, deci
 
 use crate::print::{
     push_current, push_currents, push_items, push_kept, push_number, push_places, push_spaced_key,
-    push_status,
+    push_status, push_unit_and_status,
 };
 use dbtg_cells::{DbKey, Value};
 use dbtg_schema::{Row, Schema};
 use dbtg_unit::{Entry, Unit};
 use std::alloc::{AllocError, Global};
+
+/// More bytes than most lines of a history have.
+const USUAL_LINE: usize = 24;
 
 fn push_found(
     out: &mut Vec<u8>,
@@ -50,12 +53,10 @@ fn push_answer_front(out: &mut Vec<u8>, schema: &Schema, entry: &Entry) -> Resul
     ensures { OnOk result (out.new.items ≡ out.old.items ++ answer_front schema.now entry.now) }
 {
     push_number(out, entry.ticket)?;
-    out.push(b' ')?;
-    push_number(out, entry.unit as u64)?;
-    out.push(b' ')?;
     let answer = &entry.answer;
     let status = answer.status.code(&entry.statement);
-    push_answered(out, schema, status, answer.key, answer.items.as_ref())
+    push_unit_and_status(out, entry.unit, status)?;
+    push_found(out, schema, answer.key, answer.items.as_ref())
 }
 
 /// A line of a history behind a text: the ticket, unit and answer of an entry.
@@ -83,6 +84,17 @@ pub fn push_named_answer(
     Ok(())
 }
 
+/// The lines of a history behind a text. Room for lines of usual length is made at once.
+pub fn push_answers(out: &mut Vec<u8>, schema: &Schema, history: &[Entry]) -> Result<(), AllocError>
+    ensures { OnOk result (out.new.items ≡ out.old.items ++ answers_text schema.now history.now) }
+{
+    out.reserve(history.len().saturating_mul(USUAL_LINE))?;
+    for entry in history {
+        push_answer(out, schema, entry)?;
+    }
+    Ok(())
+}
+
 /// A line for each entry of a history: its ticket, unit and answer.
 pub fn answers_text(
     alloc: Global,
@@ -92,9 +104,7 @@ pub fn answers_text(
     ensures { IfOk result (λ text. text.items ≡ answers_text schema.now history.now) }
 {
     let mut out = Vec::new(alloc);
-    for entry in history {
-        push_answer(&mut out, schema, entry)?;
-    }
+    push_answers(&mut out, schema, history)?;
     Ok(out)
 }
 

@@ -1,14 +1,14 @@
 //! Lines of usual forms, read straight into their statements, without a list of their words. Any other line, and any line with a
 //! fault, is left to the reader of all lines.
 
-ghost use Rattle.dbtg_schema.specs.Structure.{item_list};
+ghost use Rattle.dbtg_schema.specs.Structure.{calc_of, item_list};
 ghost use Rattle.dbtg_script.specs.Inside.Known.{Says};
 ghost use Rattle.dbtg_script.specs.Inside.Reading.{MayTakeMemory};
 ghost use Rattle.dbtg_script.specs.Lookups.{item_named};
 ghost use Rattle.dbtg_script.specs.Reading.{first_word_faults};
 ghost use Rattle.dbtg_script.specs.StatementGrammar.{fits, value};
 ghost use Rattle.dbtg_script.specs.Tokens.{equals, plain, tokens, view};
-ghost use Rattle.dbtg_script.specs.Inside.Usual.{AreAssigned, AreSaid, IsAssigned, IsGiven, IsOfSet, nothing};
+ghost use Rattle.dbtg_script.specs.Inside.Usual.{AreAssigned, AreSaid, IsAssigned, IsCalcType, IsGiven, IsOfSet, IsOnlyGiven, calc_items, nothing};
 ghost use Rattle.std.specs.Prelude.{◌≡◌, ◌<◌, ◌∷◌, ℕ, [], IfOk, IfSome, OnErr, Some, codes, false, is_err, true};
 
 use crate::automaton::Kind;
@@ -21,7 +21,7 @@ use crate::token::{Token, Tokens};
 use crate::values::{blank, spelled, up_to};
 use dbtg_cells::Value;
 use dbtg_schema::{Item, ItemNo, RecordNo, Row, Schema, SetNo};
-use dbtg_unit::{Form, MOST_STATEMENTS, Statement, Suppress, Which};
+use dbtg_unit::{Change, Form, MOST_STATEMENTS, Statement, Suppress, Which};
 use std::alloc::{AllocError, Global};
 
 /// The next word, where it is a plain one.
@@ -145,7 +145,92 @@ fn by_sort_key(
     }
 }
 
-/// FIND by a key, by a sort key or by a number in a set
+/// The item and its value of `i = v`, where these are the last words.
+fn only_change(
+    alloc: Global,
+    schema: &Schema,
+    rtype: RecordNo,
+    left: &mut Tokens,
+) -> Result<Option<Change>, AllocError>
+    ensures { IfOk result (λ found. IfSome found (λ c. IsOnlyGiven schema.now rtype (tokens false left.old.rest.now) c.item c.value)) }
+{
+    let Some(name) = plain_word(left) else {
+        return Ok(None);
+    };
+    let Some(item) = schema.item(rtype, name) else {
+        return Ok(None);
+    };
+    let Some(picture) = schema.picture_of(rtype, item) else {
+        return Ok(None);
+    };
+    let Some(token) = value_word(left) else {
+        return Ok(None);
+    };
+    if !ends(left) {
+        return Ok(None);
+    }
+    match spelled(alloc, picture, token)? {
+        None => Ok(None),
+        Some(value) => Ok(Some(Change { item, value })),
+    }
+}
+
+/// The record type of `r RECORD USING`.
+fn calc_type(schema: &Schema, left: &mut Tokens) -> Option<RecordNo>
+    ensures { IfSome result (λ r. IsCalcType schema.now r (tokens false left.old.rest.now) (tokens false left.new.rest.now)) }
+{
+    let name = plain_word(left)?;
+    if !takes(left, b"RECORD") {
+        return None;
+    }
+    if !takes(left, b"USING") {
+        return None;
+    }
+    schema.rtype(name)
+}
+
+/// The item of a CALC clause, where it has one alone.
+fn only_calc_item(schema: &Schema, rtype: RecordNo) -> Option<ItemNo>
+    ensures { IfSome result (λ i. calc_items (calc_of schema.now rtype) ≡ i ∷ []) }
+{
+    let calc = schema.calc_of(rtype)?;
+    match calc.items.as_slice().split_first() {
+        Some((item, [])) => Some(*item),
+        _ => None,
+    }
+}
+
+/// FIND CALC r RECORD USING i = v
+fn by_calc(
+    alloc: Global,
+    schema: &Schema,
+    left: &mut Tokens,
+) -> Result<Option<Statement>, AllocError>
+    ensures { IfOk result (λ found. IfSome found (λ s. AreSaid schema.now (plain (codes "FIND") ∷ plain (codes "CALC") ∷ tokens false left.old.rest.now) s)) }
+{
+    let Some(rtype) = calc_type(schema, left) else {
+        return Ok(None);
+    };
+    let Some(item) = only_calc_item(schema, rtype) else {
+        return Ok(None);
+    };
+    match only_change(alloc, schema, rtype, left)? {
+        None => Ok(None),
+        Some(change) => {
+            if change.item.index() != item.index() {
+                return Ok(None);
+            }
+            let mut values = Vec::with_capacity(alloc, 1)?;
+            values.push(change.value)?;
+            Ok(Some(find(Form::Calc {
+                rtype,
+                values: Row::of(values),
+            })))
+        }
+    }
+}
+
+/// FIND by a key, by CALC items, by a sort key or by a number in a set
 fn usual_find(
     alloc: Global,
     schema: &Schema,
@@ -160,6 +245,8 @@ fn usual_find(
         Ok(by_key(schema, left))
     } else if word == b"SORTED".as_slice() {
         by_sort_key(alloc, schema, left)
+    } else if word == b"CALC".as_slice() {
+        by_calc(alloc, schema, left)
     } else {
         Ok(nth(schema, word, left))
     }
@@ -280,6 +367,33 @@ fn usual_store(
     }
 }
 
+/// MODIFY r i = v
+fn usual_modify(
+    alloc: Global,
+    schema: &Schema,
+    left: &mut Tokens,
+) -> Result<Option<Statement>, AllocError>
+    ensures { IfOk result (λ found. IfSome found (λ s. AreSaid schema.now (plain (codes "MODIFY") ∷ tokens false left.old.rest.now) s)) }
+{
+    let Some(name) = plain_word(left) else {
+        return Ok(None);
+    };
+    let Some(rtype) = schema.rtype(name) else {
+        return Ok(None);
+    };
+    match only_change(alloc, schema, rtype, left)? {
+        None => Ok(None),
+        Some(change) => {
+            let mut changes = Vec::with_capacity(alloc, 1)?;
+            changes.push(change)?;
+            Ok(Some(Statement::Modify {
+                rtype,
+                changes: Row::of(changes),
+            }))
+        }
+    }
+}
+
 fn by_words(
     alloc: Global,
     schema: &Schema,
@@ -295,6 +409,8 @@ fn by_words(
         usual_store(alloc, schema, left)
     } else if word == b"FIND".as_slice() {
         usual_find(alloc, schema, left)
+    } else if word == b"MODIFY".as_slice() {
+        usual_modify(alloc, schema, left)
     } else {
         Ok(None)
     }

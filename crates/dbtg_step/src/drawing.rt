@@ -18,6 +18,7 @@ ghost use Rattle.dbtg_step.specs.Inside.Events.{IsStepped, IsWell, NeedsNext};
 use crate::parts::{Parts, Runner, StatementProgress};
 use crate::runner::{close, pass, statement_of};
 use crate::statements::prepare;
+use dbtg_plan::{look, looks_alone};
 use dbtg_schema::Schema;
 use dbtg_unit::{Answer, Entry, Held, Statement, Stepped, Unit, finish};
 use std::alloc::{AllocError, Global};
@@ -38,6 +39,9 @@ pub fn make(
     ensures unit { OnErr result (unit.new ≡ unit.old) }
     ensures shows { OnErr result (ShowsTheSame held.old held.new) }
 {
+    if looks_alone(statement) {
+        return look(alloc, schema, capacity, unit, statement, held);
+    }
     let prepared = prepare(alloc, schema, capacity, unit, statement, held)?;
     Ok(finish(schema, prepared, held, unit))
 }

@@ -1,5 +1,5 @@
 //! The events of a statement before its ticket: it takes the area or the cell that it needs next, or turns back.
-ghost use Rattle.std.specs.Prelude.{◌≡◌, ℕ, ◌≤◌, ◌<◌, ◌-◌, ◌++◌, ◌∷◌, ◌||◌, [], length, drop, take, slice_get, true, false, Some, IfOk, OnErr, OnOk};
+ghost use Rattle.std.specs.Prelude.{◌≡◌, ℕ, ◌≤◌, ◌<◌, ◌-◌, ◌++◌, ◌∷◌, ◌||◌, [], length, drop, take, slice_get, true, false, Some, IfOk, IfSome, OnErr, OnOk};
 ghost use Rattle.std.specs.List.{list_any};
 ghost use Rattle.dbtg_cells.specs.Names.{name_eq};
 ghost use Rattle.dbtg_schema.specs.Lists.{Lists};
@@ -20,7 +20,7 @@ ghost use Rattle.dbtg_step.specs.Inside.Events.{ChangesCourseAlone, IsStepped, I
 use crate::drawing::ticket_event;
 use crate::parts::{Parts, CellLocation, Runner, StatementProgress};
 use crate::runner::turn_back;
-use crate::statements::next_need;
+use crate::statements::{area_next, next_need};
 use dbtg_cells::{Cell, CellName, cell_number};
 use dbtg_schema::{AreaNo, Schema};
 use dbtg_unit::{Held, Need, Owners, Stepped, with_true_owners};
@@ -83,6 +83,48 @@ fn need_now(
         capacity,
         &mut parts.runners[unit as usize - 1],
     )
+}
+
+// The area that the unit's statement needs next, if it needs one still. The unit keeps what is settled of its needs.
+fn area_of(schema: &Schema, capacity: u16, runner: &mut Runner) -> Option<AreaNo>
+    requires left { runner.old.next < length runner.old.script }
+    requires kept { (x : Statement) → slice_get runner.old.script runner.old.next ≡ Some x → IsCourseKept schema.now capacity runner.old.held runner.old.unit x runner.old.course }
+    ensures rest { runner.new ≡ record runner.old { course = runner.new.course } }
+    ensures kept { (x : Statement) → slice_get runner.old.script runner.old.next ≡ Some x → IsCourseKept schema.now capacity runner.old.held runner.old.unit x runner.new.course }
+    ensures need { IfSome result (λ a. (x : Statement) (db : Database) → slice_get runner.old.script runner.old.next ≡ Some x → Agrees schema.now capacity db runner.old.held runner.old.unit → Need.Area a ≡ need schema.now capacity db runner.old.unit runner.old.held x) }
+{
+    let statement = &runner.script.as_slice()[runner.next];
+    area_next(
+        schema,
+        capacity,
+        &runner.unit,
+        statement,
+        &runner.held,
+        &mut runner.course,
+    )
+}
+
+/// The area that the unit needs next, if it needs one still: most needs are areas, and a `Need` is large. Nothing is changed but how
+/// far its statement has come.
+fn area_now(
+    schema: &Schema,
+    capacity: u16,
+    parts: &mut Parts,
+    unit: u8,
+    progress: StatementProgress,
+) -> Option<AreaNo>
+    requires numbered { 0 < unit }
+    requires within { unit ≤ length parts.old.runners.items }
+    requires well { IsWell schema.now capacity parts.old }
+    requires stands { (r : Runner) → slice_get parts.old.runners.items (unit - 1) ≡ Some r → StandsNeeding r progress }
+    ensures alone { ChangesCourseAlone unit parts.old parts.new }
+    ensures well { IsWell schema.now capacity parts.new }
+    ensures stands { (r : Runner) → slice_get parts.new.runners.items (unit - 1) ≡ Some r → StandsNeeding r progress }
+    ensures need { IfSome result (λ a. NeedsNext schema.now capacity parts.new unit progress (Need.Area a)) }
+{
+    // Used by the contract alone.
+    let _ = progress.linked;
+    area_of(schema, capacity, &mut parts.runners[unit as usize - 1])
 }
 
 /// The unit holds the area in a way that conflicts.
@@ -254,8 +296,8 @@ fn need_event(
     }
 }
 
-/// A statement without a ticket follows its needs.
-pub fn event_before_ticket(
+// Asks for the next need, and meets it.
+fn follows_need(
     alloc: Global,
     schema: &Schema,
     capacity: u16,
@@ -272,5 +314,26 @@ pub fn event_before_ticket(
     match need_now(alloc, schema, capacity, parts, unit, progress) {
         Ok(need) => need_event(alloc, schema, capacity, parts, unit, progress, need),
         Err(_) => Stepped::NoMemory,
+    }
+}
+
+/// A statement without a ticket follows its needs, its areas before its cells.
+pub fn event_before_ticket(
+    alloc: Global,
+    schema: &Schema,
+    capacity: u16,
+    parts: &mut Parts,
+    unit: u8,
+    progress: StatementProgress,
+) -> Stepped
+    requires numbered { 0 < unit }
+    requires within { unit ≤ length parts.old.runners.items }
+    requires well { IsWell schema.now capacity parts.old }
+    requires stands { (r : Runner) → slice_get parts.old.runners.items (unit - 1) ≡ Some r → StandsNeeding r progress }
+    ensures { IsStepped schema.now capacity unit result parts.old parts.new }
+{
+    match area_now(schema, capacity, parts, unit, progress) {
+        Some(area) => take_area_event(parts, unit, progress, area),
+        None => follows_need(alloc, schema, capacity, parts, unit, progress),
     }
 }

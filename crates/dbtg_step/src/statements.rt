@@ -58,8 +58,8 @@ fn area_left(
     }
 }
 
-// The first area that is not in hand, if the statement still has one to take. What is settled of checks and areas is not asked again.
-fn area_next(
+/// The first area that is not in hand, if the statement still has one to take. What is settled of checks and areas is not asked again.
+pub fn area_next(
     schema: &Schema,
     capacity: u16,
     unit: &Unit,

@@ -82,8 +82,8 @@ fn need_once(
     next_need(alloc, schema, capacity, unit, statement, held, &mut course)
 }
 
-// Guesses that the statement needs are the true owners; there are no others. With all areas and cells in hand it then needs
-// nothing more.
+// Guesses that the statement needs are the true owners, and there are no others; a statement that needs none leaves them as they are.
+// With all areas and cells in hand it then needs nothing more.
 fn guess_owners(
     alloc: Global,
     schema: &Schema,
@@ -101,10 +101,10 @@ fn guess_owners(
     ensures cells { held.new.cells ≡ held.old.cells }
     ensures areas { held.new.areas ≡ held.old.areas }
 {
-    held.set_guesses(Owners::none(schema.sets().len()));
     if !goes_by_guesses(statement) {
         return Ok(());
     }
+    held.set_guesses(Owners::none(schema.sets().len()));
     if let Need::Stale(owners) = need_once(alloc, schema, capacity, unit, statement, held)? {
         held.set_guesses(owners);
     }

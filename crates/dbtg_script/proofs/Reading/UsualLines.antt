@@ -1,17 +1,21 @@
 -- Lines of usual forms say the statements that they are read as.
-use Rattle.std.proofs.Common.{◌≡◌, ℕ, ◌<◌, true, false, List, [], ◌∷◌, Option, Some, None, refl, sym, ap, ◌∙◌, inl, inr, arith, codes, true≢false}
-use Rattle.std.specs.Prelude.{◌==◌, ◌^◌, Result, Ok, Err, IfOk, IfSome, min, nat_le}
+use Rattle.std.proofs.Common.{◌≡◌, ℕ, zero, suc, ◌+◌, ◌<◌, true, false, cond, List, [], ◌∷◌, map, Option, Some, None, refl, sym, ap, ◌∙◌, inl, inr, arith, codes, true≢false}
+use Rattle.std.specs.Prelude.{◌==◌, ◌^◌, Result, Ok, Err, IfOk, IfSome, min, nat_le, option_map, slice_get, unwrap_or}
+use Rattle.std.specs.List.{position_from}
 use Rattle.std.specs.Str.{bytes_eq}
-use Rattle.std.proofs.lemmas.Bool.{cases_Bool, ne_eqb}
+use Rattle.std.proofs.lemmas.Bool.{cases_Bool, eq-eqb, ne_eqb}
 use Rattle.std.proofs.lemmas.Bool.Decides.{nat_tests}
 use Rattle.std.proofs.lemmas.Slice.Eq.{bytes_eq-Decides}
 use Rattle.dbtg_schema.specs.Lists.{Lists}
 use Rattle.dbtg_schema.specs.Lookups.{first}
+use Rattle.dbtg_schema.specs.declared.shape.Calc.{Calc}
+use Rattle.dbtg_schema.specs.declared.shape.Item.{Item}
 use Rattle.dbtg_schema.specs.declared.shape.Picture.{Picture}
-use Rattle.dbtg_schema.specs.Structure.{order_of}
+use Rattle.dbtg_schema.specs.Structure.{calc_of, item_list, order_of, picture_of}
 use Rattle.dbtg_schema.specs.WellFormed.{is_sorted}
 use Rattle.dbtg_cells.specs.declared.key.Value.{Value}
 use Rattle.dbtg_schema.specs.Texts.Forms.{labelled, labels, start_with, starts}
+use Rattle.dbtg_schema.proofs.Public.{bytes_same}
 use Rattle.dbtg_unit.specs.declared.limits.TheConstants.{MOST_STATEMENTS}
 use Rattle.dbtg_unit.specs.declared.statement.Statement.{Statement}
 use Rattle.dbtg_unit.specs.declared.statement.Statement.TheVariants as statement
@@ -23,15 +27,15 @@ use Rattle.dbtg_script.specs.declared.role.Role.TheVariants as role
 use Rattle.dbtg_script.specs.Inside.Automaton.{rest_of}
 use Rattle.dbtg_script.specs.Inside.Known.{Says}
 use Rattle.dbtg_script.specs.Lines.{ends_in_text, is_allowed, is_statement}
-use Rattle.dbtg_script.specs.Lookups.{set_named, sort_picture}
+use Rattle.dbtg_script.specs.Lookups.{item_named, set_named, sort_picture, type_named}
 use Rattle.dbtg_script.specs.Printing.Spelling.{is_key, is_signed, number}
 use Rattle.dbtg_script.specs.Reading.{verdict}
-use Rattle.dbtg_script.specs.StatementFaults.{key_faults, when, without_minus}
-use Rattle.dbtg_script.specs.StatementGrammar.{fits}
+use Rattle.dbtg_script.specs.StatementFaults.{differs_from, key_faults, value_faults, when, without_minus}
+use Rattle.dbtg_script.specs.StatementGrammar.{Labelled, fits}
 use Rattle.dbtg_script.specs.StatementGrammar as grammar
-use Rattle.dbtg_script.specs.Statements.{key_of, signed, statement_of}
-use Rattle.dbtg_script.specs.Tokens.{Token, plain, tokens}
-use Rattle.dbtg_script.specs.Inside.Usual.{AreSaid, IsOfSet, nothing}
+use Rattle.dbtg_script.specs.Statements.{calc_value, calc_values, key_of, name_at, signed, statement_of}
+use Rattle.dbtg_script.specs.Tokens.{Token, equals, plain, tokens}
+use Rattle.dbtg_script.specs.Inside.Usual.{AreSaid, IsCalcType, IsOfSet, IsOnlyGiven, calc_items, nothing}
 use Rattle.dbtg_script.specs.Values.{spelled, up_to}
 use Rattle.dbtg_script.proofs.Reading.ScriptSteps.{closed_line}
 use Rattle.dbtg_script.proofs.Reading.Suppressed.{none_suppressed}
@@ -131,3 +135,61 @@ pub sorted_said : (schema : Lists) (t : Token) (ts : List Token) (set : ℕ) (p 
     → sort_picture schema set ≡ Some p → spelled p t ≡ Some v
     → AreSaid schema (plain (codes "FIND") ∷ plain (codes "SORTED") ∷ t ∷ ts) (statement.Find (form.Sorted v set) nothing)
 sorted_said schema t ts set p v h of order picture is = rw of.words (by_key_of_set schema t of.name set p v h of.known order picture is)
+
+-- MODIFY r i = v
+
+change_said : (schema : Lists) (name item : List ℕ) (t : Token) (r i : ℕ) (p : Picture) (v : Value) → type_named schema name ≡ Some r → item_named schema r item ≡ Some i → picture_of schema r i ≡ Some p
+    → fits grammar.value t ≡ true → spelled p t ≡ Some v
+    → AreSaid schema (plain (codes "MODIFY") ∷ plain name ∷ plain item ∷ equals ∷ t ∷ []) (statement.Modify r (record { item = i; value = v } ∷ []))
+unfolding verdict
+change_said schema name item t r i p v known named picture h is = record {
+  faultless = rw (h, known, named, picture) (first_else (value_faults (Some p) t) _ (spelled_faultless p t v is));
+  said = rw (h, known, named, picture, bytes_same item, is) refl;
+}
+
+pub modify_said : (schema : Lists) (name : List ℕ) (ts : List Token) (r i : ℕ) (v : Value) → type_named schema name ≡ Some r → IsOnlyGiven schema r ts i v
+    → AreSaid schema (plain (codes "MODIFY") ∷ plain name ∷ ts) (statement.Modify r (record { item = i; value = v } ∷ []))
+modify_said schema name ts r i v known g = rw g.words (change_said schema name g.name g.token r i g.picture v known g.known g.pictured g.value_word g.value_is)
+
+-- FIND CALC r RECORD USING i = v
+
+-- where a name is found, an item of this name stands
+found_name : (n : List ℕ) (k : ℕ) (items : List Item) (j : ℕ) → position_from (bytes_eq n) k (map (λ (x : Item). x.name) items) ≡ Some j
+    → (d : ℕ) × (j ≡ k + d) × (unwrap_or (option_map (λ (x : Item). x.name) (slice_get items d)) [] ≡ n)
+found_name n k [] j e = absurd cc
+found_name n k (x ∷ items) j e = elim (cases_Bool (bytes_eq n x.name)) [
+  | inl h ↦ let at : Some k ≡ Some j = sym (ap (λ b. cond b (Some k) (position_from (bytes_eq n) (k + 1) (map (λ (x : Item). x.name) items))) h) ∙ e in
+      let same : k ≡ j = cc in
+      (0, omega (arith, same), sym ((bytes_eq-Decides n x.name).0 h))
+  | inr h ↦ let r = found_name n (k + 1) items j (sym (ap (λ b. cond b (Some k) (position_from (bytes_eq n) (k + 1) (map (λ (x : Item). x.name) items))) h) ∙ e) in
+      (suc r.0, omega (arith, r.1), r.2)
+]
+
+name_is : (schema : Lists) (r : ℕ) (n : List ℕ) (i : ℕ) → item_named schema r n ≡ Some i → name_at schema r i ≡ n
+name_is schema r n i e =
+    let f = found_name n 0 (item_list schema r) i e in
+    let same : i ≡ f.0 = omega (arith, f.1) in
+    ap (name_at schema r) same ∙ f.2
+
+-- a CALC clause of one item
+used_rightly : (calc : Option Calc) (i : ℕ) → calc_items calc ≡ i ∷ [] → differs_from calc (i ∷ []) ≡ false
+used_rightly None i e = absurd cc
+used_rightly (Some calc) i e = rw (e, eq-eqb i i refl) refl
+
+one_value : (schema : Lists) (r : ℕ) (ws : List Labelled) (calc : Option Calc) (i : ℕ) → calc_items calc ≡ i ∷ [] → calc_values schema r ws calc ≡ calc_value schema r ws i ∷ []
+one_value schema r ws None i e = absurd cc
+one_value schema r ws (Some calc) i e = ap (map (calc_value schema r ws)) e
+
+calc_said : (schema : Lists) (name item : List ℕ) (t : Token) (r i : ℕ) (p : Picture) (v : Value) → type_named schema name ≡ Some r → calc_items (calc_of schema r) ≡ i ∷ [] → item_named schema r item ≡ Some i
+    → picture_of schema r i ≡ Some p → fits grammar.value t ≡ true → spelled p t ≡ Some v
+    → AreSaid schema (plain (codes "FIND") ∷ plain (codes "CALC") ∷ plain name ∷ plain (codes "RECORD") ∷ plain (codes "USING") ∷ plain item ∷ equals ∷ t ∷ []) (statement.Find (form.Calc r (v ∷ [])) nothing)
+unfolding verdict
+calc_said schema name item t r i p v known calc named picture h is = record {
+  faultless = rw (h, known, named, picture, used_rightly (calc_of schema r) i calc) (first_else (value_faults (Some p) t) _ (spelled_faultless p t v is));
+  said = rw (h, known, one_value schema r _ (calc_of schema r) i calc, name_is schema r item i named, picture, bytes_same item, is, none_suppressed _ schema.sets refl) refl;
+}
+
+pub find_calc_said : (schema : Lists) (before after : List Token) (r i : ℕ) (v : Value) → IsCalcType schema r before after → calc_items (calc_of schema r) ≡ i ∷ [] → IsOnlyGiven schema r after i v
+    → AreSaid schema (plain (codes "FIND") ∷ plain (codes "CALC") ∷ before) (statement.Find (form.Calc r (v ∷ [])) nothing)
+find_calc_said schema before after r i v c calc g =
+    rw (c.words, g.words) (calc_said schema c.name g.name g.token r i g.picture v c.known calc g.known g.pictured g.value_word g.value_is)

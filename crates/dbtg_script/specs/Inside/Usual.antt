@@ -1,13 +1,16 @@
 -- Lines of usual forms, which are read without a list of their words.
-use Rattle.std.specs.Prelude.{◌≡◌, ℕ, ◌+◌, true, false, List, [], ◌∷◌, Some, None, codes, ◌⊎◌}
+use Rattle.std.specs.Prelude.{◌≡◌, ℕ, ◌+◌, true, false, List, [], ◌∷◌, Option, Some, None, codes, ◌⊎◌}
 use Rattle.std.specs.Str.{bytes_eq}
 use Rattle.dbtg_schema.specs.Lists.{Lists}
 use Rattle.dbtg_schema.specs.Texts.Forms.{labels}
+use Rattle.dbtg_schema.specs.declared.shape.Calc.{Calc}
 use Rattle.dbtg_schema.specs.declared.shape.Item.{Item}
+use Rattle.dbtg_schema.specs.declared.shape.Picture.{Picture}
+use Rattle.dbtg_schema.specs.Structure.{picture_of}
 use Rattle.dbtg_cells.specs.declared.key.Value.{Value}
 use Rattle.dbtg_unit.specs.declared.statement.Statement.{Statement}
 use Rattle.dbtg_unit.specs.declared.statement.Suppress.{Suppress}
-use Rattle.dbtg_script.specs.Lookups.{item_named, set_named}
+use Rattle.dbtg_script.specs.Lookups.{item_named, set_named, type_named}
 use Rattle.dbtg_script.specs.Reading.{verdict}
 use Rattle.dbtg_script.specs.StatementGrammar.{fits, statement, value}
 use Rattle.dbtg_script.specs.Statements.{statement_of}
@@ -28,6 +31,28 @@ pub record IsOfSet (schema : Lists) (ts : List Token) (set : ℕ) : Type 0 where
   pub name : List ℕ
   pub words : ts ≡ plain (codes "OF") ∷ plain name ∷ plain (codes "SET") ∷ []
   pub known : set_named schema name ≡ Some set
+
+-- the words give this value to the item of this number, by its name, = and the value, and say no more
+pub record IsOnlyGiven (schema : Lists) (r : ℕ) (ts : List Token) (i : ℕ) (v : Value) : Type 0 where
+  pub name : List ℕ
+  pub token : Token
+  pub picture : Picture
+  pub words : ts ≡ plain name ∷ equals ∷ token ∷ []
+  pub known : item_named schema r name ≡ Some i
+  pub pictured : picture_of schema r i ≡ Some picture
+  pub value_word : fits value token ≡ true
+  pub value_is : spelled picture token ≡ Some v
+
+-- r, the name of this record type, RECORD and USING stand in front of the others
+pub record IsCalcType (schema : Lists) (r : ℕ) (before after : List Token) : Type 0 where
+  pub name : List ℕ
+  pub words : before ≡ plain name ∷ plain (codes "RECORD") ∷ plain (codes "USING") ∷ after
+  pub known : type_named schema name ≡ Some r
+
+-- the items of a CALC clause, none where there is none
+abbrev pub calc_items : Option Calc → List ℕ
+calc_items None = []
+calc_items (Some calc) = calc.items
 
 -- the words in front of the others give this value to the item, by its name, = and the value
 pub record IsGiven (i : Item) (before after : List Token) (v : Value) : Type 0 where

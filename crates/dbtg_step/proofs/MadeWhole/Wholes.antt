@@ -182,6 +182,22 @@ no_guessed_sets schema unit (Delete option) e = refl
 no_guessed_sets schema unit Keep e = refl
 no_guessed_sets schema unit (Free all) e = refl
 
+-- what a statement needs that goes by no guesses does not depend on them
+guesses_apart : (schema : Lists) (capacity : ℕ) (db : Database) (unit : Unit) (areas : List ℕ) (cells : List (CellName × Cell)) (g h : List (Option Owner)) (x : Statement) → goes_by_guesses x ≡ false
+    → need schema capacity db unit (record { areas = areas; cells = cells; guesses = g }) x ≡ need schema capacity db unit (record { areas = areas; cells = cells; guesses = h }) x
+unfolding need
+guesses_apart schema capacity db unit areas cells g h (OpenArea a mode) e = refl
+guesses_apart schema capacity db unit areas cells g h (CloseArea a) e = refl
+guesses_apart schema capacity db unit areas cells g h (Find form suppress) e = refl
+guesses_apart schema capacity db unit areas cells g h (Get r) e = refl
+guesses_apart schema capacity db unit areas cells g h (Store t items suppress) e = refl
+guesses_apart schema capacity db unit areas cells g h (Insert s) e = refl
+guesses_apart schema capacity db unit areas cells g h (Remove s) e = absurd (cc (e))
+guesses_apart schema capacity db unit areas cells g h (Modify t changes) e = absurd (cc (e))
+guesses_apart schema capacity db unit areas cells g h (Delete option) e = refl
+guesses_apart schema capacity db unit areas cells g h Keep e = refl
+guesses_apart schema capacity db unit areas cells g h (Free all) e = refl
+
 module _ (schema : Lists) (capacity : ℕ) (sound : IsSound schema) (unit : Unit) (x : Statement) (old : Hands) (all : HoldsAll schema capacity old)
     (fit : fits schema x ≡ true) (of : IsUnitOf schema unit) (within : IsWithin capacity unit) where
   -- with these guesses
@@ -206,11 +222,12 @@ module _ (schema : Lists) (capacity : ℕ) (sound : IsSound schema) (unit : Unit
       by true = refl
       by false = refl
 
-  -- a statement that goes by no guesses needs none
-  pub guessed_without : goes_by_guesses x ≡ false → IsGuessed schema capacity unit x old (guessing nones)
+  -- a statement that goes by no guesses needs the same whatever they are
+  pub guessed_without : goes_by_guesses x ≡ false → IsGuessed schema capacity unit x old old
   guessed_without e = record {
     rest = refl;
-    ready = λ db a. ready_now schema capacity sound db unit x (guessing nones) (holds nones) fit of within a (none_guessed schema capacity (length schema.sets))
+    ready = λ db a. guesses_apart schema capacity db unit old.areas old.cells old.guesses nones x e
+        ∙ ready_now schema capacity sound db unit x (guessing nones) (holds nones) fit of within (also db old.guesses nones a) (none_guessed schema capacity (length schema.sets))
         (subst (λ sets. some_and (λ k. is_live db k && list_any (λ s. is_wrong_guess (owner_of schema capacity db s k) (at nones s)) sets) unit.currency.run_unit ≡ false) (sym (no_guessed_sets schema unit x e)) (none_wrong db unit.currency.run_unit));
   }
 

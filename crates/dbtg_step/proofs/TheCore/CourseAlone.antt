@@ -1,5 +1,6 @@
 -- Where nothing is changed but how far a unit's statement has come, the core is as it was.
-use Rattle.std.proofs.Common.{ℕ, zero, suc, ◌≡◌, ◌<◌, ◌≤◌, ◌-◌, List, [], ◌∷◌, Option, Some, map, length, slice_get, slice_set, refl, sym, ap, ◌∙◌, subst, arith}
+use Rattle.std.proofs.Common.{ℕ, zero, suc, ◌≡◌, ◌<◌, ◌≤◌, ◌-◌, List, [], ◌∷◌, Option, Some, None, map, length, slice_get, slice_set, refl, sym, ap, ◌∙◌, subst, arith}
+use Rattle.std.specs.Prelude.{IfSome}
 use Rattle.std.proofs.lemmas.List.{length-set}
 use Rattle.std.proofs.lemmas.Option.{same_Some}
 use Rattle.dbtg_schema.specs.Lists.{Lists}
@@ -77,6 +78,10 @@ module _ (schema : Lists) (capacity u : ℕ) (old new : Parts) (r : Runner) (num
 
   pub onward_areas : ((x : Statement) → slice_get r.script r.next ≡ Some x → HasItsAreas schema r.unit r.held x) → (n : Runner) (x : Statement) → slice_get new.runners.items (u - 1) ≡ Some n → slice_get n.script n.next ≡ Some x → HasItsAreas schema n.unit n.held x
   onward_areas h n x e is = subst (λ (q : Runner). slice_get q.script q.next ≡ Some x → HasItsAreas schema q.unit q.held x) (same_Some _ n (sym onward_there ∙ e)) (h x) is
+
+pub some_also : {T : Type 0} (o : Option T) (P Q : T → Type 0) → ((t : T) → P t → Q t) → IfSome o P → IfSome o Q
+some_also None P Q f h = tt
+some_also (Some t) P Q f h = f t h
 
 -- the same of whichever unit is there
 pub course_alone : (u : ℕ) (old new : Parts) (r n : Runner) → slice_get old.runners.items (u - 1) ≡ Some r → new.table.items ≡ old.table.items → new.history.items ≡ old.history.items → new.runners.items ≡ slice_set old.runners.items (u - 1) n → n ≡ record r { course = n.course } →

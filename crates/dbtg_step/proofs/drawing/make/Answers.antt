@@ -1,4 +1,5 @@
 use Rattle.std.proofs.Common.{sym, subst}
+use Rattle.std.proofs.lemmas.Result.{IfOk-weaker}
 use Rattle.dbtg_unit.specs.Hands.Locality.{IsMadeOn}
 use Rattle.dbtg_unit.proofs.Public.{agrees_same}
 use Rattle.dbtg_step.proofs.drawing.make.Goals as goal
@@ -11,3 +12,6 @@ finish-requires c =
 pub returns-clause-made : goal.returns-clause-made
 returns-clause-made c db agrees =
     subst (IsMadeOn c.args.schema.now c.args.capacity db c.args.unit.now c.args.held.now c.args.statement.now) (sym c.finish.ensures.made) (c.in_ok-prepared.ensures.made c.requires.once db agrees)
+
+pub returns-then-looks_alone-clause-made : goal.returns-then-looks_alone-clause-made
+returns-then-looks_alone-clause-made c = IfOk-weaker c.look.result _ _ (λ answer made db agrees. made c.requires.once db agrees) c.look.ensures.made

@@ -9,12 +9,8 @@ use Rattle.dbtg_step.proofs.whole.guess_owners.Goals as goal
 
 pub returns-then-not-goes_by_guesses-clause-guessed : goal.returns-then-not-goes_by_guesses-clause-guessed
 returns-then-not-goes_by_guesses-clause-guessed c =
-    let schema = c.args.schema.now in
-    let old = c.args.held.now in
-    let none = c.none.ensures ∙ ap (λ n. replicate n None) (ap length c.sets.ensures.sets) in
-    let blank : c.set_guesses.new.self ≡ record { areas = old.areas; cells = old.cells; guesses = replicate (length schema.sets) None } = c.set_guesses.ensures ∙ (λ i. record { areas = old.areas; cells = old.cells; guesses = none i }) in
-    subst (IsGuessed schema c.args.capacity c.args.unit.now c.args.statement.now old) (sym blank)
-    (guessed_without schema c.args.capacity c.requires.sound c.args.unit.now c.args.statement.now old c.requires.all c.requires.fitting c.requires.of_schema c.requires.within (sym c.goes_by_guesses.ensures ∙ c.if-not-goes_by_guesses.true))
+    guessed_without c.args.schema.now c.args.capacity c.requires.sound c.args.unit.now c.args.statement.now c.args.held.now c.requires.all c.requires.fitting c.requires.of_schema c.requires.within
+    (sym c.goes_by_guesses.ensures ∙ c.if-not-goes_by_guesses.true)
 
 pub returns-in-Stale-clause-guessed : goal.returns-in-Stale-clause-guessed
 returns-in-Stale-clause-guessed c =
