@@ -8,6 +8,7 @@ ghost use Rattle.dbtg_schema.specs.Texts.Words.{text_words};
 ghost use Rattle.std.specs.Prelude.{◌≡◌, ◌≤◌, IfOk, length, map};
 
 use crate::automaton::{Keyword, Kind, Start, State, follow};
+use crate::limits::SCHEMA_BYTES;
 use crate::reader::is_noise;
 use crate::role::Role;
 use crate::scanner::Scanner;
@@ -62,7 +63,7 @@ fn things(alloc: Global, state: State) -> Result<Vec<&'static [u8]>, AllocError>
 
 /// The state behind the words of a text that the grammar wants.
 fn stop_in(text: &[u8]) -> State
-    requires { length text.now ≤ 65536 }
+    requires { length text.now ≤ SCHEMA_BYTES }
     ensures { rest_of result ≡ left_behind fits schema (text_words text.now) }
 {
     let mut state = State::Opening;
@@ -83,7 +84,7 @@ fn stop_in(text: &[u8]) -> State
 pub fn wanted_in_schema(alloc: Global, text: &[u8]) -> Result<Vec<&'static [u8]>, AllocError>
     ensures { IfOk result (λ list. map (λ thing. thing.now) list.items ≡ wanted_in_schema text.now) }
 {
-    if text.len() > 65536 {
+    if text.len() > SCHEMA_BYTES {
         return Ok(Vec::new(alloc));
     }
     things(alloc, stop_in(text))

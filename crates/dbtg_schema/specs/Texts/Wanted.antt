@@ -1,6 +1,7 @@
 -- What the grammar wants where a schema text has fault 3: the things that could stand there, each in words.
 use Rattle.std.specs.Prelude.{ℕ, List, [], ◌∷◌, ◌++◌, map, codes, length, nat_lt, if◌then◌else◌}
 use Rattle.std.specs.Str.{bytes_eq}
+use Rattle.dbtg_schema.specs.declared.limits.TheConstants.{SCHEMA_BYTES}
 use Rattle.dbtg_schema.specs.declared.role.Role.{Role}
 use Rattle.dbtg_schema.specs.declared.role.Role.TheVariants as role
 use Rattle.dbtg_schema.specs.Texts.Forms.{left_behind, may_end, starts}
@@ -29,4 +30,4 @@ things wanted = map (λ s. in_words s.kind s.role) (starts wanted) ++ (if may_en
 
 -- what is wanted at the first word that the grammar does not want, or at the end; nothing of a text that is too long
 abbrev pub wanted_in_schema : List ℕ → List (List ℕ)
-wanted_in_schema text = if nat_lt 65536 (length text) then [] else things (left_behind fits schema (text_words text))
+wanted_in_schema text = if nat_lt SCHEMA_BYTES (length text) then [] else things (left_behind fits schema (text_words text))
