@@ -34,5 +34,5 @@ pub use settled::{Fault, Settled, Unsettled};
 pub use settlement::settle;
 pub use threads::run_units;
 pub use unit::RunUnit;
-pub use view::{About, SeatUnit, SeatKnowledge};
+pub use view::{About, SeatKnowledge, SeatUnit};
 pub use work::Work;

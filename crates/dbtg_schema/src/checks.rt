@@ -15,7 +15,9 @@ ghost use Rattle.dbtg_schema.specs.declared.role.Role.TheVariants as role;
 use crate::automaton::{Kind, Start, State};
 use crate::entries::{count_named, has_other_key, record_named};
 use crate::fault::{Cause, Fault};
-use crate::limits::{MOST_AREAS, MOST_CALC_ITEMS, MOST_ITEMS, MOST_MEMBERS, MOST_RECORD_TYPES, MOST_SETS};
+use crate::limits::{
+    MOST_AREAS, MOST_CALC_ITEMS, MOST_ITEMS, MOST_MEMBERS, MOST_RECORD_TYPES, MOST_SETS,
+};
 use crate::queries::{Labelled, any, count, first_named, has_role, is_named, open_record, since};
 use crate::role::Role;
 use crate::scanner::Word;

@@ -27,7 +27,10 @@ mod wanted;
 
 pub use erasing::AreaSet;
 pub use fault::{Cause, SchemaFault};
-pub use limits::{MOST_AREAS, MOST_CALC_ITEMS, MOST_DIGITS, MOST_ITEMS, MOST_MEMBERS, MOST_RECORD_TYPES, MOST_SETS, MOST_TEXT_BYTES, SCHEMA_BYTES};
+pub use limits::{
+    MOST_AREAS, MOST_CALC_ITEMS, MOST_DIGITS, MOST_ITEMS, MOST_MEMBERS, MOST_RECORD_TYPES,
+    MOST_SETS, MOST_TEXT_BYTES, SCHEMA_BYTES,
+};
 pub use names::is_name;
 pub use numbers::{AreaNo, ItemNo, RecordNo, SetNo};
 pub use pictures::spelled_picture;

@@ -43,7 +43,9 @@ pub use laws::{
     different_units_print_differently, echoed_lines_say_their_statements,
 };
 pub use limits::{MOST_MOVES, SCRIPT_BYTES};
-pub use line::{Lines, ends_in_text, is_allowed, is_printable, is_statement, trimmed, without_last};
+pub use line::{
+    Lines, ends_in_text, is_allowed, is_printable, is_statement, trimmed, without_last,
+};
 pub use moves::{MovesCause, MovesFault, read_moves};
 pub use print::{push_items, push_number, push_status};
 pub use reader::{read_script, read_script_line};
@@ -51,7 +53,9 @@ pub use said_words::read_statement_words;
 pub use sizes::{push_echoed_run, push_run, push_schema_line, push_script_line};
 pub use spelling::{behind, has_byte, in_front, is_key, is_number, number};
 pub use statement::key_of;
-pub use texts::{answers_text, push_answer, push_answered, push_named_answer, push_unit, units_text};
+pub use texts::{
+    answers_text, push_answer, push_answered, push_named_answer, push_unit, units_text,
+};
 pub use token::{Token, Tokens};
 pub use turns::{TurnsFault, read_turns};
 pub use values::{is_spelled, spelled};

@@ -148,7 +148,7 @@ fn said_by_form(
     ensures says { IfOk result (λ found. IfSome found (λ s. Says schema.now count line.now s)) }
     ensures memory { OnErr result (MayTakeMemory schema.now count line.now) }
 {
-    if 65535 <= count {
+    if MOST_STATEMENTS <= count {
         return Ok(None);
     }
     usual_statement(alloc, schema, line)

@@ -18,7 +18,7 @@ ghost use Rattle.dbtg_step.specs.Inside.Leaves.{IsTaken};
 ghost use Rattle.dbtg_step.specs.Inside.Events.{ChangesCourseAlone, IsStepped, IsWell, NeedsNext};
 
 use crate::drawing::ticket_event;
-use crate::parts::{Parts, CellLocation, Runner, StatementProgress};
+use crate::parts::{CellLocation, Parts, Runner, StatementProgress};
 use crate::runner::turn_back;
 use crate::statements::{area_next, next_need};
 use dbtg_cells::{Cell, CellName, cell_number};
@@ -158,7 +158,12 @@ pub fn other_holds_against(runners: &[Runner], unit: u8, exclusive: bool, area: 
 }
 
 /// Takes an area, unless another unit holds it in a way that conflicts.
-fn take_area_event(parts: &mut Parts, unit: u8, progress: StatementProgress, area: AreaNo) -> Stepped
+fn take_area_event(
+    parts: &mut Parts,
+    unit: u8,
+    progress: StatementProgress,
+    area: AreaNo,
+) -> Stepped
     requires numbered { 0 < unit }
     requires within { unit ≤ length parts.old.runners.items }
     requires stands { (r : Runner) → slice_get parts.old.runners.items (unit - 1) ≡ Some r → StandsNeeding r progress }

@@ -5,7 +5,7 @@ ghost use Rattle.dbtg_step.specs.Inside.Parts.{written_homes};
 ghost use Rattle.dbtg_step.specs.Inside.Stands.{HavePlaces, StandsUnticketed};
 ghost use Rattle.dbtg_step.specs.Inside.Events.{IsQuit, IsWell};
 
-use crate::parts::{Parts, CellLocation};
+use crate::parts::{CellLocation, Parts};
 use crate::table::put_home;
 use dbtg_schema::Schema;
 use dbtg_unit::{Held, Stepped};

@@ -7,7 +7,7 @@ ghost use Rattle.dbtg_step.specs.Inside.Events.{IsStepped, IsWell};
 
 use crate::needing::event_before_ticket;
 use crate::parts::{Parts, StatementProgress};
-use crate::runner::{Phase, begin, close, link, turn_back, phase_of};
+use crate::runner::{Phase, begin, close, link, phase_of, turn_back};
 use crate::table::give_cell;
 use dbtg_schema::Schema;
 use dbtg_unit::Stepped;
@@ -97,7 +97,13 @@ pub fn turn_back_event(
 }
 
 /// With a ticket: a link while one is left, then each cell goes home, then each area is left.
-fn end_event(schema: &Schema, capacity: u16, parts: &mut Parts, unit: u8, progress: StatementProgress) -> Stepped
+fn end_event(
+    schema: &Schema,
+    capacity: u16,
+    parts: &mut Parts,
+    unit: u8,
+    progress: StatementProgress,
+) -> Stepped
     requires numbered { 0 < unit }
     requires within { unit ≤ length parts.old.runners.items }
     requires well { IsWell schema.now capacity parts.old }
@@ -126,7 +132,9 @@ pub fn step(alloc: Global, schema: &Schema, capacity: u16, parts: &mut Parts, un
         Phase::Over => Stepped::Idle,
         Phase::Between => begin_event(parts, unit),
         Phase::TurningBack(progress) => turn_back_event(schema, capacity, parts, unit, progress),
-        Phase::Needing(progress) => event_before_ticket(alloc, schema, capacity, parts, unit, progress),
+        Phase::Needing(progress) => event_before_ticket(
+            alloc, schema, capacity, parts, unit, progress,
+        ),
         Phase::Ticketed(progress) => end_event(schema, capacity, parts, unit, progress),
     }
 }

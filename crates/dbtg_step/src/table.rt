@@ -10,7 +10,13 @@ use dbtg_schema::Schema;
 use dbtg_unit::Held;
 
 /// Puts a cell home, to its place in the table.
-pub fn put_home(schema: &Schema, capacity: u16, table: &mut Vec<CellLocation>, name: &CellName, cell: Cell)
+pub fn put_home(
+    schema: &Schema,
+    capacity: u16,
+    table: &mut Vec<CellLocation>,
+    name: &CellName,
+    cell: Cell,
+)
     requires { HasPlace schema.now capacity name.now table.old.items }
     ensures { table.new.items ≡ written_home schema.now capacity name.now cell table.old.items }
 {

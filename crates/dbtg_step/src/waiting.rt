@@ -21,8 +21,8 @@ ghost use Rattle.dbtg_step.specs.Inside.Stands.{StandsNeeding};
 ghost use Rattle.dbtg_step.specs.Inside.Waiting.{IsAwaited, has_awaited, is_with_unit, numbers_from};
 
 use crate::needing::{holds_against, other_holds_against};
-use crate::parts::{Parts, CellLocation, Runner, StatementProgress};
-use crate::runner::{Phase, statement_of, phase_of};
+use crate::parts::{CellLocation, Parts, Runner, StatementProgress};
+use crate::runner::{Phase, phase_of, statement_of};
 use crate::statements::need_unless_delete;
 use dbtg_cells::{CellName, cell_number};
 use dbtg_schema::{AreaNo, Row, Schema};
@@ -82,7 +82,12 @@ fn where_held(is_held: bool, awaited: Awaited) -> Option<Awaited>
 }
 
 // An area is waited for where another unit holds it in a way that conflicts.
-fn awaits_area(parts: &Parts, unit: u8, progress: StatementProgress, area: AreaNo) -> Option<Awaited>
+fn awaits_area(
+    parts: &Parts,
+    unit: u8,
+    progress: StatementProgress,
+    area: AreaNo,
+) -> Option<Awaited>
     requires numbered { 0 < unit }
     requires within { unit ≤ length parts.now.runners.items }
     requires stands { (r : Runner) → slice_get parts.now.runners.items (unit - 1) ≡ Some r → StandsNeeding r progress }
