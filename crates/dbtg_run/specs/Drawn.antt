@@ -7,7 +7,7 @@ use Rattle.dbtg_unit.specs.declared.unit.Unit.{Unit}
 use Rattle.dbtg_unit.specs.Database.Laws.Replay.{IsHistoryOf, entries_of, opening_state, replay as replay_entries, unit_of}
 use Rattle.dbtg_run.specs.declared.view.About.{About}
 use Rattle.dbtg_run.specs.Views.{Has}
-use Rattle.dbtg_run.specs.Kept.{entry}
+use Rattle.dbtg_run.specs.Entries.{entry}
 
 -- the unit's journal has one entry more, of this statement and answer, with a ticket above its earlier ones; and a history of
 -- the sequential database that ends with this entry gives the unit as it is, and has just the journal of the unit's entries

@@ -1,5 +1,5 @@
 pub mod Views
-pub mod Kept
+pub mod Entries
 pub mod Posed
 pub mod UnitView
 pub mod Drawn

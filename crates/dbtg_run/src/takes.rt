@@ -30,7 +30,7 @@ use dbtg_step::{Course, next_need};
 use dbtg_unit::{Need, Owners, Statement, with_true_owners};
 use std::alloc::{AllocError, Global};
 
-fn takes_alone(statement: &Statement) -> bool
+fn is_delete(statement: &Statement) -> bool
     ensures { result ≡ is_delete statement.now }
 {
     matches!(statement, Statement::Delete(_))
@@ -249,7 +249,7 @@ impl Work {
         ensures free { IsReady self.old.about.schema.value self.old.about.capacity self.old.unit self.old.held statement.now → IfOk result (λ b. b ≡ true) }
         ensures alone { self.old.about.units ≡ 1 → 0 < tries.old.given → IfOk result (λ b. b ≡ true) }
     {
-        let exclusive = takes_alone(statement);
+        let exclusive = is_delete(statement);
         'needs: loop {
             let wanted = next_need(
                 alloc,

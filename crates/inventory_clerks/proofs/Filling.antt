@@ -10,7 +10,7 @@ use Rattle.dbtg_unit.specs.declared.unit.Entry.{Entry}
 use Rattle.dbtg_unit.specs.declared.unit.Unit.{Unit}
 use Rattle.dbtg_run.specs.declared.view.About.{About}
 use Rattle.dbtg_run.specs.Drawn.{IsDone}
-use Rattle.dbtg_run.specs.Kept.{entry}
+use Rattle.dbtg_run.specs.Entries.{entry}
 use Rattle.inventory_clerks.specs.Orders.{AreFilled, Begins, HasKept, HasMade, HasRead, HasWritten, IsFilled, find_of}
 use Rattle.inventory_clerks.specs.declared.order.Order.{Order}
 use Rattle.inventory_clerks.specs.declared.order.Stop.{Stop}

@@ -8,7 +8,7 @@ use Rattle.dbtg_unit.specs.Database.Laws.Replay.{IsHistoryOf, opening_state, rep
 use Rattle.dbtg_run.specs.declared.database.Database.{Database}
 use Rattle.dbtg_run.specs.declared.view.About.{About}
 use Rattle.dbtg_run.specs.Drawn.{IsDone}
-use Rattle.dbtg_run.specs.Kept.{entry}
+use Rattle.dbtg_run.specs.Entries.{entry}
 use Rattle.dbtg_run.specs.Running.{IsRecorded, IsWhole, Ran}
 use Rattle.dbtg_run.specs.UnitView.{BelongsTo, UnitView}
 
