@@ -16,7 +16,7 @@ use Rattle.dbtg_command.specs.declared.order.OrderKind.TheVariants as kind
 use Rattle.dbtg_command.specs.declared.place.TextPlace.{TextPlace}
 use Rattle.dbtg_command.specs.declared.place.TextPlace.TheVariants.{Script}
 use Rattle.dbtg_command.specs.Checking.{ChecksHeld, IsCheck}
-use Rattle.dbtg_command.specs.Refusals.{AcceptsTexts, RefusesReplay, RefusesSchema, RefusesScript, RefusesScripts, RefusesOrder, RefusesTexts, schema_in}
+use Rattle.dbtg_command.specs.Refusals.{AcceptsTexts, RefusesReplay, RefusesSchema, RefusesScript, RefusesScriptText, RefusesScripts, RefusesOrder, RefusesTexts, schema_in}
 use Rattle.dbtg_command.specs.Sources.{HoldsOrder, HoldsScripts, ToldOfOrder, ToldOfRun, ToldOfSchema, ToldOfScripts, ToldOfTexts, kind_of, order_map}
 use Rattle.dbtg_command.specs.Inside.Sources.{StandsIn}
 use Rattle.dbtg_command.proofs.InTurn.{memory_refuses, refused_behind}
@@ -69,16 +69,16 @@ OnlyMemory place fault = fault ≡ Memory
 
 pub schema_told : (fault : Fault) (schema : List ℕ) (scripts : List (List ℕ)) (order : Order (List ℕ)) → ToldOfSchema (StandsIn schema scripts order) OnlyMemory fault → RefusesSchema fault (schema_refusal schema)
 schema_told fault schema scripts order (inl memory) = subst (λ (f : Fault). RefusesSchema f (schema_refusal schema)) (sym memory) tt
-schema_told fault schema scripts order (inr told) = subst (λ (text : List ℕ). RefusesSchema fault (schema_refusal text)) told.1 told.2
+schema_told fault schema scripts order (inr told) = subst (λ (text : List ℕ). RefusesSchema fault (schema_refusal text)) told.1 told.2.0
 
 scripts_told : (fault : Fault) (lists : Lists) (schema : List ℕ) (scripts : List (List ℕ)) (order : Order (List ℕ))
     → ToldOfScripts (StandsIn schema scripts order) OnlyMemory fault lists (length scripts) → RefusesScripts fault lists 1 scripts
 scripts_told fault lists schema scripts order told = ⊎_elim
     (λ (memory : fault ≡ Memory). subst (λ (f : Fault). RefusesScripts f lists 1 scripts) (sym memory) (memory_refuses lists 1 scripts))
-    (λ (here : (text : List ℕ) × StandsIn schema scripts order (Script (told.before + 1)) text × RefusesScript fault (told.before + 1) (script_refusal lists text)). refused here)
+    (λ (here : (text : List ℕ) × StandsIn schema scripts order (Script (told.before + 1)) text × RefusesScriptText fault (told.before + 1) lists text). refused here)
     told.told
   where
-    refused : (text : List ℕ) × StandsIn schema scripts order (Script (told.before + 1)) text × RefusesScript fault (told.before + 1) (script_refusal lists text) → RefusesScripts fault lists 1 scripts
+    refused : (text : List ℕ) × StandsIn schema scripts order (Script (told.before + 1)) text × RefusesScriptText fault (told.before + 1) lists text → RefusesScripts fault lists 1 scripts
     refused here =
         let before = told.read.texts in
         let number : told.before + 1 ≡ 1 + length before = omega (arith, told.read.many) in
@@ -87,7 +87,7 @@ scripts_told fault lists schema scripts order told = ⊎_elim
         let split : scripts ≡ before ++ here.0 ∷ first.0 = first.1 ∙ append_assoc before (here.0 ∷ []) first.0 in
         subst (λ (ss : List (List ℕ)). RefusesScripts fault lists 1 ss) (sym split)
         (refused_behind fault lists 1 before (here.0 ∷ first.0) told.read.accepted
-        (inl (subst (λ (k : ℕ). RefusesScript fault k (script_refusal lists here.0)) number here.2)))
+        (inl (subst (λ (k : ℕ). RefusesScript fault k (script_refusal lists here.0)) number here.2.0)))
 
 pub texts_told : (fault : Fault) (schema : List ℕ) (scripts : List (List ℕ)) (order : Order (List ℕ))
     → ToldOfTexts (StandsIn schema scripts order) OnlyMemory fault (length scripts) → RefusesTexts fault schema scripts
@@ -108,9 +108,9 @@ memory_of_order fault (by.Turns text) memory = subst (λ (f : Fault). RefusesOrd
 order_told : (fault : Fault) (schema : List ℕ) (scripts : List (List ℕ)) (order : Order (List ℕ)) (which : OrderKind) → ToldOfOrder (StandsIn schema scripts order) OnlyMemory fault which → RefusesOrder fault order
 order_told fault schema scripts order kind.Serial memory = memory_of_order fault order memory
 order_told fault schema scripts order kind.Moves (inl memory) = memory_of_order fault order memory
-order_told fault schema scripts order kind.Moves (inr told) = subst (λ (o : Order (List ℕ)). RefusesOrder fault o) (sym told.1) told.2
+order_told fault schema scripts order kind.Moves (inr told) = subst (λ (o : Order (List ℕ)). RefusesOrder fault o) (sym told.1) told.2.0
 order_told fault schema scripts order kind.Turns (inl memory) = memory_of_order fault order memory
-order_told fault schema scripts order kind.Turns (inr told) = subst (λ (o : Order (List ℕ)). RefusesOrder fault o) (sym told.1) told.2
+order_told fault schema scripts order kind.Turns (inr told) = subst (λ (o : Order (List ℕ)). RefusesOrder fault o) (sym told.1) told.2.0
 
 pub run_told : (fault : Fault) (schema : List ℕ) (scripts : List (List ℕ)) (order : Order (List ℕ)) (which : OrderKind)
     → ToldOfRun (StandsIn schema scripts order) OnlyMemory fault (length scripts) which → RefusesReplay fault schema scripts order

@@ -9,7 +9,7 @@ use Rattle.dbtg_command.specs.declared.order.Order.{Order}
 use Rattle.dbtg_command.specs.Inside.Files.{FileFails, FileHolds}
 use Rattle.dbtg_command.specs.Reasons.{IsNoSchema, SaysOfLine}
 use Rattle.dbtg_command.specs.Refusals.{RefusesSchema}
-use Rattle.dbtg_command.specs.Saying.{IsSaidOfWord}
+use Rattle.dbtg_command.specs.Saying.{said_of_word}
 use Rattle.dbtg_command.specs.Sources.{ReadSchema, ToldOfSchema}
 
 refused : (fault : Fault) (r : Option SchemaRefusal) → RefusesSchema fault r → (fault ≡ Memory → ⊥) → (f : SchemaRefusal) × (r ≡ Some f)
@@ -28,14 +28,14 @@ module _ (has : List ℕ → ℕ → List ℕ → Type 0) (lacks : List ℕ → 
   pub no_schema : (fault : Fault) → ToldOfSchema (FileHolds has schema scripts order) (FileFails lacks schema scripts order) fault → (fault ≡ Memory → ⊥) → IsNoSchema has lacks schema
   no_schema fault (inl fails) some = inl (subst (λ (path : List ℕ). lacks path 65537) fails.1 fails.2)
   no_schema fault (inr told) some =
-      let first = refused fault (refusal told.0) told.2 some in
+      let first = refused fault (refusal told.0) told.2.0 some in
       inr (told.0, first.0, subst (λ (path : List ℕ). has path 65537 told.0) told.1.1 told.1.2, first.1)
 
   -- what is said by the schema that was read is said by that in the file
-  pub said_by_schema : (lists : Lists) (number : ℕ) (line said : List ℕ) → ReadSchema (FileHolds has schema scripts order) lists → IsSaidOfWord lists number line said → SaysOfLine has lacks schema number line said
+  pub said_by_schema : (lists : Lists) (number : ℕ) (line said : List ℕ) → ReadSchema (FileHolds has schema scripts order) lists → said ≡ said_of_word lists number line → SaysOfLine has lacks schema number line said
   said_by_schema lists number line said read is = inr (
     read.text,
     subst (λ (path : List ℕ). has path 65537 read.text) read.held.1 read.held.2,
     read.accepted,
-    subst (λ (l : Lists). IsSaidOfWord l number line said) read.says is,
+    subst (λ (l : Lists). said ≡ said_of_word l number line) read.says is,
   )

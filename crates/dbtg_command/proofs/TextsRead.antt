@@ -12,7 +12,7 @@ use Rattle.dbtg_command.specs.declared.place.TextPlace.TheVariants.{Script}
 use Rattle.dbtg_command.specs.declared.order.Order.{Order}
 use Rattle.dbtg_command.specs.declared.order.Order.TheVariants.{Serial}
 use Rattle.dbtg_command.specs.Checking.{ChecksHeld, check_text, script_lines}
-use Rattle.dbtg_command.specs.Refusals.{AcceptsTexts, AllAccepted, RefusesScript}
+use Rattle.dbtg_command.specs.Refusals.{AcceptsTexts, AllAccepted, RefusesScriptText}
 use Rattle.dbtg_command.specs.Sources.{HoldsOrder, HoldsScripts, ReadSchema, ReadScripts, Texts, ToldIn, ToldOfScripts, kind_of}
 use Rattle.dbtg_command.proofs.InTurn.{accepted_behind, lines_behind}
 
@@ -66,7 +66,7 @@ texts_behind holds lists n text before after texts more so_far held e taken kept
 
 -- a fault of the script behind those that were read
 pub told_here : (holds : TextPlace → List ℕ → Type 0) (fails : TextPlace → Fault → Type 0) (fault : Fault) (lists : Lists) (i count : ℕ) → ReadScripts holds lists i → i < count
-    → ToldIn holds fails fault (Script (i + 1)) (λ text. RefusesScript fault (i + 1) (script_refusal lists text)) → ToldOfScripts holds fails fault lists count
+    → ToldIn holds fails fault (Script (i + 1)) (RefusesScriptText fault (i + 1) lists) → ToldOfScripts holds fails fault lists count
 told_here holds fails fault lists i count read within told = record { before = i; read = read; within = within; told = told }
 
 -- what was read is accepted, as the schema's text says it

@@ -7,6 +7,7 @@ pub mod Explaining
 pub mod Commands
 pub mod Calling
 pub mod FaultyWord
+pub mod Offered
 pub mod Saying
 pub mod Reasons
 pub mod Drawing

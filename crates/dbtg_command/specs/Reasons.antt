@@ -1,13 +1,18 @@
 -- The second line of a fault: its place, and what is said of it. `has` says that reading so many bytes of a path gave a text, `lacks`
 -- that it gave none, as the reader of files says it; for this line files are read again, and standard input is not.
-use Rattle.std.specs.Prelude.{ℕ, ◌≡◌, ◌==◌, ◌||◌, not, false, List, [], ◌++◌, ◌⊎◌, Option, Some, None, codes, decimal, length, slice_get, string_bytes, unwrap_or, ◌-◌, if◌then◌else◌}
+use Rattle.std.specs.Prelude.{ℕ, ◌≡◌, ◌==◌, ◌||◌, not, Bool, false, List, [], ◌++◌, ◌⊎◌, Some, None, codes, decimal, drop, is_some, length, slice_get, string_bytes, take_while, unwrap_or, ◌-◌, if◌then◌else◌}
+use Rattle.std.specs.Char.{is_ascii_alphabetic, is_ascii_whitespace}
+use Rattle.std.specs.List.{prefix_len}
 use Rattle.std.specs.Str.{bytes_eq}
 use Rattle.std.specs.Str.Lossy.{utf8_lossy}
 use Rattle.dbtg_schema.specs.Texts.Causes.{cause_number as schema_cause_number}
+use Rattle.dbtg_schema.specs.Texts.Forms.{start_with, starts}
 use Rattle.dbtg_schema.specs.Texts.SchemaFaults.{refusal}
 use Rattle.dbtg_schema.specs.declared.fault.Fault.{Fault as SchemaRefusal}
 use Rattle.dbtg_script.specs.Moves.{cause_number as moves_cause_number}
 use Rattle.dbtg_script.specs.Printing.Causes.{cause_number as script_cause_number}
+use Rattle.dbtg_script.specs.StatementGrammar.{fits, statement}
+use Rattle.dbtg_script.specs.Tokens.{plain}
 use Rattle.dbtg_command.specs.declared.explain.Kind.{Kind}
 use Rattle.dbtg_command.specs.declared.explain.Kind.TheVariants as kind
 use Rattle.dbtg_command.specs.declared.fault.Fault.{Fault}
@@ -17,7 +22,7 @@ use Rattle.dbtg_command.specs.declared.order.Order.TheVariants as by
 use Rattle.dbtg_command.specs.Explaining.{fault_field}
 use Rattle.dbtg_command.specs.FaultyWord.{line_at}
 use Rattle.dbtg_command.specs.Refusals.{schema_in}
-use Rattle.dbtg_command.specs.Saying.{IsSaidOfSchemaWord, IsSaidOfWord}
+use Rattle.dbtg_command.specs.Saying.{said_of_schema_word, said_of_word}
 
 -- a place in a file: its path, a mark, and the number of the line or word
 abbrev pub place_of : List ℕ → List ℕ → ℕ → List ℕ
@@ -42,12 +47,12 @@ IsNoSchema has lacks path = lacks path 65537 ⊎ ((text : List ℕ) × (fault : 
 -- this is said of the word of the schema that is in the file with this path
 abbrev pub SaysOfSchema : (List ℕ → ℕ → List ℕ → Type 0) → (List ℕ → ℕ → Type 0) → List ℕ → ℕ → List ℕ → Type 0
 SaysOfSchema has lacks path number said =
-    (IsNotRead lacks path × (said ≡ [])) ⊎ ((text : List ℕ) × has path 1048577 text × IsSaidOfSchemaWord number text said)
+    (IsNotRead lacks path × (said ≡ [])) ⊎ ((text : List ℕ) × has path 1048577 text × (said ≡ said_of_schema_word number text))
 
 -- this is said of the word of a line, by the schema that is in the file with this path
 abbrev pub SaysOfLine : (List ℕ → ℕ → List ℕ → Type 0) → (List ℕ → ℕ → Type 0) → List ℕ → ℕ → List ℕ → List ℕ → Type 0
 SaysOfLine has lacks schema number line said =
-    (IsNoSchema has lacks schema × (said ≡ [])) ⊎ ((text : List ℕ) × has schema 65537 text × (refusal text ≡ None) × IsSaidOfWord (schema_in text) number line said)
+    (IsNoSchema has lacks schema × (said ≡ [])) ⊎ ((text : List ℕ) × has schema 65537 text × (refusal text ≡ None) × (said ≡ said_of_word (schema_in text) number line))
 
 -- this is said of the word of a line of the script that is in the file with this path, by the schema in another file
 abbrev pub SaysOfScript : (List ℕ → ℕ → List ℕ → Type 0) → (List ℕ → ℕ → Type 0) → List ℕ → List ℕ → ℕ → ℕ → List ℕ → Type 0
@@ -55,22 +60,30 @@ SaysOfScript has lacks schema path line number said =
     (IsScriptNotRead lacks schema path × (said ≡ []))
     ⊎ ((text : List ℕ) × has path 1048577 text × SaysOfLine has lacks schema number (line_at line text) said)
 
--- what is said of a file that has a text of another kind than is wanted there
-abbrev pub other_kind : Kind → List ℕ
-other_kind kind.Schema = codes "; this is a script, and a schema is wanted"
-other_kind kind.Script = codes "; this is a schema, and a script is wanted"
-other_kind kind.Moves = []
-other_kind kind.Turns = []
+-- the first word of a text, as far as it is letters
+abbrev pub first_letters : List ℕ → List ℕ
+first_letters text = take_while is_ascii_alphabetic (drop (prefix_len is_ascii_whitespace text) text)
 
--- nothing is said of the whole text, or that it is of another kind
-abbrev pub IsOther : Kind → List ℕ → Type 0
-IsOther which other = (length other == 0) ≡ false → other ≡ other_kind which
+-- a statement can begin with this word
+abbrev pub begins_statement : List ℕ → Bool
+begins_statement word = is_some (start_with fits (plain word) (starts statement))
 
--- this is told of a fault in a line of a file of this kind: what is said of a word, if `Says` allows that, or that the whole text is of
--- another kind
-abbrev pub IsToldIn : Kind → (List ℕ → Type 0) → List ℕ → ℕ → ℕ → List ℕ → Type 0
-IsToldIn which Says path line number out =
-    (said : List ℕ) × (other : List ℕ) × Says said × IsOther which other × (out ≡ told_at (place_of path (codes ":") line) said (fault_field which number 1) other)
+-- what is said of a whole text of another kind than is wanted: it begins as a script in a schema's place, or as a schema in a script's
+abbrev pub other_kind : Kind → List ℕ → List ℕ
+other_kind kind.Schema text = if begins_statement (first_letters text) then codes "; this is a script, and a schema is wanted" else []
+other_kind kind.Script text = if bytes_eq (first_letters text) (codes "SCHEMA") then codes "; this is a schema, and a script is wanted" else []
+other_kind kind.Moves text = []
+other_kind kind.Turns text = []
+
+-- this is said of the whole text of the file with this path
+abbrev pub SaysOfFile : (List ℕ → ℕ → List ℕ → Type 0) → (List ℕ → ℕ → Type 0) → Kind → List ℕ → List ℕ → Type 0
+SaysOfFile has lacks which path other =
+    (IsNotRead lacks path × (other ≡ [])) ⊎ ((text : List ℕ) × has path 1048577 text × (other ≡ other_kind which text))
+
+-- this is told of a fault in a line of a file of this kind, by what `Says` allows of a word and `Other` of the whole text
+abbrev pub IsToldIn : Kind → (List ℕ → Type 0) → (List ℕ → Type 0) → List ℕ → ℕ → ℕ → List ℕ → Type 0
+IsToldIn which Says Other path line number out =
+    (said : List ℕ) × (other : List ℕ) × Says said × Other other × (out ≡ told_at (place_of path (codes ":") line) said (fault_field which number 1) other)
 
 -- this is told of a fault at a word of moves or turns
 abbrev pub IsToldOfOrder : Kind → List ℕ → ℕ → ℕ → List ℕ → Type 0
@@ -94,11 +107,11 @@ script_path paths number = if number == 0 then [] else unwrap_or (slice_get path
 abbrev pub IsReason : (List ℕ → ℕ → List ℕ → Type 0) → (List ℕ → ℕ → Type 0) → List ℕ → List (List ℕ) → Order (List ℕ) → Fault → List ℕ → Type 0
 IsReason has lacks schema scripts order (Schema line cause) out =
     let number = schema_cause_number cause in
-    IsToldIn kind.Schema (SaysOfSchema has lacks schema number) schema line number out
+    IsToldIn kind.Schema (SaysOfSchema has lacks schema number) (SaysOfFile has lacks kind.Schema schema) schema line number out
 IsReason has lacks schema scripts order (Script n line cause) out =
     let number = script_cause_number cause in
     let path = script_path scripts n in
-    IsToldIn kind.Script (SaysOfScript has lacks schema path line number) path line number out
+    IsToldIn kind.Script (SaysOfScript has lacks schema path line number) (SaysOfFile has lacks kind.Script path) path line number out
 IsReason has lacks schema scripts order (Moves word cause) out = IsToldOfOrder kind.Moves (order_path order) word (moves_cause_number cause) out
 IsReason has lacks schema scripts order (Turns word cause) out = IsToldOfOrder kind.Turns (order_path order) word (moves_cause_number cause) out
 IsReason has lacks schema scripts order (Unreadable path) out = IsUnreadLine (string_bytes path) out

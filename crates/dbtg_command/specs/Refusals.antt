@@ -1,15 +1,18 @@
 -- What the texts say that the program is given; their first fault, in the order number of scripts, schema, scripts, moves or turns;
 -- and the status with which it ends. text is a text's bytes, n the number of a script, from 1.
-use Rattle.std.specs.Prelude.{◌≡◌, ℕ, ◌+◌, Bool, true, false, ◌&&◌, nat_le, List, [], ◌∷◌, Option, Some, None, ◌⊎◌, length}
+use Rattle.std.specs.Prelude.{◌≡◌, ℕ, ◌+◌, ◌≤◌, Bool, true, false, ◌&&◌, nat_le, List, [], ◌∷◌, Option, Some, None, ◌⊎◌, length}
 use Rattle.dbtg_schema.specs.Texts.Forms.{labels}
 use Rattle.dbtg_schema.specs.Lists.{Lists}
+use Rattle.dbtg_schema.specs.Lookups.{first}
+use Rattle.dbtg_schema.specs.Texts.Reading.{RefusedAtOnce as SchemaRefusedAtOnce}
 use Rattle.dbtg_schema.specs.Texts.SchemaFaults.{refusal as schema_refusal}
 use Rattle.dbtg_schema.specs.Texts.SchemaGrammar.{fits, schema}
 use Rattle.dbtg_schema.specs.Texts.SchemaLists.{schema_of}
 use Rattle.dbtg_schema.specs.Texts.Words.{text_words}
 use Rattle.dbtg_schema.specs.declared.fault.Fault.{Fault as SchemaRefusal}
 use Rattle.dbtg_unit.specs.declared.moves.Move.{Move}
-use Rattle.dbtg_script.specs.Moves.{moves_of, refusal as moves_refusal, words}
+use Rattle.dbtg_script.specs.Moves.{RefusedAtOnce, moves_of, refusal as moves_refusal, spelled_move, spelled_turn, words}
+use Rattle.dbtg_script.specs.Reading.{script_faults_at_once}
 use Rattle.dbtg_script.specs.StatementFaults.{refusal as script_refusal}
 use Rattle.dbtg_script.specs.Turns.{turns_of, turns_refusal}
 use Rattle.dbtg_script.specs.declared.fault.Fault.{Fault as ScriptRefusal}
@@ -78,6 +81,38 @@ RefusesTurns MovesOver refusal = ⊥
 RefusesTurns (StatesOver limit) refusal = ⊥
 RefusesTurns (Unreadable path) refusal = ⊥
 RefusesTurns ScriptCount refusal = ⊥
+
+-- the text of a schema is accepted; or it is not too long, and its first word is at no fault
+abbrev pub SchemaMayTakeMemory : List ℕ → Type 0
+SchemaMayTakeMemory text = (schema_refusal text ≡ None) ⊎ ((length text ≤ 65536) × SchemaRefusedAtOnce text ⊥)
+
+-- a script is accepted, or no fault of it is found before a statement is kept
+abbrev pub ScriptMayTakeMemory : Lists → List ℕ → Type 0
+ScriptMayTakeMemory lists text = (script_refusal lists text ≡ None) ⊎ (first (script_faults_at_once lists text) ≡ None)
+
+-- moves are accepted, or the first word is of no other shape
+abbrev pub MovesMayTakeMemory : List ℕ → Type 0
+MovesMayTakeMemory text = (moves_refusal text ≡ None) ⊎ RefusedAtOnce spelled_move text ⊥
+
+-- the same of turns
+abbrev pub TurnsMayTakeMemory : List ℕ → Type 0
+TurnsMayTakeMemory text = (turns_refusal text ≡ None) ⊎ RefusedAtOnce spelled_turn text ⊥
+
+-- the fault is the refusal of this schema; memory ran out only where the text may take any
+abbrev pub RefusesSchemaText : Fault → List ℕ → Type 0
+RefusesSchemaText fault text = RefusesSchema fault (schema_refusal text) × (fault ≡ Memory → SchemaMayTakeMemory text)
+
+-- the same of this text of script n
+abbrev pub RefusesScriptText : Fault → ℕ → Lists → List ℕ → Type 0
+RefusesScriptText fault n lists text = RefusesScript fault n (script_refusal lists text) × (fault ≡ Memory → ScriptMayTakeMemory lists text)
+
+-- of these moves
+abbrev pub RefusesMovesText : Fault → List ℕ → Type 0
+RefusesMovesText fault text = RefusesMoves fault (moves_refusal text) × (fault ≡ Memory → MovesMayTakeMemory text)
+
+-- of these turns
+abbrev pub RefusesTurnsText : Fault → List ℕ → Type 0
+RefusesTurnsText fault text = RefusesTurns fault (turns_refusal text) × (fault ≡ Memory → TurnsMayTakeMemory text)
 
 -- the fault is that of the first script that has one, from number n on, unless memory ran out
 abbrev pub RefusesScripts : Fault → Lists → ℕ → List (List ℕ) → Type 0

@@ -1,16 +1,19 @@
 -- What is said of the word that a fault is about.
-use Rattle.std.specs.Prelude.{ℕ, ◌≡◌, ◌==◌, ◌||◌, List, [], ◌∷◌, ◌++◌, Option, Some, None, codes, length, nat_le, nat_lt, option_map, unwrap_or, if◌then◌else◌}
+use Rattle.std.specs.Prelude.{ℕ, ◌-◌, ◌==◌, ◌||◌, Bool, false, List, [], ◌∷◌, ◌++◌, Option, codes, length, nat_le, nat_lt, option_map, slice_get, take, unwrap_or, if◌then◌else◌}
+use Rattle.std.specs.Str.{bytes_eq}
 use Rattle.dbtg_schema.specs.Lists.{Lists}
+use Rattle.dbtg_schema.specs.Lookups.{first, some_and}
 use Rattle.dbtg_schema.specs.Texts.SchemaFaults.{refusal}
 use Rattle.dbtg_script.specs.FaultyWord.{faulty_word as faulty_token}
-use Rattle.dbtg_script.specs.Lines.{trimmed}
+use Rattle.dbtg_script.specs.Lines.{lines, trimmed}
 use Rattle.dbtg_script.specs.Printing.Spelling.{in_front}
-use Rattle.dbtg_script.specs.Tokens.{Token, plain, equals, literal}
+use Rattle.dbtg_script.specs.Tokens.{Token, plain, equals, literal, tokens}
 use Rattle.dbtg_command.specs.declared.explain.Kind.TheVariants as kind
 use Rattle.dbtg_command.specs.declared.explain.schema_word.TheConstants.{FORMS as SCHEMA_FORMS}
 use Rattle.dbtg_command.specs.declared.explain.word.TheConstants.{FORMS as SCRIPT_FORMS}
 use Rattle.dbtg_command.specs.Explaining.{fault_field, field, filled, row_of}
 use Rattle.dbtg_command.specs.FaultyWord.{faulty_word, laid_out, line_in}
+use Rattle.dbtg_command.specs.Offered.{listed, names_for, names_in, seen_words, type_wanted}
 
 -- the form for a fault of this number, of which part 0 is the word and part 3 what the fault means
 abbrev pub form_for : ℕ → List ℕ → List ℕ
@@ -19,10 +22,6 @@ form_for number forms = unwrap_or (option_map (field 1) (row_of number forms)) (
 -- the form with these parts; of no word nothing is said
 abbrev pub said_by : List ℕ → List ℕ → List (List ℕ) → List ℕ
 said_by form word parts = if length word == 0 then [] else filled parts form
-
--- the form for a fault of this number, with the word, a record type, names, and more
-abbrev pub IsSaid : List ℕ → ℕ → List ℕ → List (List ℕ) → List ℕ → Type 0
-IsSaid forms number word more out = (rtype : List ℕ) × (names : List ℕ) × (out ≡ said_by (form_for number forms) word (word ∷ rtype ∷ names ∷ more))
 
 -- a word of a script as it stands in its line
 abbrev pub written : Token → List ℕ
@@ -42,9 +41,26 @@ told_part number text = if number == 1 || number == 14 then [] else (if number =
 abbrev pub told_word : Lists → ℕ → List ℕ → List ℕ
 told_word schema number line = told_part number (faulty_text schema line)
 
--- this is said of the word of a script's line that is at fault
-abbrev pub IsSaidOfWord : Lists → ℕ → List ℕ → List ℕ → Type 0
-IsSaidOfWord schema number line out = IsSaid SCRIPT_FORMS.now number (told_word schema number line) (fault_field kind.Script number 1 ∷ []) out
+-- FIND, as a word of a line
+abbrev pub is_find : Token → Bool
+is_find (plain text) = bytes_eq text (codes "FIND")
+is_find equals = false
+is_find (literal text) = false
+
+-- the record type whose items a line names: its second word, and the third behind FIND CALC
+abbrev pub type_token : List Token → Option Token
+type_token words = slice_get words (if some_and is_find (first words) then 2 else 1)
+
+-- the same as it stands in its line
+abbrev pub type_text : List ℕ → List ℕ
+type_text line = unwrap_or (option_map written (type_token (tokens false line))) []
+
+-- what is said of the word of a script's line that is at fault
+abbrev pub said_of_word : Lists → ℕ → List ℕ → List ℕ
+said_of_word schema number line =
+    let word = told_word schema number line in
+    let rtype = type_text line in
+    said_by (form_for number SCRIPT_FORMS.now) word (word ∷ rtype ∷ listed (names_for schema number rtype) ∷ fault_field kind.Script number 1 ∷ [])
 
 -- no word is told of a byte that is not allowed and of a text that is too long, nor one of more than 480 bytes
 abbrev pub told_schema_part : ℕ → List ℕ → List ℕ
@@ -56,6 +72,13 @@ told_schema_word number text =
     let laid = laid_out text in
     told_schema_part number (faulty_word number (line_in number (refusal laid)) laid)
 
--- this is said of the word of a schema's text that is at fault
-abbrev pub IsSaidOfSchemaWord : ℕ → List ℕ → List ℕ → Type 0
-IsSaidOfSchemaWord number text out = IsSaid SCHEMA_FORMS.now number (told_schema_word number text) (fault_field kind.Schema number 1 ∷ fault_field kind.Schema number 3 ∷ []) out
+-- what is said of the word of a schema's text that is at fault
+abbrev pub said_of_schema_word : ℕ → List ℕ → List ℕ
+said_of_schema_word number text =
+    let laid = laid_out text in
+    let front = seen_words (take (line_in number (refusal laid) - 1) (lines laid)) in
+    let word = told_schema_word number text in
+    let rtype = type_wanted front in
+    let names = names_in number rtype (seen_words (lines laid)) front in
+    said_by (form_for number SCHEMA_FORMS.now) word
+    (word ∷ rtype ∷ listed names ∷ fault_field kind.Schema number 1 ∷ fault_field kind.Schema number 3 ∷ [])

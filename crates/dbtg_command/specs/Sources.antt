@@ -5,7 +5,6 @@ use Rattle.std.specs.Prelude.{ℕ, ◌≡◌, ◌+◌, ◌≤◌, ◌<◌, true,
 use Rattle.dbtg_schema.specs.Lists.{Lists}
 use Rattle.dbtg_schema.specs.Texts.SchemaFaults.{refusal as schema_refusal}
 use Rattle.dbtg_script.specs.Moves.{refusal as moves_refusal}
-use Rattle.dbtg_script.specs.StatementFaults.{refusal as script_refusal}
 use Rattle.dbtg_script.specs.Turns.{turns_refusal}
 use Rattle.dbtg_unit.specs.declared.moves.Move.{Move}
 use Rattle.dbtg_command.specs.declared.fault.Fault.{Fault}
@@ -16,7 +15,7 @@ use Rattle.dbtg_command.specs.declared.order.OrderKind.{OrderKind}
 use Rattle.dbtg_command.specs.declared.order.OrderKind.TheVariants as kind
 use Rattle.dbtg_command.specs.declared.place.TextPlace.{TextPlace}
 use Rattle.dbtg_command.specs.declared.place.TextPlace.TheVariants.{Schema, Script, Moves, Turns}
-use Rattle.dbtg_command.specs.Refusals.{schema_in, moves_in, turns_in, is_count, AllAccepted, RefusesMoves, RefusesSchema, RefusesScript, RefusesTurns}
+use Rattle.dbtg_command.specs.Refusals.{schema_in, moves_in, turns_in, is_count, AllAccepted, RefusesMovesText, RefusesSchemaText, RefusesScriptText, RefusesTurnsText}
 
 -- what says the order, by its kind
 abbrev pub kind_of : {A : Type 0} → Order A → OrderKind
@@ -93,20 +92,20 @@ ToldIn holds fails fault place Refuses = fails place fault ⊎ ((text : List ℕ
 
 -- the fault is told of the schema
 abbrev pub ToldOfSchema : (TextPlace → List ℕ → Type 0) → (TextPlace → Fault → Type 0) → Fault → Type 0
-ToldOfSchema holds fails fault = ToldIn holds fails fault Schema (λ text. RefusesSchema fault (schema_refusal text))
+ToldOfSchema holds fails fault = ToldIn holds fails fault Schema (RefusesSchemaText fault)
 
 -- the fault is told of one of so many scripts, and all before it are held and accepted
 pub record ToldOfScripts (holds : TextPlace → List ℕ → Type 0) (fails : TextPlace → Fault → Type 0) (fault : Fault) (lists : Lists) (count : ℕ) : Type 0 where
   pub before : ℕ
   pub read : ReadScripts holds lists before
   pub within : before < count
-  pub told : ToldIn holds fails fault (Script (before + 1)) (λ text. RefusesScript fault (before + 1) (script_refusal lists text))
+  pub told : ToldIn holds fails fault (Script (before + 1)) (RefusesScriptText fault (before + 1) lists)
 
 -- the fault is told of the moves or turns; where there are neither only memory is wanting
 abbrev pub ToldOfOrder : (TextPlace → List ℕ → Type 0) → (TextPlace → Fault → Type 0) → Fault → OrderKind → Type 0
 ToldOfOrder holds fails fault kind.Serial = fault ≡ Memory
-ToldOfOrder holds fails fault kind.Moves = ToldIn holds fails fault Moves (λ text. RefusesMoves fault (moves_refusal text))
-ToldOfOrder holds fails fault kind.Turns = ToldIn holds fails fault Turns (λ text. RefusesTurns fault (turns_refusal text))
+ToldOfOrder holds fails fault kind.Moves = ToldIn holds fails fault Moves (RefusesMovesText fault)
+ToldOfOrder holds fails fault kind.Turns = ToldIn holds fails fault Turns (RefusesTurnsText fault)
 
 -- the fault is told of the schema, or the schema is held and accepted and it is told of a script
 abbrev pub ToldOfTexts : (TextPlace → List ℕ → Type 0) → (TextPlace → Fault → Type 0) → Fault → ℕ → Type 0

@@ -4,7 +4,7 @@ ghost use Rattle.dbtg_script.specs.StatementFaults.{refusal as script_refusal};
 ghost use Rattle.dbtg_script.specs.Statements.{script};
 ghost use Rattle.dbtg_script.specs.Printing.Texts.{script_line};
 ghost use Rattle.dbtg_command.specs.Checking.{ChecksHeld, IsCheck, script_lines};
-ghost use Rattle.dbtg_command.specs.Refusals.{RefusesScript, RefusesTexts};
+ghost use Rattle.dbtg_command.specs.Refusals.{RefusesScriptText, RefusesTexts};
 ghost use Rattle.dbtg_command.specs.Sources.{ReadSchema, ReadScripts, ToldOfScripts, ToldOfTexts};
 
 use crate::at_hand::AtHand;
@@ -28,7 +28,7 @@ fn push_script(
 ) -> Result<(), Fault>
     ensures accepted { OnOk result (script_refusal schema.now text.now ≡ None) }
     ensures line { OnOk result (out.new.items ≡ out.old.items ++ script_line number (length (script schema.now text.now))) }
-    ensures refused { IfErr result (λ fault. RefusesScript fault number (script_refusal schema.now text.now)) }
+    ensures refused { IfErr result (λ fault. RefusesScriptText fault number schema.now text.now) }
 {
     let statements = statements_of(alloc, schema, number, text)?;
     push_script_line(out, number, statements.len())?;

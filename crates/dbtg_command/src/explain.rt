@@ -25,6 +25,7 @@ ghost use Rattle.dbtg_command.specs.Explaining.{
 mod causes;
 mod faults;
 mod laid;
+mod offered;
 mod row;
 mod schema_word;
 mod statuses;

@@ -8,7 +8,7 @@ ghost use Rattle.dbtg_script.specs.StatementFaults.{refusal as script_refusal};
 ghost use Rattle.dbtg_script.specs.Statements.{script};
 ghost use Rattle.dbtg_script.specs.Turns.{turns_refusal};
 ghost use Rattle.dbtg_unit.specs.Database.Statements.Fits.{fits};
-ghost use Rattle.dbtg_command.specs.Refusals.{RefusesMoves, RefusesSchema, RefusesScript, RefusesTurns, moves_in, schema_in, turns_in};
+ghost use Rattle.dbtg_command.specs.Refusals.{RefusesMovesText, RefusesSchemaText, RefusesScriptText, RefusesTurnsText, moves_in, schema_in, turns_in};
 
 use crate::fault::Fault;
 use dbtg_schema::{Row, Schema};
@@ -21,7 +21,7 @@ pub fn schema_of(alloc: Global, text: &[u8]) -> Result<Schema, Fault>
     ensures accepted { OnOk result (schema_refusal text.now ≡ None) }
     ensures lists { IfOk result (λ schema. schema ≡ schema_in text.now) }
     ensures sound { IfOk result (λ schema. IsSound schema) }
-    ensures refused { IfErr result (λ fault. RefusesSchema fault (schema_refusal text.now)) }
+    ensures refused { IfErr result (λ fault. RefusesSchemaText fault text.now) }
 {
     match Schema::read(alloc, text) {
         Ok(schema) => Ok(schema),
@@ -39,7 +39,7 @@ pub fn statements_of(
     ensures accepted { OnOk result (script_refusal schema.now text.now ≡ None) }
     ensures statements { IfOk result (λ statements. statements.items ≡ script schema.now text.now) }
     ensures fitting { IsSound schema.now → OnOk result (list_all (fits schema.now) (script schema.now text.now) ≡ true) }
-    ensures refused { IfErr result (λ fault. RefusesScript fault number (script_refusal schema.now text.now)) }
+    ensures refused { IfErr result (λ fault. RefusesScriptText fault number schema.now text.now) }
 {
     match read_script(alloc, schema, text) {
         Ok(statements) => Ok(statements),
@@ -58,7 +58,7 @@ pub fn take_script(
     ensures accepted { OnOk result (script_refusal schema.now text.now ≡ None) }
     ensures taken { OnOk result (scripts.new ≡ scripts.old ++ script schema.now text.now ∷ []) }
     ensures fitting { IsSound schema.now → OnOk result (list_all (fits schema.now) (script schema.now text.now) ≡ true) }
-    ensures refused { IfErr result (λ fault. RefusesScript fault number (script_refusal schema.now text.now)) }
+    ensures refused { IfErr result (λ fault. RefusesScriptText fault number schema.now text.now) }
 {
     let statements = statements_of(alloc, schema, number, text)?;
     scripts.push(Row::of(statements))?;
@@ -69,7 +69,7 @@ pub fn take_script(
 pub fn moves_of(alloc: Global, text: &[u8]) -> Result<Vec<Move>, Fault>
     ensures accepted { OnOk result (moves_refusal text.now ≡ None) }
     ensures moves { IfOk result (λ moves. moves.items ≡ moves_in text.now) }
-    ensures refused { IfErr result (λ fault. RefusesMoves fault (moves_refusal text.now)) }
+    ensures refused { IfErr result (λ fault. RefusesMovesText fault text.now) }
 {
     match read_moves(alloc, text) {
         Ok(moves) => Ok(moves),
@@ -81,7 +81,7 @@ pub fn moves_of(alloc: Global, text: &[u8]) -> Result<Vec<Move>, Fault>
 pub fn turns_of(alloc: Global, text: &[u8]) -> Result<Row<u8>, Fault>
     ensures accepted { OnOk result (turns_refusal text.now ≡ None) }
     ensures turns { IfOk result (λ turns. turns ≡ turns_in text.now) }
-    ensures refused { IfErr result (λ fault. RefusesTurns fault (turns_refusal text.now)) }
+    ensures refused { IfErr result (λ fault. RefusesTurnsText fault text.now) }
 {
     match read_turns(alloc, text) {
         Ok(turns) => Ok(turns),

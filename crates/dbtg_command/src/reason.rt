@@ -1,6 +1,8 @@
 //! The second line that `--explain` asks for: where a fault is, and what it means.
-ghost use Rattle.std.specs.Prelude.{◌≡◌, [], IfOk, MatchOption, map, string_bytes};
-ghost use Rattle.dbtg_command.specs.Reasons.{HasNoReason, IsNotRead, IsOther, IsReason, IsReasonLine, IsToldIn, IsToldOfOrder, IsScriptNotRead, IsUnreadLine, SaysOfLine, SaysOfSchema, SaysOfScript, order_path, place_of, script_path, told_at};
+ghost use Rattle.std.specs.Char.{is_ascii_alphabetic};
+ghost use Rattle.std.specs.List.{prefix_len};
+ghost use Rattle.std.specs.Prelude.{◌≡◌, ◌≤◌, [], IfOk, MatchOption, length, map, string_bytes};
+ghost use Rattle.dbtg_command.specs.Reasons.{HasNoReason, IsNotRead, IsReason, IsReasonLine, IsToldIn, IsToldOfOrder, IsScriptNotRead, IsUnreadLine, SaysOfFile, SaysOfLine, SaysOfSchema, SaysOfScript, begins_statement, first_letters, order_path, other_kind, place_of, script_path, told_at};
 ghost use Rattle.dbtg_command.specs.Sources.{order_map};
 ghost use Rattle.dbtg_command.specs.declared.explain.Kind.TheVariants.{Schema, Script};
 ghost use Rattle.dbtg_command.specs.declared.fault.Fault.TheVariants.{Memory};
@@ -14,42 +16,47 @@ use dbtg_script::push_number;
 use std::alloc::{AllocError, Global};
 use std::io;
 
-/// The first word of a text, as far as it is letters.
-fn first_word(text: &[u8]) -> &[u8] {
-    let text = text.trim_ascii_start();
-    for end in 0..text.len() {
-        if !text[end].is_ascii_alphabetic() {
-            return &text[..end];
-        }
-    }
-    text
+fn count_letters(text: &[u8]) -> usize
+    ensures counted { result ≡ prefix_len is_ascii_alphabetic text.now }
+    ensures within { result ≤ length text.now }
+{
+    text.iter().take_while(|b| b.is_ascii_alphabetic()).count()
 }
 
-fn is_statement_word(word: &[u8]) -> bool {
-    matches!(
-        word,
-        b"OPEN"
-            | b"CLOSE"
-            | b"FIND"
-            | b"GET"
-            | b"STORE"
-            | b"INSERT"
-            | b"REMOVE"
-            | b"MODIFY"
-            | b"DELETE"
-            | b"KEEP"
-            | b"FREE"
-    )
+/// The first word of a text, as far as it is letters.
+fn first_letters(text: &[u8]) -> &[u8]
+    ensures { result.now ≡ first_letters text.now }
+{
+    let text = text.trim_ascii_start();
+    &text[..count_letters(text)]
+}
+
+fn begins_statement(word: &[u8]) -> bool
+    ensures { result ≡ begins_statement word.now }
+{
+    word == b"OPEN".as_slice()
+        || word == b"CLOSE".as_slice()
+        || word == b"FIND".as_slice()
+        || word == b"GET".as_slice()
+        || word == b"STORE".as_slice()
+        || word == b"INSERT".as_slice()
+        || word == b"REMOVE".as_slice()
+        || word == b"MODIFY".as_slice()
+        || word == b"DELETE".as_slice()
+        || word == b"KEEP".as_slice()
+        || word == b"FREE".as_slice()
 }
 
 /// Says that a file has a text of another kind than is wanted there.
-fn mistaken(kind: Kind, text: &[u8]) -> &'static str
-    ensures { IsOther kind result.now }
+fn other_kind(kind: Kind, text: &[u8]) -> &'static str
+    ensures { result.now ≡ other_kind kind text.now }
 {
-    let word = first_word(text);
+    let word = first_letters(text);
     match kind {
-        Kind::Schema if is_statement_word(word) => "; this is a script, and a schema is wanted",
-        Kind::Script if matches!(word, b"SCHEMA") => "; this is a schema, and a script is wanted",
+        Kind::Schema if begins_statement(word) => "; this is a script, and a schema is wanted",
+        Kind::Script if word == b"SCHEMA".as_slice() => {
+            "; this is a schema, and a script is wanted"
+        }
         _ => "",
     }
 }
@@ -105,12 +112,12 @@ fn script_again<F: FileReader>(files: &Files<F>, path: &str) -> Option<Vec<u8>>
     read_again(files, path)
 }
 
-/// What is wrong with this file as a whole, or nothing where it is not read again.
-fn mistaken_file<F: FileReader>(files: &Files<F>, kind: Kind, path: &str) -> &'static str
-    ensures { IsOther kind result.now }
+/// What is said of this file as a whole; nothing where it is not read again.
+fn said_of_file<F: FileReader>(files: &Files<F>, kind: Kind, path: &str) -> &'static str
+    ensures { SaysOfFile (F.has files.now.reader.now) (F.lacks files.now.reader.now) kind path.now result.now }
 {
     match read_again(files, path) {
-        Some(text) => mistaken(kind, text.as_slice()),
+        Some(text) => other_kind(kind, text.as_slice()),
         None => "",
     }
 }
@@ -197,11 +204,11 @@ fn script_reason<F: FileReader>(
     line: u64,
     number: u8,
 ) -> Result<Vec<u8>, AllocError>
-    ensures { IfOk result (λ out. IsToldIn Script (SaysOfScript (F.has files.now.reader.now) (F.lacks files.now.reader.now) files.now.paths.now.schema.now path.now line number) path.now line number out.items) }
+    ensures { IfOk result (λ out. IsToldIn Script (SaysOfScript (F.has files.now.reader.now) (F.lacks files.now.reader.now) files.now.paths.now.schema.now path.now line number) (SaysOfFile (F.has files.now.reader.now) (F.lacks files.now.reader.now) Script path.now) path.now line number out.items) }
 {
     let place = place_of(alloc, path, ":", line)?;
     let meaning = meaning_of(Kind::Script, number);
-    let other = mistaken_file(files, Kind::Script, path);
+    let other = said_of_file(files, Kind::Script, path);
     let said = said_in_script(alloc, files, path, line, number)?;
     told_at(alloc, place.as_slice(), said.as_slice(), meaning, other)
 }
@@ -229,11 +236,11 @@ fn schema_reason<F: FileReader>(
     line: u64,
     number: u8,
 ) -> Result<Vec<u8>, AllocError>
-    ensures { IfOk result (λ out. IsToldIn Schema (SaysOfSchema (F.has files.now.reader.now) (F.lacks files.now.reader.now) path.now number) path.now line number out.items) }
+    ensures { IfOk result (λ out. IsToldIn Schema (SaysOfSchema (F.has files.now.reader.now) (F.lacks files.now.reader.now) path.now number) (SaysOfFile (F.has files.now.reader.now) (F.lacks files.now.reader.now) Schema path.now) path.now line number out.items) }
 {
     let place = place_of(alloc, path, ":", line)?;
     let meaning = meaning_of(Kind::Schema, number);
-    let other = mistaken_file(files, Kind::Schema, path);
+    let other = said_of_file(files, Kind::Schema, path);
     let said = said_in_schema(alloc, files, path, number)?;
     told_at(alloc, place.as_slice(), said.as_slice(), meaning, other)
 }

@@ -5,7 +5,7 @@ ghost use Rattle.dbtg_script.specs.StatementFaults.{refusal as script_refusal};
 ghost use Rattle.dbtg_script.specs.Statements.{script};
 ghost use Rattle.dbtg_step.specs.Laws.{scripts_fit};
 ghost use Rattle.dbtg_command.specs.declared.place.TextPlace.TheVariants.{Script};
-ghost use Rattle.dbtg_command.specs.Refusals.{RefusesScript};
+ghost use Rattle.dbtg_command.specs.Refusals.{RefusesScriptText};
 ghost use Rattle.dbtg_command.specs.Sources.{ReadScripts, ToldIn, ToldOfScripts};
 
 use dbtg_command::{Fault, TextPlace, Source, take_script};
@@ -32,7 +32,7 @@ pub fn take_next<S: Source>(
     requires within { number ≤ S.count source.now }
     ensures taken { OnOk result ((text : List ℕ) × S.holds source.now (Script number) text × (script_refusal schema.now text ≡ None) × (scripts.new.statements ≡ scripts.old.statements ++ script schema.now text ∷ []) × (scripts.new.texts ≡ scripts.old.texts ++ text ∷ [])) }
     ensures fitting { IsSound schema.now → scripts_fit schema.now scripts.old.statements ≡ true → OnOk result (scripts_fit schema.now scripts.new.statements ≡ true) }
-    ensures refused { IfErr result (λ fault. ToldIn (S.holds source.now) (S.fails source.now) fault (Script number) (λ text. RefusesScript fault number (script_refusal schema.now text))) }
+    ensures refused { IfErr result (λ fault. ToldIn (S.holds source.now) (S.fails source.now) fault (Script number) (RefusesScriptText fault number schema.now)) }
 {
     let text = source.read(alloc, TextPlace::Script(number))?;
     take_script(

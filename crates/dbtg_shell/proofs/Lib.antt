@@ -1,3 +1,4 @@
+mod Hints
 mod SessionSteps
 mod SessionTurns
 mod ShellReplies

@@ -1,6 +1,8 @@
 -- A session of the shell: statements that are made whole on one database, and the script of each unit, which grows by a line with
 -- each statement.
 use Rattle.std.specs.Prelude.{ℕ, ◌≡◌, ◌+◌, ◌-◌, ◌≤◌, ◌<◌, ◌∷◌, ◌++◌, ◌⊎◌, ◌%◌, Bool, true, false, IfOk, OnErr, List, [], codes, decimal, length, Option, None, Some, ◌==◌, option_map, if◌then◌else◌, Result, Ok, Err, slice_get, slice_set, unwrap_or}
+use Rattle.std.specs.List.{list_any}
+use Rattle.std.specs.Str.{bytes_eq}
 use Rattle.dbtg_schema.specs.Lists.{Lists}
 use Rattle.dbtg_schema.specs.Lookups.{first}
 use Rattle.dbtg_schema.specs.Texts.SchemaFaults.{refusal as schema_refusal}
@@ -15,6 +17,7 @@ use Rattle.dbtg_script.specs.Lines.{trimmed}
 use Rattle.dbtg_script.specs.Printing.Causes.{cause_number}
 use Rattle.dbtg_script.specs.StatementFaults.{line_faults}
 use Rattle.dbtg_script.specs.Statements.{line_statement}
+use Rattle.dbtg_script.specs.Printing.Spelling.{in_front}
 use Rattle.dbtg_script.specs.Printing.Texts.{answer_text, named_answer_text, run_text}
 use Rattle.dbtg_script.specs.Turns.{turns_refusal}
 use Rattle.dbtg_script.specs.declared.fault.Cause.{Cause}
@@ -30,7 +33,7 @@ use Rattle.dbtg_command.specs.declared.explain.causes.TheConstants.{CAUSES}
 use Rattle.dbtg_command.specs.declared.explain.Kind.TheVariants as kind
 use Rattle.dbtg_command.specs.Explaining.{fault_field, field, row_of}
 use Rattle.dbtg_command.specs.FaultyWord.{line_at}
-use Rattle.dbtg_command.specs.Saying.{IsSaidOfWord}
+use Rattle.dbtg_command.specs.Saying.{said_of_word}
 use Rattle.dbtg_command.specs.Refusals.{schema_in}
 use Rattle.dbtg_shell.specs.Asking.{asked_of, behind_spaces, turn_after}
 use Rattle.dbtg_replay.specs.Replaying.{IsReplay}
@@ -101,12 +104,30 @@ no_unit_text units = codes "there is no such unit: they are numbered from 1 to "
 abbrev pub said_or : List ℕ → List ℕ → List ℕ
 said_or meaning said = if length said == 0 then meaning else said
 
+-- words with which the shell may be asked to end, and for help, without the period of a command
+abbrev pub quit_words : List (List ℕ)
+quit_words = codes "quit" ∷ codes "exit" ∷ codes "QUIT" ∷ codes "EXIT" ∷ codes "q" ∷ []
+
+-- those for help
+abbrev pub help_words : List (List ℕ)
+help_words = codes "help" ∷ codes "HELP" ∷ codes "?" ∷ []
+
+-- what such a word is told; nothing any other
+abbrev pub hint_of : List ℕ → List ℕ
+hint_of word =
+    if list_any (bytes_eq word) quit_words then codes "; .quit ends the shell"
+    else (if list_any (bytes_eq word) help_words then codes "; .help shows what can be typed" else [])
+
+-- the hint for the first word of a line
+abbrev pub hint_for : List ℕ → List ℕ
+hint_for line = hint_of (in_front 32 (in_front 13 line))
+
 -- the line that reports a fault of this line: its number; what is said of the word that it is about, or else what it means; a hint
 abbrev pub IsFaultText : Lists → List ℕ → Cause → List ℕ → Type 0
 IsFaultText schema line cause out =
     let number = cause_number cause in
-    (said : List ℕ) × (hint : List ℕ) × IsSaidOfWord schema number (line_at 1 line) said
-    × (out ≡ codes "fault " ++ decimal number ++ codes ": " ++ said_or (fault_field kind.Script number 1) said ++ hint ++ 10 ∷ [])
+    let said = said_of_word schema number (line_at 1 line) in
+    out ≡ codes "fault " ++ decimal number ++ codes ": " ++ said_or (fault_field kind.Script number 1) said ++ hint_for line ++ 10 ∷ []
 
 -- the reply is a text, and this is true of it
 abbrev pub IsText : (List ℕ → Type 0) → Reply → Type 0

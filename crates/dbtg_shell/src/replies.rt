@@ -1,9 +1,11 @@
 //! What the shell replies to a line: texts of answers, faults and currents.
+ghost use Rattle.std.specs.List.{list_any};
 ghost use Rattle.std.specs.Prelude.{◌≡◌, ◌-◌, ◌%◌, ◌≤◌, ◌<◌, [], ◌∷◌, ◌++◌, codes, decimal, IfOk, OnOk, Some, option_map, slice_get};
+ghost use Rattle.std.specs.Str.{bytes_eq};
 ghost use Rattle.dbtg_script.specs.Printing.Texts.{image_text, unit_text, units_text};
 ghost use Rattle.dbtg_step.specs.Core.Whole.{state_now};
 ghost use Rattle.dbtg_unit.specs.Database.State.Image.{image_of};
-ghost use Rattle.dbtg_shell.specs.Sessions.{IsFaultText, answer_reply, cause_name, no_unit_text, said_or};
+ghost use Rattle.dbtg_shell.specs.Sessions.{IsFaultText, answer_reply, cause_name, help_words, hint_for, no_unit_text, quit_words, said_or};
 
 use crate::session::Session;
 use dbtg_command::explain::{CAUSES, Kind, field, line_at, meaning_of, row_with, said_of_word};
@@ -41,12 +43,33 @@ pub fn push_answer_reply(
     }
 }
 
+fn asks_to_quit(word: &[u8]) -> bool
+    ensures { result ≡ list_any (bytes_eq word.now) quit_words }
+{
+    word == b"quit".as_slice()
+        || word == b"exit".as_slice()
+        || word == b"QUIT".as_slice()
+        || word == b"EXIT".as_slice()
+        || word == b"q".as_slice()
+}
+
+fn asks_for_help(word: &[u8]) -> bool
+    ensures { result ≡ list_any (bytes_eq word.now) help_words }
+{
+    word == b"help".as_slice() || word == b"HELP".as_slice() || word == b"?".as_slice()
+}
+
 // The command that was meant, if it was typed without its period.
-fn hint_for(line: &[u8]) -> &'static [u8] {
-    match in_front(in_front(line, b'\r'), b' ') {
-        b"quit" | b"exit" | b"QUIT" | b"EXIT" | b"q" => b"; .quit ends the shell",
-        b"help" | b"HELP" | b"?" => b"; .help shows what can be typed",
-        _ => b"",
+fn hint_for(line: &[u8]) -> &'static [u8]
+    ensures { result.now ≡ hint_for line.now }
+{
+    let word = in_front(in_front(line, b'\r'), b' ');
+    if asks_to_quit(word) {
+        b"; .quit ends the shell"
+    } else if asks_for_help(word) {
+        b"; .help shows what can be typed"
+    } else {
+        b""
     }
 }
 

@@ -1,12 +1,13 @@
-//! The word that a fault of a script's line is about, and the names that there are in its place.
-ghost use Rattle.std.specs.Prelude.{◌≡◌, ◌++◌, ◌∷◌, [], IfOk, map};
-ghost use Rattle.dbtg_script.specs.Tokens.{view};
-ghost use Rattle.dbtg_command.specs.Saying.{IsSaidOfWord, faulty_text, form_for, said_by, told_part, written};
+//! What is said of the word that a fault of a script's line is about.
+ghost use Rattle.std.specs.Prelude.{◌≡◌, ◌++◌, ◌∷◌, [], false, IfOk, map, option_map, unwrap_or};
+ghost use Rattle.dbtg_script.specs.Tokens.{tokens, view};
+ghost use Rattle.dbtg_command.specs.Saying.{faulty_text, form_for, is_find, said_by, said_of_word, told_part, type_token, written};
 
+use crate::explain::offered::{listed, names_for};
 use crate::explain::row::{field, push_form, row_with};
 use crate::explain::{Kind, meaning_of};
-use dbtg_schema::{RecordNo, Schema};
-use dbtg_script::{Token, behind, faulty_word, in_front};
+use dbtg_schema::Schema;
+use dbtg_script::{Token, Tokens, faulty_word, in_front};
 use std::alloc::{AllocError, Global};
 
 // What is said under a fault's number: 0 is the word, 1 the record type, 2 the names that there are.
@@ -18,103 +19,6 @@ const FORMS: &str = "\
 6|0 is no set (sets: 2)
 7|0 is no item of 1 (items: 2)
 8|0 is named twice";
-
-// The lines that are not empty.
-pub fn words_of<'a>(alloc: Global, apart: &'a [u8]) -> Result<Vec<&'a [u8]>, AllocError> {
-    let mut words = Vec::new(alloc);
-    for word in apart.split(|b| *b == b'\n') {
-        if !word.is_empty() {
-            words.push(word)?;
-        }
-    }
-    Ok(words)
-}
-
-pub fn word_at<'a>(words: &[&'a [u8]], place: usize) -> &'a [u8] {
-    match words.get(place) {
-        Some(word) => *word,
-        None => &[],
-    }
-}
-
-// The word of this number, from 0, of a line whose first words have spaces between them.
-fn spaced_word(line: &[u8], number: usize) -> &[u8] {
-    let mut rest = line.trim_ascii_start();
-    for _ in 0..number {
-        rest = behind(rest, b' ').trim_ascii_start();
-    }
-    in_front(rest, b' ')
-}
-
-// The record type whose items a line names.
-fn type_word(line: &[u8]) -> &[u8] {
-    if matches!(spaced_word(line, 0), b"FIND") {
-        spaced_word(line, 2)
-    } else {
-        spaced_word(line, 1)
-    }
-}
-
-// Puts the name of this number, from 0, into a list of at most eight.
-pub fn push_name(out: &mut Vec<u8>, number: usize, name: &[u8]) -> Result<(), AllocError> {
-    if number > 8 {
-        return Ok(());
-    }
-    if number > 0 {
-        out.extend_from_slice(", ".as_bytes())?;
-    }
-    out.extend_from_slice(if number < 8 { name } else { "..".as_bytes() })
-}
-
-fn push_areas(out: &mut Vec<u8>, schema: &Schema) -> Result<(), AllocError> {
-    for (i, area) in schema.areas().iter().enumerate() {
-        push_name(out, i, area.name.as_slice())?;
-    }
-    Ok(())
-}
-
-fn push_types(out: &mut Vec<u8>, schema: &Schema) -> Result<(), AllocError> {
-    for (i, rtype) in schema.types().iter().enumerate() {
-        push_name(out, i, rtype.name.as_slice())?;
-    }
-    Ok(())
-}
-
-fn push_sets(out: &mut Vec<u8>, schema: &Schema) -> Result<(), AllocError> {
-    for (i, set) in schema.sets().iter().enumerate() {
-        push_name(out, i, set.name.as_slice())?;
-    }
-    Ok(())
-}
-
-fn push_items(out: &mut Vec<u8>, schema: &Schema, rtype: RecordNo) -> Result<(), AllocError> {
-    for (i, item) in schema.items(rtype).iter().enumerate() {
-        push_name(out, i, item.name.as_slice())?;
-    }
-    Ok(())
-}
-
-// The names that a fault of this number asks for.
-fn names_for(
-    alloc: Global,
-    schema: &Schema,
-    number: u8,
-    rtype: &[u8],
-) -> Result<Vec<u8>, AllocError> {
-    let mut out = Vec::new(alloc);
-    match number {
-        4 => push_areas(&mut out, schema)?,
-        5 => push_types(&mut out, schema)?,
-        6 => push_sets(&mut out, schema)?,
-        7 => {
-            if let Some(rtype) = schema.rtype(rtype) {
-                push_items(&mut out, schema, rtype)?;
-            }
-        }
-        _ => {}
-    }
-    Ok(out)
-}
 
 // What is said of a word: the form for a fault of this number with these parts, of which 0 is the word and 3 what the fault means;
 // nothing of no word.
@@ -165,13 +69,42 @@ fn quoted(alloc: Global, text: &[u8]) -> Result<Vec<u8>, AllocError>
     Ok(out)
 }
 
+fn written_if_any(alloc: Global, token: Option<Token>) -> Result<Vec<u8>, AllocError>
+    ensures { IfOk result (λ out. out.items ≡ unwrap_or (option_map written (option_map view token.entry)) []) }
+{
+    match token {
+        Some(token) => written(alloc, token),
+        None => Ok(Vec::new(alloc)),
+    }
+}
+
 // The word of a line that its fault is about, if it is about one.
 fn faulty_text(alloc: Global, schema: &Schema, line: &[u8]) -> Result<Vec<u8>, AllocError>
     ensures { IfOk result (λ out. out.items ≡ faulty_text schema.now line.now) }
 {
-    match faulty_word(alloc, schema, line)? {
-        Some(token) => written(alloc, token),
-        None => Ok(Vec::new(alloc)),
+    written_if_any(alloc, faulty_word(alloc, schema, line)?)
+}
+
+fn is_find(token: Token) -> bool
+    ensures { result ≡ is_find (view token.entry) }
+{
+    match token {
+        Token::Plain(text) => text == b"FIND".as_slice(),
+        _ => false,
+    }
+}
+
+// The record type whose items a line names: its second word, and the third behind FIND CALC.
+fn type_token(line: &[u8]) -> Option<Token>
+    ensures { option_map view result ≡ type_token (tokens false line.now) }
+{
+    let mut words = Tokens { rest: line };
+    let first = words.next()?;
+    let second = words.next()?;
+    if is_find(first) {
+        words.next()
+    } else {
+        Some(second)
     }
 }
 
@@ -193,12 +126,13 @@ pub fn said_of_word(
     line: &[u8],
     number: u8,
 ) -> Result<Vec<u8>, AllocError>
-    ensures { IfOk result (λ out. IsSaidOfWord schema.now number line.now out.items) }
+    ensures { IfOk result (λ out. out.items ≡ said_of_word schema.now number line.now) }
 {
     let text = faulty_text(alloc, schema, line)?;
     let word = told_part(text.as_slice(), number);
-    let rtype = Vec::from_slice(alloc, type_word(line))?;
+    let rtype = written_if_any(alloc, type_token(line))?;
     let names = names_for(alloc, schema, number, rtype.as_slice())?;
+    let names = listed(alloc, names.as_slice())?;
     let meaning = meaning_of(Kind::Script, number);
     let parts = [word, rtype.as_slice(), names.as_slice(), meaning];
     said_by(alloc, FORMS, number, word, &parts)
