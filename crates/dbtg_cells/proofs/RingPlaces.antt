@@ -119,7 +119,7 @@ in_front_is ns zero = refl
 in_front_is ns (suc n) = refl
 
 -- a ring after a node came in at a place or went from it, and the list that is read then
-pub record Stands (find : DbKey → Option ℕ) (s : Slots) (first last : Option ℕ) (len : ℕ) (list : List Entry) (order : OrderView) (known : Known) : Type 0 where
+pub record Stands (find : DbKey → Option ℕ) (s : Slots) (first last : Option ℕ) (len : ℕ) (list : List Entry) (order : OrderView) (known : SortFacts) : Type 0 where
   pub ring : IsRing find s first last len
   pub list_is : follow len s first ≡ list
   pub ordered : IsOrderOf find ring.chain order known
@@ -137,7 +137,7 @@ last_place p (e ∷ es) = beside (length es) ∙ last_place (Some e.at) es
     beside (suc n) = refl
 
 -- the ends of the list are those of the order, and it has as many members
-pub by_order : (find : DbKey → Option ℕ) (s : Slots) (first last : Option ℕ) (len : ℕ) (list : List Entry) (order : OrderView) (known : Known) → Stands find s first last len list order known → Stands find s (slice_get order.nodes 0) (last_node order.nodes) (length order.nodes) list order known
+pub by_order : (find : DbKey → Option ℕ) (s : Slots) (first last : Option ℕ) (len : ℕ) (list : List Entry) (order : OrderView) (known : SortFacts) → Stands find s first last len list order known → Stands find s (slice_get order.nodes 0) (last_node order.nodes) (length order.nodes) list order known
 by_order find s first last len list order known S =
     let es = S.ring.chain in
     let is = sym S.ordered.listed in
@@ -148,7 +148,7 @@ by_order find s first last len list order known S =
     (subst (λ l. Stands find s (slice_get order.nodes 0) l len list order known) ends
     (subst (λ f. Stands find s f last len list order known) starts S))
 
-module _ (find : DbKey → Option ℕ) (s : Slots) (first last : Option ℕ) (len : ℕ) (R : IsRing find s first last len) (order : OrderView) (known : Known) (O : IsOrderOf find R.chain order known) where
+module _ (find : DbKey → Option ℕ) (s : Slots) (first last : Option ℕ) (len : ℕ) (R : IsRing find s first last len) (order : OrderView) (known : SortFacts) (O : IsOrderOf find R.chain order known) where
   pub count_of_places : length order.nodes ≡ length (members R.chain)
   count_of_places = ap length O.listed ∙ length-map R.chain (λ e. e.at) ∙ sym (length-map R.chain (λ e. e.member))
 
@@ -179,7 +179,7 @@ module _ (find : DbKey → Option ℕ) (s : Slots) (first last : Option ℕ) (le
 
       pub come_in : (p q : Option ℕ) → p ≡ node_in_front order.nodes n → q ≡ slice_get order.nodes n
           → (s' : Slots) → s' ≡ linked_in at m p q s → (order' : OrderView) → order'.nodes ≡ insert order.nodes n at → order'.room ≡ order.room
-          → (known' : Known) → Holds known' (insert (members R.chain) n m)
+          → (known' : SortFacts) → Holds known' (insert (members R.chain) n m)
           → Stands find s' (slice_get order'.nodes 0) (last_node order'.nodes) (length order'.nodes) (insert (members R.chain) n m) order' known'
       come_in p q is_p is_q s' is_s order' is_nodes is_room known' holds =
           let r = reserved_at find s first last len R m.0 room at found in
@@ -257,7 +257,7 @@ all_of_type t (e ∷ ms) h =
     rw here (ap (λ l. e.0 ∷ l) (all_of_type t ms (and_parts _ _ h).1))
 
 -- what is known holds of fewer
-pub holds_around : (known : Known) (m : Entry) (front back : List Entry) → Holds known (front ++ m ∷ back) → Holds known (front ++ back)
+pub holds_around : (known : SortFacts) (m : Entry) (front back : List Entry) → Holds known (front ++ m ∷ back) → Holds known (front ++ back)
 holds_around known m front back h = record {
   sorted = keeps_around known.sorted m front back h.sorted;
   types = all_around (λ e. has_type known.rtype e.0) front m back h.types;
@@ -279,7 +279,7 @@ pub past_the_front : (ks : List DbKey) (len n : ℕ) → len ≡ length ks → l
 past_the_front ks len n count past = sym (slice_get_past (reverse ks) n (omega (arith, count, length-reverse ks)))
 
 -- what is known of nothing
-abbrev pub nothing : Known
+abbrev pub nothing : SortFacts
 nothing = record { sorted = None; rtype = None }
 
 -- a ring with no nodes
@@ -307,11 +307,11 @@ empty find s order is_s none is_nodes = by_order find s None None 0 [] order not
     clash : {A : Type 0} (x : A) → Some x ≡ None → ⊥
     clash x h = cc
 
-pub listing : (find : DbKey → Option ℕ) (s : Slots) (first last : Option ℕ) (len : ℕ) (R : IsRing find s first last len) (order : OrderView) (known : Known) → IsOrderOf find R.chain order known → Stands find s first last len (follow len s first) order known
+pub listing : (find : DbKey → Option ℕ) (s : Slots) (first last : Option ℕ) (len : ℕ) (R : IsRing find s first last len) (order : OrderView) (known : SortFacts) → IsOrderOf find R.chain order known → Stands find s first last len (follow len s first) order known
 listing find s first last len R order known O = record { ring = R; list_is = refl; ordered = O }
 
 -- a ring whose parts are written anew as they were, but for room in its order
-pub as_it_was : (find find' : DbKey → Option ℕ) (s s' : Slots) (first last : Option ℕ) (len : ℕ) (R : IsRing find s first last len) (order order' : OrderView) (known : Known) (O : IsOrderOf find R.chain order known)
+pub as_it_was : (find find' : DbKey → Option ℕ) (s s' : Slots) (first last : Option ℕ) (len : ℕ) (R : IsRing find s first last len) (order order' : OrderView) (known : SortFacts) (O : IsOrderOf find R.chain order known)
     → ((k : DbKey) → find' k ≡ find k) → s' ≡ s → order'.nodes ≡ order.nodes → order.room ≤ order'.room
     → Stands find' s' (slice_get order'.nodes 0) (last_node order'.nodes) (length order'.nodes) (follow len s first) order' known
 as_it_was find find' s s' first last len R order order' known O same is_s nodes more =
