@@ -26,7 +26,7 @@ unfolding tokens onto into
 another_word = refl
 
 -- a line that ends too early
-too_short : wanted_in_line one_type (codes "OPEN AREA MAIN USAGE-MODE IS EXCLUSIVE") ≡ codes "RETRIEVAL" ∷ codes "UPDATE" ∷ []
+too_short : wanted_in_line one_type (codes "OPEN AREA") ≡ codes "an area" ∷ []
 unfolding tokens onto into
 too_short = refl
 
@@ -39,15 +39,6 @@ could_end = refl
 left_over : wanted_in_line one_type (codes "KEEP ALL") ≡ codes "the line's end" ∷ []
 unfolding tokens onto into
 left_over = refl
-
--- a value by the picture of its item
-a_text : wanted_in_line one_type (codes "STORE CUSTOMER CNO = 7 CNAME = ADA") ≡ codes "a text in double quotes" ∷ []
-unfolding tokens onto into
-a_text = refl
-
-a_number : wanted_in_line one_type (codes "STORE CUSTOMER CNO = -7") ≡ codes "a number" ∷ []
-unfolding tokens onto into
-a_number = refl
 
 -- where the item is not known yet either is wanted
 a_value : wanted_in_line one_type (codes "FIND SORTED KEY") ≡ codes "a number or a text in double quotes" ∷ []
