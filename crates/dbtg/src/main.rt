@@ -16,14 +16,16 @@ use dbtg_command::check::check;
 use dbtg_command::draw::draw;
 use dbtg_command::explain::{Topic, explained};
 use dbtg_command::reason::reason;
-use dbtg_command::{Call, Fault, Files, Named, Order, Paths, call_of, read_schema, status_of};
+use dbtg_command::{
+    Call, Fault, Files, Named, Order, Paths, call_of, each_fault, read_schema, status_of,
+};
 use dbtg_replay::replay::{check_count, replay};
 use dbtg_replay::{moves_for_turns, refusals_of_first};
 use dbtg_schema::Schema;
 use dbtg_shell::{Broken, Session, converse, write_file};
 use outcomes::{ListingOptions, print_outcomes};
 use std::env;
-use std::io::{self, Write};
+use std::io::{self, IsTerminal, Write};
 use std::process::ExitCode;
 use std::sync::Wait;
 use std::thread::Threads;
@@ -57,7 +59,12 @@ fn not_written(rt: &HostRuntime, error: &io::Error) -> ExitCode {
     ExitCode::FAILURE
 }
 
-// The text that a command prints, or its fault; with `--explain` a second line says where and why.
+// Does a fault have a second line? On a terminal it has one without being asked.
+fn explains(rt: &HostRuntime, call: &Call) -> bool {
+    !call.no_explain && (call.explains || rt.stderr().is_terminal())
+}
+
+// The text that a command prints, or its fault; a second line says where and why, if it is wanted.
 fn print_or_tell(
     rt: &HostRuntime,
     given: Result<Vec<u8>, Fault>,
@@ -101,12 +108,32 @@ fn printed(rt: &HostRuntime, files: &Files<HostRuntime>, call: &Call) -> Result<
     }
 }
 
+// The first fault of each file that has one; where none has one, what `check` prints.
+fn tell_each(rt: &HostRuntime, files: &Files<HostRuntime>, call: &Call) -> ExitCode {
+    match each_fault(rt.alloc(), files) {
+        Ok(faults) => {
+            if faults.is_empty() {
+                let given = check(rt.alloc(), files);
+                return print_or_tell(rt, given, files.paths, explains(rt, call));
+            }
+            for fault in faults.as_slice() {
+                told_of(rt, fault, files.paths, explains(rt, call));
+            }
+            ExitCode::FAILURE
+        }
+        Err(fault) => told(rt, &fault),
+    }
+}
+
 fn print_files(rt: &HostRuntime, call: &Call) -> ExitCode {
     let paths = paths_of(call.schema, call.scripts.as_slice(), call.order);
     let files = Files {
         reader: rt,
         paths: &paths,
     };
+    if call.all {
+        return tell_each(rt, &files, call);
+    }
     let given = printed(rt, &files, call);
     print_run(rt, given, &files, call)
 }
@@ -121,7 +148,7 @@ fn print_run(
     if given.is_ok() {
         tell_refusals(rt, files, call);
     }
-    print_or_tell(rt, given, files.paths, call.explains)
+    print_or_tell(rt, given, files.paths, explains(rt, call))
 }
 
 // Does a run begin with a script that can be read again? Standard input cannot.
@@ -154,7 +181,7 @@ fn print_threads<R: Threads + Wait + Sync>(rt: &HostRuntime, threads: &R, call: 
     };
     match run_on_threads(threads, rt.alloc(), &files, call.capacity) {
         Ok(said) => print_saved(rt, &said, call.saved),
-        Err(fault) => told_of(rt, &fault, &paths, call.explains),
+        Err(fault) => told_of(rt, &fault, &paths, explains(rt, call)),
     }
 }
 
@@ -184,7 +211,7 @@ fn print_turns(rt: &HostRuntime, call: &Call) -> ExitCode {
         paths: &paths,
     };
     let given = moves_for_turns(rt.alloc(), &files, call.capacity);
-    print_or_tell(rt, given, &paths, call.explains)
+    print_or_tell(rt, given, &paths, explains(rt, call))
 }
 
 fn tell_outcomes(rt: &HostRuntime, call: &Call) -> ExitCode {

@@ -9,7 +9,7 @@ use Rattle.dbtg_command.specs.declared.order.Order.{Order}
 use Rattle.dbtg_command.specs.Inside.Files.{FileFails, FileHolds}
 use Rattle.dbtg_command.specs.Reasons.{IsNoSchema, SaysOfLine}
 use Rattle.dbtg_command.specs.Refusals.{RefusesSchema}
-use Rattle.dbtg_command.specs.Saying.{said_of_word}
+use Rattle.dbtg_command.specs.Misfits.{said_of_word}
 use Rattle.dbtg_command.specs.Sources.{ReadSchema, ToldOfSchema}
 
 refused : (fault : Fault) (r : Option SchemaRefusal) → RefusesSchema fault r → (fault ≡ Memory → ⊥) → (f : SchemaRefusal) × (r ≡ Some f)

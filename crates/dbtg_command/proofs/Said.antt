@@ -5,8 +5,8 @@ use Rattle.dbtg_command.specs.declared.explain.Kind.TheVariants.{Script}
 use Rattle.dbtg_command.specs.declared.explain.word.TheConstants.{FORMS}
 use Rattle.dbtg_command.specs.Explaining.{fault_field}
 use Rattle.dbtg_command.specs.Offered.{listed, names_for}
-use Rattle.dbtg_command.specs.Saying.{form_for, said_by, said_of_word, told_word, type_text}
+use Rattle.dbtg_command.specs.Saying.{form_for, said_by, said_of_name, told_word, type_text}
 
 pub said_with : (schema : Lists) (number : ℕ) (line word rtype names meaning : List ℕ) → word ≡ told_word schema number line → rtype ≡ type_text line → names ≡ listed (names_for schema number (type_text line)) → meaning ≡ fault_field Script number 1
-    → said_by (form_for number FORMS.now) word (word ∷ rtype ∷ names ∷ meaning ∷ []) ≡ said_of_word schema number line
+    → said_by (form_for number FORMS.now) word (word ∷ rtype ∷ names ∷ meaning ∷ []) ≡ said_of_name schema number line
 said_with schema number line word rtype names meaning w r n m = rw (w, r, n, m) refl

@@ -48,7 +48,9 @@ order_in found = order_for (first_value found (codes "turns")) (first_value foun
 -- the call is of this command, and has what was found for it
 pub record IsCall (asked : Named) (found : Found) (call : Call) : Type 0 where
   pub named : call.named ≡ asked
+  pub all : IsFlag found (codes "all") call.all
   pub explains : IsFlag found (codes "explain") call.explains
+  pub no_explain : IsFlag found (codes "no-explain") call.no_explain
   pub echo : IsFlag found (codes "echo") call.echo
   pub svg : IsFlag found (codes "svg") call.svg
   pub answers : IsFlag found (codes "answers") call.answers

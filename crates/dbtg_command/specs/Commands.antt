@@ -27,6 +27,9 @@ file_word name = record (new_rule name) { action = Some Set; value_names = 1; re
 abbrev pub words : List ℕ → Rule
 words name = record (new_rule name) { action = Some Append; value_names = 1; range = Some (record { start_inclusive = 0; end_inclusive = usize_max }) }
 
+abbrev pub all : Rule
+all = flag (codes "all")
+
 abbrev pub answers : Rule
 answers = flag (codes "answers")
 
@@ -47,6 +50,9 @@ limit = number_option (codes "limit") (codes "1000000")
 
 abbrev pub moves : Rule
 moves = file_option (codes "moves")
+
+abbrev pub no_explain : Rule
+no_explain = flag (codes "no-explain")
 
 abbrev pub save_turns : Rule
 save_turns = file_option (codes "save-turns")
@@ -89,14 +95,14 @@ name_of named.Shell = codes "shell"
 
 -- what a command can be given, in the order of its help; words that are no options stand in this order
 abbrev pub rules_for : Named → List Rule
-rules_for named.Check = first ∷ explain ∷ schema ∷ scripts ∷ []
-rules_for named.Replay = capacity ∷ first ∷ moves ∷ turns_option ∷ echo ∷ explain ∷ schema ∷ scripts ∷ []
-rules_for named.Turns = capacity ∷ explain ∷ turns_file ∷ schema ∷ scripts ∷ []
-rules_for named.Timeline = capacity ∷ first ∷ moves ∷ turns_option ∷ svg ∷ explain ∷ schema ∷ scripts ∷ []
-rules_for named.Page = capacity ∷ first ∷ moves ∷ turns_option ∷ explain ∷ schema ∷ scripts ∷ []
-rules_for named.Outcomes = capacity ∷ first ∷ limit ∷ answers ∷ explain ∷ schema ∷ scripts ∷ []
-rules_for named.Threads = capacity ∷ save_turns ∷ explain ∷ schema ∷ scripts ∷ []
-rules_for named.Draw = explain ∷ schema ∷ []
+rules_for named.Check = all ∷ first ∷ explain ∷ no_explain ∷ schema ∷ scripts ∷ []
+rules_for named.Replay = capacity ∷ first ∷ moves ∷ turns_option ∷ echo ∷ explain ∷ no_explain ∷ schema ∷ scripts ∷ []
+rules_for named.Turns = capacity ∷ explain ∷ no_explain ∷ turns_file ∷ schema ∷ scripts ∷ []
+rules_for named.Timeline = capacity ∷ first ∷ moves ∷ turns_option ∷ svg ∷ explain ∷ no_explain ∷ schema ∷ scripts ∷ []
+rules_for named.Page = capacity ∷ first ∷ moves ∷ turns_option ∷ explain ∷ no_explain ∷ schema ∷ scripts ∷ []
+rules_for named.Outcomes = capacity ∷ first ∷ limit ∷ answers ∷ explain ∷ no_explain ∷ schema ∷ scripts ∷ []
+rules_for named.Threads = capacity ∷ save_turns ∷ explain ∷ no_explain ∷ schema ∷ scripts ∷ []
+rules_for named.Draw = explain ∷ no_explain ∷ schema ∷ []
 rules_for named.Explain = topic ∷ []
 rules_for named.Shell = capacity ∷ units ∷ schema ∷ []
 

@@ -7,8 +7,10 @@ pub mod Explaining
 pub mod Commands
 pub mod Calling
 pub mod FaultyWord
+pub mod Hints
 pub mod Offered
 pub mod Saying
+pub mod Misfits
 pub mod Reasons
 pub mod Drawing
 pub mod Inside

@@ -22,7 +22,7 @@ use Rattle.dbtg_command.specs.declared.order.Order.TheVariants as by
 use Rattle.dbtg_command.specs.Explaining.{fault_field}
 use Rattle.dbtg_command.specs.FaultyWord.{line_at}
 use Rattle.dbtg_command.specs.Refusals.{schema_in}
-use Rattle.dbtg_command.specs.Saying.{said_of_schema_word, said_of_word}
+use Rattle.dbtg_command.specs.Misfits.{said_of_schema_word, said_of_word}
 
 -- a place in a file: its path, a mark, and the number of the line or word
 abbrev pub place_of : List ℕ → List ℕ → ℕ → List ℕ

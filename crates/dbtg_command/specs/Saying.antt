@@ -55,9 +55,9 @@ type_token words = slice_get words (if some_and is_find (first words) then 2 els
 abbrev pub type_text : List ℕ → List ℕ
 type_text line = unwrap_or (option_map written (type_token (tokens false line))) []
 
--- what is said of the word of a script's line that is at fault
-abbrev pub said_of_word : Lists → ℕ → List ℕ → List ℕ
-said_of_word schema number line =
+-- what is said of the name, the value or the key of a script's line that is at fault
+abbrev pub said_of_name : Lists → ℕ → List ℕ → List ℕ
+said_of_name schema number line =
     let word = told_word schema number line in
     let rtype = type_text line in
     said_by (form_for number SCRIPT_FORMS.now) word (word ∷ rtype ∷ listed (names_for schema number rtype) ∷ fault_field kind.Script number 1 ∷ [])
@@ -72,9 +72,9 @@ told_schema_word number text =
     let laid = laid_out text in
     told_schema_part number (faulty_word number (line_in number (refusal laid)) laid)
 
--- what is said of the word of a schema's text that is at fault
-abbrev pub said_of_schema_word : ℕ → List ℕ → List ℕ
-said_of_schema_word number text =
+-- what is said of the name, the picture or the entry of a schema's text that is at fault
+abbrev pub said_of_schema_name : ℕ → List ℕ → List ℕ
+said_of_schema_name number text =
     let laid = laid_out text in
     let front = seen_words (take (line_in number (refusal laid) - 1) (lines laid)) in
     let word = told_schema_word number text in

@@ -1,6 +1,6 @@
 //! What a command can be given: options, files and other words, as `clap` is told of each.
 ghost use Rattle.std.specs.Prelude.{IfOk};
-ghost use Rattle.dbtg_command.specs.Commands.{answers, capacity, echo, explain, file_option, file_word, first, flag, limit, moves, number_option, save_turns, topic, turns_file, turns_option, units, words};
+ghost use Rattle.dbtg_command.specs.Commands.{all, answers, capacity, echo, explain, file_option, file_word, first, flag, limit, moves, no_explain, number_option, save_turns, topic, turns_file, turns_option, units, words};
 ghost use Rattle.dbtg_command.specs.Inside.Commands.{IsArg, rule_for};
 
 use clap::{Arg, ArgAction};
@@ -9,6 +9,7 @@ use std::alloc::{AllocError, Global};
 /// A word that a command can be given: an option, or what stands for files. `Schema`, `Scripts` and `Svg` have what help says of them.
 #[derive(Clone, Copy)]
 pub enum Word<'a> {
+    All,
     Answers,
     Capacity,
     Echo,
@@ -16,6 +17,7 @@ pub enum Word<'a> {
     First,
     Limit,
     Moves,
+    NoExplain,
     SaveTurns,
     Schema(&'a str),
     Scripts(&'a str),
@@ -86,6 +88,13 @@ fn words<'a>(alloc: Global, name: &'a str, shown: &'a str, help: &'a str) -> Arg
         .help(help)
 }
 
+fn all_option<'a>(alloc: Global) -> Arg<'a>
+    ensures { IsArg all result }
+{
+    let help = "Tells the first fault of each file [default: the first of all]";
+    flag(alloc, "all", help)
+}
+
 fn answers_option<'a>(alloc: Global) -> Arg<'a>
     ensures { IsArg answers result }
 {
@@ -116,7 +125,7 @@ fn explain_option<'a>(alloc: Global) -> Arg<'a>
     flag(
         alloc,
         "explain",
-        "Tells also where a fault is and what is wrong [default: its number alone]",
+        "Tells also where a fault is and what is wrong [default: on a terminal]",
     )
 }
 
@@ -145,6 +154,13 @@ fn moves_option<'a>(alloc: Global) -> Arg<'a>
         "moves",
         "The file of the moves; - for standard input [default: script after script]",
     )
+}
+
+fn no_explain_option<'a>(alloc: Global) -> Arg<'a>
+    ensures { IsArg no_explain result }
+{
+    let help = "Tells a fault by its number alone, on a terminal too";
+    flag(alloc, "no-explain", help)
 }
 
 fn save_turns_option<'a>(alloc: Global) -> Arg<'a>
@@ -197,6 +213,7 @@ pub fn arg_of<'a>(alloc: Global, word: Word<'a>) -> Result<Arg<'a>, AllocError>
     ensures { IfOk result (IsArg (rule_for word.entry)) }
 {
     match word {
+        Word::All => Ok(all_option(alloc)),
         Word::Answers => Ok(answers_option(alloc)),
         Word::Capacity => Ok(capacity_option(alloc)),
         Word::Echo => Ok(echo_option(alloc)),
@@ -204,6 +221,7 @@ pub fn arg_of<'a>(alloc: Global, word: Word<'a>) -> Result<Arg<'a>, AllocError>
         Word::First => Ok(first_option(alloc)),
         Word::Limit => Ok(limit_option(alloc)),
         Word::Moves => Ok(moves_option(alloc)),
+        Word::NoExplain => Ok(no_explain_option(alloc)),
         Word::SaveTurns => Ok(save_turns_option(alloc)),
         Word::Schema(help) => Ok(file_word(alloc, "schema", "SCHEMA", help)),
         Word::Scripts(help) => Ok(words(alloc, "scripts", "SCRIPT", help)),

@@ -22,8 +22,12 @@ use std::alloc::{AllocError, Global};
 #[derive(Drop)]
 pub struct Call<'a> {
     pub named: Named,
+    /// The first fault of each file is told.
+    pub all: bool,
     /// A fault has a second line.
     pub explains: bool,
+    /// A fault has no second line.
+    pub no_explain: bool,
     /// Each answer has its statement in front.
     pub echo: bool,
     /// A picture is drawn as SVG.
@@ -140,7 +144,9 @@ fn given_call<'a>(alloc: Global, named: Named, given: &ArgMatches<'a>) -> Result
     let scripts = scripts_wanted(alloc, given)?;
     Ok(Call {
         named,
+        all: given.get_flag("all"),
         explains: given.get_flag("explain"),
+        no_explain: given.get_flag("no-explain"),
         echo: given.get_flag("echo"),
         svg: given.get_flag("svg"),
         answers: given.get_flag("answers"),
@@ -173,10 +179,17 @@ fn reads_twice(call: &Call) -> bool {
     scripts > 1 || scripts == 1 && (is_schema || is_order) || is_schema && is_order
 }
 
+// Is standard input to be read twice, for the faults and for the text?
+fn reads_again(call: &Call) -> bool {
+    call.all && (is_input(call.schema) || call.scripts.iter().any(|path| is_input(*path)))
+}
+
 // What is wrong with the paths, where something is.
 fn misused_input(call: &Call) -> Option<&'static str> {
     if reads_twice(call) {
         Some("the argument '-' cannot be used twice: standard input is one file")
+    } else if reads_again(call) {
+        Some("the argument '-' cannot be used with '--all': each file is read twice")
     } else if matches!(call.saved, Some("-")) {
         Some(
             "the argument '-' cannot be used with '--save-turns <FILE>': turns are written to a file",

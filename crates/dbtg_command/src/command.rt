@@ -56,8 +56,10 @@ fn check_command<'a>(alloc: Global, name: &'a str) -> Result<Command<'a>, AllocE
         "Reads a schema and scripts, and tells how large they are",
         "Example: dbtg check shop.schema unit1.script unit2.script",
         &[
+            Word::All,
             Word::First,
             Word::Explain,
+            Word::NoExplain,
             Word::Schema(SCHEMA),
             Word::Scripts(scripts),
         ],
@@ -73,7 +75,7 @@ fn draw_command<'a>(alloc: Global, name: &'a str) -> Result<Command<'a>, AllocEr
         name,
         "Prints the diagram of a schema, as Graphviz reads it: record types, and the sets from owner to member",
         "Example: dbtg draw shop.schema | dot -Tsvg > shop.svg",
-        &[Word::Explain, Word::Schema(SCHEMA)],
+        &[Word::Explain, Word::NoExplain, Word::Schema(SCHEMA)],
     )
 }
 
@@ -107,6 +109,7 @@ fn replay_command<'a>(alloc: Global, name: &'a str) -> Result<Command<'a>, Alloc
             Word::TurnsOption,
             Word::Echo,
             Word::Explain,
+            Word::NoExplain,
             Word::Schema(SCHEMA),
             Word::Scripts(SCRIPTS),
         ],
@@ -125,6 +128,7 @@ fn turns_command<'a>(alloc: Global, name: &'a str) -> Result<Command<'a>, AllocE
         &[
             Word::Capacity,
             Word::Explain,
+            Word::NoExplain,
             Word::TurnsFile,
             Word::Schema(SCHEMA),
             Word::Scripts(SCRIPTS),
@@ -148,6 +152,7 @@ fn timeline_command<'a>(alloc: Global, name: &'a str) -> Result<Command<'a>, All
             Word::TurnsOption,
             Word::Svg("Draws as SVG [default: plain text]"),
             Word::Explain,
+            Word::NoExplain,
             Word::Schema(SCHEMA),
             Word::Scripts(SCRIPTS),
         ],
@@ -169,6 +174,7 @@ fn page_command<'a>(alloc: Global, name: &'a str) -> Result<Command<'a>, AllocEr
             Word::Moves,
             Word::TurnsOption,
             Word::Explain,
+            Word::NoExplain,
             Word::Schema(SCHEMA),
             Word::Scripts(SCRIPTS),
         ],
@@ -190,6 +196,7 @@ fn outcomes_command<'a>(alloc: Global, name: &'a str) -> Result<Command<'a>, All
             Word::Limit,
             Word::Answers,
             Word::Explain,
+            Word::NoExplain,
             Word::Schema(SCHEMA),
             Word::Scripts(SCRIPTS),
         ],
@@ -211,6 +218,7 @@ fn threads_command<'a>(alloc: Global, name: &'a str) -> Result<Command<'a>, Allo
             Word::Capacity,
             Word::SaveTurns,
             Word::Explain,
+            Word::NoExplain,
             Word::Schema(SCHEMA),
             Word::Scripts(scripts),
         ],

@@ -24,7 +24,9 @@ ghost use Rattle.dbtg_command.specs.Explaining.{
 
 mod causes;
 mod faults;
+mod hints;
 mod laid;
+mod misfit;
 mod offered;
 mod row;
 mod schema_word;
@@ -35,12 +37,11 @@ pub use causes::CAUSES;
 use dbtg_script::{is_number, number};
 use faults::{MOVES_FAULTS, SCHEMA_FAULTS, SCRIPT_FAULTS, TURNS_FAULTS};
 pub use laid::line_at;
+pub use misfit::{said_of_schema_word, said_of_word};
 use row::{next_row, push_form};
 pub use row::{field, row_with};
-pub use schema_word::said_of_schema_word;
 use statuses::STATUSES;
 use std::alloc::{AllocError, Global};
-pub use word::said_of_word;
 
 /// What kind of text has a fault.
 #[derive(Clone, Copy)]

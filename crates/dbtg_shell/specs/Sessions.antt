@@ -33,7 +33,7 @@ use Rattle.dbtg_command.specs.declared.explain.causes.TheConstants.{CAUSES}
 use Rattle.dbtg_command.specs.declared.explain.Kind.TheVariants as kind
 use Rattle.dbtg_command.specs.Explaining.{fault_field, field, row_of}
 use Rattle.dbtg_command.specs.FaultyWord.{line_at}
-use Rattle.dbtg_command.specs.Saying.{said_of_word}
+use Rattle.dbtg_command.specs.Misfits.{said_of_word}
 use Rattle.dbtg_command.specs.Refusals.{schema_in}
 use Rattle.dbtg_shell.specs.Asking.{asked_of, behind_spaces, turn_after}
 use Rattle.dbtg_replay.specs.Replaying.{IsReplay}

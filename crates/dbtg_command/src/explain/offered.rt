@@ -33,6 +33,15 @@ fn push_separated(out: &mut Vec<u8>, names: &[&[u8]]) -> Result<(), AllocError>
     }
 }
 
+/// Names one after another, with a comma between them.
+pub fn separated(alloc: Global, names: &[&[u8]]) -> Result<Vec<u8>, AllocError>
+    ensures { IfOk result (λ out. out.items ≡ separated (map (λ name. name.now) names.now)) }
+{
+    let mut out = Vec::new(alloc);
+    push_separated(&mut out, names)?;
+    Ok(out)
+}
+
 pub fn listed(alloc: Global, names: &[&[u8]]) -> Result<Vec<u8>, AllocError>
     ensures { IfOk result (λ out. out.items ≡ listed (map (λ name. name.now) names.now)) }
 {

@@ -1,7 +1,7 @@
 //! What is said of the word of a schema at which its fault is. The reader itself finds the word: it reads the text again, with each
 //! word on a line of its own.
 ghost use Rattle.std.specs.Prelude.{◌≡◌, ◌-◌, IfOk, map, take};
-ghost use Rattle.dbtg_command.specs.Saying.{said_of_schema_word, told_schema_part};
+ghost use Rattle.dbtg_command.specs.Saying.{said_of_schema_name, told_schema_part};
 ghost use Rattle.dbtg_script.specs.Lines.{lines};
 
 use crate::explain::laid::{fault_line, faulty_word, laid_out};
@@ -16,7 +16,6 @@ const LONGEST: usize = 480;
 
 // What is said under a fault's number: 0 is the word, 1 the record type, 2 the names that there are, 4 what to do.
 const FORMS: &str = "\
-3|0 does not fit here
 4|0 is no name. 4
 6|0 is named twice
 7|0 is no area (areas: 2)
@@ -58,9 +57,9 @@ fn told_schema_part(word: &[u8], number: u8) -> &[u8]
     }
 }
 
-/// What there is to say of the word of a schema's text that is at fault; nothing where no single word is.
-pub fn said_of_schema_word(alloc: Global, text: &[u8], number: u8) -> Result<Vec<u8>, AllocError>
-    ensures { IfOk result (λ out. out.items ≡ said_of_schema_word number text.now) }
+/// What there is to say of the name, the picture or the entry that a fault of a schema's text is about; nothing where no single word is.
+pub fn said_of_schema_name(alloc: Global, text: &[u8], number: u8) -> Result<Vec<u8>, AllocError>
+    ensures { IfOk result (λ out. out.items ≡ said_of_schema_name number text.now) }
 {
     let laid = laid_out(alloc, text)?;
     let laid = laid.as_slice();

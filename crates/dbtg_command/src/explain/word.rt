@@ -1,7 +1,7 @@
 //! What is said of the word that a fault of a script's line is about.
 ghost use Rattle.std.specs.Prelude.{◌≡◌, ◌++◌, ◌∷◌, [], false, IfOk, map, option_map, unwrap_or};
 ghost use Rattle.dbtg_script.specs.Tokens.{tokens, view};
-ghost use Rattle.dbtg_command.specs.Saying.{faulty_text, form_for, is_find, said_by, said_of_word, told_part, type_token, written};
+ghost use Rattle.dbtg_command.specs.Saying.{faulty_text, form_for, is_find, said_by, said_of_name, told_part, type_token, written};
 
 use crate::explain::offered::{listed, names_for};
 use crate::explain::row::{field, push_form, row_with};
@@ -12,8 +12,6 @@ use std::alloc::{AllocError, Global};
 
 // What is said under a fault's number: 0 is the word, 1 the record type, 2 the names that there are.
 const FORMS: &str = "\
-2|0 is no statement word
-3|0 does not fit here
 4|0 is no area (areas: 2)
 5|0 is no record type (record types: 2)
 6|0 is no set (sets: 2)
@@ -79,7 +77,7 @@ fn written_if_any(alloc: Global, token: Option<Token>) -> Result<Vec<u8>, AllocE
 }
 
 // The word of a line that its fault is about, if it is about one.
-fn faulty_text(alloc: Global, schema: &Schema, line: &[u8]) -> Result<Vec<u8>, AllocError>
+pub fn faulty_text(alloc: Global, schema: &Schema, line: &[u8]) -> Result<Vec<u8>, AllocError>
     ensures { IfOk result (λ out. out.items ≡ faulty_text schema.now line.now) }
 {
     written_if_any(alloc, faulty_word(alloc, schema, line)?)
@@ -119,14 +117,14 @@ fn told_part(text: &[u8], number: u8) -> &[u8]
     }
 }
 
-/// What there is to say of the word of a line that is at fault; nothing where no single word is.
-pub fn said_of_word(
+/// What there is to say of the name, the value or the key that a fault of a line is about; nothing where no single word is.
+pub fn said_of_name(
     alloc: Global,
     schema: &Schema,
     line: &[u8],
     number: u8,
 ) -> Result<Vec<u8>, AllocError>
-    ensures { IfOk result (λ out. out.items ≡ said_of_word schema.now number line.now) }
+    ensures { IfOk result (λ out. out.items ≡ said_of_name schema.now number line.now) }
 {
     let text = faulty_text(alloc, schema, line)?;
     let word = told_part(text.as_slice(), number);
