@@ -13,4 +13,6 @@ mod dbtg_run_calls;
 #[cfg(test)]
 mod dbtg_schema_calls;
 #[cfg(test)]
+mod dbtg_trace_calls;
+#[cfg(test)]
 mod dbtg_unit_calls;

@@ -1,0 +1,51 @@
+-- The unit in front of the colon; one byte further on the way to the arrow.
+use Rattle.std.proofs.Common.{◌≡◌, ℕ, suc, ◌+◌, ◌^◌, ◌<◌, ◌≤◌, Bool, true, false, not, ◌&&◌, List, [], ◌∷◌, length, Option, Some, None, refl, sym, ap, ◌∙◌, arith}
+use Rattle.std.specs.Prelude.{◌==◌, IfSome, is_some, min, option_map, if◌then◌else◌}
+use Rattle.std.proofs.lemmas.Bool.Decides.{nat_tests}
+use Rattle.dbtg_trace.specs.Parts.{arrow_at, begins_arrow, is_unit}
+
+pub here : (inside : Bool) (b : ℕ) (bs : List ℕ) → not inside && begins_arrow (b ∷ bs) ≡ true → arrow_at inside (b ∷ bs) ≡ Some 0
+unfolding arrow_at
+here inside b bs h = rw h refl
+
+pub not_here : (inside : Bool) (b : ℕ) (bs : List ℕ) → not inside && begins_arrow (b ∷ bs) ≡ false → arrow_at inside (b ∷ bs) ≡ option_map suc (arrow_at (if b == 34 then not inside else inside) bs)
+unfolding arrow_at
+not_here inside b bs h = rw h refl
+
+pub nowhere : (inside : Bool) → arrow_at inside [] ≡ None
+unfolding arrow_at
+nowhere inside = refl
+
+pub one_further : (at : ℕ) (o : Option ℕ) → option_map (λ n. at + n) (option_map suc o) ≡ option_map (λ n. at + 1 + n) o
+one_further at None = refl
+one_further at (Some n) = let e : at + suc n ≡ at + 1 + n = omega arith in ap (λ (k : ℕ). Some k) e
+
+-- an arrow has two bytes
+pub two_bytes : (bs : List ℕ) → begins_arrow bs ≡ true → 2 ≤ length bs
+two_bytes [] h = absurd cc
+two_bytes (b ∷ []) h = absurd (by (b == 61) h) where
+  by : (k : Bool) → k && false ≡ true → ⊥
+  by true h = cc
+  by false h = cc
+two_bytes (b ∷ c ∷ bs) h = omega arith
+
+-- a number that is capped high up is a unit where the number is
+capped : (units n : ℕ) → units < 256 → is_unit units (min n (10 ^ 18)) ≡ is_unit units n
+capped units n few = grind (arith, nat_tests)
+
+uncapped : (units n : ℕ) → units < 256 → is_unit units n ≡ true → min n (10 ^ 18) ≡ n
+uncapped units n few h = grind (arith, nat_tests)
+
+pub named : (units n : ℕ) (found : Option ℕ) → units < 256 → IfSome found (λ u. u ≡ min n (10 ^ 18)) → is_some found ≡ is_unit units (min n (10 ^ 18)) → found ≡ (if is_unit units n then Some n else None)
+named units n None few u t = let e : is_unit units n ≡ false = sym (capped units n few) ∙ sym t in rw e refl
+named units n (Some x) few u t =
+    let e : is_unit units n ≡ true = sym (capped units n few) ∙ sym t in
+    rw e (ap (λ (k : ℕ). Some k) (u ∙ uncapped units n few e))
+
+-- where no arrow is here, it is looked for behind one byte more
+pub further : (at : ℕ) (inside : Bool) (left : List ℕ) (b : ℕ) (bs : List ℕ) → left ≡ b ∷ bs → not inside && begins_arrow left ≡ false
+    → option_map (λ n. at + 1 + n) (arrow_at (if b == 34 then not inside else inside) bs) ≡ option_map (λ n. at + n) (arrow_at inside left)
+further at inside left b bs is h =
+    let none : not inside && begins_arrow (b ∷ bs) ≡ false = ap (λ (xs : List ℕ). not inside && begins_arrow xs) (sym is) ∙ h in
+    sym (one_further at (arrow_at (if b == 34 then not inside else inside) bs)) ∙ ap (option_map (λ n. at + n)) (sym (not_here inside b bs none))
+    ∙ ap (λ (xs : List ℕ). option_map (λ n. at + n) (arrow_at inside xs)) (sym is)

@@ -1,0 +1,6 @@
+mod Firsts
+mod ArrowSteps
+mod WordSteps
+mod EntrySteps
+mod TraceSteps
+mod Rows

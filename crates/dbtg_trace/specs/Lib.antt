@@ -1,0 +1,6 @@
+pub mod Parts
+pub mod Answers
+pub mod Faults
+pub mod Traces
+pub mod Reading
+pub mod Inside

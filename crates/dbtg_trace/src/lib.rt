@@ -1,0 +1,12 @@
+//! Traces: who asked what, in which order, and what was answered.
+#![tactic(auto)]
+
+mod answer;
+mod fault;
+mod parts;
+mod reader;
+mod traced;
+
+pub use fault::{TraceCause, TraceFault};
+pub use reader::read_trace;
+pub use traced::{Said, Traced};

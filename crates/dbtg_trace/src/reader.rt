@@ -1,0 +1,206 @@
+//! Reading a trace: what each line says, or the first fault.
+
+ghost use Rattle.dbtg_schema.specs.Lookups.{first};
+ghost use Rattle.dbtg_schema.specs.Sound.{IsSound};
+ghost use Rattle.dbtg_script.specs.Lines.{is_statement, trimmed};
+ghost use Rattle.dbtg_script.specs.StatementFaults.{count_after};
+ghost use Rattle.dbtg_script.specs.Statements.{line_statement};
+ghost use Rattle.dbtg_trace.specs.Faults.{refusal, whole_faults};
+ghost use Rattle.dbtg_trace.specs.Inside.Reading.{IsToldAtOnce, Refuses, at_line, entry_verdict, in_entry, line_verdict, part_verdict};
+ghost use Rattle.dbtg_trace.specs.Parts.{is_unit};
+ghost use Rattle.dbtg_trace.specs.Reading.{RefusesTrace, entry_faults_at_once, faults_at_once, line_faults_at_once, part_faults_at_once};
+ghost use Rattle.dbtg_trace.specs.Traces.{entry_of, line_entry, trace};
+ghost use Rattle.dbtg_trace.specs.declared.fault.Fault.{Fault as SeenFault};
+ghost use Rattle.dbtg_unit.specs.Database.Statements.Fits.{fits};
+ghost use Rattle.std.specs.Prelude.{◌≡◌, ◌++◌, IfErr, IfOk, MatchResult, None, OnOk, Some, false, length, true};
+ghost use Rattle.std.specs.List.{list_all};
+
+use crate::answer::answer_in;
+use crate::fault::{EntryFault, TraceCause, TraceFault};
+use crate::parts::{halves, unit_named};
+use crate::traced::Traced;
+use dbtg_schema::Schema;
+use dbtg_script::{
+    Cause, LineFault, Lines, is_allowed, is_printable, is_statement, read_script_line, trimmed,
+};
+use dbtg_unit::Statement;
+use std::alloc::Global;
+
+/// How many statements a trace has at most: as many as eight scripts.
+const STATEMENTS: usize = 524_280;
+
+/// How many bytes a trace has at most.
+const BYTES: usize = 67_108_864;
+
+/// A line without what is dropped at its end, and its number in the text.
+#[derive(Clone, Copy)]
+struct NumberedLine<'a> {
+    number: u64,
+    text: &'a [u8],
+}
+
+/// The fault of a line of a script that is a part of a line.
+fn in_entry(fault: LineFault) -> EntryFault
+    ensures { result ≡ in_entry fault }
+{
+    match fault {
+        LineFault::Refused(cause) => EntryFault::Refused(TraceCause::AsInScript(cause)),
+        LineFault::Memory => EntryFault::Memory,
+    }
+}
+
+/// The statement of what stands between a unit and an arrow: it is a line of a script, and has to hold one.
+#[tactic(auto, using(crate::proofs::EntrySteps::no_statement, crate::proofs::EntrySteps::of_line))]
+fn read_part(alloc: Global, schema: &Schema, part: &[u8]) -> Result<Statement, EntryFault>
+    ensures accepted { OnOk result (part_verdict schema.now part.now ≡ None) }
+    ensures statement { IfOk result (λ s. line_statement schema.now (trimmed part.now) ≡ Some s) }
+    ensures fitting { IsSound schema.now → IfOk result (λ s. fits schema.now s ≡ true) }
+    ensures refused { IfErr result (λ e. Refuses e (part_verdict schema.now part.now)) }
+    ensures at_once { IsToldAtOnce (part_faults_at_once schema.now part.now) result }
+{
+    if !is_statement(trimmed(part)) {
+        return Err(EntryFault::Refused(TraceCause::AsInScript(Cause::NoStatementWord)));
+    }
+    match read_script_line(alloc, schema, 0, part) {
+        Err(fault) => Err(in_entry(fault)),
+        Ok(None) => Err(EntryFault::Refused(TraceCause::AsInScript(Cause::NoStatementWord))),
+        Ok(Some(statement)) => Ok(statement),
+    }
+}
+
+/// What a line that holds a statement says.
+#[tactic(auto, using(crate::proofs::EntrySteps::no_unit, crate::proofs::EntrySteps::no_arrow, crate::proofs::EntrySteps::part_stops, crate::proofs::EntrySteps::no_answer, crate::proofs::EntrySteps::all_said))]
+fn read_entry(
+    alloc: Global,
+    schema: &Schema,
+    units: u8,
+    line: NumberedLine,
+) -> Result<Traced, EntryFault>
+    ensures accepted { OnOk result (entry_verdict schema.now units line.entry.text.now ≡ None) }
+    ensures entry { IfOk result (λ t. entry_of schema.now units line.entry.number line.entry.text.now ≡ Some t) }
+    ensures fitting { IsSound schema.now → IfOk result (λ t. fits schema.now t.statement ≡ true) }
+    ensures unit { IfOk result (λ t. is_unit units t.unit ≡ true) }
+    ensures refused { IfErr result (λ e. Refuses e (entry_verdict schema.now units line.entry.text.now)) }
+    ensures at_once { IsToldAtOnce (entry_faults_at_once schema.now units line.entry.text.now) result }
+{
+    let Some(unit) = unit_named(units, line.text) else {
+        return Err(EntryFault::Refused(TraceCause::NoUnit));
+    };
+    let Some((part, answer)) = halves(line.text) else {
+        return Err(EntryFault::Refused(TraceCause::NoArrow));
+    };
+    let statement = read_part(alloc, schema, part)?;
+    match answer_in(alloc, schema, answer)? {
+        None => Err(EntryFault::Refused(TraceCause::NoAnswer)),
+        Some(said) => Ok(Traced {
+            line: line.number,
+            unit,
+            statement,
+            said,
+        }),
+    }
+}
+
+/// The first fault of a line as a whole, behind `count` statements.
+fn whole_fault(line: &[u8], count: usize) -> Option<TraceCause>
+    ensures { result ≡ first (whole_faults count line.now) }
+{
+    if !is_statement(line) {
+        if is_allowed(line) {
+            return None;
+        }
+        return Some(TraceCause::AsInScript(Cause::LineNotAllowed));
+    }
+    if STATEMENTS <= count {
+        return Some(TraceCause::AsInScript(Cause::TooMuch));
+    }
+    if is_printable(line) {
+        None
+    } else {
+        Some(TraceCause::AsInScript(Cause::LineNotAllowed))
+    }
+}
+
+/// Takes a line: what it says goes behind what the lines before it say.
+#[tactic(auto, using(crate::proofs::TraceSteps::whole_stops, crate::proofs::TraceSteps::note_passes, crate::proofs::TraceSteps::entry_decides, crate::proofs::TraceSteps::nothing_said, crate::proofs::TraceSteps::one_said))]
+fn take_line(
+    alloc: Global,
+    schema: &Schema,
+    units: u8,
+    entries: &mut Vec<Traced>,
+    line: NumberedLine,
+) -> Result<(), EntryFault>
+    ensures accepted { OnOk result (line_verdict schema.now units (length entries.old.items) line.entry.text.now ≡ None) }
+    ensures taken { OnOk result (entries.new.items ≡ entries.old.items ++ line_entry schema.now units line.entry.number line.entry.text.now) }
+    ensures fitting { IsSound schema.now → OnOk result (list_all (λ t. fits schema.now t.statement) (line_entry schema.now units line.entry.number line.entry.text.now) ≡ true) }
+    ensures counted { OnOk result (length entries.new.items ≡ count_after (length entries.old.items) line.entry.text.now) }
+    ensures units { OnOk result (list_all (λ t. is_unit units t.unit) (line_entry schema.now units line.entry.number line.entry.text.now) ≡ true) }
+    ensures refused { IfErr result (λ e. Refuses e (line_verdict schema.now units (length entries.old.items) line.entry.text.now)) }
+    ensures at_once { IsToldAtOnce (line_faults_at_once schema.now units (length entries.old.items) line.entry.text.now) result }
+    ensures note { is_statement line.entry.text.now ≡ false → IfErr result (λ e. e ≡ EntryFault.Memory → ⊥) }
+{
+    if let Some(cause) = whole_fault(line.text, entries.len()) {
+        return Err(EntryFault::Refused(cause));
+    }
+    if !is_statement(line.text) {
+        return Ok(());
+    }
+    match read_entry(alloc, schema, units, line) {
+        Err(fault) => Err(fault),
+        Ok(entry) => {
+            entries.push(entry)?;
+            Ok(())
+        }
+    }
+}
+
+fn at_line(number: u64, fault: EntryFault) -> TraceFault
+    ensures { result ≡ at_line number fault }
+{
+    match fault {
+        EntryFault::Refused(cause) => TraceFault::Refused {
+            line: number,
+            cause,
+        },
+        EntryFault::Memory => TraceFault::Memory,
+    }
+}
+
+/// Reads a trace of a schema and so many units: what it says line by line, in the order of the lines. The text may hold any bytes.
+/// A refused text is refused for its first fault; `Memory` is the answer where a growth was refused before a fault was met. So it is
+/// never the answer to a text that is too long, nor to one with a fault in a line before its first statement, or in the unit, the
+/// arrow or the first word of that statement.
+pub fn read_trace(
+    alloc: Global,
+    schema: &Schema,
+    units: u8,
+    text: &[u8],
+) -> Result<Vec<Traced>, TraceFault>
+    ensures accepted { OnOk result (refusal schema.now units text.now ≡ None) }
+    ensures entries { IfOk result (λ v. v.items ≡ trace schema.now units text.now) }
+    ensures fitting { IsSound schema.now → IfOk result (λ v. list_all (λ t. fits schema.now t.statement) v.items ≡ true) }
+    ensures units { IfOk result (λ v. list_all (λ t. is_unit units t.unit) v.items ≡ true) }
+    ensures refused { IfErr result (λ e. RefusesTrace e (refusal schema.now units text.now)) }
+    ensures at_once { (fault : SeenFault) → first (faults_at_once schema.now units text.now) ≡ Some fault → MatchResult result (λ _. ⊥) (λ e. e ≡ TraceFault.Refused fault.line fault.cause) }
+{
+    if text.len() > BYTES {
+        return Err(TraceFault::Refused {
+            line: 1,
+            cause: TraceCause::AsInScript(Cause::TooMuch),
+        });
+    }
+    let mut entries = Vec::new(alloc);
+    let mut number: u64 = 1;
+    let mut left = Lines { rest: text };
+    while let Some(line) = left.next() {
+        let line = NumberedLine {
+            number,
+            text: trimmed(line),
+        };
+        if let Err(fault) = take_line(alloc, schema, units, &mut entries, line) {
+            return Err(at_line(number, fault));
+        }
+        number += 1;
+    }
+    Ok(entries)
+}
