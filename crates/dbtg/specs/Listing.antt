@@ -117,6 +117,7 @@ IsOver m limit (fault.Schema line cause) = ⊥
 IsOver m limit (fault.Script n line cause) = ⊥
 IsOver m limit (fault.Moves word cause) = ⊥
 IsOver m limit (fault.Turns word cause) = ⊥
+IsOver m limit (fault.Trace line cause) = ⊥
 IsOver m limit (fault.Unreadable path) = ⊥
 IsOver m limit fault.ScriptCount = ⊥
 

@@ -12,9 +12,10 @@ mod threads;
 mod timeline;
 
 use clap::error::ErrorKind;
+use dbtg_audit::{Verdict, audit};
 use dbtg_command::check::check;
 use dbtg_command::draw::draw;
-use dbtg_command::explain::{Topic, explained};
+use dbtg_command::explain::{Topic, explained, status_topic};
 use dbtg_command::reason::reason;
 use dbtg_command::{
     Call, Fault, Files, Named, Order, Paths, call_of, each_fault, read_schema, status_of,
@@ -168,9 +169,7 @@ fn tell_refusals(rt: &HostRuntime, files: &Files<HostRuntime>, call: &Call) {
     let Ok(told) = refusals_of_first(rt.alloc(), files, call.capacity) else {
         return;
     };
-    if let Ok(lines) = String::from_utf8_lossy(rt.alloc(), told.as_slice()) {
-        let _ = eprint!(rt; "{lines}");
-    }
+    tell_text(rt, told.as_slice());
 }
 
 fn print_threads<R: Threads + Wait + Sync>(rt: &HostRuntime, threads: &R, call: &Call) -> ExitCode {
@@ -214,6 +213,63 @@ fn print_turns(rt: &HostRuntime, call: &Call) -> ExitCode {
     print_or_tell(rt, given, &paths, explains(rt, call))
 }
 
+fn print_audit(rt: &HostRuntime, call: &Call) -> ExitCode {
+    match check_count(call.units as usize) {
+        Ok(()) => audit_files(rt, call),
+        Err(fault) => told(rt, &fault),
+    }
+}
+
+fn audit_files(rt: &HostRuntime, call: &Call) -> ExitCode
+    requires { is_count call.now.units ≡ true }
+{
+    let paths = paths_of(call.schema, call.scripts.as_slice(), Order::Serial);
+    let files = Files {
+        reader: rt,
+        paths: &paths,
+    };
+    match audit(
+        rt.alloc(),
+        &files,
+        call.capacity,
+        call.units as u8,
+        call.statuses,
+    ) {
+        Ok(Verdict::Equal(text)) => print_text(rt, text.as_slice()),
+        Ok(Verdict::Differs { told, status }) => {
+            tell_difference(rt, told.as_slice(), status, call.explains)
+        }
+        Err(fault) => told_of(rt, &fault, &paths, call.explains),
+    }
+}
+
+fn tell_text(rt: &HostRuntime, text: &[u8]) {
+    if let Ok(lines) = String::from_utf8_lossy(rt.alloc(), text) {
+        let _ = eprint!(rt; "{lines}");
+    }
+}
+
+// The line of a trace that differs; with `--explain` what its status means.
+fn tell_difference(rt: &HostRuntime, line: &[u8], status: u16, explains: bool) -> ExitCode {
+    let Ok(line) = String::from_utf8_lossy(rt.alloc(), line) else {
+        return told(rt, &Fault::Memory);
+    };
+    let _ = eprint!(rt; "{line}");
+    if explains {
+        tell_status(rt, status);
+    }
+    ExitCode::FAILURE
+}
+
+// What `explain` says of a status.
+fn tell_status(rt: &HostRuntime, status: u16) {
+    if let Some(topic) = status_topic(status) {
+        if let Ok(text) = explained(rt.alloc(), &topic) {
+            tell_text(rt, text.as_slice());
+        }
+    }
+}
+
 fn tell_outcomes(rt: &HostRuntime, call: &Call) -> ExitCode {
     let paths = Paths {
         schema: call.schema,
@@ -247,6 +303,7 @@ fn carry_out<R: Threads + Wait + Sync>(rt: &HostRuntime, threads: &R, call: &Cal
         Named::Turns => print_turns(rt, call),
         Named::Outcomes => tell_outcomes(rt, call),
         Named::Threads => print_threads(rt, threads, call),
+        Named::Audit => print_audit(rt, call),
         Named::Explain => print_topic(rt, &call.topic),
         Named::Shell => run_shell(rt, call),
         _ => print_files(rt, call),

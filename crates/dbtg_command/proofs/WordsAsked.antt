@@ -59,6 +59,20 @@ capacity_is_7 : given (codes "shell" ∷ codes "--capacity=7" ∷ codes "a.schem
 unfolding clap_on_literals
 capacity_is_7 = refl
 
+-- the trace stands behind the schema, and statuses alone are compared where that is asked
+trace_follows : given (codes "audit" ∷ codes "--status" ∷ codes "a.schema" ∷ codes "t" ∷ []) (codes "trace") ≡ Some (codes "t" ∷ [])
+unfolding clap_on_literals
+trace_follows = refl
+
+statuses_are_asked : is_given (codes "audit" ∷ codes "--status" ∷ codes "a.schema" ∷ codes "t" ∷ []) (codes "status") ≡ Some (codes "true")
+unfolding clap_on_literals
+statuses_are_asked = refl
+
+-- where no number of units is given there are 2
+units_are_2 : given (codes "audit" ∷ codes "a.schema" ∷ codes "t" ∷ []) (codes "units") ≡ Some (codes "2" ∷ [])
+unfolding clap_on_literals
+units_are_2 = refl
+
 -- the turns of the command turns stand in front of the schema
 turns_are_first : given (codes "turns" ∷ codes "t" ∷ codes "a.schema" ∷ codes "b" ∷ []) (codes "turns") ≡ Some (codes "t" ∷ [])
 unfolding clap_on_literals

@@ -23,9 +23,9 @@ pub record IsFlag (found : Found) (id : List ℕ) (flag : Bool) : Type 0 where
 abbrev pub words_in : Found → List ℕ → List (List ℕ)
 words_in found id = unwrap_or (option_map raw_values (matched_of found id)) []
 
--- the scripts, and behind them the one that is made first, if there is one
+-- the scripts, or the trace that is given in their place, and behind them the script that is made first, if there is one
 abbrev pub scripts_in : Found → List (List ℕ)
-scripts_in found = words_in found (codes "scripts") ++ option_to_list (first_value found (codes "first"))
+scripts_in found = (words_in found (codes "scripts") ++ option_to_list (first_value found (codes "trace"))) ++ option_to_list (first_value found (codes "first"))
 
 -- the number that a word says, up to a greatest one, and 0 without a word
 abbrev pub count_for : ℕ → Option (List ℕ) → Option ℕ
@@ -54,6 +54,7 @@ pub record IsCall (asked : Named) (found : Found) (call : Call) : Type 0 where
   pub echo : IsFlag found (codes "echo") call.echo
   pub svg : IsFlag found (codes "svg") call.svg
   pub answers : IsFlag found (codes "answers") call.answers
+  pub statuses : IsFlag found (codes "status") call.statuses
   pub first : call.first ≡ is_some (first_value found (codes "first"))
   pub capacity : count_for 1000 (first_value found (codes "capacity")) ≡ Some call.capacity
   pub limit : count_for 1000000000 (first_value found (codes "limit")) ≡ Some call.limit

@@ -1,6 +1,6 @@
 -- The second line of a fault: its place, and what is said of it. `has` says that reading so many bytes of a path gave a text, `lacks`
 -- that it gave none, as the reader of files says it; for this line files are read again, and standard input is not.
-use Rattle.std.specs.Prelude.{ℕ, ◌≡◌, ◌==◌, ◌||◌, not, Bool, false, List, [], ◌++◌, ◌⊎◌, Some, None, codes, decimal, drop, is_some, length, slice_get, string_bytes, take_while, unwrap_or, ◌-◌, if◌then◌else◌}
+use Rattle.std.specs.Prelude.{ℕ, ◌≡◌, ◌==◌, ◌||◌, not, Bool, false, List, [], ◌++◌, ◌⊎◌, Some, None, codes, decimal, drop, is_some, length, slice_get, string_bytes, take_while, unwrap_or, ◌-◌, if◌then◌else◌, Option, nat_lt}
 use Rattle.std.specs.Char.{is_ascii_alphabetic, is_ascii_whitespace}
 use Rattle.std.specs.List.{prefix_len}
 use Rattle.std.specs.Str.{bytes_eq}
@@ -13,10 +13,11 @@ use Rattle.dbtg_script.specs.Moves.{cause_number as moves_cause_number}
 use Rattle.dbtg_script.specs.Printing.Causes.{cause_number as script_cause_number}
 use Rattle.dbtg_script.specs.StatementGrammar.{fits, statement}
 use Rattle.dbtg_script.specs.Tokens.{plain}
+use Rattle.dbtg_trace.specs.Faults.{cause_number as trace_cause_number}
 use Rattle.dbtg_command.specs.declared.explain.Kind.{Kind}
 use Rattle.dbtg_command.specs.declared.explain.Kind.TheVariants as kind
 use Rattle.dbtg_command.specs.declared.fault.Fault.{Fault}
-use Rattle.dbtg_command.specs.declared.fault.Fault.TheVariants.{Schema, Script, Moves, Turns, MovesOver, StatesOver, Unreadable, ScriptCount, Memory}
+use Rattle.dbtg_command.specs.declared.fault.Fault.TheVariants.{Schema, Script, Moves, Turns, Trace, MovesOver, StatesOver, Unreadable, ScriptCount, Memory}
 use Rattle.dbtg_command.specs.declared.order.Order.{Order}
 use Rattle.dbtg_command.specs.declared.order.Order.TheVariants as by
 use Rattle.dbtg_command.specs.Explaining.{fault_field}
@@ -74,6 +75,7 @@ other_kind kind.Schema text = if begins_statement (first_letters text) then code
 other_kind kind.Script text = if bytes_eq (first_letters text) (codes "SCHEMA") then codes "; this is a schema, and a script is wanted" else []
 other_kind kind.Moves text = []
 other_kind kind.Turns text = []
+other_kind kind.Trace text = []
 
 -- this is said of the whole text of the file with this path
 abbrev pub SaysOfFile : (List ℕ → ℕ → List ℕ → Type 0) → (List ℕ → ℕ → Type 0) → Kind → List ℕ → List ℕ → Type 0
@@ -88,6 +90,14 @@ IsToldIn which Says Other path line number out =
 -- this is told of a fault at a word of moves or turns
 abbrev pub IsToldOfOrder : Kind → List ℕ → ℕ → ℕ → List ℕ → Type 0
 IsToldOfOrder which path word number out = out ≡ told_at (place_of path (codes ": word ") word) [] (fault_field which number 1) []
+
+-- the kind of text that has a fault of this number: a trace has those of scripts too
+abbrev pub kind_with : ℕ → Kind
+kind_with number = if nat_lt number 31 then kind.Script else kind.Trace
+
+-- this is told of a fault in a line of a trace
+abbrev pub IsToldOfTrace : List ℕ → ℕ → ℕ → List ℕ → Type 0
+IsToldOfTrace path line number out = out ≡ told_at (place_of path (codes ":") line) [] (fault_field (kind_with number) number 1) []
 
 -- a file that could not be read is told with its path, and why
 abbrev pub IsUnreadLine : List ℕ → List ℕ → Type 0
@@ -115,6 +125,7 @@ IsReason has lacks schema scripts order (Script n line cause) out =
 IsReason has lacks schema scripts order (Moves word cause) out = IsToldOfOrder kind.Moves (order_path order) word (moves_cause_number cause) out
 IsReason has lacks schema scripts order (Turns word cause) out = IsToldOfOrder kind.Turns (order_path order) word (moves_cause_number cause) out
 IsReason has lacks schema scripts order (Unreadable path) out = IsUnreadLine (string_bytes path) out
+IsReason has lacks schema scripts order (Trace line cause) out = IsToldOfTrace (script_path scripts 1) line (trace_cause_number cause) out
 IsReason has lacks schema scripts order MovesOver out = ⊥
 IsReason has lacks schema scripts order (StatesOver limit) out = ⊥
 IsReason has lacks schema scripts order ScriptCount out = ⊥
@@ -127,6 +138,7 @@ HasNoReason (Script n line cause) = ⊥
 HasNoReason (Moves word cause) = ⊥
 HasNoReason (Turns word cause) = ⊥
 HasNoReason (Unreadable path) = ⊥
+HasNoReason (Trace line cause) = ⊥
 HasNoReason MovesOver = Unit {0}
 HasNoReason (StatesOver limit) = Unit {0}
 HasNoReason ScriptCount = Unit {0}

@@ -17,8 +17,9 @@ use Rattle.dbtg_script.specs.StatementFaults.{refusal as script_refusal}
 use Rattle.dbtg_script.specs.Turns.{turns_of, turns_refusal}
 use Rattle.dbtg_script.specs.declared.fault.Fault.{Fault as ScriptRefusal}
 use Rattle.dbtg_script.specs.declared.moves.MovesCause.{MovesCause}
+use Rattle.dbtg_trace.specs.declared.fault.Fault.{Fault as TraceRefusal}
 use Rattle.dbtg_command.specs.declared.fault.Fault.{Fault}
-use Rattle.dbtg_command.specs.declared.fault.Fault.TheVariants.{Schema, Script, Moves, Turns, MovesOver, StatesOver, Unreadable, ScriptCount, Memory}
+use Rattle.dbtg_command.specs.declared.fault.Fault.TheVariants.{Schema, Script, Moves, Turns, Trace, MovesOver, StatesOver, Unreadable, ScriptCount, Memory}
 use Rattle.dbtg_command.specs.declared.order.Order.{Order}
 use Rattle.dbtg_command.specs.declared.order.Order.TheVariants as by
 
@@ -41,6 +42,7 @@ RefusesSchema (Schema line cause) refusal = refusal ≡ Some (record { line = li
 RefusesSchema (Script n line cause) refusal = ⊥
 RefusesSchema (Moves word cause) refusal = ⊥
 RefusesSchema (Turns word cause) refusal = ⊥
+RefusesSchema (Trace line cause) refusal = ⊥
 RefusesSchema MovesOver refusal = ⊥
 RefusesSchema (StatesOver limit) refusal = ⊥
 RefusesSchema (Unreadable path) refusal = ⊥
@@ -53,6 +55,7 @@ RefusesScript (Script m line cause) n refusal = (m ≡ n) × (refusal ≡ Some (
 RefusesScript (Schema line cause) n refusal = ⊥
 RefusesScript (Moves word cause) n refusal = ⊥
 RefusesScript (Turns word cause) n refusal = ⊥
+RefusesScript (Trace line cause) n refusal = ⊥
 RefusesScript MovesOver n refusal = ⊥
 RefusesScript (StatesOver limit) n refusal = ⊥
 RefusesScript (Unreadable path) n refusal = ⊥
@@ -65,6 +68,7 @@ RefusesMoves (Moves word cause) refusal = refusal ≡ Some (word, cause)
 RefusesMoves (Schema line cause) refusal = ⊥
 RefusesMoves (Script n line cause) refusal = ⊥
 RefusesMoves (Turns word cause) refusal = ⊥
+RefusesMoves (Trace line cause) refusal = ⊥
 RefusesMoves MovesOver refusal = ⊥
 RefusesMoves (StatesOver limit) refusal = ⊥
 RefusesMoves (Unreadable path) refusal = ⊥
@@ -77,6 +81,7 @@ RefusesTurns (Turns word cause) refusal = refusal ≡ Some (word, cause)
 RefusesTurns (Schema line cause) refusal = ⊥
 RefusesTurns (Script n line cause) refusal = ⊥
 RefusesTurns (Moves word cause) refusal = ⊥
+RefusesTurns (Trace line cause) refusal = ⊥
 RefusesTurns MovesOver refusal = ⊥
 RefusesTurns (StatesOver limit) refusal = ⊥
 RefusesTurns (Unreadable path) refusal = ⊥
@@ -113,6 +118,19 @@ RefusesMovesText fault text = RefusesMoves fault (moves_refusal text) × (fault 
 -- of these turns
 abbrev pub RefusesTurnsText : Fault → List ℕ → Type 0
 RefusesTurnsText fault text = RefusesTurns fault (turns_refusal text) × (fault ≡ Memory → TurnsMayTakeMemory text)
+
+-- the fault is this refusal of a trace, unless memory ran out
+abbrev pub RefusesTrace : Fault → Option TraceRefusal → Type 0
+RefusesTrace Memory refusal = Unit {0}
+RefusesTrace (Trace line cause) refusal = refusal ≡ Some (record { line = line; cause = cause })
+RefusesTrace (Schema line cause) refusal = ⊥
+RefusesTrace (Script n line cause) refusal = ⊥
+RefusesTrace (Moves word cause) refusal = ⊥
+RefusesTrace (Turns word cause) refusal = ⊥
+RefusesTrace MovesOver refusal = ⊥
+RefusesTrace (StatesOver limit) refusal = ⊥
+RefusesTrace (Unreadable path) refusal = ⊥
+RefusesTrace ScriptCount refusal = ⊥
 
 -- the fault is that of the first script that has one, from number n on, unless memory ran out
 abbrev pub RefusesScripts : Fault → Lists → ℕ → List (List ℕ) → Type 0

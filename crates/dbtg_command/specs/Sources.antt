@@ -7,6 +7,9 @@ use Rattle.dbtg_schema.specs.Texts.SchemaFaults.{refusal as schema_refusal}
 use Rattle.dbtg_script.specs.Moves.{refusal as moves_refusal}
 use Rattle.dbtg_script.specs.Turns.{turns_refusal}
 use Rattle.dbtg_unit.specs.declared.moves.Move.{Move}
+use Rattle.dbtg_trace.specs.Faults.{refusal as trace_refusal}
+use Rattle.dbtg_trace.specs.Traces.{trace}
+use Rattle.dbtg_trace.specs.declared.traced.Traced.{Traced}
 use Rattle.dbtg_command.specs.declared.fault.Fault.{Fault}
 use Rattle.dbtg_command.specs.declared.fault.Fault.TheVariants.{ScriptCount, Memory}
 use Rattle.dbtg_command.specs.declared.order.Order.{Order}
@@ -14,8 +17,8 @@ use Rattle.dbtg_command.specs.declared.order.Order.TheVariants as by
 use Rattle.dbtg_command.specs.declared.order.OrderKind.{OrderKind}
 use Rattle.dbtg_command.specs.declared.order.OrderKind.TheVariants as kind
 use Rattle.dbtg_command.specs.declared.place.TextPlace.{TextPlace}
-use Rattle.dbtg_command.specs.declared.place.TextPlace.TheVariants.{Schema, Script, Moves, Turns}
-use Rattle.dbtg_command.specs.Refusals.{schema_in, moves_in, turns_in, is_count, AllAccepted, RefusesMovesText, RefusesSchemaText, RefusesScriptText, RefusesTurnsText}
+use Rattle.dbtg_command.specs.declared.place.TextPlace.TheVariants.{Schema, Script, Moves, Turns, Trace}
+use Rattle.dbtg_command.specs.Refusals.{schema_in, moves_in, turns_in, is_count, AllAccepted, RefusesMovesText, RefusesSchemaText, RefusesScriptText, RefusesTrace, RefusesTurnsText}
 
 -- what says the order, by its kind
 abbrev pub kind_of : {A : Type 0} → Order A → OrderKind
@@ -35,6 +38,7 @@ HasPlace count which Schema = Unit {0}
 HasPlace count which (Script n) = (1 ≤ n) × (n ≤ count)
 HasPlace count which Moves = which ≡ kind.Moves
 HasPlace count which Turns = which ≡ kind.Turns
+HasPlace count which Trace = Unit {0}
 
 -- each text is held in the place of its script, from number n on
 abbrev pub HoldsScripts : (TextPlace → List ℕ → Type 0) → ℕ → List (List ℕ) → Type 0
@@ -86,9 +90,20 @@ pub record ReadTurns (holds : TextPlace → List ℕ → Type 0) (turns : List �
   pub accepted : turns_refusal text ≡ None
   pub says : turns ≡ turns_in text
 
+-- a text of a trace that is held and accepted by so many units of a schema, and says this
+pub record ReadTrace (holds : TextPlace → List ℕ → Type 0) (lists : Lists) (units : ℕ) (traced : List Traced) : Type 0 where
+  pub text : List ℕ
+  pub held : holds Trace text
+  pub accepted : trace_refusal lists units text ≡ None
+  pub says : traced ≡ trace lists units text
+
 -- the fault is told in this place: the text cannot be given, or it is held and refused
 abbrev pub ToldIn : (TextPlace → List ℕ → Type 0) → (TextPlace → Fault → Type 0) → Fault → TextPlace → (List ℕ → Type 0) → Type 0
 ToldIn holds fails fault place Refuses = fails place fault ⊎ ((text : List ℕ) × holds place text × Refuses text)
+
+-- the fault is told of the trace
+abbrev pub ToldOfTrace : (TextPlace → List ℕ → Type 0) → (TextPlace → Fault → Type 0) → Fault → Lists → ℕ → Type 0
+ToldOfTrace holds fails fault lists units = ToldIn holds fails fault Trace (λ text. RefusesTrace fault (trace_refusal lists units text))
 
 -- the fault is told of the schema
 abbrev pub ToldOfSchema : (TextPlace → List ℕ → Type 0) → (TextPlace → Fault → Type 0) → Fault → Type 0

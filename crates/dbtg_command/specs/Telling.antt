@@ -8,8 +8,10 @@ use Rattle.dbtg_script.specs.declared.moves.MovesFault.{MovesFault}
 use Rattle.dbtg_script.specs.declared.moves.MovesFault.TheVariants as moves
 use Rattle.dbtg_script.specs.declared.turns.TurnsFault.{TurnsFault}
 use Rattle.dbtg_script.specs.declared.turns.TurnsFault.TheVariants as turns
+use Rattle.dbtg_trace.specs.declared.fault.TraceFault.{TraceFault}
+use Rattle.dbtg_trace.specs.declared.fault.TraceFault.TheVariants as trace
 use Rattle.dbtg_command.specs.declared.fault.Fault.{Fault}
-use Rattle.dbtg_command.specs.declared.fault.Fault.TheVariants.{Schema, Script, Moves, Turns, Memory}
+use Rattle.dbtg_command.specs.declared.fault.Fault.TheVariants.{Schema, Script, Moves, Turns, Trace, Memory}
 
 -- of a schema: the line, and the cause
 abbrev pub schema_fault : SchemaFault → Fault
@@ -30,3 +32,8 @@ moves_fault moves.Memory = Memory
 abbrev pub turns_fault : TurnsFault → Fault
 turns_fault (turns.Refused word cause) = Turns word cause
 turns_fault turns.Memory = Memory
+
+-- of a trace: the line, and the cause
+abbrev pub trace_fault : TraceFault → Fault
+trace_fault (trace.Refused line cause) = Trace line cause
+trace_fault trace.Memory = Memory

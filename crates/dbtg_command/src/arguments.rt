@@ -1,6 +1,6 @@
 //! What a command can be given: options, files and other words, as `clap` is told of each.
 ghost use Rattle.std.specs.Prelude.{IfOk};
-ghost use Rattle.dbtg_command.specs.Commands.{all, answers, capacity, echo, explain, file_option, file_word, first, flag, limit, moves, no_explain, number_option, save_turns, topic, turns_file, turns_option, units, words};
+ghost use Rattle.dbtg_command.specs.Commands.{all, answers, capacity, echo, explain, file_option, file_word, first, flag, limit, moves, no_explain, number_option, save_turns, topic, turns_file, turns_option, units, words, status, trace};
 ghost use Rattle.dbtg_command.specs.Inside.Commands.{IsArg, rule_for};
 
 use clap::{Arg, ArgAction};
@@ -21,8 +21,10 @@ pub enum Word<'a> {
     SaveTurns,
     Schema(&'a str),
     Scripts(&'a str),
+    Status,
     Svg(&'a str),
     Topic,
+    Trace,
     TurnsOption,
     TurnsFile,
     Units,
@@ -173,6 +175,13 @@ fn save_turns_option<'a>(alloc: Global) -> Arg<'a>
     )
 }
 
+fn status_option<'a>(alloc: Global) -> Arg<'a>
+    ensures { IsArg status result }
+{
+    let help = "Compares statuses alone [default: keys and items too, where they are said]";
+    flag(alloc, "status", help)
+}
+
 fn topic_words<'a>(alloc: Global) -> Arg<'a>
     ensures { IsArg topic result }
 {
@@ -182,6 +191,13 @@ fn topic_words<'a>(alloc: Global) -> Arg<'a>
         "TOPIC",
         "A status of four digits, or a fault by its number, as script 7 [default: a list of all]",
     )
+}
+
+fn trace_word<'a>(alloc: Global) -> Arg<'a>
+    ensures { IsArg trace result }
+{
+    let help = "The file of the trace; - for standard input";
+    file_word(alloc, "trace", "TRACE", help)
 }
 
 fn turns_option<'a>(alloc: Global) -> Result<Arg<'a>, AllocError>
@@ -225,8 +241,10 @@ pub fn arg_of<'a>(alloc: Global, word: Word<'a>) -> Result<Arg<'a>, AllocError>
         Word::SaveTurns => Ok(save_turns_option(alloc)),
         Word::Schema(help) => Ok(file_word(alloc, "schema", "SCHEMA", help)),
         Word::Scripts(help) => Ok(words(alloc, "scripts", "SCRIPT", help)),
+        Word::Status => Ok(status_option(alloc)),
         Word::Svg(help) => Ok(flag(alloc, "svg", help)),
         Word::Topic => Ok(topic_words(alloc)),
+        Word::Trace => Ok(trace_word(alloc)),
         Word::TurnsOption => turns_option(alloc),
         Word::TurnsFile => Ok(turns_word(alloc)),
         Word::Units => Ok(units_option(alloc)),

@@ -1,5 +1,5 @@
 //! Texts whose bytes are at hand.
-ghost use Rattle.std.specs.Prelude.{◌≡◌, length};
+ghost use Rattle.std.specs.Prelude.{◌≡◌, [], length, slice_get, unwrap_or};
 ghost use Rattle.dbtg_command.specs.Sources.{HasPlace, kind_of, order_map};
 ghost use Rattle.dbtg_command.specs.Inside.Sources.{StandsIn};
 ghost use Rattle.dbtg_command.specs.declared.fault.Fault.TheVariants.{Memory};
@@ -11,7 +11,7 @@ use crate::source::Source;
 use dbtg_schema::Row;
 use std::alloc::Global;
 
-/// A schema, scripts, and moves or turns where there are any.
+/// A schema, scripts, and moves or turns where there are any. A trace is given as the first of the scripts.
 #[derive(Drop)]
 pub struct AtHand<'a> {
     pub schema: &'a [u8],
@@ -20,6 +20,15 @@ pub struct AtHand<'a> {
 }
 
 impl<'a> AtHand<'a> {
+    fn trace(&self) -> &'a [u8]
+        ensures { result.now ≡ unwrap_or (slice_get self.now.scripts.now 0) [] }
+    {
+        match self.scripts.first() {
+            Some(text) => text.as_slice(),
+            None => b"",
+        }
+    }
+
     fn text(&self, place: TextPlace) -> &'a [u8]
         requires { HasPlace (length self.now.scripts.now) (kind_of self.now.order) place }
         ensures { StandsIn self.now.schema.now self.now.scripts.now (order_map (λ t. t.now) self.now.order) place result.now }
@@ -27,6 +36,7 @@ impl<'a> AtHand<'a> {
         match (place, self.order) {
             (TextPlace::Schema, _) => self.schema,
             (TextPlace::Script(number), _) => self.scripts[number - 1].as_slice(),
+            (TextPlace::Trace, _) => self.trace(),
             (TextPlace::Moves, Order::Moves(text)) => text,
             (TextPlace::Turns, Order::Turns(text)) => text,
             _ => unreachable!(),

@@ -1,5 +1,5 @@
 //! What the words of the command ask for, of what `clap` finds in them.
-ghost use Rattle.std.specs.Prelude.{◌≡◌, ◌≤◌, IfOk, IfSome, codes, map, string_bytes};
+ghost use Rattle.std.specs.Prelude.{◌≡◌, ◌++◌, ◌≤◌, IfOk, IfSome, OnOk, codes, map, option_map, option_to_list, string_bytes};
 ghost use Rattle.clap.specs.Matches.{first_value, found_of};
 ghost use Rattle.dbtg_command.specs.Calling.{IsCall, IsCallOf, count_for, order_in, scripts_in, words_in};
 ghost use Rattle.dbtg_command.specs.Capacity.{count_in};
@@ -34,6 +34,8 @@ pub struct Call<'a> {
     pub svg: bool,
     /// Results are also told apart by the answers that units get.
     pub answers: bool,
+    /// Statuses alone are compared.
+    pub statuses: bool,
     /// The last script is made before all others.
     pub first: bool,
     pub capacity: u16,
@@ -57,14 +59,23 @@ fn words_of<'a>(alloc: Global, given: &ArgMatches<'a>, id: &str) -> Result<Vec<&
     }
 }
 
-// The scripts, and behind them the one that is made first.
+// Puts a path behind others, if there is one.
+fn push_path<'a>(paths: &mut Vec<&'a str>, path: Option<&'a str>) -> Result<(), AllocError>
+    ensures { OnOk result (map (λ path. path.now) paths.new.items ≡ map (λ path. path.now) paths.old.items ++ option_to_list (option_map (λ path. path.now) path.entry)) }
+{
+    match path {
+        Some(path) => Ok(paths.push(path)?),
+        None => Ok(()),
+    }
+}
+
+// The scripts or the trace, and behind them the script that is made first.
 fn scripts_wanted<'a>(alloc: Global, given: &ArgMatches<'a>) -> Result<Vec<&'a str>, AllocError>
     ensures { IfOk result (λ scripts. map (λ path. path.now) scripts.items ≡ scripts_in (found_of given.now)) }
 {
     let mut scripts = words_of(alloc, given, "scripts")?;
-    if let Some(path) = given.get_str("first") {
-        scripts.push(path)?;
-    }
+    push_path(&mut scripts, given.get_str("trace"))?;
+    push_path(&mut scripts, given.get_str("first"))?;
     Ok(scripts)
 }
 
@@ -129,7 +140,7 @@ fn topic_wanted(alloc: Global, given: &ArgMatches) -> Result<Topic, Error>
             alloc,
             Named::Explain,
             ErrorKind::InvalidValue,
-            "no status and no fault is called so: a status of four digits is wanted, or schema, script, moves or turns and the number of a fault; 'dbtg explain' lists all",
+            "no status and no fault is called so: a status of four digits is wanted, or schema, script, moves, turns or trace and the number of a fault; 'dbtg explain' lists all",
         )?),
     }
 }
@@ -150,6 +161,7 @@ fn given_call<'a>(alloc: Global, named: Named, given: &ArgMatches<'a>) -> Result
         echo: given.get_flag("echo"),
         svg: given.get_flag("svg"),
         answers: given.get_flag("answers"),
+        statuses: given.get_flag("status"),
         first: given.get_str("first").is_some(),
         capacity: capacity as u16,
         limit,

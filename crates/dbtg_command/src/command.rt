@@ -87,10 +87,10 @@ fn explain_command<'a>(alloc: Global, name: &'a str) -> Result<Command<'a>, Allo
         alloc,
         name,
         "Tells what a status or a fault means, when it comes and what to do next",
-        "Examples: dbtg explain 0505, dbtg explain schema 7\nFaults have numbers: schema 1 to 18, script 1 to 14, moves 1 to 2, turns 1 to 2",
+        "Examples: dbtg explain 0505, dbtg explain schema 7\nFaults have numbers: schema 1 to 18, script 1 to 14, moves 1 to 2, turns 1 to 2, trace 31 to 33",
         &[Word::Topic],
     )?
-    .override_usage("dbtg explain [CODE | schema N | script N | moves N | turns N]"))
+    .override_usage("dbtg explain [CODE | schema N | script N | moves N | turns N | trace N]"))
 }
 
 // The command `replay`, by the name that its usage shows.
@@ -225,6 +225,26 @@ fn threads_command<'a>(alloc: Global, name: &'a str) -> Result<Command<'a>, Allo
     )
 }
 
+// The command `audit`, by the name that its usage shows.
+fn audit_command<'a>(alloc: Global, name: &'a str) -> Result<Command<'a>, AllocError>
+    ensures { IfOk result (IsApp (alone name.entry.now (rules_for Named.Audit))) }
+{
+    described(
+        alloc,
+        name,
+        "Tells whether the answers of a trace are those of this database, and what it leads to",
+        "Example: dbtg audit --units 2 shop.schema shop.trace",
+        &[
+            Word::Capacity,
+            Word::Units,
+            Word::Status,
+            Word::Explain,
+            Word::Schema(SCHEMA),
+            Word::Trace,
+        ],
+    )
+}
+
 // The command `shell`, by the name that its usage shows.
 fn shell_command<'a>(alloc: Global, name: &'a str) -> Result<Command<'a>, AllocError>
     ensures { IfOk result (IsApp (alone name.entry.now (rules_for Named.Shell))) }
@@ -249,12 +269,13 @@ pub enum Named {
     Page,
     Outcomes,
     Threads,
+    Audit,
     Draw,
     Explain,
     Shell,
 }
 
-pub const ALL: [Named; 10] = [
+pub const ALL: [Named; 11] = [
     Named::Check,
     Named::Replay,
     Named::Turns,
@@ -262,6 +283,7 @@ pub const ALL: [Named; 10] = [
     Named::Page,
     Named::Outcomes,
     Named::Threads,
+    Named::Audit,
     Named::Draw,
     Named::Explain,
     Named::Shell,
@@ -279,6 +301,7 @@ pub fn name_of<'a>(named: Named) -> &'a str
         Named::Page => "page",
         Named::Outcomes => "outcomes",
         Named::Threads => "threads",
+        Named::Audit => "audit",
         Named::Draw => "draw",
         Named::Explain => "explain",
         Named::Shell => "shell",
@@ -295,6 +318,7 @@ fn shown_name<'a>(named: Named) -> &'a str {
         Named::Page => "dbtg page",
         Named::Outcomes => "dbtg outcomes",
         Named::Threads => "dbtg threads",
+        Named::Audit => "dbtg audit",
         Named::Draw => "dbtg draw",
         Named::Explain => "dbtg explain",
         Named::Shell => "dbtg shell",
@@ -312,6 +336,7 @@ fn command_of<'a>(alloc: Global, named: Named, name: &'a str) -> Result<Command<
         Named::Page => page_command(alloc, name),
         Named::Outcomes => outcomes_command(alloc, name),
         Named::Threads => threads_command(alloc, name),
+        Named::Audit => audit_command(alloc, name),
         Named::Draw => draw_command(alloc, name),
         Named::Explain => explain_command(alloc, name),
         Named::Shell => shell_command(alloc, name),

@@ -1,4 +1,4 @@
-//! `explain`: what a status means, or a fault of a schema, a script, moves or turns.
+//! `explain`: what a status means, or a fault of a schema, a script, moves, turns or a trace.
 ghost use Rattle.std.specs.Prelude.{◌≡◌, ◌++◌, IfOk, OnOk, map, option_map};
 ghost use Rattle.std.specs.List.{flat_map};
 ghost use Rattle.dbtg_script.specs.Lines.{lines};
@@ -35,7 +35,7 @@ mod word;
 
 pub use causes::CAUSES;
 use dbtg_script::{is_number, number};
-use faults::{MOVES_FAULTS, SCHEMA_FAULTS, SCRIPT_FAULTS, TURNS_FAULTS};
+use faults::{MOVES_FAULTS, SCHEMA_FAULTS, SCRIPT_FAULTS, TRACE_FAULTS, TURNS_FAULTS};
 pub use laid::line_at;
 pub use misfit::{said_of_schema_word, said_of_word};
 use row::{next_row, push_form};
@@ -50,6 +50,7 @@ pub enum Kind {
     Script,
     Moves,
     Turns,
+    Trace,
 }
 
 /// What is to be explained. Its rows are those of the code that was asked for.
@@ -103,6 +104,7 @@ fn faults_of(kind: Kind) -> &'static str
         Kind::Script => SCRIPT_FAULTS,
         Kind::Moves => MOVES_FAULTS,
         Kind::Turns => TURNS_FAULTS,
+        Kind::Trace => TRACE_FAULTS,
     }
 }
 
@@ -125,6 +127,8 @@ fn kind_of(word: &str) -> Option<Kind>
         Some(Kind::Moves)
     } else if word == "turns" {
         Some(Kind::Turns)
+    } else if word == "trace" {
+        Some(Kind::Trace)
     } else {
         None
     }
@@ -174,6 +178,7 @@ fn kind_row(kind: Kind) -> &'static [u8]
         Kind::Script => "script|scripts.md, Faults",
         Kind::Moves => "moves|events.md, Moves",
         Kind::Turns => "turns|events.md, Turns",
+        Kind::Trace => "trace|traces.md, Faults",
     };
     row.as_bytes()
 }
@@ -301,6 +306,7 @@ fn all_text(alloc: Global) -> Result<Vec<u8>, AllocError>
     push_faults(&mut out, Kind::Script)?;
     push_faults(&mut out, Kind::Moves)?;
     push_faults(&mut out, Kind::Turns)?;
+    push_faults(&mut out, Kind::Trace)?;
     Ok(out)
 }
 

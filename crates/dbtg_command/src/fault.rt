@@ -2,10 +2,11 @@
 ghost use Rattle.std.specs.Prelude.{◌≡◌};
 ghost use Rattle.dbtg_command.specs.declared.fault.Fault.TheVariants.{Memory};
 ghost use Rattle.dbtg_command.specs.Refusals.{status_of};
-ghost use Rattle.dbtg_command.specs.Telling.{moves_fault, schema_fault, script_fault, turns_fault};
+ghost use Rattle.dbtg_command.specs.Telling.{moves_fault, schema_fault, script_fault, trace_fault, turns_fault};
 
 use dbtg_schema::{Cause as SchemaCause, SchemaFault};
 use dbtg_script::{Cause as ScriptCause, MovesCause, MovesFault, ScriptFault, TurnsFault};
+use dbtg_trace::{TraceCause, TraceFault};
 use std::alloc::{AllocError, AllocFailed};
 use thiserror::Error;
 
@@ -36,6 +37,12 @@ pub enum Fault {
     Turns {
         word: u64,
         cause: MovesCause,
+    },
+    /// The trace has a fault; this is its first.
+    #[error("trace fault {} line {line}", .cause.number())]
+    Trace {
+        line: u64,
+        cause: TraceCause,
     },
     /// The moves that the turns stand for are more than a text of moves may have.
     #[error("moves over 1000000")]
@@ -118,6 +125,16 @@ impl Fault {
         match fault {
             TurnsFault::Refused { word, cause } => Fault::Turns { word, cause },
             TurnsFault::Memory => Fault::Memory,
+        }
+    }
+
+    /// The fault of a trace.
+    pub fn of_trace(fault: TraceFault) -> Fault
+        ensures { result ≡ trace_fault fault }
+    {
+        match fault {
+            TraceFault::Refused { line, cause } => Fault::Trace { line, cause },
+            TraceFault::Memory => Fault::Memory,
         }
     }
 }

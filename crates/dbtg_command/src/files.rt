@@ -1,6 +1,6 @@
 //! Files as the source of the texts. No contract can say what a file has: that is what the reader of files says, and all that is
 //! proved here holds for each reader.
-ghost use Rattle.std.specs.Prelude.{◌≡◌, ℕ, List, IfErr, IfOk, length, map};
+ghost use Rattle.std.specs.Prelude.{◌≡◌, ℕ, List, [], IfErr, IfOk, length, map, slice_get, unwrap_or};
 ghost use Rattle.dbtg_command.specs.Inside.Files.{FileFails, FileHolds, IsUnread, most_of};
 ghost use Rattle.dbtg_command.specs.Sources.{HasPlace, kind_of, order_map};
 ghost use Rattle.dbtg_command.specs.Inside.Sources.{StandsIn};
@@ -17,6 +17,8 @@ use std::io::{self, Input, Read};
 const SCHEMA_BYTES: u64 = 65_537;
 
 pub const SCRIPT_BYTES: u64 = 1_048_577;
+
+const TRACE_BYTES: u64 = 67_108_865;
 // Moves and turns may be of any length.
 const MOVES_BYTES: u64 = u64::MAX;
 
@@ -72,6 +74,15 @@ pub struct Paths<'a> {
 }
 
 impl<'a> Paths<'a> {
+    fn trace(&self) -> &'a str
+        ensures { result.now ≡ unwrap_or (slice_get (map (λ path. path.now) self.now.scripts.now) 0) [] }
+    {
+        match self.scripts.first() {
+            Some(path) => *path,
+            None => "",
+        }
+    }
+
     fn path(&self, place: TextPlace) -> &'a str
         requires { HasPlace (length self.now.scripts.now) (kind_of self.now.order) place }
         ensures { StandsIn self.now.schema.now (map (λ path. path.now) self.now.scripts.now) (order_map (λ path. path.now) self.now.order) place result.now }
@@ -79,6 +90,7 @@ impl<'a> Paths<'a> {
         match (place, self.order) {
             (TextPlace::Schema, _) => self.schema,
             (TextPlace::Script(number), _) => self.scripts[number - 1],
+            (TextPlace::Trace, _) => self.trace(),
             (TextPlace::Moves, Order::Moves(path)) => path,
             (TextPlace::Turns, Order::Turns(path)) => path,
             _ => unreachable!(),
@@ -100,6 +112,7 @@ fn most_of(place: TextPlace) -> u64
         TextPlace::Schema => SCHEMA_BYTES,
         TextPlace::Script(_) => SCRIPT_BYTES,
         TextPlace::Moves | TextPlace::Turns => MOVES_BYTES,
+        TextPlace::Trace => TRACE_BYTES,
     }
 }
 

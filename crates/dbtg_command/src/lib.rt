@@ -33,4 +33,4 @@ pub use order::{Order, OrderKind};
 pub use place::TextPlace;
 pub use reading::take_script;
 pub use source::Source;
-pub use texts::{read_moves, read_schema, read_turns};
+pub use texts::{read_moves, read_schema, read_trace, read_turns};

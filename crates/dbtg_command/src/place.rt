@@ -7,4 +7,6 @@ pub enum TextPlace {
     Script(usize),
     Moves,
     Turns,
+    /// A trace is given in the place of the scripts.
+    Trace,
 }

@@ -8,11 +8,15 @@ ghost use Rattle.dbtg_script.specs.StatementFaults.{refusal as script_refusal};
 ghost use Rattle.dbtg_script.specs.Statements.{script};
 ghost use Rattle.dbtg_script.specs.Turns.{turns_refusal};
 ghost use Rattle.dbtg_unit.specs.Database.Statements.Fits.{fits};
-ghost use Rattle.dbtg_command.specs.Refusals.{RefusesMovesText, RefusesSchemaText, RefusesScriptText, RefusesTurnsText, moves_in, schema_in, turns_in};
+ghost use Rattle.dbtg_trace.specs.Faults.{refusal as trace_refusal};
+ghost use Rattle.dbtg_trace.specs.Parts.{is_unit};
+ghost use Rattle.dbtg_trace.specs.Traces.{trace};
+ghost use Rattle.dbtg_command.specs.Refusals.{RefusesMovesText, RefusesSchemaText, RefusesScriptText, RefusesTrace, RefusesTurnsText, moves_in, schema_in, turns_in};
 
 use crate::fault::Fault;
 use dbtg_schema::{Row, Schema};
 use dbtg_script::{read_moves, read_script, read_turns};
+use dbtg_trace::{Traced, read_trace};
 use dbtg_unit::{Move, Statement};
 use std::alloc::Global;
 
@@ -86,5 +90,24 @@ pub fn turns_of(alloc: Global, text: &[u8]) -> Result<Row<u8>, Fault>
     match read_turns(alloc, text) {
         Ok(turns) => Ok(turns),
         Err(fault) => Err(Fault::of_turns(fault)),
+    }
+}
+
+/// What a trace says, with so many units.
+pub fn traced_of(
+    alloc: Global,
+    schema: &Schema,
+    units: u8,
+    text: &[u8],
+) -> Result<Vec<Traced>, Fault>
+    ensures accepted { OnOk result (trace_refusal schema.now units text.now ≡ None) }
+    ensures traced { IfOk result (λ traced. traced.items ≡ trace schema.now units text.now) }
+    ensures fitting { IsSound schema.now → IfOk result (λ traced. list_all (λ t. fits schema.now t.statement) traced.items ≡ true) }
+    ensures units { IfOk result (λ traced. list_all (λ t. is_unit units t.unit) traced.items ≡ true) }
+    ensures refused { IfErr result (λ fault. RefusesTrace fault (trace_refusal schema.now units text.now)) }
+{
+    match read_trace(alloc, schema, units, text) {
+        Ok(traced) => Ok(traced),
+        Err(fault) => Err(Fault::of_trace(fault)),
     }
 }

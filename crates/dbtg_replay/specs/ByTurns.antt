@@ -35,6 +35,7 @@ AreMoreMoves lists capacity scripts turns (fault.Schema line cause) = ⊥
 AreMoreMoves lists capacity scripts turns (fault.Script n line cause) = ⊥
 AreMoreMoves lists capacity scripts turns (fault.Moves word cause) = ⊥
 AreMoreMoves lists capacity scripts turns (fault.Turns word cause) = ⊥
+AreMoreMoves lists capacity scripts turns (fault.Trace line cause) = ⊥
 AreMoreMoves lists capacity scripts turns (fault.Unreadable path) = ⊥
 AreMoreMoves lists capacity scripts turns (fault.StatesOver limit) = ⊥
 AreMoreMoves lists capacity scripts turns fault.ScriptCount = ⊥

@@ -2,18 +2,19 @@
 -- that it gave none. Both are what the reader of files says.
 use Rattle.std.specs.Prelude.{ℕ, ◌≡◌, List, string_bytes}
 use Rattle.dbtg_command.specs.declared.fault.Fault.{Fault}
-use Rattle.dbtg_command.specs.declared.fault.Fault.TheVariants.{Schema as InSchema, Script as InScript, Moves as InMoves, Turns as InTurns, MovesOver, StatesOver, Unreadable, ScriptCount, Memory}
+use Rattle.dbtg_command.specs.declared.fault.Fault.TheVariants.{Schema as InSchema, Script as InScript, Moves as InMoves, Turns as InTurns, Trace as InTrace, MovesOver, StatesOver, Unreadable, ScriptCount, Memory}
 use Rattle.dbtg_command.specs.declared.order.Order.{Order}
 use Rattle.dbtg_command.specs.declared.place.TextPlace.{TextPlace}
-use Rattle.dbtg_command.specs.declared.place.TextPlace.TheVariants.{Schema, Script, Moves, Turns}
+use Rattle.dbtg_command.specs.declared.place.TextPlace.TheVariants.{Schema, Script, Moves, Turns, Trace}
 use Rattle.dbtg_command.specs.Inside.Sources.{StandsIn}
 
--- so much of a file is read: a byte more than a schema or a script may have, and moves and turns to their end
+-- so much of a file is read: a byte more than a schema, a script or a trace may have, and moves and turns to their end
 abbrev pub most_of : TextPlace → ℕ
 most_of Schema = 65537
 most_of (Script n) = 1048577
 most_of Moves = 18446744073709551615
 most_of Turns = 18446744073709551615
+most_of Trace = 67108865
 
 -- the file with this path cannot be read, or memory ran out
 abbrev pub IsUnread : List ℕ → Fault → Type 0
@@ -23,6 +24,7 @@ IsUnread path (InSchema line cause) = ⊥
 IsUnread path (InScript n line cause) = ⊥
 IsUnread path (InMoves word cause) = ⊥
 IsUnread path (InTurns word cause) = ⊥
+IsUnread path (InTrace line cause) = ⊥
 IsUnread path MovesOver = ⊥
 IsUnread path (StatesOver limit) = ⊥
 IsUnread path ScriptCount = ⊥

@@ -1,4 +1,4 @@
-//! What the faults of schemas, scripts, moves and turns mean, as the tables of docs/profile say it: a fault's number, what it means,
+//! What the faults of schemas, scripts, moves, turns and traces mean, as the tables of docs/profile say it: a fault's number, what it means,
 //! where it is found, and what to do next.
 
 /// The faults of a schema.
@@ -48,3 +48,9 @@ pub static MOVES_FAULTS: &str = "\
 pub static TURNS_FAULTS: &str = "\
 1|a word of another shape, a quit among them, or with a byte that is not one of these|at the word|Write u or u*k, with u from 1 to 99 and k from 1 to 1,000,000, without leading zeros.
 2|the word with which the total passes 1,000,000|at the word with which the total passes 1,000,000|Take fewer turns.";
+
+/// The faults that a trace has beside those of scripts.
+pub static TRACE_FAULTS: &str = "\
+31|no unit: no colon, other bytes than digits in front of the first one, or a unit that is not from 1 to the number of units|behind the bytes of its line|Begin the line with the number of the unit and a colon; --units says how many units there are.
+32|no arrow behind the unit outside of a text|behind the unit of its line|Write => and the answer behind the statement.
+33|no answer: another first word than four digits, another word behind it than a key of the schema, other words behind the key than all its items with values of their pictures, or an unclosed text|behind the statement of its line|Write the status, or the status and the key, or these and all items, as replay prints them.";

@@ -1,0 +1,14 @@
+use Rattle.std.proofs.Common.{◌≡◌, ◌++◌, List, true}
+use Rattle.std.specs.List.{list_all}
+use Rattle.std.specs.Vec.Iter.{into_iter_items}
+use Rattle.dbtg_unit.specs.Database.Statements.Fits.{fits}
+use Rattle.dbtg_trace.specs.Parts.{is_unit}
+use Rattle.dbtg_trace.specs.declared.traced.Traced.{Traced}
+use Rattle.dbtg_audit.specs.Inside.Audits.{HasMadeSo}
+use Rattle.dbtg_audit.proofs.auditing.make_up_to.Given as goal
+
+-- all is so of the statements that are made, and the others are left
+abbrev pub invariant-loop-one : goal.invariant-loop-one
+invariant-loop-one l =
+    (before : List Traced) × (before ++ into_iter_items l.one-iterator ≡ l.fn.traced) × HasMadeSo l.fn.statuses l.initial.database before l.database
+    × (list_all (λ (t : Traced). fits l.initial.database.schema t.statement) (into_iter_items l.one-iterator) ≡ true) × (list_all (λ (t : Traced). is_unit l.initial.database.units t.unit) (into_iter_items l.one-iterator) ≡ true)

@@ -1,0 +1,2 @@
+-- What no contract of an exported function reaches.
+pub mod Audits

@@ -1,0 +1,35 @@
+-- How an audit goes: one statement after another.
+use Rattle.std.specs.Prelude.{ℕ, ◌≡◌, ◌++◌, Bool, true, false, List, [], ◌∷◌, Option, Some, None}
+use Rattle.dbtg_unit.specs.declared.unit.Entry.{Entry}
+use Rattle.dbtg_unit.specs.Database.Laws.Replaying.{statements_of}
+use Rattle.dbtg_step.specs.Core.Whole.{Making}
+use Rattle.dbtg_trace.specs.declared.traced.Said.{Said}
+use Rattle.dbtg_trace.specs.declared.traced.Traced.{Traced}
+use Rattle.dbtg_audit.specs.Auditing.{all_so, asked, is_so}
+
+-- just these statements are made, and all that is said is so of these entries
+pub record HasMadeSo (statuses : Bool) (old : Making) (traced : List Traced) (new : Making) : Type 0 where
+  pub same : new ≡ record old { history = new.history }
+  pub statements : statements_of new.history ≡ asked traced
+  pub so : all_so statuses traced new.history ≡ true
+
+-- the same of the statements before one, and that one is made too: what is said is not so of its entry
+pub record HasMadeOther (statuses : Bool) (old : Making) (traced : List Traced) (line : ℕ) (said : Said) (new : Making) : Type 0 where
+  pub before : List Traced
+  pub here : Traced
+  pub behind : List Traced
+  pub traced_is : traced ≡ before ++ here ∷ behind
+  pub line_is : line ≡ here.line
+  pub said_is : said ≡ here.said
+  pub same : new ≡ record old { history = new.history }
+  pub past : List Entry
+  pub entry : Entry
+  pub history_is : new.history ≡ past ++ entry ∷ []
+  pub statements : statements_of new.history ≡ asked (before ++ here ∷ [])
+  pub so_before : all_so statuses before past ≡ true
+  pub differs : is_so statuses here.said entry ≡ false
+
+-- all statements are made, or those up to the first of whose answer something else is said, with its line and what that says
+abbrev pub HasMadeUpTo : Bool → Making → List Traced → Option (ℕ × Said) → Making → Type 0
+HasMadeUpTo statuses old traced None new = HasMadeSo statuses old traced new
+HasMadeUpTo statuses old traced (Some found) new = HasMadeOther statuses old traced found.0 found.1 new

@@ -1,0 +1,4 @@
+pub mod Auditing
+pub mod Telling
+pub mod Reported
+pub mod Inside

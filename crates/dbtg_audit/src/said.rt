@@ -1,0 +1,45 @@
+//! Whether what is said of an answer is so.
+ghost use Rattle.std.specs.Prelude.{◌≡◌, ◌==◌};
+ghost use Rattle.dbtg_cells.specs.Keys.{key_eq, values_eq};
+ghost use Rattle.dbtg_unit.specs.Database.Statements.Codes.{status_code};
+ghost use Rattle.dbtg_audit.specs.Auditing.{agrees, is_so};
+
+use dbtg_cells::{DbKey, Value, same_values};
+use dbtg_schema::Row;
+use dbtg_trace::Said;
+use dbtg_unit::Entry;
+
+fn same_status(said: u16, entry: &Entry) -> bool
+    ensures { result ≡ (said == status_code entry.now.statement entry.now.answer.status) }
+{
+    said == entry.answer.status.code(&entry.statement)
+}
+
+fn same_key(said: Option<DbKey>, key: Option<DbKey>) -> bool
+    ensures { result ≡ agrees key_eq said key }
+{
+    match (said, key) {
+        (Some(said), Some(key)) => said == key,
+        (Some(_), None) => false,
+        (None, _) => true,
+    }
+}
+
+fn same_items(said: &Option<Row<Value>>, items: &Option<Row<Value>>) -> bool
+    ensures { result ≡ agrees values_eq said.now items.now }
+{
+    match (said, items) {
+        (Some(said), Some(items)) => same_values(said.as_slice(), items.as_slice()),
+        (Some(_), None) => false,
+        (None, _) => true,
+    }
+}
+
+/// Whether what is said of the entry's answer is so; what is left out says nothing. By statuses alone, key and items say nothing.
+pub fn is_so(statuses: bool, said: &Said, entry: &Entry) -> bool
+    ensures { result ≡ is_so statuses said.now entry.now }
+{
+    let answer = &entry.answer;
+    same_status(said.status, entry)
+        && (statuses || same_key(said.key, answer.key) && same_items(&said.items, &answer.items))
+}
