@@ -1,2 +1,6 @@
+mod Gathering
+mod Judged
+mod Marks
+mod Parts
 mod Steps
 pub mod Rows

@@ -28,7 +28,7 @@ use Rattle.dbtg_program.specs.declared.grammar.Role.TheVariants as role
 use Rattle.dbtg_program.specs.Values.{can_hold, stripped}
 use Rattle.dbtg_program.specs.States.{beginning_with}
 use Rattle.dbtg_program.specs.Going.{said_word}
-use Rattle.dbtg_program.specs.Sentences.{Holding, Text, counters_of, cut, field_named, fields_in, is_own_name, is_word, marked, paragraph_at, picture_in, plain_text, sentences_of, text_in, verb_of, word_at, word_of}
+use Rattle.dbtg_program.specs.Sentences.{Holding, Text, counters_of, cut, field_named, fields_in, is_own_name, is_word, marked, paragraph_at, picture_in, plain_text, sentences_of, text_in, verb_of, word_at, words_in}
 use Rattle.dbtg_program.specs.Grammar.{fits, form, is_literal}
 use Rattle.dbtg_unit.specs.declared.limits.TheConstants.{MOST_STATEMENTS}
 
@@ -115,7 +115,7 @@ unknown_word text m = when (m.1 && is_none (field_named (fields_in text) (text_i
 
 -- the words of a statement as a script would have them at the beginning of the program
 abbrev pub words_at_first : Text → List Token → List Token
-words_at_first text ws = map (λ m. said_word (beginning_with (fields_in text)) (word_of (fields_in text) m)) (marked ws)
+words_at_first text ws = map (said_word (beginning_with (fields_in text))) (words_in text ws)
 
 -- the faults of a statement: field words first, then those of a script's line
 abbrev pub statement_faults : Text → List Token → List ProgramCause

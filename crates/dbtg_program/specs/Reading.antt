@@ -25,7 +25,7 @@ use Rattle.dbtg_program.specs.declared.fault.ProgramFault.TheVariants.{Memory, R
 use Rattle.dbtg_program.specs.declared.program.Line.{Line}
 use Rattle.dbtg_program.specs.declared.program.Program.{Program}
 use Rattle.dbtg_program.specs.Values.{records_from}
-use Rattle.dbtg_program.specs.Sentences.{Holding, Text, field_named, fields_in, is_equals, is_spelled, is_word, marked, paragraph_at, sentences_of, text_in, verb_of, word_at, word_of}
+use Rattle.dbtg_program.specs.Sentences.{Holding, Text, field_named, fields_in, is_equals, is_spelled, is_word, marked, paragraph_at, sentences_of, text_in, verb_of, word_at, words_in}
 use Rattle.dbtg_program.specs.Grammar.{is_literal}
 use Rattle.dbtg_program.specs.Faults.{literal_value, words_at_first}
 
@@ -73,7 +73,7 @@ said_by text ws _ = Heading
 -- the statement that words say, with fields or without
 abbrev pub statement_in : Text → List Token → Sentence
 statement_in text ws =
-    if list_any (λ m. m.1) (marked ws) then Filled (map (word_of (fields_in text)) (marked ws))
+    if list_any (λ m. m.1) (marked ws) then Filled (words_in text ws)
     else Statement (statement_of text.schema (labels script.fits script.statement (words_at_first text ws)))
 
 -- the sentence that begins a paragraph, has a verb, or is a statement

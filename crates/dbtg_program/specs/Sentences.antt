@@ -198,3 +198,7 @@ as_it_is (literal t) = word.Literal t
 -- a word of a statement
 abbrev pub word_of : List Item → Token × Bool → Word
 word_of fields m = if m.1 then unwrap_or (option_map word.Field (field_named fields (text_in m.0))) (as_it_is m.0) else as_it_is m.0
+
+-- the words of a statement
+abbrev pub words_in : Text → List Token → List Word
+words_in text ws = map (word_of (fields_in text)) (marked ws)

@@ -1,11 +1,12 @@
 //! Why a program is refused.
 
 ghost use Rattle.dbtg_program.specs.Faults.{cause_number};
+ghost use Rattle.dbtg_program.specs.declared.fault.LineFault.TheVariants as line_fault;
 ghost use Rattle.dbtg_program.specs.declared.fault.ProgramFault.TheVariants.{Memory};
 ghost use Rattle.std.specs.Prelude.{◌≡◌};
 
 use dbtg_script::Cause;
-use std::alloc::AllocError;
+use std::alloc::{AllocError, AllocFailed};
 
 /// What is wrong with a program. Each cause has a number by which it is printed.
 #[derive(Clone, Copy, Debug, PartialEq, Eq)]
@@ -67,5 +68,28 @@ impl ProgramCause {
             ProgramCause::CounterBehind => 26,
             ProgramCause::TooManyCounters => 27,
         }
+    }
+}
+
+/// Why a line was not read.
+#[derive(Debug, Drop)]
+pub enum LineFault {
+    Refused(ProgramCause),
+    Memory,
+}
+
+impl<T: Drop> From<AllocFailed<T>> for LineFault {
+    ghost from_gives = { λ _ e. e ≡ line_fault.Memory };
+
+    fn from(_e: AllocFailed<T>) -> LineFault {
+        LineFault::Memory
+    }
+}
+
+impl From<AllocError> for LineFault {
+    ghost from_gives = { λ _ e. e ≡ line_fault.Memory };
+
+    fn from(_e: AllocError) -> LineFault {
+        LineFault::Memory
     }
 }

@@ -2,15 +2,27 @@
 #![tactic(auto)]
 
 mod borrowed;
+mod cutting;
 mod fault;
+mod fields;
+mod fitting;
 mod going;
 mod grammar;
+mod judging;
+mod marking;
+mod places;
 mod program;
+mod reader;
 mod said;
+mod saying;
 mod state;
+mod statement;
+mod text;
+mod word;
 
 pub use fault::{ProgramCause, ProgramFault};
 pub use going::{Due, next};
 pub use grammar::{Keyword, Kind, FormPlace, Role};
 pub use program::{Condition, End, Line, Operand, Program, Relation, Sentence, Word};
+pub use reader::read_program;
 pub use state::State;

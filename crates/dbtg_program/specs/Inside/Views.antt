@@ -1,14 +1,19 @@
 -- Values, words and steps of the code, without where they lie in memory.
-use Rattle.std.specs.Prelude.{◌≡◌, ℕ, ◌<◌, List, [], decimal, length}
+use Rattle.std.specs.Prelude.{◌≡◌, ℕ, ◌<◌, Bool, List, [], decimal, length, map, option_map}
 use Rattle.dbtg_cells.specs.declared.key.Value.{Value}
 use Rattle.dbtg_cells.specs.declared.key.Value.TheVariants.{Num, Text}
+use Rattle.dbtg_script.specs.Tokens as words
+use Rattle.dbtg_script.specs.Tokens.{Token}
 use Rattle.dbtg_program.specs.declared.borrowed.Borrowed.{Borrowed}
 use Rattle.dbtg_program.specs.declared.borrowed.Borrowed.TheVariants as borrowed
+use Rattle.dbtg_program.specs.declared.cutting.Holding as cutting
 use Rattle.dbtg_program.specs.declared.going.Progress.{Progress}
 use Rattle.dbtg_program.specs.declared.going.Progress.TheVariants as progress
+use Rattle.dbtg_program.specs.declared.marking.Marked.{Marked}
 use Rattle.dbtg_program.specs.declared.program.Program.{Program}
 use Rattle.dbtg_program.specs.declared.program.Word.{Word}
 use Rattle.dbtg_program.specs.declared.program.Word.TheVariants as word
+use Rattle.dbtg_program.specs.Sentences.{Holding}
 use Rattle.dbtg_program.specs.Conditions.{field_value}
 use Rattle.dbtg_program.specs.States.{ProgramState}
 use Rattle.dbtg_program.specs.Going.{Step, ends, goes, makes}
@@ -47,3 +52,11 @@ digits_of state (word.Plain t) = []
 digits_of state word.Equals = []
 digits_of state (word.Literal t) = []
 digits_of state (word.Field f) = digits (field_value state f)
+
+-- a line of the code that holds a sentence
+abbrev pub view_holding : cutting.Holding → Holding
+view_holding h = record { number = h.number; paragraph = option_map (λ p. p.now) h.paragraph; words = map words.view h.words.items }
+
+-- a word of a statement, and whether it is a field word
+abbrev pub view_marked : Marked → Token × Bool
+view_marked m = (words.view m.token, m.is_field)

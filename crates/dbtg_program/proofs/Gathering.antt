@@ -1,0 +1,45 @@
+-- Names are entered one after another, and lead to where they first stand.
+use Rattle.std.proofs.Common.{◌≡◌, ℕ, ◌+◌, ◌<◌, cond, List, [], ◌∷◌, ◌++◌, length, get_or, take, map, Some, None, sym, ap, ◌∙◌, arith}
+use Rattle.std.specs.Prelude.{Option}
+use Rattle.std.specs.Option.{option_or}
+use Rattle.std.specs.Str.{bytes_eq}
+use Rattle.std.proofs.lemmas.List.{length-map, length-take-le, map_more}
+use Rattle.dbtg_schema.specs.Lookups.{some_and}
+use Rattle.dbtg_schema.specs.Structure.{place_of}
+use Rattle.dbtg_schema.specs.declared.shape.Item.{Item}
+use Rattle.dbtg_schema.proofs.Public.{or_none, position_more}
+use Rattle.dbtg_program.specs.declared.cutting.Holding as code
+use Rattle.dbtg_program.specs.declared.places.Places.{Places}
+use Rattle.dbtg_program.specs.Sentences.{Holding, field_named, paragraph_at}
+use Rattle.dbtg_program.specs.Inside.Gathered.{leads_to}
+use Rattle.dbtg_program.specs.Inside.Views.{view_holding}
+
+-- the sentence at i is entered, with the paragraph that it begins, if it begins one
+pub paragraph_entered : (old new : Places) (xs : List code.Holding) (i : ℕ) (x : code.Holding) → i < length xs → x ≡ get_or xs i x → ((q : List ℕ) → leads_to old q ≡ paragraph_at (map view_holding (take i xs)) q)
+    → ((q : List ℕ) → leads_to new q ≡ option_or (leads_to old q) (cond (some_and (bytes_eq q) (view_holding x).paragraph) (Some i) None)) → (q : List ℕ) → leads_to new q ≡ paragraph_at (map view_holding (take (i + 1) xs)) q
+paragraph_entered old new xs i x lt is before enters q =
+    let ls = map view_holding (take i xs) in
+    let long : 0 + length ls ≡ i = omega (arith, length-map (take i xs) view_holding, length-take-le i xs (omega arith)) in
+    enters q
+    ∙ ap (λ o. option_or o (cond (some_and (bytes_eq q) (view_holding x).paragraph) (Some i) None)) (before q)
+    ∙ ap (λ (k : ℕ). option_or (paragraph_at ls q) (cond (some_and (bytes_eq q) (view_holding x).paragraph) (Some k) None)) (sym long)
+    ∙ sym (position_more (λ (l : Holding). some_and (bytes_eq q) l.paragraph) 0 ls (view_holding x))
+    ∙ ap (λ (z : code.Holding). paragraph_at (ls ++ view_holding z ∷ []) q) is
+    ∙ ap (λ (zs : List Holding). paragraph_at zs q) (sym (map_more view_holding xs i x lt))
+
+-- a sentence that begins no paragraph
+pub none_entered : (places : Places) (q : List ℕ) (o : Option (List ℕ)) (i : ℕ) → o ≡ None → leads_to places q ≡ option_or (leads_to places q) (cond (some_and (bytes_eq q) o) (Some i) None)
+none_entered places q o i h = sym (or_none (leads_to places q)) ∙ ap (λ (p : Option (List ℕ)). option_or (leads_to places q) (cond (some_and (bytes_eq q) p) (Some i) None)) (sym h)
+
+-- the field at i is entered
+pub field_entered : (old new : Places) (xs : List Item) (i : ℕ) (x : Item) → i < length xs → x ≡ get_or xs i x → ((q : List ℕ) → leads_to old q ≡ field_named (take i xs) q)
+    → ((q : List ℕ) → leads_to new q ≡ option_or (leads_to old q) (cond (bytes_eq q x.name) (Some i) None)) → (q : List ℕ) → leads_to new q ≡ field_named (take (i + 1) xs) q
+field_entered old new xs i x lt is before enters q =
+    let names = map (λ (f : Item). f.name) (take i xs) in
+    let long : 0 + length names ≡ i = omega (arith, length-map (take i xs) (λ (f : Item). f.name), length-take-le i xs (omega arith)) in
+    enters q
+    ∙ ap (λ o. option_or o (cond (bytes_eq q x.name) (Some i) None)) (before q)
+    ∙ ap (λ (k : ℕ). option_or (field_named (take i xs) q) (cond (bytes_eq q x.name) (Some k) None)) (sym long)
+    ∙ sym (position_more (bytes_eq q) 0 names x.name)
+    ∙ ap (λ (z : Item). place_of q (names ++ z.name ∷ [])) is
+    ∙ ap (place_of q) (sym (map_more (λ (f : Item). f.name) xs i x lt))

@@ -1,0 +1,193 @@
+//! The lines of a program that hold a sentence, cut into words.
+
+ghost use Rattle.dbtg_script.specs.Lines.{ends_with, lines, trimmed};
+ghost use Rattle.dbtg_script.specs.Tokens.{plain, tokens, view};
+ghost use Rattle.dbtg_program.specs.Sentences.{apart, cut, is_sign, paragraph_in, parts, sentences_of, with_signs};
+ghost use Rattle.dbtg_program.specs.Inside.Views.{view_holding};
+ghost use Rattle.std.specs.List.{flat_map};
+ghost use Rattle.std.specs.Prelude.{◌≡◌, ◌==◌, ◌&&◌, ◌<◌, ◌≤◌, ◌∷◌, ◌++◌, ℕ, [], IfOk, MatchOption, OnOk, OnSome, drop, false, true, length, map, option_map, slice_index, take};
+
+use crate::grammar::Keyword;
+use crate::word::{begins, is_own_name};
+use dbtg_script::{Lines, Token, Tokens, is_statement, trimmed, without_last};
+use std::alloc::{AllocError, Global};
+
+/// A line that holds a sentence: its number, the paragraph that begins in it, and its words.
+#[derive(Drop)]
+pub struct Holding<'a> {
+    pub number: u64,
+    pub paragraph: Option<&'a [u8]>,
+    pub words: Vec<Token<'a>>,
+}
+
+/// What is left of a word that is cut at its signs.
+#[derive(Clone, Copy)]
+struct Parts<'a> {
+    rest: &'a [u8],
+}
+
+fn is_sign(b: u8) -> bool
+    ensures { result ≡ is_sign b }
+{
+    b == b'<' || b == b'>'
+}
+
+/// How many bytes stand before the next sign, all where there is none.
+fn run_len(bytes: &[u8]) -> usize
+    ensures in_range { result ≤ length bytes.now }
+    ensures inside { (k : ℕ) → k < result → is_sign (slice_index bytes.now k) ≡ false }
+    ensures stops { result < length bytes.now → is_sign (slice_index bytes.now result) ≡ true }
+{
+    let mut n = 0;
+    while n < bytes.len() && !is_sign(bytes[n]) {
+        n += 1;
+    }
+    n
+}
+
+/// How many bytes the first part has.
+fn part_len(bytes: &[u8]) -> usize
+    requires { 0 < length bytes.now }
+    ensures in_range { result ≤ length bytes.now }
+    ensures some { 0 < result }
+    ensures first { parts bytes.now ≡ take result bytes.now ∷ parts (drop result bytes.now) }
+{
+    let run = run_len(bytes);
+    if run == 0 { 1 } else { run }
+}
+
+impl<'a> Parts<'a> {
+    /// The next part.
+    fn next(&mut self) -> Option<&'a [u8]>
+        ensures found { MatchOption result (parts self.old.rest.now ≡ []) (λ p. parts self.old.rest.now ≡ p.now ∷ parts self.new.rest.now) }
+        ensures shorter { OnSome result (length self.new.rest.now < length self.old.rest.now) }
+    {
+        let rest = self.rest;
+        if rest.is_empty() {
+            return None;
+        }
+        let (part, behind) = rest.split_at(part_len(rest));
+        *self = Parts { rest: behind };
+        Some(part)
+    }
+}
+
+fn push_parts<'a>(words: &mut Vec<Token<'a>>, word: &'a [u8]) -> Result<(), AllocError>
+    ensures { OnOk result (map view words.new.items ≡ map view words.old.items ++ map plain (parts word.now)) }
+{
+    let mut left = Parts { rest: word };
+    while let Some(part) = left.next() {
+        words.push(Token::Plain(part))?;
+    }
+    Ok(())
+}
+
+/// Adds the words that a word is where signs stand by themselves.
+fn push_apart<'a>(words: &mut Vec<Token<'a>>, token: Token<'a>) -> Result<(), AllocError>
+    ensures { OnOk result (map view words.new.items ≡ map view words.old.items ++ apart (view token.entry)) }
+{
+    match token {
+        Token::Plain(word) => push_parts(words, word),
+        Token::Equals => Ok(words.push(Token::Equals)?),
+        Token::Literal(text) => Ok(words.push(Token::Literal(text))?),
+    }
+}
+
+fn all_apart<'a>(alloc: Global, words: &[Token<'a>]) -> Result<Vec<Token<'a>>, AllocError>
+    ensures { IfOk result (λ v. map view v.items ≡ flat_map apart (map view words.now)) }
+{
+    let mut all = Vec::new(alloc);
+    for word in words {
+        push_apart(&mut all, *word)?;
+    }
+    Ok(all)
+}
+
+/// In IF and ASSERT signs stand by themselves.
+fn with_signs<'a>(alloc: Global, words: Vec<Token<'a>>) -> Result<Vec<Token<'a>>, AllocError>
+    ensures { IfOk result (λ v. map view v.items ≡ with_signs (map view words.entry.items)) }
+{
+    let list = words.as_slice();
+    if begins(list, Keyword::If) || begins(list, Keyword::Assert) {
+        return all_apart(alloc, list);
+    }
+    Ok(words)
+}
+
+fn tokens_of<'a>(alloc: Global, line: &'a [u8]) -> Result<Vec<Token<'a>>, AllocError>
+    ensures { IfOk result (λ v. map view v.items ≡ tokens false line.now) }
+{
+    let mut words = Vec::new(alloc);
+    let mut left = Tokens { rest: line };
+    while let Some(token) = left.next() {
+        words.push(token)?;
+    }
+    Ok(words)
+}
+
+fn ends_with(line: &[u8], c: u8) -> bool
+    ensures { result ≡ ends_with c line.now }
+{
+    let n = line.len();
+    n > 0 && line[n - 1] == c
+}
+
+/// The text of a word, if it is a name.
+fn own_name(token: Token<'_>) -> Option<&[u8]>
+    ensures { option_map (λ p. p.now) result ≡ paragraph_in true (view token.entry ∷ []) }
+{
+    match token {
+        Token::Plain(text) => if is_own_name(text) { Some(text) } else { None },
+        Token::Equals => None,
+        Token::Literal(_) => None,
+    }
+}
+
+/// The paragraph that begins here: one name alone, and a period ends the line.
+fn paragraph_in<'a>(has_period: bool, words: &[Token<'a>]) -> Option<&'a [u8]>
+    ensures { option_map (λ p. p.now) result ≡ paragraph_in has_period (map view words.now) }
+{
+    match words.split_first() {
+        None => None,
+        Some((word, rest)) => {
+            if !has_period {
+                return None;
+            }
+            if rest.is_empty() {
+                return own_name(*word);
+            }
+            None
+        }
+    }
+}
+
+/// A line, cut into words.
+fn cut<'a>(alloc: Global, number: u64, line: &'a [u8]) -> Result<Holding<'a>, AllocError>
+    ensures { IfOk result (λ h. view_holding h ≡ cut number line.now) }
+{
+    let words = tokens_of(alloc, trimmed(line))?;
+    let has_period = ends_with(without_last(line, b'\r'), b'.');
+    let paragraph = paragraph_in(has_period, words.as_slice());
+    Ok(Holding {
+        number,
+        paragraph,
+        words: with_signs(alloc, words)?,
+    })
+}
+
+/// The sentences of a text.
+pub fn sentences_of<'a>(alloc: Global, text: &'a [u8]) -> Result<Vec<Holding<'a>>, AllocError>
+    requires { length text.now ≤ 1048576 }
+    ensures { IfOk result (λ v. map view_holding v.items ≡ sentences_of text.now) }
+{
+    let mut sentences = Vec::new(alloc);
+    let mut number: u64 = 1;
+    let mut left = Lines { rest: text };
+    while let Some(line) = left.next() {
+        if is_statement(trimmed(line)) {
+            sentences.push(cut(alloc, number, line)?)?;
+        }
+        number += 1;
+    }
+    Ok(sentences)
+}

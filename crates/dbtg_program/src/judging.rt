@@ -1,0 +1,282 @@
+//! What is wrong with a word of a sentence that scripts have not, and with its words from left to right.
+
+ghost use Rattle.dbtg_schema.specs.Lookups.{first, some_and};
+ghost use Rattle.dbtg_schema.specs.Texts.Spelling.{among};
+ghost use Rattle.dbtg_script.specs.Tokens.{Token as SeenToken, view};
+ghost use Rattle.dbtg_program.specs.Faults.{are_two_kinds, faults_from, is_no_counter_name, is_text, is_text_picture, is_too_great, is_too_great_for, literal_value, names_no_field, said, when};
+ghost use Rattle.dbtg_program.specs.Sentences.{counters_of, fields_in, picture_in};
+ghost use Rattle.dbtg_program.specs.Inside.Views.{view as seen};
+ghost use Rattle.dbtg_program.specs.declared.grammar.Role.TheVariants as role;
+ghost use Rattle.dbtg_program.specs.Values.{can_hold};
+ghost use Rattle.std.specs.Prelude.{◌≡◌, List, ℕ, length, map, option_map, take};
+
+use crate::borrowed::Borrowed;
+use crate::fault::ProgramCause;
+use crate::fitting::{fits, is_literal};
+use crate::going::can_hold;
+use crate::grammar::{FormPlace, Role};
+use crate::state::stripped_len;
+use crate::text::Text;
+use crate::word::{is_own_name, text_in, word_at};
+use dbtg_schema::{Item, Picture};
+use dbtg_script::{Cause, Token, number};
+
+/// The most counters that a program has.
+const COUNTERS: usize = 64;
+
+const UNEXPECTED: ProgramCause = ProgramCause::AsInScript(Cause::UnexpectedWord);
+
+const TOO_GREAT: ProgramCause = ProgramCause::AsInScript(Cause::TooGreat);
+
+/// The value that a literal is, if a field could have it.
+pub fn literal_value(token: Token<'_>) -> Option<Borrowed<'_>>
+    ensures { option_map seen result ≡ literal_value (view token.entry) }
+{
+    match token {
+        Token::Plain(text) => {
+            let n = number(text);
+            if n < 1_000_000_000_000_000_000 {
+                Some(Borrowed::Number(n))
+            } else {
+                None
+            }
+        }
+        Token::Equals => None,
+        Token::Literal(text) => {
+            let len = stripped_len(text);
+            if len <= 64 {
+                Some(Borrowed::Text(&text[..len]))
+            } else {
+                None
+            }
+        }
+    }
+}
+
+fn is_text_picture(picture: Option<Picture>) -> bool
+    ensures { result ≡ some_and is_text_picture picture }
+{
+    matches!(picture, Some(Picture::Text(_)))
+}
+
+/// Has the word a text as its value, and no number?
+fn is_text(text: &Text, token: Token) -> bool
+    ensures { result ≡ is_text text.now (view token.entry) }
+{
+    if is_literal(token) {
+        matches!(token, Token::Literal(_))
+    } else {
+        is_text_picture(text.picture(token))
+    }
+}
+
+/// No literal, and no field?
+fn names_no_field(text: &Text, token: Token) -> bool
+    ensures { result ≡ names_no_field text.now (view token.entry) }
+{
+    !is_literal(token) && text.picture(token).is_none()
+}
+
+/// A literal that no field could have?
+fn is_too_great(token: Token) -> bool
+    ensures { result ≡ is_too_great (view token.entry) }
+{
+    is_literal(token) && literal_value(token).is_none()
+}
+
+fn has_room(picture: Picture, value: Option<Borrowed>) -> bool
+    ensures { result ≡ some_and (can_hold picture) (option_map seen value.entry) }
+{
+    match value {
+        Some(value) => can_hold(picture, value),
+        None => false,
+    }
+}
+
+/// A literal that the field of this picture cannot hold?
+fn is_too_great_for(picture: Option<Picture>, token: Token) -> bool
+    ensures { result ≡ is_too_great_for picture (view token.entry) }
+{
+    match picture {
+        Some(picture) => is_literal(token) && !has_room(picture, literal_value(token)),
+        None => false,
+    }
+}
+
+/// A number and a text?
+fn are_two_kinds(text: &Text, left: Token, right: Token) -> bool
+    ensures { result ≡ are_two_kinds text.now (view left.entry) (view right.entry) }
+{
+    is_text(text, left) != is_text(text, right)
+}
+
+fn is_among(name: &[u8], counters: &[Item]) -> bool
+    ensures { result ≡ among name.now (map (λ c. c.name) counters.now) }
+{
+    for counter in counters {
+        if name == counter.name.as_slice() {
+            return true;
+        }
+    }
+    false
+}
+
+/// Has one of the first counters this name?
+fn is_taken(text: &Text, at: usize, name: &[u8]) -> bool
+    ensures { result ≡ among name.now (map (λ c. c.name) (take at (counters_of text.now.sentences))) }
+{
+    let counters = text.counters();
+    if at < counters.len() {
+        is_among(name, &counters[..at])
+    } else {
+        is_among(name, counters)
+    }
+}
+
+/// No name, that of a record type, or that of one of the counters before this one?
+fn is_no_counter_name(text: &Text, at: usize, name: &[u8]) -> bool
+    ensures { result ≡ is_no_counter_name text.now at name.now }
+{
+    !is_own_name(name) || text.schema().rtype(name).is_some() || is_taken(text, at, name)
+}
+
+fn counter_fault(text: &Text, at: usize) -> Option<ProgramCause>
+    ensures { (words : List SeenToken) (w : SeenToken) → result ≡ first (said text.now at words w role.Counter) }
+{
+    if text.counters().len() <= at {
+        Some(ProgramCause::CounterBehind)
+    } else if COUNTERS <= at {
+        Some(ProgramCause::TooManyCounters)
+    } else {
+        None
+    }
+}
+
+fn value_fault(text: &Text, token: Token) -> Option<ProgramCause>
+    ensures { (at : ℕ) (words : List SeenToken) → result ≡ first (said text.now at words (view token.entry) role.FirstValue) }
+{
+    if names_no_field(text, token) {
+        Some(ProgramCause::UnknownField)
+    } else if is_too_great(token) {
+        Some(TOO_GREAT)
+    } else {
+        None
+    }
+}
+
+fn number_fault(text: &Text, token: Token) -> Option<ProgramCause>
+    ensures { (at : ℕ) (words : List SeenToken) → result ≡ first (said text.now at words (view token.entry) role.FirstNumber) }
+{
+    if names_no_field(text, token) {
+        Some(ProgramCause::UnknownField)
+    } else if is_text(text, token) {
+        Some(ProgramCause::TwoKinds)
+    } else if is_too_great(token) {
+        Some(TOO_GREAT)
+    } else {
+        None
+    }
+}
+
+fn second_fault(text: &Text, words: &[Token], token: Token) -> Option<ProgramCause>
+    ensures { (at : ℕ) → result ≡ first (said text.now at (map view words.now) (view token.entry) role.SecondValue) }
+{
+    if names_no_field(text, token) {
+        Some(ProgramCause::UnknownField)
+    } else if are_two_kinds(text, word_at(words, 1), token) {
+        Some(ProgramCause::TwoKinds)
+    } else if is_too_great(token) {
+        Some(TOO_GREAT)
+    } else {
+        None
+    }
+}
+
+fn moved_fault(text: &Text, words: &[Token], token: Token) -> Option<ProgramCause>
+    ensures { (at : ℕ) → result ≡ first (said text.now at (map view words.now) (view token.entry) role.MovedTo) }
+{
+    let value = word_at(words, 1);
+    if names_no_field(text, token) {
+        Some(ProgramCause::UnknownField)
+    } else if are_two_kinds(text, value, token) {
+        Some(ProgramCause::TwoKinds)
+    } else if is_too_great_for(text.picture(token), value) {
+        Some(TOO_GREAT)
+    } else {
+        None
+    }
+}
+
+fn counted_fault(text: &Text, token: Token) -> Option<ProgramCause>
+    ensures { (at : ℕ) (words : List SeenToken) → result ≡ first (said text.now at words (view token.entry) role.CountedTo) }
+{
+    if names_no_field(text, token) {
+        Some(ProgramCause::UnknownField)
+    } else if is_text(text, token) {
+        Some(ProgramCause::TwoKinds)
+    } else {
+        None
+    }
+}
+
+fn when(test: bool, cause: ProgramCause) -> Option<ProgramCause>
+    ensures { result ≡ first (when test cause) }
+{
+    if test { Some(cause) } else { None }
+}
+
+/// The first fault of a word of sentence number `at`, which has these words.
+fn said(text: &Text, at: usize, words: &[Token], token: Token, role: Role) -> Option<ProgramCause>
+    ensures { result ≡ first (said text.now at (map view words.now) (view token.entry) role) }
+{
+    match role {
+        Role::Plain => None,
+        Role::Counter => counter_fault(text, at),
+        Role::CounterName => when(
+            is_no_counter_name(text, at, text_in(token)),
+            ProgramCause::CounterName,
+        ),
+        Role::Paragraph => when(
+            text.paragraph(text_in(token)).is_none(),
+            ProgramCause::UnknownParagraph,
+        ),
+        Role::FirstValue => value_fault(text, token),
+        Role::FirstNumber => number_fault(text, token),
+        Role::SecondValue => second_fault(text, words, token),
+        Role::MovedTo => moved_fault(text, words, token),
+        Role::CountedTo => counted_fault(text, token),
+    }
+}
+
+/// The first fault of the words that are left, which stand in these places.
+#[tactic(auto, using(crate::proofs::Judged::first_then, crate::proofs::Judged::first_else))]
+pub fn fault_from(
+    text: &Text,
+    at: usize,
+    words: &[Token],
+    places: &[FormPlace],
+    left: &[Token],
+) -> Option<ProgramCause>
+    ensures { result ≡ first (faults_from text.now at (map view words.now) places.now (map view left.now)) }
+{
+    match places.split_first() {
+        None => when(!left.is_empty(), UNEXPECTED),
+        Some((place, further)) => {
+            match left.split_first() {
+                None => Some(UNEXPECTED),
+                Some((token, rest)) => {
+                    if fits(place.kind, *token) {
+                        if let Some(cause) = said(text, at, words, *token, place.role) {
+                            return Some(cause);
+                        }
+                        return fault_from(text, at, words, further, rest);
+                    }
+                    if place.optional {
+                        return fault_from(text, at, words, further, left);
+                    }
+                    Some(UNEXPECTED)
+                }
+            }
+        }
+    }
+}
