@@ -11,7 +11,7 @@ from dataclasses import dataclass, field
 from kit import ROOT
 
 # The options that have no word behind them.
-ALONE = ("--answers", "--echo", "--explain", "--status", "--svg")
+ALONE = ("--answers", "--brief", "--echo", "--explain", "--status", "--svg")
 # What one run may take: seconds of a processor, bytes of memory, and seconds by the clock before it is ended.
 SECONDS = 2
 BYTES = 1 << 30

@@ -3,3 +3,4 @@ mod SavedTurns
 mod TextsAtHand
 mod Pictures
 mod Listings
+mod Rows

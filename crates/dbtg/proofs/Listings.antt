@@ -1,5 +1,5 @@
--- What `outcomes` prints: statuses have four digits, the texts of results stand one behind another, and what was read is told as the
--- texts say.
+-- What `outcomes` prints, of a wish too: statuses have four digits, the texts of results stand one behind another, and what was read is
+-- told as the texts say.
 use Rattle.std.proofs.Common.{◌≡◌, ℕ, Bool, true, ◌+◌, ◌-◌, ◌<◌, ◌≤◌, ◌⊎◌, inl, inr, zero, suc, List, [], ◌∷◌, ◌++◌, take, drop, map, length, Option, None, refl, sym, ap, ◌∙◌, subst, arith, get_or}
 use Rattle.std.specs.Prelude.{Contains, codes, nat_lt}
 use Rattle.std.proofs.lemmas.Bool.{and_from, lt-ltb}
@@ -16,6 +16,7 @@ use Rattle.dbtg_unit.specs.Database.Statements.Codes.{cause_code, statement_code
 use Rattle.dbtg_outcomes.specs.declared.answered.Answered.{Answered}
 use Rattle.dbtg_outcomes.specs.declared.outcomes.OneResult.{OneResult}
 use Rattle.dbtg_outcomes.specs.declared.outcomes.Outcomes.{Outcomes}
+use Rattle.dbtg_outcomes.specs.declared.wishes.Wish.{Wish}
 use Rattle.dbtg_outcomes.specs.Outcomes.{AreOutcomes, AreStatuses, Comes, HasStatus}
 use Rattle.dbtg_outcomes.specs.Results.{Meeting}
 use Rattle.dbtg_script.specs.declared.limits.TheConstants.{MOST_MOVES}
@@ -30,10 +31,11 @@ use Rattle.dbtg_command.specs.declared.order.Order.TheVariants.{Serial}
 use Rattle.dbtg_command.specs.declared.place.TextPlace.{TextPlace}
 use Rattle.dbtg.specs.declared.outcomes.Front.{Front}
 use Rattle.dbtg.specs.declared.outcomes.ListingOptions.{ListingOptions}
-use Rattle.dbtg.specs.Listing.{AreResultTexts, IsListing, IsLong, IsOver, IsResultText, OutcomesHeld, ToldOfOutcomes, meeting_of, result_line, result_text, summary_text, worded}
+use Rattle.dbtg.specs.declared.wishes.Judged.{Judged}
+use Rattle.dbtg.specs.Judging.{IsJudgedAs, IsUnjudged, JudgedHeld, ToldOfJudging}
+use Rattle.dbtg.specs.Listing.{AreResultTexts, IsListing, IsLong, IsOver, IsResultText, OutcomesHeld, ToldOfOutcomes, meeting_of, result_line, result_text, shown_text, summary_text, worded}
 use Rattle.dbtg.specs.Inside.Listing.{IsFront, IsUntold, are_short}
 use Rattle.dbtg_replay.specs.Ordering.{first_turns}
-use Rattle.dbtg_replay.specs.Replaying.{given_text}
 use Rattle.dbtg_command.specs.Refusals.{is_count}
 use Rattle.dbtg_command.specs.Sources.{ReadSchema, ReadScripts}
 use Rattle.dbtg_command.proofs.Public.{all_accepted, read_texts}
@@ -92,14 +94,14 @@ all_short m all are = all_of are_short all.answered.items (λ a among. all_of (�
 -- TEXTS OF RESULTS
 
 -- one more behind the others
-pub one_more : (m : Meeting) (k : ℕ) (ones : List OneResult) (one : OneResult) (out text : List ℕ)
-    → AreResultTexts m k ones out → IsResultText m (k + length ones) one text → AreResultTexts m k (ones ++ one ∷ []) (out ++ text)
-one_more m k [] one out text e is =
+pub one_more : (m : Meeting) (first : Option (List ℕ)) (k : ℕ) (ones : List OneResult) (one : OneResult) (out text : List ℕ)
+    → AreResultTexts m first k ones out → IsResultText m first (k + length ones) one text → AreResultTexts m first k (ones ++ one ∷ []) (out ++ text)
+one_more m first k [] one out text e is =
     let same : k + 0 ≡ k = omega arith in
-    (text, [], ap (λ o. o ++ text) e ∙ sym (append-nil text), subst (λ n. IsResultText m n one text) same is, refl)
-one_more m k (o ∷ ones) one out text are is =
+    (text, [], ap (λ o. o ++ text) e ∙ sym (append-nil text), subst (λ n. IsResultText m first n one text) same is, refl)
+one_more m first k (o ∷ ones) one out text are is =
     let same : k + length (o ∷ ones) ≡ k + 1 + length ones = omega arith in
-    (are.0, are.1 ++ text, ap (λ t. t ++ text) are.2 ∙ append_assoc are.0 are.1 text, are.3, one_more m (k + 1) ones one are.1 text are.4 (subst (λ n. IsResultText m n one text) same is))
+    (are.0, are.1 ++ text, ap (λ t. t ++ text) are.2 ∙ append_assoc are.0 are.1 text, are.3, one_more m first (k + 1) ones one are.1 text are.4 (subst (λ n. IsResultText m first n one text) same is))
 
 -- four texts behind one
 texts_behind : (old a b c d : List ℕ) → old ++ a ++ b ++ c ++ d ≡ old ++ (a ++ b ++ c ++ d)
@@ -108,18 +110,18 @@ texts_behind old a b c d = ap (λ x. x ++ c ++ d) (append_assoc old a b) ∙ ap 
 -- of a result that is made by its turns
 module _ (m : Meeting) (one : OneResult) (moves : List Move) (given : Run) (run : IsRunByTurns m.schema m.capacity m.scripts one.turns moves given) where
   -- the text, where so many turns and moves in front are left out
-  pub result_told : (front : Front) (k : ℕ) (shown : List Move) (old new : List ℕ) → IsFront m front → shown ≡ moves → length moves ≤ MOST_MOVES
-      → new ≡ old ++ result_line k one ++ worded (codes "turns") (turns_text (drop front.turns one.turns)) ++ worded (codes "moves") (moves_words_text (drop front.moves shown)) ++ given_text m.schema given
-      → (text : List ℕ) × (new ≡ old ++ text) × IsResultText m k one text
-  result_told front k shown old new is_front shown_is few new_is =
+  pub result_told : (first : Option (List ℕ)) (front : Front) (k : ℕ) (shown : List Move) (old new : List ℕ) → IsFront m front → shown ≡ moves → length moves ≤ MOST_MOVES
+      → new ≡ old ++ result_line k one ++ worded (codes "turns") (turns_text (drop front.turns one.turns)) ++ worded (codes "moves") (moves_words_text (drop front.moves shown)) ++ shown_text m first k given
+      → (text : List ℕ) × (new ≡ old ++ text) × IsResultText m first k one text
+  result_told first front k shown old new is_front shown_is few new_is =
       let left : List ℕ = drop (length (first_turns m.first m.scripts)) one.turns in
       let rest : List Move = drop (length is_front.before) moves in
       let turns : drop front.turns one.turns ≡ left = ap (λ n. drop n one.turns) is_front.turns_are in
       let behind : drop front.moves shown ≡ rest = (λ i. drop (is_front.moves_are i) (shown_is i)) in (
-        result_text m.schema k one left rest given,
+        result_text k one left rest (shown_text m first k given),
         new_is
-            ∙ (λ i. old ++ result_line k one ++ worded (codes "turns") (turns_text (turns i)) ++ worded (codes "moves") (moves_words_text (behind i)) ++ given_text m.schema given)
-            ∙ texts_behind old (result_line k one) (worded (codes "turns") (turns_text left)) (worded (codes "moves") (moves_words_text rest)) (given_text m.schema given),
+            ∙ (λ i. old ++ result_line k one ++ worded (codes "turns") (turns_text (turns i)) ++ worded (codes "moves") (moves_words_text (behind i)) ++ shown_text m first k given)
+            ∙ texts_behind old (result_line k one) (worded (codes "turns") (turns_text left)) (worded (codes "moves") (moves_words_text rest)) (shown_text m first k given),
         record { moves = moves; given = given; by_turns = run; few = few; before = is_front.before; are_first = is_front.are_first; is_text = refl },
       )
 
@@ -131,17 +133,17 @@ module _ (m : Meeting) (one : OneResult) (moves : List Move) (given : Run) (run 
 -- the next of the results that can come out
 module _ (m : Meeting) (all : Outcomes) (i : ℕ) (one : OneResult) (below : i < length all.results.items) (at : one ≡ get_or all.results.items i one) where
   -- with its text the texts are those of one more
-  pub one_more_taken : (out new texts text : List ℕ) (k : ℕ) → k ≡ i + 1 → out ≡ summary_text all ++ texts → AreResultTexts m 1 (take i all.results.items) texts
-      → new ≡ out ++ text → IsResultText m k one text
-      → (ts : List ℕ) × (new ≡ summary_text all ++ ts) × AreResultTexts m 1 (take (i + 1) all.results.items) ts
-  one_more_taken out new texts text k k_is out_is are new_is is =
+  pub one_more_taken : (first : Option (List ℕ)) (out new texts text : List ℕ) (k : ℕ) → k ≡ i + 1 → out ≡ summary_text all ++ texts → AreResultTexts m first 1 (take i all.results.items) texts
+      → new ≡ out ++ text → IsResultText m first k one text
+      → (ts : List ℕ) × (new ≡ summary_text all ++ ts) × AreResultTexts m first 1 (take (i + 1) all.results.items) ts
+  one_more_taken first out new texts text k k_is out_is are new_is is =
       let taken = length-take-le i all.results.items (omega arith) in
       let many : k ≡ 1 + length (take i all.results.items) = omega arith in
       let next : take i all.results.items ++ one ∷ [] ≡ take (i + 1) all.results.items = ap (λ (o : OneResult). take i all.results.items ++ o ∷ []) at ∙ sym (take_more all.results.items i one below) in (
         texts ++ text,
         new_is ∙ ap (λ o. o ++ text) out_is ∙ append_assoc (summary_text all) texts text,
-        subst (λ ones. AreResultTexts m 1 ones (texts ++ text)) next
-            (one_more m 1 (take i all.results.items) one texts text are (subst (λ n. IsResultText m n one text) many is)),
+        subst (λ ones. AreResultTexts m first 1 ones (texts ++ text)) next
+            (one_more m first 1 (take i all.results.items) one texts text are (subst (λ n. IsResultText m first n one text) many is)),
       )
 
   -- it may be too long
@@ -161,15 +163,29 @@ module _ (holds : TextPlace → List ℕ → Type 0) (lists : Lists) (count : �
   of_texts : (Of : Meeting → Type 0) → Of (meeting_of lists statements options) → Of (meeting_of lists (map (script lists) scripts.texts) options)
   of_texts Of of = subst (λ (ss : List (List Statement)). Of (meeting_of lists ss options)) same of
 
-  pub listed : (out : List ℕ) → IsListing (meeting_of lists statements options) options.limit out → OutcomesHeld holds count options out
+  pub listed : (out : List ℕ) → IsListing (meeting_of lists statements options) options.brief options.limit out → OutcomesHeld holds count options out
   listed out listing = (
     read_texts holds lists count read scripts Serial tt,
     record {
       count = ap is_count scripts.many ∙ right;
       texts = all_accepted holds lists count read scripts;
-      listing = subst (λ (s : Lists). IsListing (meeting_of s (map (script s) scripts.texts) options) options.limit out) read.says (of_texts (λ m. IsListing m options.limit out) listing);
+      listing = subst (λ (s : Lists). IsListing (meeting_of s (map (script s) scripts.texts) options) options.brief options.limit out) read.says (of_texts (λ m. IsListing m options.brief options.limit out) listing);
     },
   )
 
   pub over : (fails : TextPlace → Fault → Type 0) (fault : Fault) → IsOver (meeting_of lists statements options) options.limit fault → ToldOfOutcomes holds fails fault count options
   over fails fault is = inr (record { lists = lists; right = right; schema = read; scripts = scripts; over = of_texts (λ m. IsOver m options.limit fault) is })
+
+  -- the same of a wish
+  pub judged_held : (w : Wish) (judged : Judged) → IsJudgedAs (meeting_of lists statements options) w judged → JudgedHeld holds count options w judged
+  judged_held w judged is = (
+    read_texts holds lists count read scripts Serial tt,
+    record {
+      count = ap is_count scripts.many ∙ right;
+      texts = all_accepted holds lists count read scripts;
+      is_judged = subst (λ (s : Lists). IsJudgedAs (meeting_of s (map (script s) scripts.texts) options) w judged) read.says (of_texts (λ m. IsJudgedAs m w judged) is);
+    },
+  )
+
+  pub unjudged : (fails : TextPlace → Fault → Type 0) (fault : Fault) → IsUnjudged (meeting_of lists statements options) options.limit fault → ToldOfJudging holds fails fault count options
+  unjudged fails fault is = inr (record { lists = lists; right = right; schema = read; scripts = scripts; over = of_texts (λ m. IsUnjudged m options.limit fault) is })

@@ -1,15 +1,17 @@
 //! The program: reads the command's words and the files that they name, and prints what comes of them.
 #![tactic(auto)]
 
-ghost use Rattle.std.specs.Prelude.{◌≡◌, IfErr, true};
+ghost use Rattle.std.specs.Prelude.{◌≡◌, ◌<◌, IfErr, true};
 ghost use Rattle.std.specs.Process.{exit_status};
 ghost use Rattle.dbtg_schema.specs.Sound.{IsSound};
 ghost use Rattle.dbtg_command.specs.Refusals.{is_count, status_of};
 
+mod brief;
 mod outcomes;
 mod replay;
 mod threads;
 mod timeline;
+mod wishes;
 
 use clap::error::ErrorKind;
 use dbtg_audit::{Verdict, audit};
@@ -18,8 +20,9 @@ use dbtg_command::draw::draw;
 use dbtg_command::explain::{Topic, explained, status_topic};
 use dbtg_command::reason::reason;
 use dbtg_command::{
-    Call, Fault, Files, Named, Order, Paths, call_of, each_fault, read_schema, status_of,
+    Call, Fault, Files, Named, Order, Paths, Wished, call_of, each_fault, read_schema, status_of,
 };
+use dbtg_outcomes::Wish;
 use dbtg_replay::replay::{check_count, replay};
 use dbtg_replay::{moves_for_turns, refusals_of_first};
 use dbtg_schema::Schema;
@@ -32,9 +35,18 @@ use std::sync::Wait;
 use std::thread::Threads;
 use threads::{OnThreads, run_on_threads};
 use timeline::{Form, timeline};
+use wishes::{Judged, judge_outcomes};
 
 /// The exit status of a program whose reader has gone away: the one with which a shell reports that SIGPIPE ended it.
 const READER_GONE: u8 = 141;
+
+/// The exit status where some order breaks a wish.
+const WISH_BROKEN: u8 = 4;
+
+/// The exit status of a fault of the command's words.
+const WRONG_WORDS: u8 = 2;
+
+const GREATEST_STATUS: u16 = 9_999;
 
 fn told(rt: &HostRuntime, fault: &Fault) -> ExitCode
     ensures { exit_status result ≡ status_of fault.now }
@@ -284,10 +296,65 @@ fn tell_outcomes(rt: &HostRuntime, call: &Call) -> ExitCode {
         capacity: call.capacity,
         first: call.first,
         answers: call.answers,
+        brief: call.brief,
         limit: call.limit,
     };
-    let given = print_outcomes(rt.alloc(), &files, options);
-    print_run(rt, given, &files, call)
+    match call.wish {
+        Some(wished) => tell_judged(rt, &files, call, options, wished),
+        None => print_run(
+            rt,
+            print_outcomes(rt.alloc(), &files, options),
+            &files,
+            call,
+        ),
+    }
+}
+
+fn wish_of(wished: Wished) -> Wish
+    ensures { result.status < 10000 }
+{
+    Wish {
+        unit: wished.unit.min(255) as u8,
+        place: wished.place as usize,
+        status: wished.status.min(GREATEST_STATUS),
+        never: wished.never,
+    }
+}
+
+// What comes of a wish, with a status of its own where some order breaks it.
+fn tell_judged(
+    rt: &HostRuntime,
+    files: &Files<HostRuntime>,
+    call: &Call,
+    options: ListingOptions,
+    wished: Wished,
+) -> ExitCode {
+    match judge_outcomes(rt.alloc(), files, options, wish_of(wished)) {
+        Ok(Judged::Kept(text)) => print_run(rt, Ok(text), files, call),
+        Ok(Judged::Broken(text)) => print_broken(rt, text, files, call),
+        Ok(Judged::NoStatement) => no_statement(rt, wished),
+        Err(fault) => print_run(rt, Err(fault), files, call),
+    }
+}
+
+fn print_broken(
+    rt: &HostRuntime,
+    text: Vec<u8>,
+    files: &Files<HostRuntime>,
+    call: &Call,
+) -> ExitCode {
+    tell_refusals(rt, files, call);
+    let mut out = io::writer(rt);
+    match out.write_all(text.as_slice()) {
+        Ok(()) => ExitCode::from(WISH_BROKEN),
+        Err(error) => not_written(rt, &error),
+    }
+}
+
+fn no_statement(rt: &HostRuntime, wished: Wished) -> ExitCode {
+    let (unit, place) = (wished.unit, wished.place);
+    let _ = eprintln!(rt; "no statement {unit}.{place}");
+    ExitCode::from(WRONG_WORDS)
 }
 
 fn paths_of<'a>(schema: &'a str, scripts: &'a [&'a str], order: Order<&'a str>) -> Paths<'a> {

@@ -5,6 +5,7 @@ use Rattle.clap.proofs.OnLiterals.{clap_on_literals}
 use Rattle.clap.specs.Simple.{subcommand_of}
 use Rattle.clap.specs.Walk.{Row, all_of, one_of}
 use Rattle.dbtg_command.specs.Commands.{program}
+use Rattle.dbtg_command.specs.Wishing.{wish_in}
 
 -- the command that words name, behind the program's
 abbrev asked : List (List ℕ) → Option (List ℕ)
@@ -77,3 +78,22 @@ units_are_2 = refl
 turns_are_first : given (codes "turns" ∷ codes "t" ∷ codes "a.schema" ∷ codes "b" ∷ []) (codes "turns") ≡ Some (codes "t" ∷ [])
 unfolding clap_on_literals
 turns_are_first = refl
+
+-- the two words behind a wish are its own, and the schema comes behind them
+never_has_two : given (codes "outcomes" ∷ codes "--never" ∷ codes "2.5" ∷ codes "0803" ∷ codes "a.schema" ∷ []) (codes "never") ≡ Some (codes "2.5" ∷ codes "0803" ∷ [])
+unfolding clap_on_literals
+never_has_two = refl
+
+schema_behind_wish : given (codes "outcomes" ∷ codes "--always" ∷ codes "2.5" ∷ codes "0803" ∷ codes "a.schema" ∷ []) (codes "schema") ≡ Some (codes "a.schema" ∷ [])
+unfolding clap_on_literals
+schema_behind_wish = refl
+
+-- 2.5 0803 is the status 803 of unit 2's fifth statement
+wish_is_read : wish_in true (codes "2.5") (codes "0803") ≡ Some (record { never = true; unit = 2; place = 5; status = 803 })
+wish_is_read = refl
+
+no_status_of_three : wish_in true (codes "2.5") (codes "803") ≡ None
+no_status_of_three = refl
+
+no_unit_0 : wish_in false (codes "0.5") (codes "0000") ≡ None
+no_unit_0 = refl

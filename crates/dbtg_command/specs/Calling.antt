@@ -12,6 +12,7 @@ use Rattle.dbtg_command.specs.Capacity.{count_in}
 use Rattle.dbtg_command.specs.Commands.{name_of, program}
 use Rattle.dbtg_command.specs.Explaining.{IsAsked}
 use Rattle.dbtg_command.specs.Sources.{order_map}
+use Rattle.dbtg_command.specs.Wishing.{wish_of_either}
 
 -- the flag is there, or not
 pub record IsFlag (found : Found) (id : List ℕ) (flag : Bool) : Type 0 where
@@ -54,12 +55,14 @@ pub record IsCall (asked : Named) (found : Found) (call : Call) : Type 0 where
   pub echo : IsFlag found (codes "echo") call.echo
   pub svg : IsFlag found (codes "svg") call.svg
   pub answers : IsFlag found (codes "answers") call.answers
+  pub brief : IsFlag found (codes "brief") call.brief
   pub statuses : IsFlag found (codes "status") call.statuses
   pub first : call.first ≡ is_some (first_value found (codes "first"))
   pub capacity : count_for 1000 (first_value found (codes "capacity")) ≡ Some call.capacity
   pub limit : count_for 1000000000 (first_value found (codes "limit")) ≡ Some call.limit
   pub units : count_for 8 (first_value found (codes "units")) ≡ Some call.units
   pub order : order_map (λ path. path.now) call.order ≡ order_in found
+  pub wish : wish_of_either (words_in found (codes "never")) (words_in found (codes "always")) ≡ Some call.wish
   pub saved : option_map (λ path. path.now) call.saved ≡ first_value found (codes "save-turns")
   pub schema : call.schema.now ≡ unwrap_or (first_value found (codes "schema")) []
   pub scripts : map (λ path. path.now) call.scripts.items ≡ scripts_in found

@@ -30,8 +30,19 @@ words name = record (new_rule name) { action = Some Append; value_names = 1; ran
 abbrev pub all : Rule
 all = flag (codes "all")
 
+-- an option that names a statement and a status
+abbrev pub wish_option : List ℕ → Rule
+wish_option name = record (new_rule name) { long = Some name; action = Some Set; value_names = 2; range = Some (record { start_inclusive = 2; end_inclusive = 2 }) }
+
+-- it is not free: it excludes the wish that a status never comes
+abbrev pub always : Rule
+always = record (wish_option (codes "always")) { is_free = false }
+
 abbrev pub answers : Rule
 answers = flag (codes "answers")
+
+abbrev pub brief : Rule
+brief = flag (codes "brief")
 
 abbrev pub capacity : Rule
 capacity = number_option (codes "capacity") (codes "100")
@@ -50,6 +61,9 @@ limit = number_option (codes "limit") (codes "1000000")
 
 abbrev pub moves : Rule
 moves = file_option (codes "moves")
+
+abbrev pub never : Rule
+never = wish_option (codes "never")
 
 abbrev pub no_explain : Rule
 no_explain = flag (codes "no-explain")
@@ -108,7 +122,7 @@ rules_for named.Replay = capacity ∷ first ∷ moves ∷ turns_option ∷ echo 
 rules_for named.Turns = capacity ∷ explain ∷ no_explain ∷ turns_file ∷ schema ∷ scripts ∷ []
 rules_for named.Timeline = capacity ∷ first ∷ moves ∷ turns_option ∷ svg ∷ explain ∷ no_explain ∷ schema ∷ scripts ∷ []
 rules_for named.Page = capacity ∷ first ∷ moves ∷ turns_option ∷ explain ∷ no_explain ∷ schema ∷ scripts ∷ []
-rules_for named.Outcomes = capacity ∷ first ∷ limit ∷ answers ∷ explain ∷ no_explain ∷ schema ∷ scripts ∷ []
+rules_for named.Outcomes = capacity ∷ first ∷ limit ∷ answers ∷ brief ∷ never ∷ always ∷ explain ∷ no_explain ∷ schema ∷ scripts ∷ []
 rules_for named.Threads = capacity ∷ save_turns ∷ explain ∷ no_explain ∷ schema ∷ scripts ∷ []
 rules_for named.Audit = capacity ∷ units ∷ status ∷ explain ∷ no_explain ∷ schema ∷ trace ∷ []
 rules_for named.Draw = explain ∷ no_explain ∷ schema ∷ []

@@ -5,6 +5,7 @@ pub mod Capacity
 pub mod Sources
 pub mod Explaining
 pub mod Commands
+pub mod Wishing
 pub mod Calling
 pub mod FaultyWord
 pub mod Hints

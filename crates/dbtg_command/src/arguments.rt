@@ -1,6 +1,6 @@
 //! What a command can be given: options, files and other words, as `clap` is told of each.
 ghost use Rattle.std.specs.Prelude.{IfOk};
-ghost use Rattle.dbtg_command.specs.Commands.{all, answers, capacity, echo, explain, file_option, file_word, first, flag, limit, moves, no_explain, number_option, save_turns, topic, turns_file, turns_option, units, words, status, trace};
+ghost use Rattle.dbtg_command.specs.Commands.{all, answers, capacity, echo, explain, file_option, file_word, first, flag, limit, moves, no_explain, number_option, save_turns, topic, turns_file, turns_option, units, words, status, trace, always, brief, never, wish_option};
 ghost use Rattle.dbtg_command.specs.Inside.Commands.{IsArg, rule_for};
 
 use clap::{Arg, ArgAction};
@@ -10,13 +10,16 @@ use std::alloc::{AllocError, Global};
 #[derive(Clone, Copy)]
 pub enum Word<'a> {
     All,
+    Always,
     Answers,
+    Brief,
     Capacity,
     Echo,
     Explain,
     First,
     Limit,
     Moves,
+    Never,
     NoExplain,
     SaveTurns,
     Schema(&'a str),
@@ -29,6 +32,9 @@ pub enum Word<'a> {
     TurnsFile,
     Units,
 }
+
+// What stands for the two words of a wish.
+const WISH_WORDS: [&str; 2] = ["U.I", "STATUS"];
 
 /// What is said of a schema.
 pub const SCHEMA: &str = "The file of the schema; - for standard input";
@@ -68,6 +74,18 @@ fn number_option<'a>(alloc: Global, name: &'a str, usual: &'a str, help: &'a str
         .help(help)
 }
 
+// An option that names a statement and a status.
+fn wish_option<'a>(alloc: Global, name: &'a str, help: &'a str) -> Arg<'a>
+    ensures { IsArg (wish_option name.entry.now) result }
+{
+    Arg::new(alloc, name)
+        .long(name)
+        .value_names(&WISH_WORDS)
+        .num_args(2..=2)
+        .action(ArgAction::Set)
+        .help(help)
+}
+
 // A file that has to be named.
 fn file_word<'a>(alloc: Global, name: &'a str, shown: &'a str, help: &'a str) -> Arg<'a>
     ensures { IsArg (file_word name.entry.now) result }
@@ -97,6 +115,17 @@ fn all_option<'a>(alloc: Global) -> Arg<'a>
     flag(alloc, "all", help)
 }
 
+fn always_option<'a>(alloc: Global) -> Result<Arg<'a>, AllocError>
+    ensures { IfOk result (IsArg always) }
+{
+    wish_option(
+        alloc,
+        "always",
+        "Tells whether statement I of unit U always has this status; not with --never",
+    )
+    .conflicts_with("never")
+}
+
 fn answers_option<'a>(alloc: Global) -> Arg<'a>
     ensures { IsArg answers result }
 {
@@ -104,6 +133,16 @@ fn answers_option<'a>(alloc: Global) -> Arg<'a>
         alloc,
         "answers",
         "Tells results apart by the units' answers too [default: by the rest alone]",
+    )
+}
+
+fn brief_option<'a>(alloc: Global) -> Arg<'a>
+    ensures { IsArg brief result }
+{
+    flag(
+        alloc,
+        "brief",
+        "Shows of each further result the lines that differ from the first [default: all of it]",
     )
 }
 
@@ -155,6 +194,16 @@ fn moves_option<'a>(alloc: Global) -> Arg<'a>
         alloc,
         "moves",
         "The file of the moves; - for standard input [default: script after script]",
+    )
+}
+
+fn never_option<'a>(alloc: Global) -> Arg<'a>
+    ensures { IsArg never result }
+{
+    wish_option(
+        alloc,
+        "never",
+        "Tells whether statement I of unit U never has this status; status 4 where it has, in some order",
     )
 }
 
@@ -230,13 +279,16 @@ pub fn arg_of<'a>(alloc: Global, word: Word<'a>) -> Result<Arg<'a>, AllocError>
 {
     match word {
         Word::All => Ok(all_option(alloc)),
+        Word::Always => always_option(alloc),
         Word::Answers => Ok(answers_option(alloc)),
+        Word::Brief => Ok(brief_option(alloc)),
         Word::Capacity => Ok(capacity_option(alloc)),
         Word::Echo => Ok(echo_option(alloc)),
         Word::Explain => Ok(explain_option(alloc)),
         Word::First => Ok(first_option(alloc)),
         Word::Limit => Ok(limit_option(alloc)),
         Word::Moves => Ok(moves_option(alloc)),
+        Word::Never => Ok(never_option(alloc)),
         Word::NoExplain => Ok(no_explain_option(alloc)),
         Word::SaveTurns => Ok(save_turns_option(alloc)),
         Word::Schema(help) => Ok(file_word(alloc, "schema", "SCHEMA", help)),

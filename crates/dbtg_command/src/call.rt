@@ -1,11 +1,12 @@
 //! What the words of the command ask for, of what `clap` finds in them.
-ghost use Rattle.std.specs.Prelude.{◌≡◌, ◌++◌, ◌≤◌, IfOk, IfSome, OnOk, codes, map, option_map, option_to_list, string_bytes};
+ghost use Rattle.std.specs.Prelude.{◌≡◌, ◌++◌, ◌≤◌, IfOk, IfSome, OnOk, codes, map, option_map, option_to_list, string_bytes, Some};
 ghost use Rattle.clap.specs.Matches.{first_value, found_of};
 ghost use Rattle.dbtg_command.specs.Calling.{IsCall, IsCallOf, count_for, order_in, scripts_in, words_in};
 ghost use Rattle.dbtg_command.specs.Capacity.{count_in};
 ghost use Rattle.dbtg_command.specs.Commands.{name_of};
 ghost use Rattle.dbtg_command.specs.Explaining.{IsAsked};
 ghost use Rattle.dbtg_command.specs.Sources.{order_map};
+ghost use Rattle.dbtg_command.specs.Wishing.{wish_for, wish_of_either};
 ghost use Rattle.dbtg_command.specs.Inside.Commands.{IsCallIn};
 
 use crate::capacity::count_of;
@@ -13,6 +14,7 @@ use crate::command::{ALL, Named, command, name_of, refused};
 use crate::explain::{Topic, topic_of};
 use crate::files::STANDARD_INPUT;
 use crate::order::Order;
+use crate::wished::{Wished, wish_of};
 use clap::error::ErrorKind;
 use clap::{ArgMatches, Error};
 use std::alloc::{AllocError, Global};
@@ -34,6 +36,8 @@ pub struct Call<'a> {
     pub svg: bool,
     /// Results are also told apart by the answers that units get.
     pub answers: bool,
+    /// Results are shown as what differs from the first.
+    pub brief: bool,
     /// Statuses alone are compared.
     pub statuses: bool,
     /// The last script is made before all others.
@@ -43,6 +47,8 @@ pub struct Call<'a> {
     pub limit: u64,
     pub units: u16,
     pub order: Order<&'a str>,
+    /// What is wished of a statement over all orders.
+    pub wish: Option<Wished>,
     /// Where the turns of the run go.
     pub saved: Option<&'a str>,
     pub schema: &'a str,
@@ -130,6 +136,44 @@ fn order_wanted<'a>(given: &ArgMatches<'a>) -> Order<&'a str>
     }
 }
 
+// The wish that the two words of an option say, if it has any.
+fn wish_said(
+    alloc: Global,
+    named: Named,
+    never: bool,
+    words: &[&str],
+) -> Result<Option<Wished>, Error>
+    ensures { IfOk result (λ wish. wish_for never (map (λ word. word.now) words.now) ≡ Some wish) }
+{
+    match words {
+        [] => return Ok(None),
+        [place, status] => {
+            if let Some(wish) = wish_of(never, place, status) {
+                return Ok(Some(wish));
+            }
+        }
+        _ => {}
+    }
+    Err(refused(
+        alloc,
+        named,
+        ErrorKind::ValueValidation,
+        "no statement and status are named so: a unit, a period and a place are wanted, and a status of four digits, as 2.5 0803",
+    )?)
+}
+
+// What is wished of a statement; the reader of the words takes one of the two options.
+fn wish_wanted(alloc: Global, named: Named, given: &ArgMatches) -> Result<Option<Wished>, Error>
+    ensures { IfOk result (λ wish. wish_of_either (words_in (found_of given.now) (codes "never")) (words_in (found_of given.now) (codes "always")) ≡ Some wish) }
+{
+    let never = words_of(alloc, given, "never")?;
+    if !never.is_empty() {
+        return wish_said(alloc, named, true, never.as_slice());
+    }
+    let always = words_of(alloc, given, "always")?;
+    wish_said(alloc, named, false, always.as_slice())
+}
+
 fn topic_wanted(alloc: Global, given: &ArgMatches) -> Result<Topic, Error>
     ensures { IfOk result (λ topic. IsAsked (words_in (found_of given.now) (codes "topic")) (Some topic)) }
 {
@@ -152,6 +196,7 @@ fn given_call<'a>(alloc: Global, named: Named, given: &ArgMatches<'a>) -> Result
     let limit = count_wanted(alloc, named, given, "limit", 1_000_000_000)?;
     let units = count_wanted(alloc, named, given, "units", 8)?;
     let topic = topic_wanted(alloc, given)?;
+    let wish = wish_wanted(alloc, named, given)?;
     let scripts = scripts_wanted(alloc, given)?;
     Ok(Call {
         named,
@@ -161,12 +206,14 @@ fn given_call<'a>(alloc: Global, named: Named, given: &ArgMatches<'a>) -> Result
         echo: given.get_flag("echo"),
         svg: given.get_flag("svg"),
         answers: given.get_flag("answers"),
+        brief: given.get_flag("brief"),
         statuses: given.get_flag("status"),
         first: given.get_str("first").is_some(),
         capacity: capacity as u16,
         limit,
         units: units as u16,
         order: order_wanted(given),
+        wish,
         saved: given.get_str("save-turns"),
         schema: given.get_str("schema").unwrap_or(""),
         scripts,

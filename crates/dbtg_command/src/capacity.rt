@@ -10,7 +10,15 @@ pub fn count_of(word: &str, most: u64) -> Option<u64>
     ensures count { result ≡ count_in most word.now }
     ensures within { IfSome result (λ n. n ≤ most) }
 {
-    let digits = word.as_bytes();
+    count_in_digits(word.as_bytes(), most)
+}
+
+/// The same of a word that is given as bytes.
+pub fn count_in_digits(digits: &[u8], most: u64) -> Option<u64>
+    requires { most ≤ 1000000000 }
+    ensures count { result ≡ count_in most digits.now }
+    ensures within { IfSome result (λ n. n ≤ most) }
+{
     if !is_number(digits) {
         return None;
     }

@@ -69,7 +69,7 @@ pub enum Topic {
 }
 
 /// The number that digits say, up to a greatest one.
-fn number_in(digits: &[u8], most: u16) -> Option<u16>
+pub fn number_in(digits: &[u8], most: u16) -> Option<u16>
     ensures { result ≡ number_in most digits.now }
 {
     if !is_number(digits) {

@@ -21,6 +21,7 @@ mod reading;
 pub mod reason;
 mod source;
 mod texts;
+mod wished;
 
 pub use at_hand::AtHand;
 pub use call::{Call, call_of};
@@ -34,3 +35,4 @@ pub use place::TextPlace;
 pub use reading::take_script;
 pub use source::Source;
 pub use texts::{read_moves, read_schema, read_trace, read_turns};
+pub use wished::Wished;

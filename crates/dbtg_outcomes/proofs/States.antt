@@ -1,12 +1,15 @@
 -- The states that orders lead to, layer by layer, and what comes out in the end.
 -- May use: `Lists` and `Orders`, and the image and replay of dbtg_unit.
--- Promises: `SameStates`: what a search may put together; `Results`, `ComesOut`: what is given out is all that can come out.
+-- Promises: `SameStates`: what a search may put together; `Results`, `ComesOut`: what is given out is all that can come out; `Broken`:
+-- the turns that break a wish are found, where there are any.
+pub mod Broken
 pub mod ComesOut
 pub mod Entered
 pub mod First
 pub mod Histories
 pub mod Layers
 pub mod Noted
+pub mod Placed
 pub mod Results
 pub mod Runs
 pub mod SameImages

@@ -8,3 +8,4 @@ pub mod Search
 pub mod Spelling
 pub mod Statuses
 pub mod Steps
+pub mod Wishes

@@ -5,4 +5,5 @@ pub mod Orders
 pub mod Outcomes
 pub mod Results
 pub mod Spelling
+pub mod Wishes
 pub mod Inside

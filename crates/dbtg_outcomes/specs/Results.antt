@@ -1,14 +1,17 @@
--- What an order leads to: the state after it, and the text by which its result is told from others.
+-- What an order leads to: the state after it, and the text by which its result is told from others; and that text as it is shown line
+-- by line.
 -- m is a meeting of scripts, u a unit.
-use Rattle.std.specs.Prelude.{ℕ, ◌==◌, Bool, List, [], ◌∷◌, ◌++◌, map, filter, length, option_map, option_to_list, flat_map, if◌then◌else◌}
+use Rattle.std.specs.Prelude.{ℕ, ◌+◌, ◌==◌, Bool, List, [], ◌∷◌, ◌++◌, map, filter, length, option_map, option_to_list, flat_map, decimal, if◌then◌else◌}
 use Rattle.std.specs.List.{range_with_len}
 use Rattle.dbtg_schema.specs.Lists.{Lists}
 use Rattle.dbtg_cells.specs.declared.usage.Mode.{Mode}
-use Rattle.dbtg_script.specs.Printing.Texts.{answers_text, run_text}
+use Rattle.dbtg_script.specs.Printing.Spelling.{behind}
+use Rattle.dbtg_script.specs.Printing.Texts.{answer_text, answers_text, run_text}
 use Rattle.dbtg_unit.specs.declared.statement.Statement.{Statement}
 use Rattle.dbtg_unit.specs.declared.unit.Entry.{Entry}
 use Rattle.dbtg_unit.specs.Database.State.Image.{image_of}
 use Rattle.dbtg_unit.specs.Database.Laws.Replay.{State, after_outcome, entries_of, opening_state, outcome_of, state_after}
+use Rattle.dbtg_step.specs.declared.results.Run.{Run}
 use Rattle.dbtg_outcomes.specs.Orders.{made}
 use Rattle.dbtg_outcomes.specs.Spelling.{image_numbers, list_numbers, one_number, unit_numbers}
 
@@ -72,3 +75,24 @@ state_key m order =
     ++ (image_numbers (image_of m.schema m.capacity (state_of m order).database)
     ++ (list_numbers unit_numbers (state_of m order).units
     ++ list_numbers (list_numbers one_number) (answers_told m order)))
+
+-- LINE BY LINE
+
+-- an answer behind its unit and the place of its statement: these stand in place of ticket and unit
+abbrev pub placed_answer : Lists → ℕ → Entry → List ℕ
+placed_answer schema place e = decimal e.unit ++ 46 ∷ decimal place ++ 32 ∷ behind 32 (behind 32 (answer_text schema e))
+
+-- those of the statements of one unit, the first of them at this place
+abbrev pub placed_answers : Lists → ℕ → List Entry → List ℕ
+placed_answers schema place [] = []
+placed_answers schema place (e ∷ es) = placed_answer schema place e ++ placed_answers schema (place + 1) es
+
+-- those of each unit in a run, where they tell results apart
+abbrev pub placed_told : Meeting → List Entry → List ℕ
+placed_told m history = if m.tells then flat_map (λ u. placed_answers m.schema 1 (map untimed (entries_of u history))) (units_of m) else []
+
+-- what tells the result of a run from others, a line for each answer, and then what is printed behind `--`, but that the units that
+-- have an area open stand in the order of their numbers
+abbrev pub told_text : Meeting → Run → List ℕ
+told_text m run =
+    placed_told m run.history ++ run_text m.schema [] run.image.records run.image.lists run.image.next (map (by_unit (units_of m)) run.image.usage) run.units

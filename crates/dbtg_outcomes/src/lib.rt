@@ -13,9 +13,11 @@ mod parts;
 mod search;
 mod spelled;
 mod told;
+mod wishes;
 
 pub use answered::Answered;
 pub use laws::{every_run_comes_out, orders_are_all_merges};
 pub use meeting::Meeting;
 pub use outcomes::{OneResult, Outcomes, all_outcomes};
 pub use search::Stop;
+pub use wishes::{Wish, broken_turns, is_there};

@@ -7,11 +7,12 @@ ghost use Rattle.dbtg_unit.specs.Database.Laws.Replaying.{statements_of};
 ghost use Rattle.dbtg_step.specs.Core.Whole.{HasMade};
 ghost use Rattle.dbtg_outcomes.specs.Outcomes.{HasStatus, IsMeeting};
 ghost use Rattle.dbtg_outcomes.specs.Inside.Outcomes.{IsRunOf};
-ghost use Rattle.dbtg_outcomes.specs.Results.{answers_told, result_text, state_key};
+ghost use Rattle.dbtg_outcomes.specs.Results.{answers_told, placed_told, result_text, state_key, told_text};
 
 use crate::spelled::Spelled;
-use crate::told::{answers_by_unit, result_text};
+use crate::told::{answers_by_unit, placed_by_unit, result_text, usage_by_unit};
 use dbtg_schema::{Row, Schema};
+use dbtg_script::push_run;
 use dbtg_step::{Run, WholeDatabase};
 use dbtg_unit::{Entry, Statement};
 use std::alloc::{AllocError, Global};
@@ -212,5 +213,30 @@ impl<'a> Meeting<'a> {
         let key = self.key_told(alloc, &mut run);
         let history = run.into_history();
         Ok((key?, history))
+    }
+
+    // The answers of a history with the places of their statements, where they tell results apart.
+    fn placed_answers(&self, alloc: Global, history: &[Entry]) -> Result<Vec<u8>, AllocError>
+        requires { IsMeeting self.now }
+        ensures { IfOk result (λ text. text.items ≡ placed_told self.now history.now) }
+    {
+        if self.tells_answers {
+            placed_by_unit(alloc, self.schema, history, self.units())
+        } else {
+            Ok(Vec::new(alloc))
+        }
+    }
+
+    /// What tells the result of a run from others, line by line: the answers, where they do, and what is printed behind `--`. In the
+    /// image of the run the units that have an area open then stand in the order of their numbers.
+    pub fn told_text(&self, alloc: Global, run: &mut Run) -> Result<Vec<u8>, AllocError>
+        requires { IsMeeting self.now }
+        ensures { IfOk result (λ text. text.items ≡ told_text self.now run.old) }
+    {
+        let mut out = self.placed_answers(alloc, run.history.as_slice())?;
+        run.image.usage = usage_by_unit(alloc, run.image.usage.as_slice(), self.units())?;
+        let (image, units) = (&run.image, run.units.as_slice());
+        push_run(alloc, &mut out, self.schema, &[], image, units)?;
+        Ok(out)
     }
 }

@@ -78,7 +78,7 @@ fn by_result(alloc: Global, meeting: &Meeting, last: &[Group]) -> Result<Vec<Gro
 }
 
 // Whose turn it is, entry by entry.
-fn turns_of(alloc: Global, history: &[Entry]) -> Result<Row<u8>, AllocError>
+pub(crate) fn turns_of(alloc: Global, history: &[Entry]) -> Result<Row<u8>, AllocError>
     ensures { IfOk result (λ turns. turns ≡ map (λ e. e.unit) history.now) }
 {
     let mut turns = Row::of(Vec::new(alloc));

@@ -44,7 +44,7 @@ impl<T: Drop> From<AllocFailed<T>> for Stop {
 
 impl<'a> Meeting<'a> {
     // The unit's next statement after a history, if it has one left.
-    fn next_statement(&self, history: &[Entry], unit: u8) -> Option<&Statement>
+    pub(crate) fn next_statement(&self, history: &[Entry], unit: u8) -> Option<&Statement>
         requires numbered { 0 < unit }
         requires within { unit ≤ length self.now.scripts }
         ensures { option_map (λ x. x.now) result ≡ next_of self.now.scripts (statements_of history.now) unit }
@@ -201,7 +201,7 @@ impl Search {
     }
 
     // One statement more.
-    fn step(&mut self, alloc: Global, meeting: &Meeting) -> Result<(), Stop>
+    pub(crate) fn step(&mut self, alloc: Global, meeting: &Meeting) -> Result<(), Stop>
         requires meeting { IsMeeting meeting.now }
         requires at { IsUnderWay meeting.now self.old }
         ensures advances { OnOk result (Advances meeting.now 1 self.old self.new) }

@@ -4,7 +4,7 @@ use Rattle.std.proofs.Common.{◌≡◌, refl, sym, ◌∙◌, ap, subst, ℕ, z
 use Rattle.std.specs.Prelude.{◌==◌, filter, flat_map, option_and_then, option_map, option_to_list, slice_get, if◌then◌else◌}
 use Rattle.std.specs.List.{range_with_len}
 use Rattle.std.proofs.lemmas.Bool.{cases_lt, eq-eqb, ne_eqb}
-use Rattle.std.proofs.lemmas.List.{append_cancel_left}
+use Rattle.std.proofs.lemmas.List.{append_cancel_left, length-append}
 use Rattle.std.proofs.lemmas.Option.{slice_get_within}
 use Rattle.std.proofs.lemmas.List.Concat.{flat_map-append}
 use Rattle.dbtg_cells.proofs.Public.{there_is}
@@ -215,6 +215,19 @@ module _ (scripts : List (List Statement)) where
       let last = of_ext at.0 o at.2 in
       let more = next_left at.0 last.0.0 last.0.1 last.1.next in
       let is : left 1 scripts (at.0 ++ last.0 ∷ []) ≡ left 1 scripts o = ap (left 1 scripts) last.2 in
+      omega arith
+
+  -- each has as many statements more
+  pub begun_long : (first : List (ℕ × Statement)) (n : ℕ) (o : List (ℕ × Statement)) → In o (begun first n) → length o ≡ length first + n
+  unfolding completed
+  begun_long first zero o (inl e) = let same : length first ≡ length o = ap length e in omega arith
+  begun_long first zero o (inr e) = absurd e
+  begun_long first (suc n) o i =
+      let at = of_flat_map ext o (begun first n) (subst (λ (l : List (List (ℕ × Statement))). In o l) (completed_last n first) i) in
+      let before = begun_long first n at.0 at.1 in
+      let last = of_ext at.0 o at.2 in
+      let one : length (at.0 ++ last.0 ∷ []) ≡ length at.0 + 1 = length-append at.0 (last.0 ∷ []) in
+      let is : length (at.0 ++ last.0 ∷ []) ≡ length o = ap length last.2 in
       omega arith
 
   pub begun_more : (first : List (ℕ × Statement)) (n : ℕ) (o : List (ℕ × Statement)) (s : ℕ × Statement) → In o (begun first n) → IsNext o s → In (o ++ s ∷ []) (begun first (suc n))

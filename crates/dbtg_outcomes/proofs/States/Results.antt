@@ -72,7 +72,7 @@ module _ (m : Meeting) where
 
   -- AS THEY ARE GIVEN OUT
 
-  units_alone : (es : List Entry) → map (λ (e : Entry). e.unit) es ≡ map (λ (s : ℕ × Statement). s.0) (statements_of es)
+  pub units_alone : (es : List Entry) → map (λ (e : Entry). e.unit) es ≡ map (λ (s : ℕ × Statement). s.0) (statements_of es)
   units_alone [] = refl
   units_alone (e ∷ es) = ap (λ l. e.unit ∷ l) (units_alone es)
 

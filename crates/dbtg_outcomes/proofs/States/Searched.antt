@@ -99,9 +99,9 @@ module _ (m : Meeting) where
   next_moves : (o p : List (ℕ × Statement)) (u : ℕ) → SameState m o p → In u (units_of m) → next_of m.scripts o u ≡ next_of m.scripts p u
   next_moves o p u same i = ap (λ k. option_and_then (λ (script : List Statement). slice_get script k) (unit_at m.scripts u)) (same.made_same u i)
 
-  -- what is noted of an order that is begun comes
-  pub noted_comes : (n : ℕ) (o : List (ℕ × Statement)) (u : ℕ) (x : Statement) (note : Note) → In o (orders_after m.first m.scripts n) → In u (units_of m) → next_of m.scripts o u ≡ Some x → IsNote m o u x note → Comes m note.unit note.place note.status
-  noted_comes n o u x note i j e h =
+  -- an order that is begun, with a next statement, goes on to the end of all scripts
+  pub next_completes : (n : ℕ) (o : List (ℕ × Statement)) (u : ℕ) (x : Statement) → In o (orders_after m.first m.scripts n) → In u (units_of m) → next_of m.scripts o u ≡ Some x → (rest : List (ℕ × Statement)) × Contains (orders m.first m.scripts) (o ++ (u, x) ∷ rest)
+  next_completes n o u x i j e =
       let next : IsNext m.scripts o (u, x) = record { unit = j; next = e } in
       let front = made_first m.first m.scripts in
       let more = begun_more m.scripts front n o (u, x) i next in
@@ -109,11 +109,17 @@ module _ (m : Meeting) where
       let whole = completes m.scripts front _ (suc n) (o ++ (u, x) ∷ []) refl more in
       let is : In ((o ++ (u, x) ∷ []) ++ whole.rest) (orders m.first m.scripts) = subst (λ (c : ℕ). In ((o ++ (u, x) ∷ []) ++ whole.rest) (completed m.scripts c front)) left_is whole.begun_with in
       let order : In (o ++ (u, x) ∷ whole.rest) (orders m.first m.scripts) = subst (λ (l : List (ℕ × Statement)). In l (orders m.first m.scripts)) (append_assoc o ((u, x) ∷ []) whole.rest) is in
+      (whole.rest, in_contains (orders m.first m.scripts) (o ++ (u, x) ∷ whole.rest) order)
+
+  -- what is noted of an order that is begun comes
+  pub noted_comes : (n : ℕ) (o : List (ℕ × Statement)) (u : ℕ) (x : Statement) (note : Note) → In o (orders_after m.first m.scripts n) → In u (units_of m) → next_of m.scripts o u ≡ Some x → IsNote m o u x note → Comes m note.unit note.place note.status
+  noted_comes n o u x note i j e h =
+      let whole = next_completes n o u x i j e in
       subst (λ (v : ℕ). Comes m v note.place note.status) (sym h.unit_is) (record {
         before = o;
         statement = x;
-        rest = whole.rest;
-        is_order = in_contains (orders m.first m.scripts) (o ++ (u, x) ∷ whole.rest) order;
+        rest = whole.0;
+        is_order = whole.1;
         place_is = sym h.place_is;
         status = h.status;
       })

@@ -10,7 +10,7 @@ returns-clause-done g c =
     let count = g.S.Source.count c.args.source.now in
     let read = c.in_ok-scripts.ensures.read in
     let m = meeting_of c.args.known.now c.as_slice.result.now c.args.options in
-    IfOk-weaker c.print_meeting.result (λ out. IsListing m c.args.options.limit out.items) (λ out. OutcomesHeld holds count c.args.options out.items)
+    IfOk-weaker c.print_meeting.result (λ out. IsListing m c.args.options.brief c.args.options.limit out.items) (λ out. OutcomesHeld holds count c.args.options out.items)
     (λ out listing. listed holds c.args.known.now count c.args.options c.requires.counted c.requires.read read.0 _ (c.as_slice.ensures ∙ read.1) out.items listing) c.print_meeting.ensures.done
 
 pub returns-clause-refused : goal.returns-clause-refused

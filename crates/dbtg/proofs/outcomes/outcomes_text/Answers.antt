@@ -1,5 +1,6 @@
 use Rattle.std.proofs.Common.{◌≡◌, ◌+◌, List, ap, arith, get_or, subst}
 use Rattle.std.proofs.lemmas.Result.{err_from_is_err_and}
+use Rattle.std.specs.Prelude.{option_map}
 use Rattle.dbtg_outcomes.specs.declared.outcomes.OneResult.{OneResult}
 use Rattle.dbtg.proofs.Listings.{one_more_taken, untold_of}
 use Rattle.dbtg.proofs.outcomes.outcomes_text.Goals as goal
@@ -18,5 +19,5 @@ loop-one-preserved c =
     let next : c.loop-one.number + 1 ≡ c.loop-one.one-index + 1 = ap (λ n. n + 1) c.loop-one.invariant.number in
     record {
       number = next;
-      told = one_more_taken c.args.meeting.now c.args.all.now c.loop-one.one-index c.one-item.result (omega (arith, c.loop-one-test.true)) at c.loop-one.out.items _ told.0 new.0 _ next told.1 told.2 new.1 new.2;
+      told = one_more_taken c.args.meeting.now c.args.all.now c.loop-one.one-index c.one-item.result (omega (arith, c.loop-one-test.true)) at (option_map (λ text. text.now) c.args.showing.first) c.loop-one.out.items _ told.0 new.0 _ next told.1 told.2 new.1 new.2;
     }

@@ -1,10 +1,9 @@
-use Rattle.std.proofs.Common.{◌≡◌, ◌++◌, ℕ, List, sym, subst}
+use Rattle.std.proofs.Common.{ℕ, List, subst}
+use Rattle.std.specs.Prelude.{option_map}
 use Rattle.std.proofs.lemmas.Result.{IfErr-weaker, IfOk-weaker}
 use Rattle.dbtg_unit.specs.declared.statement.Statement.{Statement}
 use Rattle.dbtg_step.specs.Core.Turns.{AreGiven, IsRunByTurns}
 use Rattle.dbtg_outcomes.specs.Results.{Meeting}
-use Rattle.dbtg.specs.Inside.Listing.{IsFront}
-use Rattle.dbtg.specs.Listing.{IsResultText}
 use Rattle.dbtg.proofs.Listings.{long_told, result_told}
 use Rattle.dbtg.proofs.outcomes.push_result.Goals as goal
 
@@ -15,11 +14,10 @@ returns-clause-done c =
     let one = c.args.one.now in
     let turns = subst (λ (turns : List ℕ). IsRunByTurns m.schema m.capacity c.in_ok-copies.copies turns turned.moves c.in_ok-turned.turned.run) c.as_slice.ensures turned.run in
     let run = subst (λ (scripts : List (List Statement)). IsRunByTurns m.schema m.capacity scripts one.turns turned.moves c.in_ok-turned.turned.run) c.in_ok-copies.ensures turns in
-    let front : IsFront m c.args.front = subst (λ (n : Meeting). IsFront n c.args.front) (sym c.meeting.view_is) c.requires.front in
+    let own = subst (λ (n : Meeting). IsRunByTurns n.schema n.capacity n.scripts one.turns turned.moves c.in_ok-turned.turned.run) c.meeting.view_is run in
     IfOk-weaker c.push_made-pushed.result _ _ (λ _ made.
     let given = subst (AreGiven 1000000 turned.moves) made.1 turned.given_moves in
-    subst (λ (n : Meeting). (text : List ℕ) × (c.push_made-pushed.new.out.items ≡ c.args.out.now.items ++ text) × IsResultText n c.args.number one text) c.meeting.view_is
-    (result_told m one turned.moves c.in_ok-turned.turned.run run c.args.front c.args.number made.0 c.args.out.now.items c.push_made-pushed.new.out.items front given.0 given.1 made.2)) c.push_made-pushed.ensures.done
+    result_told c.args.meeting.now one turned.moves c.in_ok-turned.turned.run own (option_map (λ text. text.now) c.args.showing.first) c.args.showing.front c.args.number made.0 c.args.out.now.items c.push_made-pushed.new.out.items c.requires.front given.0 given.1 made.2) c.push_made-pushed.ensures.done
 
 pub returns-clause-refused : goal.returns-clause-refused
 returns-clause-refused c =

@@ -1,0 +1,6 @@
+use Rattle.std.proofs.Common.{None, take}
+use Rattle.dbtg_outcomes.specs.Inside.Wishes.{IsBrokenIn}
+use Rattle.dbtg_outcomes.proofs.meeting.Meeting.broken_in.Given as goal
+
+abbrev pub invariant-loop-group : goal.invariant-loop-group
+invariant-loop-group l = IsBrokenIn l.self l.wish (take l.group-index l.layer) None
