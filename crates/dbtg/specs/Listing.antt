@@ -149,6 +149,7 @@ IsOver m limit fault.MovesOver = HasLongResult m
 IsOver m limit (fault.StatesOver n) = (n ≡ limit) × (limit < count_states m)
 IsOver m limit (fault.Schema line cause) = ⊥
 IsOver m limit (fault.Script n line cause) = ⊥
+IsOver m limit (fault.Program n line cause) = ⊥
 IsOver m limit (fault.Moves word cause) = ⊥
 IsOver m limit (fault.Turns word cause) = ⊥
 IsOver m limit (fault.Trace line cause) = ⊥

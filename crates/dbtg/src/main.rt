@@ -25,6 +25,7 @@ use dbtg_command::{
 use dbtg_outcomes::Wish;
 use dbtg_replay::replay::{check_count, replay};
 use dbtg_replay::{moves_for_turns, refusals_of_first};
+use dbtg_running::{Printed, run};
 use dbtg_schema::Schema;
 use dbtg_shell::{Broken, Session, converse, write_file};
 use outcomes::{ListingOptions, print_outcomes};
@@ -36,6 +37,9 @@ use std::thread::Threads;
 use threads::{OnThreads, run_on_threads};
 use timeline::{Form, timeline};
 use wishes::{Judged, judge_outcomes};
+
+/// The exit status of a run in which a program ended by ASSERT, SIZE or ASTRAY.
+const PROGRAM_FAILED: u8 = 4;
 
 /// The exit status of a program whose reader has gone away: the one with which a shell reports that SIGPIPE ended it.
 const READER_GONE: u8 = 141;
@@ -56,9 +60,14 @@ fn told(rt: &HostRuntime, fault: &Fault) -> ExitCode
 }
 
 fn print_text(rt: &HostRuntime, text: &[u8]) -> ExitCode {
+    print_with(rt, text, ExitCode::SUCCESS)
+}
+
+// The text, and this status where it could be written.
+fn print_with(rt: &HostRuntime, text: &[u8], status: ExitCode) -> ExitCode {
     let mut out = io::writer(rt);
     match out.write_all(text) {
-        Ok(()) => ExitCode::SUCCESS,
+        Ok(()) => status,
         Err(error) => not_written(rt, &error),
     }
 }
@@ -205,6 +214,26 @@ fn print_saved(rt: &HostRuntime, said: &OnThreads, saved: Option<&str>) -> ExitC
         }
     }
     print_text(rt, said.printed.as_slice())
+}
+
+fn print_programs(rt: &HostRuntime, call: &Call) -> ExitCode {
+    let paths = paths_of(call.schema, call.scripts.as_slice(), call.order);
+    let files = Files {
+        reader: rt,
+        paths: &paths,
+    };
+    match run(rt.alloc(), &files, call.capacity) {
+        Ok(said) => print_with(rt, said.text.as_slice(), status_of_programs(&said)),
+        Err(fault) => told_of(rt, &fault, &paths, call.explains),
+    }
+}
+
+fn status_of_programs(said: &Printed) -> ExitCode {
+    if said.failed {
+        ExitCode::from(PROGRAM_FAILED)
+    } else {
+        ExitCode::SUCCESS
+    }
 }
 
 fn print_turns(rt: &HostRuntime, call: &Call) -> ExitCode {
@@ -370,6 +399,7 @@ fn carry_out<R: Threads + Wait + Sync>(rt: &HostRuntime, threads: &R, call: &Cal
         Named::Turns => print_turns(rt, call),
         Named::Outcomes => tell_outcomes(rt, call),
         Named::Threads => print_threads(rt, threads, call),
+        Named::Run => print_programs(rt, call),
         Named::Audit => print_audit(rt, call),
         Named::Explain => print_topic(rt, &call.topic),
         Named::Shell => run_shell(rt, call),

@@ -4,7 +4,7 @@ use Rattle.dbtg_schema.specs.Lists.{Lists}
 use Rattle.dbtg_schema.specs.Texts.SchemaFaults.{refusal}
 use Rattle.dbtg_schema.specs.declared.fault.Fault.{Fault as SchemaRefusal}
 use Rattle.dbtg_command.specs.declared.fault.Fault.{Fault}
-use Rattle.dbtg_command.specs.declared.fault.Fault.TheVariants.{Schema, Script, Moves, Turns, Trace, MovesOver, StatesOver, Unreadable, ScriptCount, Memory}
+use Rattle.dbtg_command.specs.declared.fault.Fault.TheVariants.{Schema, Script, Moves, Turns, Trace, MovesOver, StatesOver, Unreadable, ScriptCount, Memory, Program}
 use Rattle.dbtg_command.specs.declared.order.Order.{Order}
 use Rattle.dbtg_command.specs.Inside.Files.{FileFails, FileHolds}
 use Rattle.dbtg_command.specs.Reasons.{IsNoSchema, SaysOfLine}
@@ -16,6 +16,7 @@ refused : (fault : Fault) (r : Option SchemaRefusal) â†’ RefusesSchema fault r â
 refused (Schema line cause) r is some = (record { line = line; cause = cause }, is)
 refused Memory r is some = absurd (some refl)
 refused (Script n line cause) r is some = absurd is
+refused (Program n line cause) r is some = absurd is
 refused (Moves word cause) r is some = absurd is
 refused (Turns word cause) r is some = absurd is
 refused (Trace line cause) r is some = absurd is

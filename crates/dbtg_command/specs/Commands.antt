@@ -90,6 +90,10 @@ topic = words (codes "topic")
 abbrev pub trace : Rule
 trace = file_word (codes "trace")
 
+-- turns as an option of a command that takes no moves
+abbrev pub turns_alone : Rule
+turns_alone = file_option (codes "turns")
+
 -- turns as an option, which is not free: it excludes moves
 abbrev pub turns_option : Rule
 turns_option = record (file_option (codes "turns")) { is_free = false }
@@ -111,6 +115,7 @@ name_of named.Page = codes "page"
 name_of named.Outcomes = codes "outcomes"
 name_of named.Threads = codes "threads"
 name_of named.Audit = codes "audit"
+name_of named.Run = codes "run"
 name_of named.Draw = codes "draw"
 name_of named.Explain = codes "explain"
 name_of named.Shell = codes "shell"
@@ -126,6 +131,7 @@ rules_for named.Outcomes = capacity ∷ first ∷ limit ∷ answers ∷ brief �
 rules_for named.Threads = capacity ∷ save_turns ∷ explain ∷ no_explain ∷ schema ∷ scripts ∷ []
 rules_for named.Audit = capacity ∷ units ∷ status ∷ explain ∷ no_explain ∷ schema ∷ trace ∷ []
 rules_for named.Draw = explain ∷ no_explain ∷ schema ∷ []
+rules_for named.Run = capacity ∷ turns_alone ∷ explain ∷ no_explain ∷ schema ∷ scripts ∷ []
 rules_for named.Explain = topic ∷ []
 rules_for named.Shell = capacity ∷ units ∷ schema ∷ []
 
@@ -138,5 +144,5 @@ abbrev pub program : App
 program = record {
   top = record (new_shape (codes "dbtg")) { is_leaf = false; has_version = true; propagate_version = true; subcommand_required = true; arg_required_else_help = true };
   subs = map (λ asked. shape_with (name_of asked) (rules_for asked))
-      (named.Check ∷ named.Replay ∷ named.Turns ∷ named.Timeline ∷ named.Page ∷ named.Outcomes ∷ named.Threads ∷ named.Audit ∷ named.Draw ∷ named.Explain ∷ named.Shell ∷ []);
+      (named.Check ∷ named.Replay ∷ named.Turns ∷ named.Timeline ∷ named.Page ∷ named.Outcomes ∷ named.Threads ∷ named.Run ∷ named.Audit ∷ named.Draw ∷ named.Explain ∷ named.Shell ∷ []);
 }

@@ -17,7 +17,7 @@ use Rattle.dbtg_trace.specs.Faults.{cause_number as trace_cause_number}
 use Rattle.dbtg_command.specs.declared.explain.Kind.{Kind}
 use Rattle.dbtg_command.specs.declared.explain.Kind.TheVariants as kind
 use Rattle.dbtg_command.specs.declared.fault.Fault.{Fault}
-use Rattle.dbtg_command.specs.declared.fault.Fault.TheVariants.{Schema, Script, Moves, Turns, Trace, MovesOver, StatesOver, Unreadable, ScriptCount, Memory}
+use Rattle.dbtg_command.specs.declared.fault.Fault.TheVariants.{Schema, Script, Moves, Turns, Trace, MovesOver, StatesOver, Unreadable, ScriptCount, Memory, Program}
 use Rattle.dbtg_command.specs.declared.order.Order.{Order}
 use Rattle.dbtg_command.specs.declared.order.Order.TheVariants as by
 use Rattle.dbtg_command.specs.Explaining.{fault_field}
@@ -126,6 +126,7 @@ IsReason has lacks schema scripts order (Moves word cause) out = IsToldOfOrder k
 IsReason has lacks schema scripts order (Turns word cause) out = IsToldOfOrder kind.Turns (order_path order) word (moves_cause_number cause) out
 IsReason has lacks schema scripts order (Unreadable path) out = IsUnreadLine (string_bytes path) out
 IsReason has lacks schema scripts order (Trace line cause) out = IsToldOfTrace (script_path scripts 1) line (trace_cause_number cause) out
+IsReason has lacks schema scripts order (Program n line cause) out = ⊥
 IsReason has lacks schema scripts order MovesOver out = ⊥
 IsReason has lacks schema scripts order (StatesOver limit) out = ⊥
 IsReason has lacks schema scripts order ScriptCount out = ⊥
@@ -139,6 +140,7 @@ HasNoReason (Moves word cause) = ⊥
 HasNoReason (Turns word cause) = ⊥
 HasNoReason (Unreadable path) = ⊥
 HasNoReason (Trace line cause) = ⊥
+HasNoReason (Program n line cause) = Unit {0}
 HasNoReason MovesOver = Unit {0}
 HasNoReason (StatesOver limit) = Unit {0}
 HasNoReason ScriptCount = Unit {0}

@@ -15,11 +15,12 @@ use Rattle.dbtg_script.specs.Moves.{RefusedAtOnce, moves_of, refusal as moves_re
 use Rattle.dbtg_script.specs.Reading.{script_faults_at_once}
 use Rattle.dbtg_script.specs.StatementFaults.{refusal as script_refusal}
 use Rattle.dbtg_script.specs.Turns.{turns_of, turns_refusal}
+use Rattle.dbtg_program.specs.declared.fault.Fault.{Fault as ProgramRefusal}
 use Rattle.dbtg_script.specs.declared.fault.Fault.{Fault as ScriptRefusal}
 use Rattle.dbtg_script.specs.declared.moves.MovesCause.{MovesCause}
 use Rattle.dbtg_trace.specs.declared.fault.Fault.{Fault as TraceRefusal}
 use Rattle.dbtg_command.specs.declared.fault.Fault.{Fault}
-use Rattle.dbtg_command.specs.declared.fault.Fault.TheVariants.{Schema, Script, Moves, Turns, Trace, MovesOver, StatesOver, Unreadable, ScriptCount, Memory}
+use Rattle.dbtg_command.specs.declared.fault.Fault.TheVariants.{Schema, Script, Moves, Turns, Trace, MovesOver, StatesOver, Unreadable, ScriptCount, Memory, Program}
 use Rattle.dbtg_command.specs.declared.order.Order.{Order}
 use Rattle.dbtg_command.specs.declared.order.Order.TheVariants as by
 
@@ -40,6 +41,7 @@ abbrev pub RefusesSchema : Fault → Option SchemaRefusal → Type 0
 RefusesSchema Memory refusal = Unit {0}
 RefusesSchema (Schema line cause) refusal = refusal ≡ Some (record { line = line; cause = cause })
 RefusesSchema (Script n line cause) refusal = ⊥
+RefusesSchema (Program n line cause) refusal = ⊥
 RefusesSchema (Moves word cause) refusal = ⊥
 RefusesSchema (Turns word cause) refusal = ⊥
 RefusesSchema (Trace line cause) refusal = ⊥
@@ -53,6 +55,7 @@ abbrev pub RefusesScript : Fault → ℕ → Option ScriptRefusal → Type 0
 RefusesScript Memory n refusal = Unit {0}
 RefusesScript (Script m line cause) n refusal = (m ≡ n) × (refusal ≡ Some (record { line = line; cause = cause }))
 RefusesScript (Schema line cause) n refusal = ⊥
+RefusesScript (Program m line cause) n refusal = ⊥
 RefusesScript (Moves word cause) n refusal = ⊥
 RefusesScript (Turns word cause) n refusal = ⊥
 RefusesScript (Trace line cause) n refusal = ⊥
@@ -61,12 +64,26 @@ RefusesScript (StatesOver limit) n refusal = ⊥
 RefusesScript (Unreadable path) n refusal = ⊥
 RefusesScript ScriptCount n refusal = ⊥
 
+-- the fault is this refusal of program n, unless memory ran out
+abbrev pub RefusesProgram : Fault → ℕ → Option ProgramRefusal → Type 0
+RefusesProgram Memory n refusal = Unit {0}
+RefusesProgram (Program m line cause) n refusal = (m ≡ n) × (refusal ≡ Some (record { line = line; cause = cause }))
+RefusesProgram (Schema line cause) n refusal = ⊥
+RefusesProgram (Script m line cause) n refusal = ⊥
+RefusesProgram (Moves word cause) n refusal = ⊥
+RefusesProgram (Turns word cause) n refusal = ⊥
+RefusesProgram MovesOver n refusal = ⊥
+RefusesProgram (StatesOver limit) n refusal = ⊥
+RefusesProgram (Unreadable path) n refusal = ⊥
+RefusesProgram ScriptCount n refusal = ⊥
+
 -- the fault is this refusal of moves, unless memory ran out
 abbrev pub RefusesMoves : Fault → Option (ℕ × MovesCause) → Type 0
 RefusesMoves Memory refusal = Unit {0}
 RefusesMoves (Moves word cause) refusal = refusal ≡ Some (word, cause)
 RefusesMoves (Schema line cause) refusal = ⊥
 RefusesMoves (Script n line cause) refusal = ⊥
+RefusesMoves (Program n line cause) refusal = ⊥
 RefusesMoves (Turns word cause) refusal = ⊥
 RefusesMoves (Trace line cause) refusal = ⊥
 RefusesMoves MovesOver refusal = ⊥
@@ -80,6 +97,7 @@ RefusesTurns Memory refusal = Unit {0}
 RefusesTurns (Turns word cause) refusal = refusal ≡ Some (word, cause)
 RefusesTurns (Schema line cause) refusal = ⊥
 RefusesTurns (Script n line cause) refusal = ⊥
+RefusesTurns (Program n line cause) refusal = ⊥
 RefusesTurns (Moves word cause) refusal = ⊥
 RefusesTurns (Trace line cause) refusal = ⊥
 RefusesTurns MovesOver refusal = ⊥

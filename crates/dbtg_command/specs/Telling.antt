@@ -1,5 +1,7 @@
--- The program's fault for a fault that a reader tells: the same line or word, and the same cause. n is the number of a script.
+-- The program's fault for a fault that a reader tells: the same line or word, and the same cause. n is the number of a script or a program.
 use Rattle.std.specs.Prelude.{ℕ}
+use Rattle.dbtg_program.specs.declared.fault.ProgramFault.{ProgramFault}
+use Rattle.dbtg_program.specs.declared.fault.ProgramFault.TheVariants as program
 use Rattle.dbtg_schema.specs.declared.fault.SchemaFault.{SchemaFault}
 use Rattle.dbtg_schema.specs.declared.fault.SchemaFault.TheVariants as schema
 use Rattle.dbtg_script.specs.declared.fault.ScriptFault.{ScriptFault}
@@ -11,7 +13,7 @@ use Rattle.dbtg_script.specs.declared.turns.TurnsFault.TheVariants as turns
 use Rattle.dbtg_trace.specs.declared.fault.TraceFault.{TraceFault}
 use Rattle.dbtg_trace.specs.declared.fault.TraceFault.TheVariants as trace
 use Rattle.dbtg_command.specs.declared.fault.Fault.{Fault}
-use Rattle.dbtg_command.specs.declared.fault.Fault.TheVariants.{Schema, Script, Moves, Turns, Trace, Memory}
+use Rattle.dbtg_command.specs.declared.fault.Fault.TheVariants.{Schema, Script, Moves, Turns, Trace, Memory, Program}
 
 -- of a schema: the line, and the cause
 abbrev pub schema_fault : SchemaFault → Fault
@@ -22,6 +24,11 @@ schema_fault schema.Memory = Memory
 abbrev pub script_fault : ℕ → ScriptFault → Fault
 script_fault n (script.Refused line cause) = Script n line cause
 script_fault n script.Memory = Memory
+
+-- of program n: the line, and the cause
+abbrev pub program_fault : ℕ → ProgramFault → Fault
+program_fault n (program.Refused line cause) = Program n line cause
+program_fault n program.Memory = Memory
 
 -- of a moves file: the number of the word, and the cause
 abbrev pub moves_fault : MovesFault → Fault

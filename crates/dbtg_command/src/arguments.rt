@@ -1,12 +1,12 @@
 //! What a command can be given: options, files and other words, as `clap` is told of each.
 ghost use Rattle.std.specs.Prelude.{IfOk};
-ghost use Rattle.dbtg_command.specs.Commands.{all, answers, capacity, echo, explain, file_option, file_word, first, flag, limit, moves, no_explain, number_option, save_turns, topic, turns_file, turns_option, units, words, status, trace, always, brief, never, wish_option};
+ghost use Rattle.dbtg_command.specs.Commands.{all, answers, capacity, echo, explain, file_option, file_word, first, flag, limit, moves, no_explain, number_option, save_turns, topic, turns_file, turns_option, units, words, status, trace, always, brief, never, wish_option, turns_alone};
 ghost use Rattle.dbtg_command.specs.Inside.Commands.{IsArg, rule_for};
 
 use clap::{Arg, ArgAction};
 use std::alloc::{AllocError, Global};
 
-/// A word that a command can be given: an option, or what stands for files. `Schema`, `Scripts` and `Svg` have what help says of them.
+/// A word that a command can be given: an option, or what stands for files. `Programs`, `Schema`, `Scripts` and `Svg` have what help says of them.
 #[derive(Clone, Copy)]
 pub enum Word<'a> {
     All,
@@ -21,6 +21,7 @@ pub enum Word<'a> {
     Moves,
     Never,
     NoExplain,
+    Programs(&'a str),
     SaveTurns,
     Schema(&'a str),
     Scripts(&'a str),
@@ -28,6 +29,7 @@ pub enum Word<'a> {
     Svg(&'a str),
     Topic,
     Trace,
+    TurnsAlone,
     TurnsOption,
     TurnsFile,
     Units,
@@ -249,6 +251,17 @@ fn trace_word<'a>(alloc: Global) -> Arg<'a>
     file_word(alloc, "trace", "TRACE", help)
 }
 
+// Turns for a command that takes no moves.
+fn turns_alone<'a>(alloc: Global) -> Arg<'a>
+    ensures { IsArg turns_alone result }
+{
+    file_option(
+        alloc,
+        "turns",
+        "The turns: whose statement is next; - for standard input [default: program after program]",
+    )
+}
+
 fn turns_option<'a>(alloc: Global) -> Result<Arg<'a>, AllocError>
     ensures { IfOk result (IsArg turns_option) }
 {
@@ -290,6 +303,7 @@ pub fn arg_of<'a>(alloc: Global, word: Word<'a>) -> Result<Arg<'a>, AllocError>
         Word::Moves => Ok(moves_option(alloc)),
         Word::Never => Ok(never_option(alloc)),
         Word::NoExplain => Ok(no_explain_option(alloc)),
+        Word::Programs(help) => Ok(words(alloc, "scripts", "PROGRAM", help)),
         Word::SaveTurns => Ok(save_turns_option(alloc)),
         Word::Schema(help) => Ok(file_word(alloc, "schema", "SCHEMA", help)),
         Word::Scripts(help) => Ok(words(alloc, "scripts", "SCRIPT", help)),
@@ -297,6 +311,7 @@ pub fn arg_of<'a>(alloc: Global, word: Word<'a>) -> Result<Arg<'a>, AllocError>
         Word::Svg(help) => Ok(flag(alloc, "svg", help)),
         Word::Topic => Ok(topic_words(alloc)),
         Word::Trace => Ok(trace_word(alloc)),
+        Word::TurnsAlone => Ok(turns_alone(alloc)),
         Word::TurnsOption => turns_option(alloc),
         Word::TurnsFile => Ok(turns_word(alloc)),
         Word::Units => Ok(units_option(alloc)),

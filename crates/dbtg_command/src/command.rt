@@ -242,8 +242,31 @@ fn audit_command<'a>(alloc: Global, name: &'a str) -> Result<Command<'a>, AllocE
             Word::Units,
             Word::Status,
             Word::Explain,
+            Word::NoExplain,
             Word::Schema(SCHEMA),
             Word::Trace,
+        ],
+    )
+}
+
+// The command `run`, by the name that its usage shows.
+fn run_command<'a>(alloc: Global, name: &'a str) -> Result<Command<'a>, AllocError>
+    ensures { IfOk result (IsApp (alone name.entry.now (rules_for Named.Run))) }
+{
+    let programs =
+        "Files of the programs of units 1, 2, ..: 1 to 8 of them; - for standard input, once";
+    described(
+        alloc,
+        name,
+        "Runs programs, and prints the answers, the database, the units and how each program ended",
+        "Example: dbtg run --turns shop.turns shop.schema clerk1.program clerk2.program",
+        &[
+            Word::Capacity,
+            Word::TurnsAlone,
+            Word::Explain,
+            Word::NoExplain,
+            Word::Schema(SCHEMA),
+            Word::Programs(programs),
         ],
     )
 }
@@ -272,13 +295,14 @@ pub enum Named {
     Page,
     Outcomes,
     Threads,
+    Run,
     Audit,
     Draw,
     Explain,
     Shell,
 }
 
-pub const ALL: [Named; 11] = [
+pub const ALL: [Named; 12] = [
     Named::Check,
     Named::Replay,
     Named::Turns,
@@ -286,6 +310,7 @@ pub const ALL: [Named; 11] = [
     Named::Page,
     Named::Outcomes,
     Named::Threads,
+    Named::Run,
     Named::Audit,
     Named::Draw,
     Named::Explain,
@@ -304,6 +329,7 @@ pub fn name_of<'a>(named: Named) -> &'a str
         Named::Page => "page",
         Named::Outcomes => "outcomes",
         Named::Threads => "threads",
+        Named::Run => "run",
         Named::Audit => "audit",
         Named::Draw => "draw",
         Named::Explain => "explain",
@@ -321,6 +347,7 @@ fn shown_name<'a>(named: Named) -> &'a str {
         Named::Page => "dbtg page",
         Named::Outcomes => "dbtg outcomes",
         Named::Threads => "dbtg threads",
+        Named::Run => "dbtg run",
         Named::Audit => "dbtg audit",
         Named::Draw => "dbtg draw",
         Named::Explain => "dbtg explain",
@@ -339,6 +366,7 @@ fn command_of<'a>(alloc: Global, named: Named, name: &'a str) -> Result<Command<
         Named::Page => page_command(alloc, name),
         Named::Outcomes => outcomes_command(alloc, name),
         Named::Threads => threads_command(alloc, name),
+        Named::Run => run_command(alloc, name),
         Named::Audit => audit_command(alloc, name),
         Named::Draw => draw_command(alloc, name),
         Named::Explain => explain_command(alloc, name),

@@ -2,8 +2,9 @@
 ghost use Rattle.std.specs.Prelude.{◌≡◌};
 ghost use Rattle.dbtg_command.specs.declared.fault.Fault.TheVariants.{Memory};
 ghost use Rattle.dbtg_command.specs.Refusals.{status_of};
-ghost use Rattle.dbtg_command.specs.Telling.{moves_fault, schema_fault, script_fault, trace_fault, turns_fault};
+ghost use Rattle.dbtg_command.specs.Telling.{moves_fault, schema_fault, script_fault, trace_fault, turns_fault, program_fault};
 
+use dbtg_program::{ProgramCause, ProgramFault};
 use dbtg_schema::{Cause as SchemaCause, SchemaFault};
 use dbtg_script::{Cause as ScriptCause, MovesCause, MovesFault, ScriptFault, TurnsFault};
 use dbtg_trace::{TraceCause, TraceFault};
@@ -25,6 +26,13 @@ pub enum Fault {
         number: usize,
         line: u64,
         cause: ScriptCause,
+    },
+    /// The program of this number, from 1, has a fault; it is the first of the first program that has one.
+    #[error("program {number} fault {} line {line}", .cause.number())]
+    Program {
+        number: usize,
+        line: u64,
+        cause: ProgramCause,
     },
     /// The moves have a fault; this is their first.
     #[error("moves fault {} word {word}", .cause.number())]
@@ -105,6 +113,22 @@ impl Fault {
                 }
             }
             ScriptFault::Memory => Fault::Memory,
+        }
+    }
+
+    /// The fault of the program of this number.
+    pub fn of_program(number: usize, fault: ProgramFault) -> Fault
+        ensures { result ≡ program_fault number fault }
+    {
+        match fault {
+            ProgramFault::Refused { line, cause } => {
+                Fault::Program {
+                    number,
+                    line,
+                    cause,
+                }
+            }
+            ProgramFault::Memory => Fault::Memory,
         }
     }
 

@@ -1,6 +1,8 @@
 //! Reading what a command is given; the readers' faults become the program's.
 ghost use Rattle.std.specs.Prelude.{◌≡◌, ◌++◌, ◌∷◌, [], None, IfErr, IfOk, OnOk, true};
 ghost use Rattle.std.specs.List.{list_all};
+ghost use Rattle.dbtg_program.specs.Faults.{refusal as program_refusal};
+ghost use Rattle.dbtg_program.specs.Reading.{program};
 ghost use Rattle.dbtg_schema.specs.Texts.SchemaFaults.{refusal as schema_refusal};
 ghost use Rattle.dbtg_schema.specs.Sound.{IsSound};
 ghost use Rattle.dbtg_script.specs.Moves.{refusal as moves_refusal};
@@ -11,9 +13,10 @@ ghost use Rattle.dbtg_unit.specs.Database.Statements.Fits.{fits};
 ghost use Rattle.dbtg_trace.specs.Faults.{refusal as trace_refusal};
 ghost use Rattle.dbtg_trace.specs.Parts.{is_unit};
 ghost use Rattle.dbtg_trace.specs.Traces.{trace};
-ghost use Rattle.dbtg_command.specs.Refusals.{RefusesMovesText, RefusesSchemaText, RefusesScriptText, RefusesTrace, RefusesTurnsText, moves_in, schema_in, turns_in};
+ghost use Rattle.dbtg_command.specs.Refusals.{RefusesMovesText, RefusesProgram, RefusesSchemaText, RefusesScriptText, RefusesTrace, RefusesTurnsText, moves_in, schema_in, turns_in};
 
 use crate::fault::Fault;
+use dbtg_program::{Program, read_program};
 use dbtg_schema::{Row, Schema};
 use dbtg_script::{read_moves, read_script, read_turns};
 use dbtg_trace::{Traced, read_trace};
@@ -67,6 +70,23 @@ pub fn take_script(
     let statements = statements_of(alloc, schema, number, text)?;
     scripts.push(Row::of(statements))?;
     Ok(())
+}
+
+/// The program of this number.
+pub fn program_of(
+    alloc: Global,
+    schema: &Schema,
+    number: usize,
+    text: &[u8],
+) -> Result<Program, Fault>
+    ensures accepted { OnOk result (program_refusal schema.now text.now ≡ None) }
+    ensures program { IfOk result (λ p. p ≡ program schema.now text.now) }
+    ensures refused { IfErr result (λ fault. RefusesProgram fault number (program_refusal schema.now text.now)) }
+{
+    match read_program(alloc, schema, text) {
+        Ok(program) => Ok(program),
+        Err(fault) => Err(Fault::of_program(number, fault)),
+    }
 }
 
 /// The moves of a text.

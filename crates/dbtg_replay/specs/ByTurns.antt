@@ -33,6 +33,7 @@ AreMoreMoves lists capacity scripts turns fault.Memory = Unit {0}
 AreMoreMoves lists capacity scripts turns fault.MovesOver = (moves : List Move) × StandFor lists capacity scripts turns moves × (MOST_MOVES < length moves)
 AreMoreMoves lists capacity scripts turns (fault.Schema line cause) = ⊥
 AreMoreMoves lists capacity scripts turns (fault.Script n line cause) = ⊥
+AreMoreMoves lists capacity scripts turns (fault.Program n line cause) = ⊥
 AreMoreMoves lists capacity scripts turns (fault.Moves word cause) = ⊥
 AreMoreMoves lists capacity scripts turns (fault.Turns word cause) = ⊥
 AreMoreMoves lists capacity scripts turns (fault.Trace line cause) = ⊥

@@ -8,7 +8,7 @@ use Rattle.clap.specs.declared.builder.command.Command.{Command}
 use Rattle.clap.specs.declared.builder.command.Command.TheViews.{out-Command as fields_of}
 use Rattle.clap.specs.declared.parser.matches.ArgMatches.{ArgMatches}
 use Rattle.dbtg_command.specs.Calling.{IsCall}
-use Rattle.dbtg_command.specs.Commands.{all, answers, capacity, echo, explain, first, limit, moves, name_of, no_explain, rules_for, save_turns, schema, scripts, shape_with, svg, topic, turns_option, turns_file, units, status, trace, always, brief, never}
+use Rattle.dbtg_command.specs.Commands.{all, answers, capacity, echo, explain, first, limit, moves, name_of, no_explain, rules_for, save_turns, schema, scripts, shape_with, svg, topic, turns_option, turns_file, units, status, trace, always, brief, never, turns_alone}
 use Rattle.dbtg_command.specs.declared.arguments.Word.{Word}
 use Rattle.dbtg_command.specs.declared.arguments.Word.TheVariants as word
 use Rattle.dbtg_command.specs.declared.command.Named.{Named}
@@ -28,6 +28,7 @@ rule_for word.Limit = limit
 rule_for word.Moves = moves
 rule_for word.Never = never
 rule_for word.NoExplain = no_explain
+rule_for (word.Programs help) = scripts
 rule_for word.SaveTurns = save_turns
 rule_for (word.Schema help) = schema
 rule_for (word.Scripts help) = scripts
@@ -35,6 +36,7 @@ rule_for word.Status = status
 rule_for (word.Svg help) = svg
 rule_for word.Topic = topic
 rule_for word.Trace = trace
+rule_for word.TurnsAlone = turns_alone
 rule_for word.TurnsOption = turns_option
 rule_for word.TurnsFile = turns_file
 rule_for word.Units = units

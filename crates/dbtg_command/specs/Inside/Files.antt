@@ -2,7 +2,7 @@
 -- that it gave none. Both are what the reader of files says.
 use Rattle.std.specs.Prelude.{ℕ, ◌≡◌, List, string_bytes}
 use Rattle.dbtg_command.specs.declared.fault.Fault.{Fault}
-use Rattle.dbtg_command.specs.declared.fault.Fault.TheVariants.{Schema as InSchema, Script as InScript, Moves as InMoves, Turns as InTurns, Trace as InTrace, MovesOver, StatesOver, Unreadable, ScriptCount, Memory}
+use Rattle.dbtg_command.specs.declared.fault.Fault.TheVariants.{Schema as InSchema, Script as InScript, Moves as InMoves, Turns as InTurns, Trace as InTrace, MovesOver, StatesOver, Unreadable, ScriptCount, Memory, Program as InProgram}
 use Rattle.dbtg_command.specs.declared.order.Order.{Order}
 use Rattle.dbtg_command.specs.declared.place.TextPlace.{TextPlace}
 use Rattle.dbtg_command.specs.declared.place.TextPlace.TheVariants.{Schema, Script, Moves, Turns, Trace}
@@ -22,6 +22,7 @@ IsUnread path (Unreadable told) = string_bytes told ≡ path
 IsUnread path Memory = Unit {0}
 IsUnread path (InSchema line cause) = ⊥
 IsUnread path (InScript n line cause) = ⊥
+IsUnread path (InProgram n line cause) = ⊥
 IsUnread path (InMoves word cause) = ⊥
 IsUnread path (InTurns word cause) = ⊥
 IsUnread path (InTrace line cause) = ⊥

@@ -1,0 +1,5 @@
+-- The worked rows: programs by turns on the sequential database.
+-- May use: all definitions; no lemma.
+-- Promises: each row is a theorem that computes.
+pub mod Alternately
+pub mod Printed

@@ -1,0 +1,6 @@
+use Rattle.std.proofs.Common.{take}
+use Rattle.dbtg_going.specs.Inside.Members.{HaveTurned}
+use Rattle.dbtg_going.proofs.going.Programs.turns.Given as goal
+
+abbrev pub invariant-loop-unit : goal.invariant-loop-unit
+invariant-loop-unit l = HaveTurned l.self.schema.now l.self.list.now l.initial.database (take l.unit-index l.turns) l.database l.members

@@ -1,0 +1,8 @@
+use Rattle.std.proofs.Common.{◌≡◌, ◌++◌, map}
+use Rattle.std.specs.Vec.Iter.{into_iter_items}
+use Rattle.dbtg_going.specs.Inside.Members.{reached_by}
+use Rattle.dbtg_going.proofs.going.reached_by_each.Given as goal
+
+-- what is said and what is left to be said is all
+abbrev pub invariant-loop-member : goal.invariant-loop-member
+invariant-loop-member l = l.each.items ++ map reached_by (into_iter_items l.member-iterator) ≡ map reached_by l.fn.members.items

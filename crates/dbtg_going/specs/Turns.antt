@@ -1,0 +1,100 @@
+-- Programs that run by turns: the unit whose turn it is makes the statement that is due in its program.
+-- u is a unit; programs are those of units 1, 2, ..; a history has the statements that they made, with their answers.
+use Rattle.std.specs.Prelude.{ℕ, ◌≡◌, Bool, ◌&&◌, nat_lt, List, [], ◌∷◌, ◌++◌, Option, Some, None, length, flat_map, if◌then◌else◌, option_and_then, replicate}
+use Rattle.std.specs.List.{range_with_len}
+use Rattle.dbtg_schema.specs.Lists.{Lists}
+use Rattle.dbtg_unit.specs.declared.statement.Statement.{Statement}
+use Rattle.dbtg_unit.specs.declared.unit.Entry.{Entry}
+use Rattle.dbtg_unit.specs.Database.Statements.Effect.{Outcome}
+use Rattle.dbtg_unit.specs.Database.Statements.Fits.{fits}
+use Rattle.dbtg_unit.specs.Database.Laws.Replay.{entries_of, opening_state, outcome_of, replay}
+use Rattle.dbtg_program.specs.declared.program.Program.{Program}
+use Rattle.dbtg_program.specs.States.{ProgramState, beginning}
+use Rattle.dbtg_program.specs.Going.{AreOf, Due, due, ended, next, state_after}
+use Rattle.dbtg_step.specs.Core.Whole.{IsMadeRun, Making}
+use Rattle.dbtg_step.specs.Machine.SequentialDatabase.{unit_at}
+use Rattle.dbtg_going.specs.declared.member.Standing.{Standing}
+use Rattle.dbtg_going.specs.declared.member.Standing.TheVariants.{Ended, Spent, GoesOn}
+use Rattle.dbtg_going.specs.declared.member.Reached.{Reached}
+use Rattle.dbtg_going.specs.declared.going.ProgramRun.{ProgramRun}
+
+-- WHERE A PROGRAM STANDS
+
+-- a unit makes no more statements than this
+abbrev pub most : ℕ
+most = 65535
+
+-- what comes of the program of unit u after a history: a statement that is due, or its end
+abbrev pub comes : Lists → Program → ℕ → List Entry → Due
+comes schema program u history = next schema program (state_after schema program (beginning program) (entries_of u history))
+
+-- how a program stands of which this comes, where its unit has made n statements
+abbrev pub standing : ℕ → Due → Standing
+standing n (ended at how) = Ended how
+standing n (due at s) = if nat_lt n most then GoesOn else Spent
+
+-- the state in which it is then
+abbrev pub state_in : Due → ProgramState
+state_in (ended at how) = at
+state_in (due at s) = at
+
+-- how far the program of unit u is after a history
+abbrev pub reached : Lists → Program → ℕ → List Entry → Reached
+reached schema program u history = record { standing = standing (length (entries_of u history)) (comes schema program u history); state = state_in (comes schema program u history) }
+
+-- TURNS
+
+-- the statement that is due, where its unit, which has made n statements, can make it; a statement that is none of the schema is never made
+abbrev pub due_after : Lists → ℕ → Due → Option Statement
+due_after schema n (ended at how) = None
+due_after schema n (due at s) = if nat_lt n most && fits schema s then Some s else None
+
+-- the statement of a turn of unit u after a history, if there is one
+abbrev pub statement_of : Lists → List Program → List Entry → ℕ → Option Statement
+statement_of schema programs history u = option_and_then (λ program. due_after schema (length (entries_of u history)) (comes schema program u history)) (unit_at programs u)
+
+-- a history, and behind it a statement of unit u with its outcome
+abbrev pub with_outcome : List Entry → ℕ → Statement → Option Outcome → List Entry
+with_outcome history u s None = history
+with_outcome history u s (Some outcome) = history ++ record { ticket = length history; unit = u; statement = s; answer = outcome.answer } ∷ []
+
+-- the same with the outcome that the statement has in the sequential database of so many units; with no statement nothing is made
+abbrev pub made : Lists → ℕ → ℕ → List Entry → ℕ → Option Statement → List Entry
+made schema capacity units history u None = history
+made schema capacity units history u (Some s) = with_outcome history u s (outcome_of schema capacity (replay schema capacity (opening_state schema units) history) u s)
+
+-- a history after a turn of unit u
+abbrev pub after_turn : Lists → ℕ → List Program → List Entry → ℕ → List Entry
+after_turn schema capacity programs history u = made schema capacity (length programs) history u (statement_of schema programs history u)
+
+-- a history after turns
+unfoldable pub after_turns : Lists → ℕ → List Program → List Entry → List ℕ → List Entry
+after_turns schema capacity programs history [] = history
+after_turns schema capacity programs history (u ∷ us) = after_turns schema capacity programs (after_turn schema capacity programs history u) us
+
+-- the turns in which the program of unit u goes to its end: one for each statement that the unit can make. Those behind the end make nothing
+unfoldable pub to_the_end : ℕ → List ℕ
+to_the_end u = replicate most u
+
+-- each of so many programs to its end, that of unit 1 first
+abbrev pub one_by_one : ℕ → List ℕ
+one_by_one units = flat_map to_the_end (range_with_len 1 units)
+
+-- the turns that are told; without any each of so many programs goes to its end
+abbrev pub turns_of : ℕ → Option (List ℕ) → List ℕ
+turns_of units (Some turns) = turns
+turns_of units None = one_by_one units
+
+-- WHAT THEY GIVE
+
+-- the database with the statements of these turns
+abbrev pub making_by : Lists → ℕ → List Program → List ℕ → Making
+making_by schema capacity programs turns = record { schema = schema; capacity = capacity; units = length programs; history = after_turns schema capacity programs [] turns }
+
+-- a run by these turns: its history is that of the turns and of the sequential database, its image and its units are those to which the
+-- history leads; the entries of each unit are of its program; and it is said how far each program is
+pub record IsRunOf (schema : Lists) (capacity : ℕ) (programs : List Program) (turns : List ℕ) (given : ProgramRun) : Type 0 where
+  pub run : IsMadeRun (making_by schema capacity programs turns) given.run
+  pub of_programs : (u : ℕ) (program : Program) → unit_at programs u ≡ Some program → AreOf schema program (entries_of u given.run.history)
+  pub count : length given.programs ≡ length programs
+  pub reached_are : (u : ℕ) (program : Program) → unit_at programs u ≡ Some program → unit_at given.programs u ≡ Some (reached schema program u given.run.history)

@@ -1,0 +1,223 @@
+//! Programs that run together: by turns, or one after the other.
+
+ghost use Rattle.dbtg_going.specs.Inside.Members.{AreAt, HaveTurned, IsUnderWay, reached_by};
+ghost use Rattle.dbtg_going.specs.Turns.{IsRunOf, one_by_one, statement_of, to_the_end, turns_of};
+ghost use Rattle.dbtg_step.specs.Core.Whole.{IsMadeRun};
+ghost use Rattle.dbtg_schema.specs.Sound.{IsSound};
+ghost use Rattle.std.specs.Prelude.{◌≡◌, ◌≤◌, ◌<◌, ◌∷◌, [], IfOk, OnOk, Some, false, length, map, option_map};
+
+use crate::member::{MOST_STATEMENTS, Member, Reached};
+use dbtg_program::Program;
+use dbtg_schema::{Row, Schema};
+use dbtg_step::{Run, WholeDatabase};
+use dbtg_unit::Statement;
+use std::alloc::{AllocError, Global};
+
+/// What a run of programs gives: the run, which has no results, and how far each program is.
+#[derive(Drop)]
+pub struct ProgramRun {
+    pub run: Run,
+    pub programs: Row<Reached>,
+}
+
+impl ProgramRun {
+    /// Lets go of it, and of its memory. Other crates end one by this, so that they need not prove what it is to drop its parts.
+    pub fn discard(self) {
+        drop(self)
+    }
+}
+
+/// Programs that run together, a unit for each.
+#[derive(Drop)]
+struct Programs<'a> {
+    alloc: Global,
+    schema: &'a Schema,
+    list: &'a [Program],
+}
+
+impl<'a> Programs<'a> {
+    // Each program before the first statement of its unit.
+    fn beginning(&self) -> Result<Vec<Member>, AllocError>
+        ensures { IfOk result (λ members. AreAt self.now.schema.now self.now.list.now [] members.items) }
+    {
+        let mut members = Vec::new(self.alloc);
+        for program in self.list {
+            members.push(Member::beginning(self.alloc, self.schema, program)?)?;
+        }
+        Ok(members)
+    }
+
+    // The unit makes this statement, which is due in its program, and the program goes on.
+    fn make(
+        &self,
+        database: &mut WholeDatabase<'_>,
+        members: &mut [Member],
+        unit: u8,
+        statement: Statement,
+    ) -> Result<(), AllocError>
+        requires under_way { IsUnderWay self.now.schema.now self.now.list.now database.old members.old }
+        requires due { statement_of self.now.schema.now self.now.list.now database.old.history unit ≡ Some statement }
+        requires numbered { 0 < unit }
+        requires within { unit ≤ length members.old }
+        ensures { OnOk result (HaveTurned self.now.schema.now self.now.list.now database.old (unit ∷ []) database.new members.new) }
+    {
+        let place = unit as usize - 1;
+        let before = database.history().len();
+        database.make(unit, statement)?;
+        let entry = &database.history()[before];
+        members[place].told(self.alloc, self.schema, &self.list[place], entry)
+    }
+
+    // A turn of the unit, and whether it made a statement.
+    fn turn(
+        &self,
+        database: &mut WholeDatabase<'_>,
+        members: &mut [Member],
+        unit: u8,
+    ) -> Result<bool, AllocError>
+        requires { IsUnderWay self.now.schema.now self.now.list.now database.old members.old }
+        ensures turned { OnOk result (HaveTurned self.now.schema.now self.now.list.now database.old (unit ∷ []) database.new members.new) }
+        ensures nothing { IfOk result (λ made. made ≡ false → database.new ≡ database.old) }
+    {
+        if unit == 0 || members.len() < unit as usize {
+            return Ok(false);
+        }
+        match members[unit as usize - 1].statement(self.alloc, self.schema)? {
+            None => Ok(false),
+            Some(statement) => {
+                self.make(database, members, unit, statement)?;
+                Ok(true)
+            }
+        }
+    }
+
+    // These turns, one after another.
+    fn turns(
+        &self,
+        database: &mut WholeDatabase<'_>,
+        members: &mut [Member],
+        turns: &[u8],
+    ) -> Result<(), AllocError>
+        requires { IsUnderWay self.now.schema.now self.now.list.now database.old members.old }
+        ensures { OnOk result (HaveTurned self.now.schema.now self.now.list.now database.old turns.now database.new members.new) }
+    {
+        for unit in turns {
+            self.turn(database, members, *unit)?;
+        }
+        Ok(())
+    }
+
+    // The program of the unit, to its end.
+    fn to_the_end(
+        &self,
+        database: &mut WholeDatabase<'_>,
+        members: &mut [Member],
+        unit: u8,
+    ) -> Result<(), AllocError>
+        requires { IsUnderWay self.now.schema.now self.now.list.now database.old members.old }
+        ensures { OnOk result (HaveTurned self.now.schema.now self.now.list.now database.old (to_the_end unit) database.new members.new) }
+    {
+        for _turn in 0..MOST_STATEMENTS {
+            if !self.turn(database, members, unit)? {
+                return Ok(());
+            }
+        }
+        Ok(())
+    }
+
+    // Each program to its end, one after another.
+    fn one_by_one(
+        &self,
+        database: &mut WholeDatabase<'_>,
+        members: &mut [Member],
+        units: u8,
+    ) -> Result<(), AllocError>
+        requires { IsUnderWay self.now.schema.now self.now.list.now database.old members.old }
+        ensures { OnOk result (HaveTurned self.now.schema.now self.now.list.now database.old (one_by_one units) database.new members.new) }
+    {
+        for before in 0..units {
+            self.to_the_end(database, members, before + 1)?;
+        }
+        Ok(())
+    }
+
+    // These turns, or without any each program to its end.
+    fn go(
+        &self,
+        database: &mut WholeDatabase<'_>,
+        members: &mut Vec<Member>,
+        turns: Option<&[u8]>,
+    ) -> Result<(), AllocError>
+        requires few { length self.now.list.now ≤ 255 }
+        requires under_way { IsUnderWay self.now.schema.now self.now.list.now database.old members.old.items }
+        ensures { OnOk result (HaveTurned self.now.schema.now self.now.list.now database.old (turns_of (length self.now.list.now) (option_map (λ t. t.now) turns.entry)) database.new members.new.items) }
+    {
+        let members = members.as_mut_slice();
+        match turns {
+            Some(turns) => self.turns(database, members, turns),
+            None => self.one_by_one(database, members, self.list.len() as u8),
+        }
+    }
+}
+
+// How far each member is.
+fn reached_by_each(alloc: Global, members: Vec<Member>) -> Result<Row<Reached>, AllocError>
+    ensures { IfOk result (λ each. each ≡ map reached_by members.items) }
+{
+    let mut each = Vec::new(alloc);
+    for member in members {
+        each.push(member.into_reached())?;
+    }
+    Ok(Row::of(each))
+}
+
+// What the database and its members come to.
+fn finish(
+    alloc: Global,
+    database: WholeDatabase<'_>,
+    members: Vec<Member>,
+) -> Result<ProgramRun, AllocError>
+    ensures run { IfOk result (λ given. IsMadeRun database.entry given.run) }
+    ensures programs { IfOk result (λ given. given.programs ≡ map reached_by members.items) }
+{
+    match reached_by_each(alloc, members) {
+        Err(error) => {
+            database.discard();
+            Err(error)
+        }
+        Ok(programs) => match database.into_run() {
+            Err(error) => Err(error),
+            Ok(run) => Ok(ProgramRun { run, programs }),
+        },
+    }
+}
+
+/// The programs by these turns, from the opening database on, with a unit for each: in its turn a unit makes the statement that is
+/// due in its program, and nothing where there is no such unit or its program has ended. Without turns each program goes to its end,
+/// that of unit 1 first. A growth that is refused ends it.
+pub fn run_programs(
+    alloc: Global,
+    schema: &Schema,
+    capacity: u16,
+    programs: &[Program],
+    turns: Option<&[u8]>,
+) -> Result<ProgramRun, AllocError>
+    requires sound { IsSound schema.now }
+    requires units { length programs.now ≤ 255 }
+    ensures { IfOk result (λ given. IsRunOf schema.now capacity programs.now (turns_of (length programs.now) (option_map (λ t. t.now) turns.entry)) given) }
+{
+    let together = Programs {
+        alloc,
+        schema,
+        list: programs,
+    };
+    let mut members = together.beginning()?;
+    let mut database = WholeDatabase::opening(alloc, schema, capacity, programs.len() as u8)?;
+    match together.go(&mut database, &mut members, turns) {
+        Ok(()) => finish(alloc, database, members),
+        Err(error) => {
+            database.discard();
+            Err(error)
+        }
+    }
+}

@@ -1,0 +1,101 @@
+//! The program of one unit, which stands at a statement or has ended.
+
+ghost use Rattle.dbtg_going.specs.Inside.Members.{IsAt, comes_of, reached_by};
+ghost use Rattle.dbtg_going.specs.Turns.{due_after, most};
+ghost use Rattle.dbtg_going.specs.declared.member.Reached.{Reached};
+ghost use Rattle.dbtg_program.specs.declared.going.Due.TheVariants as due;
+ghost use Rattle.dbtg_unit.specs.declared.unit.Entry.{Entry};
+ghost use Rattle.std.specs.Prelude.{◌≡◌, ◌<◌, ◌++◌, ◌∷◌, [], IfOk, List, OnOk};
+
+use dbtg_program::{Due, End, Program, State, next};
+use dbtg_schema::Schema;
+use dbtg_unit::{Entry, Statement};
+use std::alloc::{AllocError, Global};
+
+/// A unit makes no more statements than this.
+pub const MOST_STATEMENTS: u64 = 65_535;
+
+/// How a program stands.
+#[derive(Clone, Copy, Debug, PartialEq, Eq)]
+pub enum Standing {
+    Ended(End),
+    /// its unit can make no more statements, and another is due
+    Spent,
+    /// a statement is due
+    GoesOn,
+}
+
+/// How far a program is.
+#[derive(Drop)]
+pub struct Reached {
+    pub standing: Standing,
+    pub state: State,
+}
+
+/// A program under way: what comes of it in its state, and how many statements its unit has made.
+#[derive(Drop)]
+pub struct Member {
+    pub state: State,
+    pub due: Due,
+    pub made: u64,
+}
+
+impl Member {
+    /// Before the first statement of its unit.
+    pub fn beginning(alloc: Global, schema: &Schema, program: &Program) -> Result<Self, AllocError>
+        ensures { IfOk result (λ member. IsAt schema.now program.now [] member) }
+    {
+        let mut state = State::beginning(alloc, program)?;
+        let due = next(alloc, schema, program, &mut state)?;
+        Ok(Member {
+            state,
+            due,
+            made: 0,
+        })
+    }
+
+    /// The statement that is due, if its unit can make it.
+    pub fn statement(&self, alloc: Global, schema: &Schema) -> Result<Option<Statement>, AllocError>
+        ensures { IfOk result (λ statement. statement ≡ due_after schema.now self.now.made (comes_of self.now)) }
+    {
+        match &self.due {
+            Due::Statement(statement) if self.made < MOST_STATEMENTS && statement.fits(schema) => {
+                Ok(Some(statement.copy(alloc)?))
+            }
+            _ => Ok(None),
+        }
+    }
+
+    /// Goes on after the entry of the statement that was due.
+    pub fn told(
+        &mut self,
+        alloc: Global,
+        schema: &Schema,
+        program: &Program,
+        entry: &Entry,
+    ) -> Result<(), AllocError>
+        requires due { self.old.due ≡ due.Statement entry.now.statement }
+        requires few { self.old.made < most }
+        requires at { (entries : List Entry) × IsAt schema.now program.now entries self.old }
+        ensures { (entries : List Entry) → IsAt schema.now program.now entries self.old → OnOk result (IsAt schema.now program.now (entries ++ entry.now ∷ []) self.new) }
+    {
+        self.state
+            .told(alloc, program, &entry.statement, &entry.answer)?;
+        self.due = next(alloc, schema, program, &mut self.state)?;
+        self.made += 1;
+        Ok(())
+    }
+
+    /// How far it is.
+    pub fn into_reached(self) -> Reached
+        ensures { result ≡ reached_by self }
+    {
+        let Member { state, due, made } = self;
+        let standing = match due {
+            Due::End(end) => Standing::Ended(end),
+            Due::Statement(_) if made < MOST_STATEMENTS => Standing::GoesOn,
+            Due::Statement(_) => Standing::Spent,
+        };
+        Reached { standing, state }
+    }
+}
