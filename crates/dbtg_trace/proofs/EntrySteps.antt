@@ -10,7 +10,6 @@ use Rattle.dbtg_script.specs.declared.fault.LineFault.TheVariants as line
 use Rattle.dbtg_script.specs.Lines.{is_statement, trimmed}
 use Rattle.dbtg_script.specs.Reading as script
 use Rattle.dbtg_script.specs.StatementFaults as script_faults
-use Rattle.dbtg_script.specs.Statements.{line_statement}
 use Rattle.dbtg_trace.specs.declared.fault.EntryFault.{EntryFault}
 use Rattle.dbtg_trace.specs.declared.fault.EntryFault.TheVariants as entry
 use Rattle.dbtg_trace.specs.declared.fault.TraceCause.{TraceCause}
@@ -20,7 +19,7 @@ use Rattle.dbtg_trace.specs.Answers.{answer_in}
 use Rattle.dbtg_trace.specs.Faults.{part_faults, when}
 use Rattle.dbtg_trace.specs.Inside.Reading.{Refuses, entry_verdict, in_entry, part_verdict}
 use Rattle.dbtg_trace.specs.Parts.{halves, unit_named}
-use Rattle.dbtg_trace.specs.Reading.{entry_faults_at_once, part_faults_at_once}
+use Rattle.dbtg_trace.specs.Reading.{part_faults_at_once}
 use Rattle.dbtg_trace.proofs.Firsts.{first_else, first_of_map, first_then}
 
 -- THE STATEMENT
@@ -34,10 +33,6 @@ unfolding part_verdict
 of_line schema part h =
     let cs = script_faults.line_faults schema 0 (trimmed part) in
     ap (λ (b : Bool). first (when (not b) (AsInScript cause.NoStatementWord) ++ map AsInScript cs)) h ∙ first_of_map AsInScript cs
-
--- the same of what is found before a word is kept
-pub no_statement_at_once : (schema : Lists) (part : List ℕ) (c : TraceCause) → is_statement (trimmed part) ≡ false → first (part_faults_at_once schema part) ≡ Some c → AsInScript cause.NoStatementWord ≡ c
-no_statement_at_once schema part c h wrong = let e : first (AsInScript cause.NoStatementWord ∷ map AsInScript (script.faults_at_once schema 0 (trimmed part))) ≡ Some c = subst (λ (b : Bool). first (when (not b) (AsInScript cause.NoStatementWord) ++ map AsInScript (script.faults_at_once schema 0 (trimmed part))) ≡ Some c) h wrong in cc
 
 as_in_script : (o : Option Cause) (c : TraceCause) → option_map AsInScript o ≡ Some c → (k : Cause) × (o ≡ Some k) × (AsInScript k ≡ c)
 as_in_script None c h = absurd cc
@@ -60,9 +55,6 @@ pub part_told : (schema : Lists) (part : List ℕ) (e : LineFault) (c : TraceCau
 part_told schema part e c one told wrong =
     let k = at_once_of_line schema part c one wrong in
     ap in_entry (told k.0 k.1) ∙ ap (λ (x : TraceCause). entry.Refused x) k.2
-
-pub says_one : (schema : Lists) (part : List ℕ) → is_statement (trimmed part) ≡ true → None ≡ line_statement schema (trimmed part) → ⊥
-says_one schema part one h = let e = rw one at h in cc
 
 -- THE LINE
 
@@ -98,13 +90,3 @@ no_answer schema units u line p h g a = behind_unit schema units u line p h ∙ 
 pub all_said : (schema : Lists) (units u : ℕ) (line : List ℕ) (p : List ℕ × List ℕ) (said : Said) → HasHalves units line u p → part_verdict schema p.0 ≡ None → answer_in schema p.1 ≡ Some said → entry_verdict schema units line ≡ None
 unfolding part_verdict
 all_said schema units u line p said h g a = behind_unit schema units u line p h ∙ first_else (part_faults schema p.0) _ g ∙ rw a refl
-
--- the faults that are found before a word is kept
-pub no_unit_at_once : (schema : Lists) (units : ℕ) (line : List ℕ) (c : TraceCause) → unit_named units line ≡ None → first (entry_faults_at_once schema units line) ≡ Some c → NoUnit ≡ c
-no_unit_at_once schema units line c h wrong = let e = rw h at wrong in cc
-
-pub no_arrow_at_once : (schema : Lists) (units u : ℕ) (line : List ℕ) (c : TraceCause) → unit_named units line ≡ Some u → halves line ≡ None → first (entry_faults_at_once schema units line) ≡ Some c → NoArrow ≡ c
-no_arrow_at_once schema units u line c h g wrong = let e = rw (h, g) at wrong in cc
-
-pub part_at_once : (schema : Lists) (units u : ℕ) (line : List ℕ) (p : List ℕ × List ℕ) (c : TraceCause) → HasHalves units line u p → first (entry_faults_at_once schema units line) ≡ Some c → first (part_faults_at_once schema p.0) ≡ Some c
-part_at_once schema units u line p c h wrong = rw (h.0, h.1) at wrong

@@ -1,6 +1,6 @@
 -- One line further.
 use Rattle.std.proofs.Common.{◌≡◌, ℕ, ◌+◌, ◌<◌, ◌≤◌, Bool, true, false, List, [], ◌∷◌, ◌++◌, length, map, Option, Some, None, refl, sym, ap, subst, ◌∙◌, arith}
-use Rattle.std.specs.Prelude.{nat_lt, option_map, if◌then◌else◌}
+use Rattle.std.specs.Prelude.{nat_lt, if◌then◌else◌}
 use Rattle.std.proofs.lemmas.Bool.Decides.{nat_tests}
 use Rattle.std.specs.List.{list_all}
 use Rattle.std.proofs.lemmas.List.{append-nil}
@@ -21,7 +21,7 @@ use Rattle.dbtg_trace.specs.Faults.{entry_faults, line_faults, refusal, whole_fa
 use Rattle.dbtg_trace.specs.Inside.Reading.{Refuses, at_line, entry_verdict, line_verdict, lines_verdict}
 use Rattle.dbtg_trace.specs.Reading.{RefusesTrace, entry_faults_at_once, faults_at_once, line_faults_at_once, lines_faults_at_once}
 use Rattle.dbtg_trace.specs.Traces.{entry_of, line_entry}
-use Rattle.dbtg_trace.proofs.Firsts.{first_else, first_of_map, first_then}
+use Rattle.dbtg_trace.proofs.Firsts.{first_else, first_then}
 
 -- A LINE
 
@@ -44,11 +44,6 @@ same (Some z) x y h g = cc
 -- what is found before a word is kept
 pub whole_at_once : (schema : Lists) (units count : ℕ) (line : List ℕ) (c d : TraceCause) → first (whole_faults count line) ≡ Some c → first (line_faults_at_once schema units count line) ≡ Some d → c ≡ d
 whole_at_once schema units count line c d h wrong = same (first (line_faults_at_once schema units count line)) c d (first_then (whole_faults count line) _ c h) wrong
-
-pub note_at_once : (schema : Lists) (units count : ℕ) (line : List ℕ) (c : TraceCause) → first (whole_faults count line) ≡ None → is_statement line ≡ false → first (line_faults_at_once schema units count line) ≡ Some c → ⊥
-note_at_once schema units count line c h note wrong =
-    let none : first (line_faults_at_once schema units count line) ≡ None = first_else (whole_faults count line) _ h ∙ ap (λ (b : Bool). first (if b then entry_faults_at_once schema units line else [])) note in
-    cc
 
 pub entry_at_once : (schema : Lists) (units count : ℕ) (line : List ℕ) (c : TraceCause) → first (whole_faults count line) ≡ None → is_statement line ≡ true → first (line_faults_at_once schema units count line) ≡ Some c
     → first (entry_faults_at_once schema units line) ≡ Some c
