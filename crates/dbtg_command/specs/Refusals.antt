@@ -72,6 +72,7 @@ RefusesProgram (Schema line cause) n refusal = ⊥
 RefusesProgram (Script m line cause) n refusal = ⊥
 RefusesProgram (Moves word cause) n refusal = ⊥
 RefusesProgram (Turns word cause) n refusal = ⊥
+RefusesProgram (Trace line cause) n refusal = ⊥
 RefusesProgram MovesOver n refusal = ⊥
 RefusesProgram (StatesOver limit) n refusal = ⊥
 RefusesProgram (Unreadable path) n refusal = ⊥
@@ -143,6 +144,7 @@ RefusesTrace Memory refusal = Unit {0}
 RefusesTrace (Trace line cause) refusal = refusal ≡ Some (record { line = line; cause = cause })
 RefusesTrace (Schema line cause) refusal = ⊥
 RefusesTrace (Script n line cause) refusal = ⊥
+RefusesTrace (Program n line cause) refusal = ⊥
 RefusesTrace (Moves word cause) refusal = ⊥
 RefusesTrace (Turns word cause) refusal = ⊥
 RefusesTrace MovesOver refusal = ⊥

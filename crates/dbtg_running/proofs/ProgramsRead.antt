@@ -11,8 +11,8 @@ use Rattle.dbtg_going.specs.declared.going.ProgramRun.{ProgramRun}
 use Rattle.dbtg_going.specs.Texts.{given_text}
 use Rattle.dbtg_going.specs.Turns.{IsRunOf, turns_of}
 use Rattle.dbtg_command.specs.declared.order.OrderKind.{OrderKind}
-use Rattle.dbtg_command.specs.declared.place.Place.{Place}
-use Rattle.dbtg_command.specs.declared.place.Place.TheVariants.{Script}
+use Rattle.dbtg_command.specs.declared.place.TextPlace.{TextPlace}
+use Rattle.dbtg_command.specs.declared.place.TextPlace.TheVariants.{Script}
 use Rattle.dbtg_command.specs.Refusals.{is_count}
 use Rattle.dbtg_command.specs.Sources.{ReadSchema}
 use Rattle.dbtg_command.proofs.Public.{held_behind}
@@ -24,7 +24,7 @@ accepted_behind lists [] text all one = (one, tt)
 accepted_behind lists (first ∷ front) text all one = (all.0, accepted_behind lists front text all.1 one)
 
 -- the programs that were read, and one more
-pub programs_behind : (holds : Place → List ℕ → Type 0) (lists : Lists) (n : ℕ) (text : List ℕ) (before after : List Program) → (read : ReadPrograms holds lists n) × (before ≡ map (program lists) read.texts)
+pub programs_behind : (holds : TextPlace → List ℕ → Type 0) (lists : Lists) (n : ℕ) (text : List ℕ) (before after : List Program) → (read : ReadPrograms holds lists n) × (before ≡ map (program lists) read.texts)
     → holds (Script (n + 1)) text → program_refusal lists text ≡ None → after ≡ before ++ program lists text ∷ [] → (read : ReadPrograms holds lists (n + 1)) × (after ≡ map (program lists) read.texts)
 programs_behind holds lists n text before after so_far held e taken =
     let texts = so_far.0.texts in
@@ -39,7 +39,7 @@ programs_behind holds lists n text before after so_far held e taken =
     )
 
 -- a run of the programs that were read, as it is printed
-pub runs : (holds : Place → List ℕ → Type 0) (lists : Lists) (count : ℕ) (which : OrderKind) (capacity : ℕ) (programs : List Program) (turns : Option (List ℕ)) (given : ProgramRun) (printed : Printed)
+pub runs : (holds : TextPlace → List ℕ → Type 0) (lists : Lists) (count : ℕ) (which : OrderKind) (capacity : ℕ) (programs : List Program) (turns : Option (List ℕ)) (given : ProgramRun) (printed : Printed)
     → is_count count ≡ true → ReadSchema holds lists → (read : ReadPrograms holds lists count) × (programs ≡ map (program lists) read.texts) → ReadsTurns holds which turns
     → IsRunOf lists capacity programs (turns_of (length programs) turns) given → printed.text.items ≡ given_text lists programs given → printed.failed ≡ list_any (λ r. failed r.standing) given.programs
     → RunsHeld holds count which capacity printed

@@ -17,8 +17,8 @@ use Rattle.dbtg_command.specs.declared.fault.Fault.{Fault}
 use Rattle.dbtg_command.specs.declared.fault.Fault.TheVariants.{ScriptCount}
 use Rattle.dbtg_command.specs.declared.order.OrderKind.{OrderKind}
 use Rattle.dbtg_command.specs.declared.order.OrderKind.TheVariants as kind
-use Rattle.dbtg_command.specs.declared.place.Place.{Place}
-use Rattle.dbtg_command.specs.declared.place.Place.TheVariants.{Script}
+use Rattle.dbtg_command.specs.declared.place.TextPlace.{TextPlace}
+use Rattle.dbtg_command.specs.declared.place.TextPlace.TheVariants.{Script}
 use Rattle.dbtg_command.specs.Refusals.{RefusesProgram, is_count, turns_in}
 use Rattle.dbtg_command.specs.Sources.{HoldsScripts, ReadSchema, ReadTurns, ToldIn, ToldOfOrder, ToldOfSchema}
 use Rattle.dbtg_running.specs.declared.run.Printed.{Printed}
@@ -31,14 +31,14 @@ AllAccepted lists [] = Unit {0}
 AllAccepted lists (text ∷ texts) = (program_refusal lists text ≡ None) × AllAccepted lists texts
 
 -- the texts of the first programs, so many, that are held and accepted
-pub record ReadPrograms (holds : Place → List ℕ → Type 0) (lists : Lists) (count : ℕ) : Type 0 where
+pub record ReadPrograms (holds : TextPlace → List ℕ → Type 0) (lists : Lists) (count : ℕ) : Type 0 where
   pub texts : List (List ℕ)
   pub many : length texts ≡ count
   pub held : HoldsScripts holds 1 texts
   pub accepted : AllAccepted lists texts
 
 -- the turns that a source gives, if it gives any
-abbrev pub ReadsTurns : (Place → List ℕ → Type 0) → OrderKind → Option (List ℕ) → Type 0
+abbrev pub ReadsTurns : (TextPlace → List ℕ → Type 0) → OrderKind → Option (List ℕ) → Type 0
 ReadsTurns holds kind.Turns (Some turns) = ReadTurns holds turns
 ReadsTurns holds kind.Turns None = ⊥
 ReadsTurns holds kind.Serial turns = turns ≡ None
@@ -56,7 +56,7 @@ failed Spent = false
 failed GoesOn = false
 
 -- 1 to 8 programs, nothing is refused, and what is printed is the text of the run of what the texts say; it is said whether a program failed
-pub record RunsHeld (holds : Place → List ℕ → Type 0) (count : ℕ) (which : OrderKind) (capacity : ℕ) (printed : Printed) : Type 0 where
+pub record RunsHeld (holds : TextPlace → List ℕ → Type 0) (count : ℕ) (which : OrderKind) (capacity : ℕ) (printed : Printed) : Type 0 where
   pub counted : is_count count ≡ true
   pub lists : Lists
   pub schema : ReadSchema holds lists
@@ -71,7 +71,7 @@ pub record RunsHeld (holds : Place → List ℕ → Type 0) (count : ℕ) (which
 -- WHICH FAULT IS TOLD
 
 -- the fault is told of one of so many programs, and all before it are held and accepted
-pub record ToldOfPrograms (holds : Place → List ℕ → Type 0) (fails : Place → Fault → Type 0) (fault : Fault) (lists : Lists) (count : ℕ) : Type 0 where
+pub record ToldOfPrograms (holds : TextPlace → List ℕ → Type 0) (fails : TextPlace → Fault → Type 0) (fault : Fault) (lists : Lists) (count : ℕ) : Type 0 where
   pub before : ℕ
   pub read : ReadPrograms holds lists before
   pub within : before < count
@@ -79,7 +79,7 @@ pub record ToldOfPrograms (holds : Place → List ℕ → Type 0) (fails : Place
 
 -- a wrong number of programs, or else a fault that is told of the schema, of a program, or of the turns, where all that is read before it
 -- is held and accepted
-abbrev pub ToldOfRun : (Place → List ℕ → Type 0) → (Place → Fault → Type 0) → Fault → ℕ → OrderKind → Type 0
+abbrev pub ToldOfRun : (TextPlace → List ℕ → Type 0) → (TextPlace → Fault → Type 0) → Fault → ℕ → OrderKind → Type 0
 ToldOfRun holds fails fault count which =
     ((is_count count ≡ false) × (fault ≡ ScriptCount))
     ⊎ ((is_count count ≡ true) × (ToldOfSchema holds fails fault

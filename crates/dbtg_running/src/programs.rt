@@ -2,13 +2,13 @@
 
 ghost use Rattle.dbtg_command.specs.Refusals.{RefusesProgram};
 ghost use Rattle.dbtg_command.specs.Sources.{ToldIn};
-ghost use Rattle.dbtg_command.specs.declared.place.Place.TheVariants.{Script};
+ghost use Rattle.dbtg_command.specs.declared.place.TextPlace.TheVariants.{Script};
 ghost use Rattle.dbtg_program.specs.Faults.{refusal as program_refusal};
 ghost use Rattle.dbtg_program.specs.Reading.{program};
 ghost use Rattle.dbtg_running.specs.Running.{ReadPrograms, ToldOfPrograms};
 ghost use Rattle.std.specs.Prelude.{◌≡◌, ◌<◌, ◌≤◌, ◌++◌, ◌∷◌, ℕ, List, [], None, IfErr, IfOk, OnOk, length, map};
 
-use dbtg_command::{Fault, Place, Source, program_of};
+use dbtg_command::{Fault, TextPlace, Source, program_of};
 use dbtg_program::Program;
 use dbtg_schema::Schema;
 use std::alloc::Global;
@@ -26,7 +26,7 @@ fn take_next<S: Source>(
     ensures taken { OnOk result ((text : List ℕ) × S.holds source.now (Script number) text × (program_refusal schema.now text ≡ None) × (programs.new.items ≡ programs.old.items ++ program schema.now text ∷ [])) }
     ensures refused { IfErr result (λ fault. ToldIn (S.holds source.now) (S.fails source.now) fault (Script number) (λ text. RefusesProgram fault number (program_refusal schema.now text))) }
 {
-    let text = source.read(alloc, Place::Script(number))?;
+    let text = source.read(alloc, TextPlace::Script(number))?;
     programs.push(program_of(alloc, schema, number, text.as_slice())?)?;
     Ok(())
 }
