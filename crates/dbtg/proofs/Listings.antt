@@ -1,8 +1,8 @@
 -- What `outcomes` prints, of a wish too: statuses have four digits, the texts of results stand one behind another, and what was read is
 -- told as the texts say.
-use Rattle.std.proofs.Common.{◌≡◌, ℕ, Bool, true, ◌+◌, ◌-◌, ◌<◌, ◌≤◌, ◌⊎◌, inl, inr, zero, suc, List, [], ◌∷◌, ◌++◌, take, drop, map, length, Option, None, refl, sym, ap, ◌∙◌, subst, arith, get_or}
-use Rattle.std.specs.Prelude.{Contains, codes, nat_lt}
-use Rattle.std.proofs.lemmas.Bool.{and_from, lt-ltb}
+use Rattle.std.proofs.Common.{◌≡◌, ℕ, Bool, true, ◌+◌, ◌-◌, ◌<◌, ◌≤◌, ◌⊎◌, inl, inr, zero, suc, List, [], ◌∷◌, ◌++◌, take, drop, map, length, Option, Some, None, refl, sym, ap, ◌∙◌, subst, arith, get_or}
+use Rattle.std.specs.Prelude.{Contains, codes, nat_lt, if◌then◌else◌}
+use Rattle.std.proofs.lemmas.Bool.{and_from, le-ltb, lt-ltb}
 use Rattle.std.proofs.lemmas.List.{append-nil, append_assoc, length-take-le, take_more}
 use Rattle.std.specs.List.{list_all}
 use Rattle.dbtg_schema.specs.Lists.{Lists}
@@ -18,7 +18,7 @@ use Rattle.dbtg_outcomes.specs.declared.outcomes.OneResult.{OneResult}
 use Rattle.dbtg_outcomes.specs.declared.outcomes.Outcomes.{Outcomes}
 use Rattle.dbtg_outcomes.specs.declared.wishes.Wish.{Wish}
 use Rattle.dbtg_outcomes.specs.Outcomes.{AreOutcomes, AreStatuses, Comes, HasStatus}
-use Rattle.dbtg_outcomes.specs.Results.{Meeting}
+use Rattle.dbtg_outcomes.specs.Results.{Meeting, told_text}
 use Rattle.dbtg_script.specs.declared.limits.TheConstants.{MOST_MOVES}
 use Rattle.dbtg_script.specs.Statements.{script}
 use Rattle.dbtg_script.specs.Printing.WordTexts.{moves_words_text, turns_text}
@@ -33,9 +33,10 @@ use Rattle.dbtg.specs.declared.outcomes.Front.{Front}
 use Rattle.dbtg.specs.declared.outcomes.ListingOptions.{ListingOptions}
 use Rattle.dbtg.specs.declared.wishes.Judged.{Judged}
 use Rattle.dbtg.specs.Judging.{IsJudgedAs, IsUnjudged, JudgedHeld, ToldOfJudging}
-use Rattle.dbtg.specs.Listing.{AreResultTexts, IsListing, IsLong, IsOver, IsResultText, OutcomesHeld, ToldOfOutcomes, meeting_of, result_line, result_text, shown_text, summary_text, worded}
+use Rattle.dbtg.specs.Listing.{AreResultTexts, IsListing, IsLong, IsOver, IsResultText, OutcomesHeld, ToldOfOutcomes, difference_text, meeting_of, result_line, result_text, shown_text, summary_text, worded}
 use Rattle.dbtg.specs.Inside.Listing.{IsFront, IsUntold, are_short}
 use Rattle.dbtg_replay.specs.Ordering.{first_turns}
+use Rattle.dbtg_replay.specs.Replaying.{given_text}
 use Rattle.dbtg_command.specs.Refusals.{is_count}
 use Rattle.dbtg_command.specs.Sources.{ReadSchema, ReadScripts}
 use Rattle.dbtg_command.proofs.Public.{all_accepted, read_texts}
@@ -92,6 +93,11 @@ all_short m all are = all_of are_short all.answered.items (λ a among. all_of (�
   short_code a code comes = subst (λ n. nat_lt n 10000 ≡ true) (sym comes.status.code_is) (lt-ltb _ _ (short_status comes.statement comes.status.outcome.answer.status))
 
 -- TEXTS OF RESULTS
+
+-- the first result is shown whole, also where others are compared with it
+pub shown_whole : (m : Meeting) (lists : Lists) (first : Option (List ℕ)) (text : List ℕ) (k : ℕ) (given : Run) → lists ≡ m.schema → first ≡ Some text → k ≤ 1 → given_text lists given ≡ shown_text m first k given
+shown_whole m lists first text k given same some low =
+    ap (λ (s : Lists). given_text s given) same ∙ sym (ap (λ (f : Option (List ℕ)). shown_text m f k given) some ∙ ap (λ (b : Bool). if b then difference_text text (told_text m given) else given_text m.schema given) (le-ltb 1 k low))
 
 -- one more behind the others
 pub one_more : (m : Meeting) (first : Option (List ℕ)) (k : ℕ) (ones : List OneResult) (one : OneResult) (out text : List ℕ)
