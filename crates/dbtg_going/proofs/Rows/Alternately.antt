@@ -1,5 +1,5 @@
 -- Two units that take turns: what each is told of leads its own program on.
-use Rattle.std.specs.Prelude.{◌≡◌, refl, ℕ, List, [], ◌∷◌, None, false}
+use Rattle.std.specs.Prelude.{◌≡◌, refl, ℕ, List, [], ◌∷◌, None, true}
 use Rattle.std.specs.Fmt.{digits}
 use Rattle.dbtg_cells.specs.declared.key.Value.TheVariants.{Num}
 use Rattle.dbtg_cells.specs.declared.usage.Mode.TheVariants.{Update}
@@ -9,6 +9,7 @@ use Rattle.dbtg_unit.specs.declared.unit.Cause.TheVariants.{NoCurrentOfRunUnit}
 use Rattle.dbtg_unit.specs.declared.unit.Entry.{Entry}
 use Rattle.dbtg_unit.specs.declared.statement.Statement.{Statement}
 use Rattle.dbtg_unit.specs.Database.Laws.Replay.{replay}
+use Rattle.dbtg_unit.specs.Database.Statements.Effect.{effect}
 use Rattle.dbtg_unit.proofs.Rows.Words.{key, store, text}
 use Rattle.dbtg_unit.proofs.Rows.Defined.Schemas.{card, customers, main}
 use Rattle.dbtg_script.specs.Tokens.{into, onto}
@@ -23,7 +24,7 @@ use Rattle.dbtg_going.specs.Turns.{after_turns, reached}
 
 -- it looks for a record, and frees all where there is none
 abbrev pub looker : Program
-looker = of_lines card ("01 SEEN PIC 9(2)" ∷ "GET" ∷ "IF STATUS = 0413 GO TO NOTHING" ∷ "ADD 1 TO SEEN" ∷ "STOP" ∷ "NOTHING." ∷ "FREE" ∷ "ADD 7 TO SEEN" ∷ [])
+looker = of_lines card ("01 SEEN PIC 9(2)" ∷ "GET" ∷ "IF STATUS = 0413 GO TO NOTHING" ∷ "ADD 1 TO SEEN" ∷ "STOP" ∷ "NOTHING." ∷ "FREE ALL" ∷ "ADD 7 TO SEEN" ∷ [])
 
 -- it stores a record, and says that this was refused, which it is not
 abbrev pub storer : Program
@@ -32,16 +33,26 @@ storer = of_lines card ("OPEN AREA MAIN USAGE-MODE IS UPDATE" ∷ "STORE CUSTOME
 abbrev pub entry : ℕ → ℕ → Statement → Answer → Entry
 entry ticket unit s a = record { ticket = ticket; unit = unit; statement = s; answer = a }
 
--- unit 2, 1, one that is not there, none at all, 1, and 1 again, whose program is at its end
-abbrev pub some_turns : List ℕ
-some_turns = 2 ∷ 1 ∷ 3 ∷ 0 ∷ 1 ∷ 1 ∷ []
+abbrev pub two_made : List Entry
+two_made = entry 0 2 (OpenArea main Update) done ∷ entry 1 1 (Get None) (no NoCurrentOfRunUnit) ∷ []
 
 abbrev pub then_made : List Entry
-then_made = entry 0 2 (OpenArea main Update) done ∷ entry 1 1 (Get None) (no NoCurrentOfRunUnit) ∷ entry 2 1 (Free false) done ∷ []
+then_made = entry 0 2 (OpenArea main Update) done ∷ entry 1 1 (Get None) (no NoCurrentOfRunUnit) ∷ entry 2 1 (Free true) done ∷ []
 
-turns_made : after_turns card 5 (looker ∷ storer ∷ []) [] some_turns ≡ then_made
-unfolding after_turns unit_at replay within verdict onto into digits
-turns_made = refl
+-- unit 2, then unit 1
+each_once : after_turns card 5 (looker ∷ storer ∷ []) [] (2 ∷ 1 ∷ []) ≡ two_made
+unfolding after_turns unit_at replay within verdict onto into digits effect
+each_once = refl
+
+-- a unit that is not there, and none at all
+nobody : after_turns card 5 (looker ∷ storer ∷ []) two_made (3 ∷ 0 ∷ []) ≡ two_made
+unfolding after_turns unit_at
+nobody = refl
+
+-- unit 1 twice, whose program then is at its end
+once_more : after_turns card 5 (looker ∷ storer ∷ []) two_made (1 ∷ 1 ∷ []) ≡ then_made
+unfolding after_turns unit_at replay within verdict onto into digits effect
+once_more = refl
 
 -- the first has ended, and its counter was raised behind its last statement; the other has a statement to make
 looker_ended : reached card looker 1 then_made ≡ record { standing = Ended Stop; state = record { at = 8; values = Num 0 ∷ text "" ∷ Num 7 ∷ []; status = 0 } }
@@ -53,9 +64,9 @@ unfolding within verdict onto into digits
 storer_goes_on = refl
 
 -- two turns more of the other: it stores, and its ASSERT does not hold
-more_made : after_turns card 5 (looker ∷ storer ∷ []) then_made (2 ∷ 2 ∷ []) ≡ entry 0 2 (OpenArea main Update) done ∷ entry 1 1 (Get None) (no NoCurrentOfRunUnit) ∷ entry 2 1 (Free false) done
+more_made : after_turns card 5 (looker ∷ storer ∷ []) then_made (2 ∷ 2 ∷ []) ≡ entry 0 2 (OpenArea main Update) done ∷ entry 1 1 (Get None) (no NoCurrentOfRunUnit) ∷ entry 2 1 (Free true) done
     ∷ entry 3 2 (store customers (Num 7 ∷ text "        " ∷ [])) (found (key customers 1)) ∷ []
-unfolding after_turns unit_at replay within verdict onto into digits
+unfolding after_turns unit_at replay within verdict onto into digits effect
 more_made = refl
 
 storer_ended : reached card storer 2 (entry 0 2 (OpenArea main Update) done ∷ entry 3 2 (store customers (Num 7 ∷ text "        " ∷ [])) (found (key customers 1)) ∷ [])
