@@ -22,7 +22,7 @@ mod word;
 
 pub use fault::{ProgramCause, ProgramFault};
 pub use going::{Due, next};
-pub use grammar::{Keyword, Kind, FormPlace, Role};
+pub use grammar::{FormPlace, Keyword, Kind, Role};
 pub use program::{Condition, End, Line, Operand, Program, Relation, Sentence, Word};
 pub use reader::read_program;
 pub use state::State;

@@ -8,7 +8,7 @@ ghost use Rattle.dbtg_command.specs.declared.place.TextPlace.TheVariants.{Script
 ghost use Rattle.dbtg_command.specs.Refusals.{RefusesScriptText};
 ghost use Rattle.dbtg_command.specs.Sources.{ReadScripts, ToldIn, ToldOfScripts};
 
-use dbtg_command::{Fault, TextPlace, Source, take_script};
+use dbtg_command::{Fault, Source, TextPlace, take_script};
 use dbtg_schema::{Row, Schema};
 use dbtg_unit::Statement;
 use std::alloc::Global;

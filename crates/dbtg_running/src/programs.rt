@@ -8,7 +8,7 @@ ghost use Rattle.dbtg_program.specs.Reading.{program};
 ghost use Rattle.dbtg_running.specs.Running.{ReadPrograms, ToldOfPrograms};
 ghost use Rattle.std.specs.Prelude.{◌≡◌, ◌<◌, ◌≤◌, ◌++◌, ◌∷◌, ℕ, List, [], None, IfErr, IfOk, OnOk, length, map};
 
-use dbtg_command::{Fault, TextPlace, Source, program_of};
+use dbtg_command::{Fault, Source, TextPlace, program_of};
 use dbtg_program::Program;
 use dbtg_schema::Schema;
 use std::alloc::Global;

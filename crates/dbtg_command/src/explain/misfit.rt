@@ -46,11 +46,7 @@ fn said_of_misfit(
 }
 
 // What is said where something ends too early; the form has 0 for what is wanted.
-fn said_of_end(
-    alloc: Global,
-    form: &'static str,
-    wanted: &[&[u8]],
-) -> Result<Vec<u8>, AllocError>
+fn said_of_end(alloc: Global, form: &'static str, wanted: &[&[u8]]) -> Result<Vec<u8>, AllocError>
     ensures { IfOk result (λ out. out.items ≡ filled (separated (map (λ thing. thing.now) wanted.now) ∷ []) form.now) }
 {
     let list = separated(alloc, wanted)?;
@@ -60,11 +56,7 @@ fn said_of_end(
 }
 
 // What is said of a line that ends too early, or in an open text.
-fn said_of_early_line(
-    alloc: Global,
-    line: &[u8],
-    wanted: &[&[u8]],
-) -> Result<Vec<u8>, AllocError>
+fn said_of_early_line(alloc: Global, line: &[u8], wanted: &[&[u8]]) -> Result<Vec<u8>, AllocError>
     ensures { IfOk result (λ out. out.items ≡ said_of_early_line line.now (map (λ thing. thing.now) wanted.now)) }
 {
     if ends_in_text(trimmed(line)) {
@@ -131,7 +123,12 @@ fn said_of_schema_misfit(alloc: Global, text: &[u8]) -> Result<Vec<u8>, AllocErr
     let laid = laid_out(alloc, text)?;
     let line = fault_line(alloc, laid.as_slice(), 3)?;
     let wanted = wanted_in_schema(alloc, text)?;
-    said_of_met(alloc, line, line_at(laid.as_slice(), line), wanted.as_slice())
+    said_of_met(
+        alloc,
+        line,
+        line_at(laid.as_slice(), line),
+        wanted.as_slice(),
+    )
 }
 
 /// What there is to say of the word of a line that is at fault, or of its end; nothing where no single word is.
