@@ -37,8 +37,8 @@ returns-in-Err-clause-at_once c = λ f wrong.
     let refused = rw (c.trimmed.ensures, c.loop-line.invariant.same, now.0) at c.in-Err.ensures.refused in
     rw c.at_line.ensures (line_told schema number line (lines c.next.new.self.rest.now) c.in-Err.fault f told note refused left)
 
-pub returns-then-text-gt1048576-clause-at_once : goal.returns-then-text-gt1048576-clause-at_once
-returns-then-text-gt1048576-clause-at_once c = λ f wrong. long_told c.args.schema.now c.args.text.now f (omega arith) wrong
+pub returns-then-text-gt-SCRIPT_BYTES-clause-at_once : goal.returns-then-text-gt-SCRIPT_BYTES-clause-at_once
+returns-then-text-gt-SCRIPT_BYTES-clause-at_once c = λ f wrong. long_told c.args.schema.now c.args.text.now f (omega arith) wrong
 
 pub loop-line-init : goal.loop-line-init
 loop-line-init c =

@@ -1,5 +1,5 @@
 use Rattle.dbtg_script.proofs.Reading.KnownLines.{found}
-use Rattle.dbtg_script.proofs.known.Known.find.Goals as goal
+use Rattle.dbtg_script.proofs.known.LineCache.find.Goals as goal
 
 pub returns-in-Some : goal.returns-in-Some
 returns-in-Some c = λ schema ss h.
