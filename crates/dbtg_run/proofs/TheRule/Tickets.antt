@@ -34,7 +34,7 @@ use Rattle.dbtg_run.specs.declared.view.SeatKnowledge.{SeatKnowledge}
 use Rattle.dbtg_run.specs.Inside.Views.{put, latched, drawn, total_below}
 use Rattle.dbtg_run.specs.Views.{lone}
 use Rattle.dbtg_run.specs.Inside.LatchRule.{net, opens, area_word, cell_word, progress_of, hands_of, AtHome, AreaOk, Shows, Worded, LatchRule, Recorded, Draws}
-use Rattle.dbtg_run.specs.LatchRule.{entry}
+use Rattle.dbtg_run.specs.Entries.{entry}
 use Rattle.dbtg_run.proofs.TheRule.Base.{put_here, put_else, each_put, below_put, below_same, seats_changed}
 use Rattle.dbtg_run.proofs.TheRule.Alone.{few_entries, tells_real}
 use Rattle.dbtg_run.proofs.TheRule.Areas.{ok_same}

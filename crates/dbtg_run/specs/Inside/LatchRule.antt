@@ -40,7 +40,7 @@ use Rattle.dbtg_run.specs.declared.view.SeatUnit.{SeatUnit}
 use Rattle.dbtg_run.specs.declared.view.SeatKnowledge.{SeatKnowledge}
 use Rattle.dbtg_run.specs.Views.{Has}
 use Rattle.dbtg_run.specs.Inside.Views.{Seated, rest_of, times_place, once_below, latched, total_below, changed, with_area, less_area, with_cell, less_cell, drawn, bare}
-use Rattle.dbtg_run.specs.LatchRule.{entry}
+use Rattle.dbtg_run.specs.Entries.{entry}
 
 -- the machine's database
 abbrev pub net : About → SequentialDatabase
