@@ -40,7 +40,7 @@ fn any_failed(programs: &[Reached]) -> bool
 }
 
 // What is printed of a run of these programs.
-fn printed(
+fn print_run(
     alloc: Global,
     schema: &Schema,
     programs: &[Program],
@@ -85,7 +85,7 @@ fn run_read<S: Source>(
     let turns = turns_wanted(alloc, source)?;
     let order = turns.as_ref().map(|turns| turns.as_slice());
     let given = run_programs(alloc, known, capacity, programs, order)?;
-    let printed = printed(alloc, known, programs, &given);
+    let printed = print_run(alloc, known, programs, &given);
     given.discard();
     Ok(printed?)
 }
