@@ -16,7 +16,7 @@ use Rattle.dbtg_command.specs.declared.place.TextPlace.TheVariants.{Script}
 use Rattle.dbtg_command.specs.Refusals.{is_count}
 use Rattle.dbtg_command.specs.Sources.{ReadSchema}
 use Rattle.dbtg_command.proofs.Public.{held_behind}
-use Rattle.dbtg_running.specs.declared.run.Printed.{Printed}
+use Rattle.dbtg_running.specs.declared.command.Printed.{Printed}
 use Rattle.dbtg_running.specs.Running.{AllAccepted, ReadPrograms, ReadsTurns, RunsHeld, failed}
 
 accepted_behind : (lists : Lists) (front : List (List ℕ)) (text : List ℕ) → AllAccepted lists front → program_refusal lists text ≡ None → AllAccepted lists (front ++ text ∷ [])

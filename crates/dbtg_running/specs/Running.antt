@@ -21,7 +21,7 @@ use Rattle.dbtg_command.specs.declared.place.TextPlace.{TextPlace}
 use Rattle.dbtg_command.specs.declared.place.TextPlace.TheVariants.{Script}
 use Rattle.dbtg_command.specs.Refusals.{RefusesProgram, is_count, turns_in}
 use Rattle.dbtg_command.specs.Sources.{HoldsScripts, ReadSchema, ReadTurns, ToldIn, ToldOfOrder, ToldOfSchema}
-use Rattle.dbtg_running.specs.declared.run.Printed.{Printed}
+use Rattle.dbtg_running.specs.declared.command.Printed.{Printed}
 
 -- WHAT IS READ
 

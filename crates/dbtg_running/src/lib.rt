@@ -1,7 +1,7 @@
 //! The command `run`: programs that a source gives, and what comes of them.
 #![tactic(auto)]
 
+mod command;
 mod programs;
-mod run;
 
-pub use run::{Printed, run};
+pub use command::{Printed, run};
