@@ -3,11 +3,12 @@
 ghost use Rattle.dbtg_command.specs.Refusals.{is_count};
 ghost use Rattle.dbtg_command.specs.Sources.{ReadSchema, ToldOfOrder};
 ghost use Rattle.dbtg_going.specs.Texts.{given_text};
+ghost use Rattle.dbtg_going.specs.Turns.{IsRunOf, turns_of};
 ghost use Rattle.dbtg_program.specs.Reading.{program};
 ghost use Rattle.dbtg_running.specs.Running.{ReadPrograms, ReadsTurns, RunsHeld, ToldOfRun, failed};
 ghost use Rattle.dbtg_schema.specs.Sound.{IsSound};
 ghost use Rattle.std.specs.List.{list_any};
-ghost use Rattle.std.specs.Prelude.{◌≡◌, IfErr, IfOk, map, true};
+ghost use Rattle.std.specs.Prelude.{◌≡◌, ◌≤◌, IfErr, IfOk, length, map, true};
 
 use crate::programs::read_programs;
 use dbtg_command::{Fault, OrderKind, Source, read_schema, read_turns};
@@ -67,6 +68,24 @@ fn turns_wanted<S: Source>(alloc: Global, source: &S) -> Result<Option<Row<u8>>,
     }
 }
 
+// The programs by these turns, or each to its end.
+fn run_wanted(
+    alloc: Global,
+    schema: &Schema,
+    capacity: u16,
+    programs: &[Program],
+    turns: &Option<Row<u8>>,
+) -> Result<ProgramRun, AllocError>
+    requires sound { IsSound schema.now }
+    requires units { length programs.now ≤ 255 }
+    ensures { IfOk result (λ given. IsRunOf schema.now capacity programs.now (turns_of (length programs.now) turns.now) given) }
+{
+    match turns {
+        Some(turns) => run_programs(alloc, schema, capacity, programs, Some(turns.as_slice())),
+        None => run_programs(alloc, schema, capacity, programs, None),
+    }
+}
+
 // What is printed of the programs that were read.
 fn run_read<S: Source>(
     alloc: Global,
@@ -83,8 +102,7 @@ fn run_read<S: Source>(
     ensures refused { IfErr result (λ fault. ToldOfRun (S.holds source.now) (S.fails source.now) fault (S.count source.now) (S.order source.now)) }
 {
     let turns = turns_wanted(alloc, source)?;
-    let order = turns.as_ref().map(|turns| turns.as_slice());
-    let given = run_programs(alloc, known, capacity, programs, order)?;
+    let given = run_wanted(alloc, known, capacity, programs, &turns)?;
     let printed = print_run(alloc, known, programs, &given);
     given.discard();
     Ok(printed?)

@@ -4,4 +4,6 @@ use Rattle.dbtg_running.specs.Running.{ReadPrograms}
 use Rattle.dbtg_running.proofs.programs.read_programs.Given as goal
 
 abbrev pub invariant-loop-i : goal.invariant-loop-i
-invariant-loop-i g l = (read : ReadPrograms (g.S.Source.holds l.source) l.schema l.i) × (l.programs.items ≡ map (program l.schema) read.texts)
+invariant-loop-i g l = record {
+  so_far : (read : ReadPrograms (g.S.Source.holds l.source) l.schema l.i) × (l.programs.items ≡ map (program l.schema) read.texts);
+}
