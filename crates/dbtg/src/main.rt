@@ -329,7 +329,7 @@ fn tell_outcomes(rt: &HostRuntime, call: &Call) -> ExitCode {
         limit: call.limit,
     };
     match call.wish {
-        Some(wished) => tell_judged(rt, &files, call, options, wished),
+        Some(wished) => tell_judged(rt, call, options, wished),
         None => print_run(
             rt,
             print_outcomes(rt.alloc(), &files, options),
@@ -351,18 +351,21 @@ fn wish_of(wished: Wished) -> Wish
 }
 
 // What comes of a wish, with a status of its own where some order breaks it.
-fn tell_judged(
-    rt: &HostRuntime,
-    files: &Files<HostRuntime>,
-    call: &Call,
-    options: ListingOptions,
-    wished: Wished,
-) -> ExitCode {
-    match judge_outcomes(rt.alloc(), files, options, wish_of(wished)) {
-        Ok(Judged::Kept(text)) => print_run(rt, Ok(text), files, call),
-        Ok(Judged::Broken(text)) => print_broken(rt, text, files, call),
+fn tell_judged(rt: &HostRuntime, call: &Call, options: ListingOptions, wished: Wished) -> ExitCode {
+    let paths = Paths {
+        schema: call.schema,
+        scripts: call.scripts.as_slice(),
+        order: Order::Serial,
+    };
+    let files = Files {
+        reader: rt,
+        paths: &paths,
+    };
+    match judge_outcomes(rt.alloc(), &files, options, wish_of(wished)) {
+        Ok(Judged::Kept(text)) => print_run(rt, Ok(text), &files, call),
+        Ok(Judged::Broken(text)) => print_broken(rt, text, &files, call),
         Ok(Judged::NoStatement) => no_statement(rt, wished),
-        Err(fault) => print_run(rt, Err(fault), files, call),
+        Err(fault) => print_run(rt, Err(fault), &files, call),
     }
 }
 
