@@ -130,6 +130,18 @@ fn push_rows(
     Ok(())
 }
 
+/// The line of each entry's statement, as the texts of the scripts have it.
+pub fn lines_of_history<'a>(
+    alloc: Global,
+    texts: &'a [Row<u8>],
+    history: &[Entry],
+) -> Result<Vec<&'a [u8]>, AllocError>
+    ensures { IfOk result (λ lines. map (λ l. l.now) lines.items ≡ lines_beside (map statement_lines texts.now) [] history.now) }
+{
+    let scripts = lines_of_scripts(alloc, texts)?;
+    lines_beside(alloc, scripts.as_slice(), history)
+}
+
 /// A line for each entry of a history: its statement, as the texts of the scripts have it, and its ticket, unit and answer.
 pub fn echo_text(
     alloc: Global,
@@ -139,8 +151,7 @@ pub fn echo_text(
 ) -> Result<Vec<u8>, AllocError>
     ensures { IfOk result (λ text. text.items ≡ echo_text schema.now texts.now history.now) }
 {
-    let scripts = lines_of_scripts(alloc, texts)?;
-    let lines = lines_beside(alloc, scripts.as_slice(), history)?;
+    let lines = lines_of_history(alloc, texts, history)?;
     let mut out = Vec::new(alloc);
     push_rows(
         &mut out,

@@ -2,7 +2,7 @@
 
 ghost use Rattle.dbtg_schema.specs.Lists.{Lists};
 ghost use Rattle.dbtg_unit.specs.declared.statement.Statement.{Statement as SaidStatement};
-ghost use Rattle.dbtg_script.specs.Inside.Known.{IsKnown, IsRead};
+ghost use Rattle.dbtg_script.specs.Known.{IsKnown, IsRead};
 ghost use Rattle.std.specs.Prelude.{◌≡◌, ◌<◌, List, IfSome};
 
 /// A line that holds a statement, and its place among the statements that were read.

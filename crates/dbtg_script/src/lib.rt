@@ -32,10 +32,11 @@ mod word_texts;
 mod words;
 
 pub use checks::key_fault;
-pub use echo::statement_lines;
+pub use echo::{lines_of_history, statement_lines};
 pub use fault::{Cause, LineFault, ScriptFault};
 pub use faulty::faulty_word;
 pub use image::{image_text, moves_text};
+pub use known::{LineCache, Seen};
 pub use laws::{
     a_derived_line_is_read, a_derived_script_has_no_fault_of_the_grammar,
     a_line_behind_a_script_is_read, a_line_without_faults_is_derived, a_printed_key_is_read_back,
@@ -47,10 +48,10 @@ pub use line::{
     Lines, ends_in_text, is_allowed, is_printable, is_statement, trimmed, without_last,
 };
 pub use moves::{MovesCause, MovesFault, read_moves};
-pub use print::{push_items, push_number, push_status};
+pub use print::{push_items, push_key, push_mode, push_number, push_owner, push_status};
 pub use reader::{read_script, read_script_line};
 pub use said_words::read_statement_words;
-pub use sizes::{push_echoed_run, push_run, push_schema_line, push_script_line};
+pub use sizes::{push_echoed_run, push_rest, push_run, push_schema_line, push_script_line};
 pub use spelling::{behind, has_byte, in_front, is_key, is_number, number};
 pub use statement::key_of;
 pub use texts::{

@@ -117,6 +117,7 @@ fn push_generation(out: &mut Vec<u8>, generation: u8) -> Result<(), AllocError>
     Ok(())
 }
 
+/// The name of the record type, the number, and a generation above the first.
 pub fn push_key(out: &mut Vec<u8>, schema: &Schema, key: &DbKey) -> Result<(), AllocError>
     ensures { OnOk result (out.new.items ≡ out.old.items ++ key_text schema.now key.now) }
 {
@@ -181,6 +182,7 @@ pub fn push_items(out: &mut Vec<u8>, values: &[Value], items: &[Item]) -> Result
     Ok(())
 }
 
+/// The key of a record, or SYSTEM.
 pub fn push_owner(out: &mut Vec<u8>, schema: &Schema, owner: &Owner) -> Result<(), AllocError>
     ensures { OnOk result (out.new.items ≡ out.old.items ++ owner_text schema.now owner.now) }
 {
@@ -190,6 +192,7 @@ pub fn push_owner(out: &mut Vec<u8>, schema: &Schema, owner: &Owner) -> Result<(
     }
 }
 
+/// A usage mode as one word.
 pub fn push_mode(out: &mut Vec<u8>, mode: Mode) -> Result<(), AllocError>
     ensures { OnOk result (out.new.items ≡ out.old.items ++ mode_text mode) }
 {

@@ -46,8 +46,8 @@ pub fn push_script_line(out: &mut Vec<u8>, number: usize, count: usize) -> Resul
     push_count(out, count, b" statements\n")
 }
 
-// A line of two hyphens, the image and the units.
-fn push_rest(
+/// What a run gives behind its answers: a line of two hyphens, the image, the units.
+pub fn push_rest(
     alloc: Global,
     out: &mut Vec<u8>,
     schema: &Schema,

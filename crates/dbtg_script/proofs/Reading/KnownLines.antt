@@ -15,7 +15,8 @@ use Rattle.dbtg_script.specs.declared.known.Seen.{Seen}
 use Rattle.dbtg_script.specs.Lines.{is_allowed, is_statement}
 use Rattle.dbtg_script.specs.StatementFaults.{statement_faults, when}
 use Rattle.dbtg_script.specs.Statements.{line_statement, prepend}
-use Rattle.dbtg_script.specs.Inside.Known.{IsKnown, IsRead, IsReadAt, Says}
+use Rattle.dbtg_script.specs.Inside.Known.{Says}
+use Rattle.dbtg_script.specs.Known.{IsKnown, IsRead, IsReadAt}
 
 -- KEPT AND FOUND
 
