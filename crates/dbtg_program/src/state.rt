@@ -157,6 +157,13 @@ impl State {
         self.values.as_slice()
     }
 
+    /// The status of its last statement, 0 before the first.
+    pub fn status(&self) -> u16
+        ensures { result ≡ self.now.status }
+    {
+        self.status
+    }
+
     pub(crate) fn field_value(&self, field: usize) -> Borrowed<'_>
         ensures { view result ≡ field_value self.now field }
     {
