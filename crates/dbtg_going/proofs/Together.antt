@@ -17,9 +17,11 @@ use Rattle.dbtg_program.specs.Views.{view_due}
 use Rattle.dbtg_step.specs.Core.Whole.{IsMadeRun, Making}
 use Rattle.dbtg_step.specs.Machine.SequentialDatabase.{unit_at}
 use Rattle.dbtg_step.proofs.Public.{map_at}
+use Rattle.dbtg_going.specs.declared.member.Going.{Going}
 use Rattle.dbtg_going.specs.declared.member.Member.{Member}
 use Rattle.dbtg_going.specs.declared.going.ProgramRun.{ProgramRun}
 use Rattle.dbtg_going.specs.Turns.{IsRunOf, comes, making_by, one_by_one, reached, standing, state_in, to_the_end}
+use Rattle.dbtg_going.specs.Goings.{AreAfter, AreGoing}
 use Rattle.dbtg_going.specs.Inside.Members.{AreAt, HaveTurned, IsAt, IsUnderWay, reached_by}
 use Rattle.dbtg_going.proofs.Turning.{turned_on, turned_to}
 
@@ -84,7 +86,7 @@ state_kept state (code_due.Statement s) = refl
 state_kept state (code_due.End how) = refl
 
 reached_there : (schema : Lists) (program : Program) (u : ℕ) (history : List Entry) (m : Member) → IsAt schema program (entries_of u history) m → reached_by m ≡ reached schema program u history
-reached_there schema program u history m at = λ i. record { standing = standing (at.made i) (at.comes i); state = (state_kept m.state m.due ∙ ap state_in at.comes) i }
+reached_there schema program u history m at = λ i. record { standing = standing (at.made i) (at.going.comes i); state = (state_kept m.going.state m.going.due ∙ ap state_in at.going.comes) i }
 
 module _ (schema : Lists) (capacity : ℕ) (programs : List Program) (turns : List ℕ) (made : Making) (members : List Member) (given : ProgramRun) where
   pub handed_out : HaveTurned schema programs (record { schema = schema; capacity = capacity; units = length programs; history = [] }) turns made members → IsMadeRun made given.run → given.programs ≡ map reached_by members → IsRunOf schema capacity programs turns given
@@ -94,12 +96,21 @@ module _ (schema : Lists) (capacity : ℕ) (programs : List Program) (turns : Li
       let each = t.under_way.are_at.each in
       record {
         run = subst (λ m. IsMadeRun m given.run) by run;
-        of_programs = λ u program is. subst (λ es. AreOf schema program (entries_of u es)) history (each u program is).2.are_of;
+        of_programs = λ u program is. subst (λ es. AreOf schema program (entries_of u es)) history (each u program is).2.going.are_of;
         count = ap length are ∙ (length-map members reached_by ∙ t.under_way.are_at.count);
         reached_are = λ u program is.
             let there = each u program is in
             ap (λ rs. unit_at rs u) are ∙ (map_at reached_by members u ∙ (ap (option_map reached_by) there.1 ∙ ap Some (reached_there schema program u made.history there.0 there.2 ∙ ap (reached schema program u) history)));
       }
+
+-- the programs of members
+pub goings_there : (schema : Lists) (programs : List Program) (history : List Entry) (members : List Member) → AreAt schema programs history members → AreGoing schema programs history (map (λ (m : Member). m.going) members)
+goings_there schema programs history members are = record {
+  count = length-map members (λ (m : Member). m.going) ∙ are.count;
+  each = λ u program is.
+      let there = are.each u program is in
+      (there.0.going, map_at (λ (m : Member). m.going) members u ∙ ap (option_map (λ (m : Member). m.going)) there.1, there.2.going);
+}
 
 -- FROM THE OPENING ON
 
@@ -117,3 +128,13 @@ pub handed : (schema : Lists) (capacity : ℕ) (programs : List Program) (turns 
     → HaveTurned schema programs m turns made members → IsMadeRun made given.run → given.programs ≡ map reached_by members → IsRunOf schema capacity programs turns given
 handed schema capacity programs turns m made units members given is count t run are =
     handed_out schema capacity programs turns made members given (subst (λ x. HaveTurned schema programs x turns made members) (is ∙ ap (opened schema capacity) count) t) run are
+
+-- the programs where these turns have led them
+pub led_on : (schema : Lists) (capacity : ℕ) (programs : List Program) (turns : List ℕ) (m made database : Making) (units : ℕ) (members : List Member) (goings : List Going) → m ≡ opened schema capacity units → units ≡ length programs
+    → HaveTurned schema programs m turns made members → database ≡ made → goings ≡ map (λ (n : Member). n.going) members → AreAfter schema capacity programs turns database goings
+led_on schema capacity programs turns m made database units members goings is count t same are =
+    let start = subst (λ x. HaveTurned schema programs x turns made members) (is ∙ ap (opened schema capacity) count) t in
+    record {
+      database_is = same ∙ start.database;
+      are_going = subst (λ gs. AreGoing schema programs database.history gs) (sym are) (subst (λ (d : Making). AreGoing schema programs d.history (map (λ (n : Member). n.going) members)) (sym same) (goings_there schema programs made.history members t.under_way.are_at));
+    }

@@ -1,5 +1,5 @@
 -- What turns come to, and how members follow them.
-use Rattle.std.proofs.Common.{◌≡◌, ◌≢◌, ℕ, zero, suc, ◌+◌, ◌-◌, ◌<◌, ◌≤◌, Bool, true, false, ◌&&◌, List, [], ◌∷◌, ◌++◌, length, Some, None, ◌⊎◌, inl, inr, refl, ap, subst, sym, ◌∙◌, slice_get, slice_set, arith}
+use Rattle.std.proofs.Common.{◌≡◌, ◌≢◌, ℕ, zero, suc, ◌+◌, ◌-◌, ◌<◌, ◌≤◌, Bool, true, false, List, [], ◌∷◌, ◌++◌, length, Option, Some, None, ◌⊎◌, inl, inr, refl, ap, subst, sym, ◌∙◌, slice_get, slice_set, arith}
 use Rattle.std.specs.Prelude.{Err, IfOk, Ok, OnOk, Result, slice_index_or, if◌then◌else◌, nat_lt, option_and_then, replicate}
 use Rattle.std.proofs.lemmas.List.{length-append, replicate-append-replicate}
 use Rattle.dbtg_schema.specs.Lists.{Lists}
@@ -17,9 +17,11 @@ use Rattle.dbtg_program.specs.Views.{Stands, view_due}
 use Rattle.dbtg_step.specs.Core.Whole.{HasMade, Making}
 use Rattle.dbtg_step.specs.Machine.SequentialDatabase.{unit_at, with_unit_at}
 use Rattle.dbtg_step.proofs.Public.{length_with, set_at, set_elsewhere}
+use Rattle.dbtg_going.specs.declared.member.Going.{Going}
 use Rattle.dbtg_going.specs.declared.member.Member.{Member}
-use Rattle.dbtg_going.specs.Turns.{after_turn, after_turns, comes, due_after, made, most, statement_of, to_the_end, with_outcome}
-use Rattle.dbtg_going.specs.Inside.Members.{AreAt, HaveTurned, IsAt, IsUnderWay, comes_of}
+use Rattle.dbtg_going.specs.Goings.{AreEach, IsGoing, comes_of}
+use Rattle.dbtg_going.specs.Turns.{after_turn, after_turns, comes, due_after, made, most, statement_due, statement_of, to_the_end, with_outcome}
+use Rattle.dbtg_going.specs.Inside.Members.{AreAt, HaveTurned, IsAt, IsUnderWay}
 
 same_or_not : (m n : ℕ) → (m ≡ n) ⊎ (m ≢ n)
 same_or_not zero zero = inl refl
@@ -105,49 +107,58 @@ pub state_behind : (schema : Lists) (program : Program) (state : ProgramState) (
 state_behind schema program state [] e = refl
 state_behind schema program state (f ∷ es) e = state_behind schema program (after_due program state (next schema program state) f) es e
 
-awaited : (schema : Lists) (program : Program) (es : List Entry) (m : Member) (s : Statement) → IsAt schema program es m → m.due ≡ code_due.Statement s → next schema program (state_after schema program (beginning program) es) ≡ due m.state s
-awaited schema program es m s at is = sym at.comes ∙ ap (view_due m.state) is
+awaited : (schema : Lists) (program : Program) (es : List Entry) (g : Going) (s : Statement) → IsGoing schema program es g → g.due ≡ code_due.Statement s → next schema program (state_after schema program (beginning program) es) ≡ due g.state s
+awaited schema program es g s at is = sym at.comes ∙ ap (view_due g.state) is
 
 -- where a statement is due, the program stands at a sentence
-pub stands_there : (schema : Lists) (program : Program) (es : List Entry) (m : Member) (s : Statement) → IsAt schema program es m → m.due ≡ code_due.Statement s → m.state.at < length program.lines
-stands_there schema program es m s at is = subst (Stands program m.state) is at.stands
+pub stands_there : (schema : Lists) (program : Program) (es : List Entry) (g : Going) (s : Statement) → IsGoing schema program es g → g.due ≡ code_due.Statement s → g.state.at < length program.lines
+stands_there schema program es g s at is = subst (Stands program g.state) is at.stands
 
--- a member that was told of the entry of its statement
-pub told_on : (schema : Lists) (program : Program) (es : List Entry) (e : Entry) (m : Member) (now after : ProgramState) (d : code.Due) → IsAt schema program es m → m.due ≡ code_due.Statement e.statement
-    → now ≡ told program m.state e.statement e.answer → view_due after d ≡ next schema program now → Stands program after d → IsAt schema program (es ++ e ∷ []) (record { state = after; due = d; made = m.made + 1 })
-told_on schema program es e m now after d at is now_is comes stands =
+-- a program that was told of the entry of its statement
+pub told_on : (schema : Lists) (program : Program) (es : List Entry) (e : Entry) (g : Going) (now after : ProgramState) (d : code.Due) → IsGoing schema program es g → g.due ≡ code_due.Statement e.statement
+    → now ≡ told program g.state e.statement e.answer → view_due after d ≡ next schema program now → Stands program after d → IsGoing schema program (es ++ e ∷ []) (record { state = after; due = d })
+told_on schema program es e g now after d at is now_is comes stands =
     let first = beginning program in
-    let waits = awaited schema program es m e.statement at is in
+    let waits = awaited schema program es g e.statement at is in
     let state : state_after schema program first (es ++ e ∷ []) ≡ now
     = state_behind schema program first es e ∙ ap (λ (n : Due). after_due program (state_after schema program first es) n e) waits ∙ sym now_is in
     record {
-      made = ap (λ n. n + 1) at.made ∙ sym (length-append es (e ∷ []));
       comes = comes ∙ ap (next schema program) (sym state);
       stands = stands;
       are_of = goes_on schema program first es e at.are_of (subst (λ (n : Due). IsDue n e.statement) (sym waits) refl);
     }
 
+-- a member that was told of it
+pub member_told : (schema : Lists) (program : Program) (es : List Entry) (e : Entry) (m : Member) (g : Going) → IsAt schema program es m → IsGoing schema program (es ++ e ∷ []) g → IsAt schema program (es ++ e ∷ []) (record { going = g; made = m.made + 1 })
+member_told schema program es e m g at on = record { made = ap (λ n. n + 1) at.made ∙ sym (length-append es (e ∷ [])); going = on }
+
 -- before its first statement
-pub begins : (schema : Lists) (program : Program) (m : Member) → comes_of m ≡ next schema program (beginning program) → Stands program m.state m.due → m.made ≡ 0 → IsAt schema program [] m
-begins schema program m comes stands none = record { made = none; comes = comes; stands = stands; are_of = tt }
+pub begins : (schema : Lists) (program : Program) (g : Going) → comes_of g ≡ next schema program (beginning program) → Stands program g.state g.due → IsGoing schema program [] g
+begins schema program g comes stands = record { comes = comes; stands = stands; are_of = tt }
 
 -- THE STATEMENT OF A TURN
+
+test_holds : {X : Type 0} (b : Bool) (o : Option X) (y : X) → (if b then o else None) ≡ Some y → (b ≡ true) × (o ≡ Some y)
+test_holds true o y e = (refl, e)
+test_holds false o y e = absurd cc
 
 some_if : {X : Type 0} (b : Bool) (x y : X) → (if b then Some x else None) ≡ Some y → (b ≡ true) × (x ≡ y)
 some_if true x y e = (refl, cc)
 some_if false x y e = absurd cc
 
-both_true : (a b : Bool) → (a && b) ≡ true → (a ≡ true) × (b ≡ true)
-both_true true b e = (refl, e)
-both_true false b e = absurd cc
+-- a statement that is due, and is one of the schema
+pub is_due : (schema : Lists) (state : ProgramState) (d : code.Due) (x : Statement) → statement_due schema (view_due state d) ≡ Some x → (d ≡ code_due.Statement x) × (fits schema x ≡ true)
+is_due schema state (code_due.End how) x e = absurd cc
+is_due schema state (code_due.Statement s) x e =
+    let found = some_if (fits schema s) s x e in
+    (ap code_due.Statement found.1, subst (λ z. fits schema z ≡ true) found.1 found.0)
 
 -- a statement that is to be made is due, is not one too many, and is of the schema
 pub to_be_made : (schema : Lists) (n : ℕ) (state : ProgramState) (d : code.Due) (x : Statement) → due_after schema n (view_due state d) ≡ Some x → (d ≡ code_due.Statement x) × (nat_lt n most ≡ true) × (fits schema x ≡ true)
-to_be_made schema n state (code_due.End how) x e = absurd cc
-to_be_made schema n state (code_due.Statement s) x e =
-    let found = some_if (nat_lt n most && fits schema s) s x e in
-    let both = both_true (nat_lt n most) (fits schema s) found.0 in
-    (ap code_due.Statement found.1, both.0, subst (λ z. fits schema z ≡ true) found.1 both.1)
+to_be_made schema n state d x e =
+    let few = test_holds (nat_lt n most) (statement_due schema (view_due state d)) x e in
+    let is = is_due schema state d x few.1 in
+    (is.0, few.0, is.1)
 
 paired : {X Y : Type 0} (xs : List X) (ys : List Y) (k : ℕ) (y : Y) → length ys ≡ length xs → slice_get ys k ≡ Some y → (x : X) × (slice_get xs k ≡ Some x)
 paired [] [] k y count e = absurd cc
@@ -227,6 +238,30 @@ pub if_both : {A E : Type 0} {P Q R : A → Type 0} (r : Result A E) → ((x : A
 if_both (Ok x) f p q = f x p q
 if_both (Err e) f p q = p
 
+-- ONE ENTRY MORE
+
+-- with an entry of unit u, and for its program one that is so after it, there is one for each program again
+module _ {X : Type 0} (Is : Program → List Entry → X → Type 0) (programs : List Program) (history : List Entry) (xs : List X) (are : AreEach Is programs history xs) (u : ℕ) (entry : Entry) (of_u : entry.unit ≡ u) (program : Program) (x new : X)
+    (program_found : unit_at programs u ≡ Some program) (found : unit_at xs u ≡ Some x) (on : Is program (entries_of u history ++ entry ∷ []) new) where
+  each_then : (v : ℕ) (p : Program) → unit_at programs v ≡ Some p → (y : X) × (unit_at (with_unit_at xs u new) v ≡ Some y) × Is p (entries_of v (history ++ entry ∷ [])) y
+  each_then v p is = elim (same_or_not v u) [
+    | inl e ↦
+        let same : program ≡ p = cc (program_found, is, e) in (
+          new,
+          ap (unit_at (with_unit_at xs u new)) e ∙ set_at xs u x new found,
+          subst (λ es. Is p es new) (sym (ap (λ n. entries_of n (history ++ entry ∷ [])) e ∙ entries_mine u history entry of_u)) (subst (λ q. Is q (entries_of u history ++ entry ∷ []) new) same on),
+        )
+    | inr d ↦
+        let there = are.each v p is in (
+          there.0,
+          set_elsewhere xs u v new d ∙ there.1,
+          subst (λ es. Is p es there.0) (sym (entries_other v history entry (λ q. d (sym q ∙ of_u)))) there.2,
+        )
+  ]
+
+  pub one_more : AreEach Is programs (history ++ entry ∷ []) (with_unit_at xs u new)
+  one_more = record { count = length_with xs u new ∙ are.count; each = each_then }
+
 -- the statement x is due in the program of unit u, which can make it
 pub record Awaits (schema : Lists) (programs : List Program) (m : Making) (members : List Member) (u : ℕ) (x : Statement) : Type 0 where
   pub program : Program
@@ -234,26 +269,26 @@ pub record Awaits (schema : Lists) (programs : List Program) (m : Making) (membe
   pub program_found : unit_at programs u ≡ Some program
   pub member_found : unit_at members u ≡ Some member
   pub at : IsAt schema program (entries_of u m.history) member
-  pub due_is : member.due ≡ code_due.Statement x
+  pub due_is : member.going.due ≡ code_due.Statement x
   pub few : nat_lt member.made most ≡ true
   pub fit : fits schema x ≡ true
 
 module _ (schema : Lists) (programs : List Program) (m : Making) (members : List Member) (w : IsUnderWay schema programs m members) (u : ℕ) where
   -- what the member of a unit would make is the statement of the unit's turn
-  pub said_by : (member : Member) → unit_at members u ≡ Some member → due_after schema member.made (comes_of member) ≡ statement_of schema programs m.history u
+  pub said_by : (member : Member) → unit_at members u ≡ Some member → due_after schema member.made (comes_of member.going) ≡ statement_of schema programs m.history u
   said_by member found =
       let program = paired_at programs members u member w.are_at.count found in
       let there = w.are_at.each u program.0 program.1 in
       let same : member ≡ there.0 = cc (found, there.1) in
-      ap (λ (x : Member). due_after schema x.made (comes_of x)) same
-      ∙ (λ i. due_after schema (there.2.made i) (there.2.comes i))
+      ap (λ (x : Member). due_after schema x.made (comes_of x.going)) same
+      ∙ (λ i. due_after schema (there.2.made i) (there.2.going.comes i))
       ∙ ap (option_and_then (λ (p : Program). due_after schema (length (entries_of u m.history)) (comes schema p u m.history))) (sym program.1)
 
   pub awaits : (x : Statement) → statement_of schema programs m.history u ≡ Some x → 0 < u → u ≤ length members → Awaits schema programs m members u x
   awaits x said some within =
       let program = numbered_one programs u some (omega (arith, w.are_at.count, within)) in
       let there = w.are_at.each u program.0 program.1 in
-      let made = to_be_made schema there.0.made there.0.state there.0.due x (said_by there.0 there.1 ∙ said) in
+      let made = to_be_made schema there.0.made there.0.going.state there.0.going.due x (said_by there.0 there.1 ∙ said) in
       record { program = program.0; member = there.0; program_found = program.1; member_found = there.1; at = there.2; due_is = made.0; few = made.1; fit = made.2 }
 
   -- with no unit of this number there is none
@@ -284,22 +319,6 @@ module _ (schema : Lists) (programs : List Program) (m : Making) (members : List
         ∙ ap (made schema m.capacity (length programs) m.history u) (sym said)
 
     module _ (program : Program) (member member' : Member) (program_found : unit_at programs u ≡ Some program) (found : unit_at members u ≡ Some member) (on : IsAt schema program (entries_of u m.history ++ entry ∷ []) member') where
-      each_then : (v : ℕ) (p : Program) → unit_at programs v ≡ Some p → (n : Member) × (unit_at (with_unit_at members u member') v ≡ Some n) × IsAt schema p (entries_of v (m.history ++ entry ∷ [])) n
-      each_then v p is = elim (same_or_not v u) [
-        | inl e ↦
-            let same : program ≡ p = cc (program_found, is, e) in (
-              member',
-              ap (unit_at (with_unit_at members u member')) e ∙ set_at members u member member' found,
-              subst (λ es. IsAt schema p es member') (sym (ap (λ n. entries_of n (m.history ++ entry ∷ [])) e ∙ entries_mine u m.history entry refl)) (subst (λ q. IsAt schema q (entries_of u m.history ++ entry ∷ []) member') same on),
-            )
-        | inr d ↦
-            let there = w.are_at.each v p is in (
-              there.0,
-              set_elsewhere members u v member' d ∙ there.1,
-              subst (λ es. IsAt schema p es there.0) (sym (entries_other v m.history entry (λ q. d (sym q)))) there.2,
-            )
-      ]
-
       -- the turn in which the statement is made
       pub turn_made : statement_of schema programs m.history u ≡ Some x → HaveTurned schema programs m (u ∷ []) new (with_unit_at members u member')
       turn_made said =
@@ -308,10 +327,7 @@ module _ (schema : Lists) (programs : List Program) (m : Making) (members : List
             under_way = record {
               schema_is = ap (λ (n : Making). n.schema) made_by.new_is ∙ w.schema_is;
               units = ap (λ (n : Making). n.units) made_by.new_is ∙ w.units;
-              are_at = subst (λ es. AreAt schema programs es (with_unit_at members u member')) (sym history_is) (record { count = count_then; each = each_then });
+              are_at = subst (λ es. AreAt schema programs es (with_unit_at members u member')) (sym history_is) (one_more (IsAt schema) programs m.history members w.are_at u entry refl program member member' program_found found on);
             };
             database = made_by.new_is ∙ (λ i. record m { history = (after_is said ∙ one_turn schema m.capacity programs m.history u) i });
           }
-        where
-          count_then : length (with_unit_at members u member') ≡ length programs
-          count_then = length_with members u member' ∙ w.are_at.count

@@ -1,3 +1,4 @@
 pub mod Turns
+pub mod Goings
 pub mod Texts
 pub mod Inside

@@ -1,6 +1,6 @@
 -- Programs that run by turns: the unit whose turn it is makes the statement that is due in its program.
 -- u is a unit; programs are those of units 1, 2, ..; a history has the statements that they made, with their answers.
-use Rattle.std.specs.Prelude.{ℕ, ◌≡◌, Bool, ◌&&◌, nat_lt, List, [], ◌∷◌, ◌++◌, Option, Some, None, length, flat_map, if◌then◌else◌, option_and_then, replicate}
+use Rattle.std.specs.Prelude.{ℕ, ◌≡◌, Bool, nat_lt, List, [], ◌∷◌, ◌++◌, Option, Some, None, length, flat_map, if◌then◌else◌, option_and_then, replicate}
 use Rattle.std.specs.List.{range_with_len}
 use Rattle.dbtg_schema.specs.Lists.{Lists}
 use Rattle.dbtg_unit.specs.declared.statement.Statement.{Statement}
@@ -44,10 +44,14 @@ reached schema program u history = record { standing = standing (length (entries
 
 -- TURNS
 
--- the statement that is due, where its unit, which has made n statements, can make it; a statement that is none of the schema is never made
+-- the statement that is due; one that is none of the schema is never made
+abbrev pub statement_due : Lists → Due → Option Statement
+statement_due schema (ended at how) = None
+statement_due schema (due at s) = if fits schema s then Some s else None
+
+-- the same where its unit, which has made n statements, can make it
 abbrev pub due_after : Lists → ℕ → Due → Option Statement
-due_after schema n (ended at how) = None
-due_after schema n (due at s) = if nat_lt n most && fits schema s then Some s else None
+due_after schema n d = if nat_lt n most then statement_due schema d else None
 
 -- the statement of a turn of unit u after a history, if there is one
 abbrev pub statement_of : Lists → List Program → List Entry → ℕ → Option Statement

@@ -1,12 +1,13 @@
 //! Programs that run together: by turns, or one after the other.
 
+ghost use Rattle.dbtg_going.specs.Goings.{AreAfter};
 ghost use Rattle.dbtg_going.specs.Inside.Members.{AreAt, HaveTurned, IsUnderWay, reached_by};
 ghost use Rattle.dbtg_going.specs.Turns.{IsRunOf, one_by_one, statement_of, to_the_end, turns_of};
 ghost use Rattle.dbtg_step.specs.Core.Whole.{IsMadeRun};
 ghost use Rattle.dbtg_schema.specs.Sound.{IsSound};
 ghost use Rattle.std.specs.Prelude.{◌≡◌, ◌≤◌, ◌<◌, ◌∷◌, [], IfOk, OnOk, Some, false, length, map, option_map};
 
-use crate::member::{MOST_STATEMENTS, Member, Reached};
+use crate::member::{Going, MOST_STATEMENTS, Member, Reached};
 use dbtg_program::Program;
 use dbtg_schema::{Row, Schema};
 use dbtg_step::{Run, WholeDatabase};
@@ -215,6 +216,64 @@ pub fn run_programs(
     let mut database = WholeDatabase::opening(alloc, schema, capacity, programs.len() as u8)?;
     match together.go(&mut database, &mut members, turns) {
         Ok(()) => finish(alloc, database, members),
+        Err(error) => {
+            database.discard();
+            Err(error)
+        }
+    }
+}
+
+// Each member's program, without its count.
+fn goings_of(alloc: Global, members: Vec<Member>) -> Result<Vec<Going>, AllocError>
+    ensures { IfOk result (λ goings. goings.items ≡ map (λ m. m.going) members.items) }
+{
+    let mut goings = Vec::new(alloc);
+    for member in members {
+        goings.push(member.into_going())?;
+    }
+    Ok(goings)
+}
+
+// A database beside the programs of its members.
+fn with_goings<'a>(
+    alloc: Global,
+    database: WholeDatabase<'a>,
+    members: Vec<Member>,
+) -> Result<(WholeDatabase<'a>, Vec<Going>), AllocError>
+    ensures database { IfOk result (λ after. after.0 ≡ database.entry) }
+    ensures goings { IfOk result (λ after. after.1.items ≡ map (λ m. m.going) members.items) }
+{
+    match goings_of(alloc, members) {
+        Ok(goings) => Ok((database, goings)),
+        Err(error) => {
+            database.discard();
+            Err(error)
+        }
+    }
+}
+
+/// The database and its programs after these turns, from the opening database on, with a unit for each program. A growth that is refused
+/// ends it.
+pub fn programs_after<'a>(
+    alloc: Global,
+    schema: &'a Schema,
+    capacity: u16,
+    programs: &'a [Program],
+    turns: &[u8],
+) -> Result<(WholeDatabase<'a>, Vec<Going>), AllocError>
+    requires sound { IsSound schema.now }
+    requires units { length programs.now ≤ 255 }
+    ensures { IfOk result (λ after. AreAfter schema.now capacity programs.now turns.now after.0 after.1.items) }
+{
+    let together = Programs {
+        alloc,
+        schema,
+        list: programs,
+    };
+    let mut members = together.beginning()?;
+    let mut database = WholeDatabase::opening(alloc, schema, capacity, programs.len() as u8)?;
+    match together.go(&mut database, &mut members, Some(turns)) {
+        Ok(()) => with_goings(alloc, database, members),
         Err(error) => {
             database.discard();
             Err(error)

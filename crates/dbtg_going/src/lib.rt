@@ -5,6 +5,6 @@ mod going;
 mod member;
 mod text;
 
-pub use going::{ProgramRun, run_programs};
-pub use member::{Reached, Standing};
-pub use text::run_text;
+pub use going::{ProgramRun, programs_after, run_programs};
+pub use member::{Going, Reached, Standing};
+pub use text::{push_programs, run_text};

@@ -79,8 +79,8 @@ fn push_program(
     Ok(())
 }
 
-// The lines of the programs.
-fn push_programs(
+/// The lines of the programs.
+pub fn push_programs(
     out: &mut Vec<u8>,
     programs: &[Program],
     reached: &[Reached],

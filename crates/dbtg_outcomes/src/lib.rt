@@ -20,4 +20,6 @@ pub use laws::{every_run_comes_out, orders_are_all_merges};
 pub use meeting::Meeting;
 pub use outcomes::{OneResult, Outcomes, all_outcomes};
 pub use search::Stop;
+pub use spelled::{Spelled, spell_each};
+pub use told::usage_by_unit;
 pub use wishes::{Wish, broken_turns, is_there};

@@ -24,7 +24,7 @@ told-requires-clause-due c =
     let entry_is : c.index-history-before.result ≡ e =
     last_is c.history.result.now c.args.database.now.history e c.index-history-before.result _ (c.history.ensures.history ∙ history_is schema programs c.args.database.now c.args.members.now c.requires.under_way c.args.unit c.args.statement c.make.new.self made)
     (ap length c.history-before.ensures.history) c.index-history-before.is in
-    ap (λ m. m.due) member_is ∙ (a.due_is ∙ ap (λ x. due.Statement x.statement) (sym entry_is))
+    ap (λ m. m.going.due) member_is ∙ (a.due_is ∙ ap (λ x. due.Statement x.statement) (sym entry_is))
 
 pub told-requires-clause-few : goal.told-requires-clause-few
 told-requires-clause-few c =

@@ -1,0 +1,252 @@
+-- Where a meeting is, and how a turn leads on from there.
+-- m is a meeting, u a unit, x a statement.
+use Rattle.std.proofs.Common.{◌≡◌, ℕ, zero, suc, ◌+◌, ◌-◌, ◌<◌, ◌≤◌, Bool, true, false, ◌&&◌, List, [], ◌∷◌, ◌++◌, length, map, Option, Some, None, ◌⊎◌, inl, inr, refl, ap, subst, sym, ◌∙◌, slice_get, take, drop, take-append-drop, append_assoc, arith}
+use Rattle.std.specs.Prelude.{flat_map, is_some, not, option_and_then, option_map, nat_lt, slice_index_or, ◌||◌}
+use Rattle.std.specs.List.{list_any, range_with_len}
+use Rattle.std.proofs.lemmas.Bool.Decides.{nat_tests}
+use Rattle.std.proofs.lemmas.List.{length-map, take_more}
+use Rattle.dbtg_unit.specs.declared.statement.Statement.{Statement}
+use Rattle.dbtg_unit.specs.declared.unit.Entry.{Entry}
+use Rattle.dbtg_unit.specs.Database.Statements.Fits.{fits}
+use Rattle.dbtg_unit.specs.Database.Laws.Replay.{entries_of, opening_state, outcome_of, replay}
+use Rattle.dbtg_unit.specs.Database.State.Image.{image_of}
+use Rattle.dbtg_unit.proofs.Public.{any_in, in_range, range_more}
+use Rattle.dbtg_program.specs.declared.going.Due.TheVariants as code_due
+use Rattle.dbtg_program.specs.declared.program.Program.{Program}
+use Rattle.dbtg_program.specs.Going.{Due}
+use Rattle.dbtg_step.specs.Core.Whole.{HasMade, IsMadeRun, Making, state_now}
+use Rattle.dbtg_step.specs.declared.results.Run.{Run}
+use Rattle.dbtg_step.specs.Machine.SequentialDatabase.{unit_at, with_unit_at}
+use Rattle.dbtg_step.proofs.Public.{map_at}
+use Rattle.dbtg_going.specs.declared.member.Going.{Going}
+use Rattle.dbtg_going.specs.Goings.{AreAfter, AreGoing, IsGoing, comes_of}
+use Rattle.dbtg_going.specs.Turns as turns
+use Rattle.dbtg_going.specs.Turns.{comes, made, making_by, statement_due}
+use Rattle.dbtg_going.proofs.Turning.{at_index, is_due, nobody, one_more}
+use Rattle.dbtg_going.specs.declared.member.Reached.{Reached}
+use Rattle.dbtg_going.specs.Texts.{programs_text}
+use Rattle.dbtg_script.specs.Printing.Texts.{run_text}
+use Rattle.dbtg_outcomes.specs.Results.{by_unit}
+use Rattle.dbtg_outcomes.specs.Spelling.{list_numbers}
+use Rattle.dbtg_explore.specs.declared.place.Place.{Place}
+use Rattle.dbtg_explore.specs.Orders.{CanFollow, IsOrder, Meeting, after_order, after_turn, beginning, can_go_on, can_turn, due_of, history_of, waits}
+use Rattle.dbtg_explore.specs.Results.{reached_of, state_text}
+use Rattle.dbtg_explore.specs.States.{comes_of_each, state_after}
+use Rattle.dbtg_explore.specs.Inside.Places.{AreStanding, HasTurned, HaveTurned, IsPlace, IsPlaceOf, failure_by, failure_in}
+use Rattle.dbtg_explore.proofs.Alike.{due_is}
+use Rattle.dbtg_explore.proofs.Turning.{first_can, follow_both, follow_front, follow_rest, history_on, no_turn, none_follow, one_follows, one_turn, order_behind}
+
+-- WHAT IS DUE
+
+-- the statement x is due in the program of unit u, which is there
+pub record Awaits (m : Meeting) (history : List Entry) (goings : List Going) (u : ℕ) (x : Statement) : Type 0 where
+  pub program : Program
+  pub going : Going
+  pub program_found : unit_at m.programs u ≡ Some program
+  pub going_found : unit_at goings u ≡ Some going
+  pub at : IsGoing m.schema program (entries_of u history) going
+  pub due_is : going.due ≡ code_due.Statement x
+  pub fit : fits m.schema x ≡ true
+  pub numbered : 0 < u
+  pub within : u ≤ length goings
+
+in_list : {X : Type 0} (xs : List X) (k : ℕ) (x : X) → slice_get xs k ≡ Some x → k < length xs
+in_list [] k x e = absurd cc
+in_list (y ∷ xs) zero x e = omega arith
+in_list (y ∷ xs) (suc k) x e = let rest = in_list xs k x e in omega (arith, rest)
+
+has_number : {X : Type 0} (xs : List X) (u : ℕ) (x : X) → unit_at xs u ≡ Some x → (0 < u) × (u ≤ length xs)
+unfolding unit_at
+has_number xs zero x e = absurd cc
+has_number xs (suc k) x e = let low = in_list xs k x e in (omega arith, omega (arith, low))
+
+module _ (m : Meeting) (database : Making) (goings : List Going) (w : AreStanding m database goings) (u : ℕ) where
+  pub awaits : (x : Statement) → due_of m database.history u ≡ Some x → Awaits m database.history goings u x
+  awaits x said = by (unit_at m.programs u) refl said where
+    by : (o : Option Program) → unit_at m.programs u ≡ o → option_and_then (λ (p : Program). statement_due m.schema (comes m.schema p u database.history)) o ≡ Some x → Awaits m database.history goings u x
+    by None found e = absurd cc
+    by (Some p) found e =
+        let there = w.are_going.each u p found in
+        let is = is_due m.schema there.0.state there.0.due x (ap (statement_due m.schema) there.2.comes ∙ e) in
+        let number = has_number goings u there.0 there.1 in
+        record {
+          program = p; going = there.0; program_found = found; going_found = there.1; at = there.2; due_is = is.0; fit = is.1; numbered = number.0; within = number.1;
+        }
+
+  -- A TURN
+
+  module _ (x : Statement) (new : Making) (made_by : HasMade database u x new) where
+    abbrev pub entry : Entry
+    entry = record { ticket = length database.history; unit = u; statement = x; answer = made_by.outcome.answer }
+
+    pub history_is : new.history ≡ database.history ++ entry ∷ []
+    history_is = ap (λ (n : Making). n.history) made_by.new_is
+
+    abbrev outcome_at : Making → Type 0
+    outcome_at d = outcome_of d.schema d.capacity (replay d.schema d.capacity (opening_state d.schema d.units) d.history) u x ≡ Some made_by.outcome
+
+    after_is : due_of m database.history u ≡ Some x → database.history ++ entry ∷ [] ≡ after_turn m database.history u
+    after_is said =
+        let outcome = subst outcome_at w.database_is made_by.outcome_is in
+        ap (turns.with_outcome database.history u x) (sym outcome) ∙ ap (made m.schema m.capacity (length m.programs) database.history u) (sym said)
+
+    pub has_turned : due_of m database.history u ≡ Some x → (a : Awaits m database.history goings u x) (on : Going) → IsGoing m.schema a.program (entries_of u database.history ++ entry ∷ []) on → HasTurned m u database new (with_unit_at goings u on)
+    has_turned said a on is = record {
+      standing = record {
+        database_is = made_by.new_is ∙ (λ i. record (w.database_is i) { history = (sym history_is) i });
+        are_going = subst (λ es. AreGoing m.schema m.programs es (with_unit_at goings u on)) (sym history_is) (one_more (IsGoing m.schema) m.programs database.history goings w.are_going u entry refl a.program a.going on a.program_found a.going_found is);
+      };
+      history_is = history_is ∙ after_is said;
+    }
+
+-- TURNS ONE AFTER ANOTHER
+
+-- where a unit can have its turn, a statement is due
+module _ (m : Meeting) where
+  pub turn_due : (history : List Entry) (u : ℕ) → can_turn m history u ≡ true → None ≡ due_of m history u → ⊥
+  turn_due history u c e = by (due_of m history u) e c where
+    by : (o : Option Statement) → None ≡ o → (is_some o && not (waits m history u)) ≡ true → ⊥
+    by None e f = absurd cc
+    by (Some x) e f = absurd cc
+
+  pub none_turned : (place : Place) → IsPlace m place → HaveTurned m [] place place
+  none_turned place is = record { is_place = is; history_is = sym (no_turn m place.database.history) }
+
+  pub turned_also : (old mid new : Place) (us : List ℕ) (u : ℕ) → HaveTurned m us old mid → HasTurned m u mid.database new.database new.goings.items → HaveTurned m (us ++ u ∷ []) old new
+  turned_also old mid new us u a b = record {
+    is_place = b.standing;
+    history_is = b.history_is ∙ ap (λ es. after_turn m es u) a.history_is ∙ sym (one_turn m (after_order m old.database.history us) u) ∙ sym (order_behind m old.database.history us (u ∷ []));
+  }
+
+  pub next_can : (old mid : Place) (us : List ℕ) (i : ℕ) → i < length us → CanFollow m old.database.history us → HaveTurned m (take i us) old mid → can_turn m mid.database.history (slice_index_or us i 0) ≡ true
+  next_can old mid us i low f a =
+      let history = old.database.history in
+      let u = slice_index_or us i 0 in
+      let front : CanFollow m history (take (i + 1) us) = follow_front m history (take (i + 1) us) (drop (i + 1) us) (subst (CanFollow m history) (sym (take-append-drop (i + 1) us)) f) in
+      let parts : CanFollow m history (take i us ++ u ∷ []) = subst (CanFollow m history) (take_more us i 0 low) front in
+      ap (λ es. can_turn m es u) a.history_is ∙ first_can m (after_order m history (take i us)) u [] (follow_rest m history (take i us) (u ∷ []) parts)
+
+  -- where the programs meet
+  pub begins : (database : Making) (goings : List Going) (place : Place) → AreAfter m.schema m.capacity m.programs m.begun database goings → place.database ≡ database → place.goings.items ≡ goings → IsPlaceOf m [] place
+  begins database goings place a d g =
+      let history : database.history ≡ beginning m = ap (λ (n : Making). n.history) a.database_is in
+      record {
+        is_order = none_follow m (beginning m);
+        is_place = subst (λ (n : Making). AreStanding m n place.goings.items) (sym d) (subst (λ gs. AreStanding m database gs) (sym g) (record {
+            database_is = a.database_is ∙ (λ i. record (making_by m.schema m.capacity m.programs m.begun) { history = (sym history) i });
+            are_going = a.are_going;
+          }));
+        history_is = ap (λ (n : Making). n.history) d ∙ history ∙ sym (no_turn m (beginning m));
+      }
+
+  pub arrives : (order : List ℕ) (start place : Place) → IsOrder m order → IsPlaceOf m [] start → HaveTurned m order start place → IsPlaceOf m order place
+  arrives order start place is s t = record {
+    is_order = is;
+    is_place = t.is_place;
+    history_is = t.history_is ∙ ap (λ es. after_order m es order) (s.history_is ∙ no_turn m (beginning m));
+  }
+
+  -- from the place of an order to that with one turn more
+  pub place_on : (order : List ℕ) (u : ℕ) (old new : Place) → IsPlaceOf m order old → can_turn m old.database.history u ≡ true → HasTurned m u old.database new.database new.goings.items → IsPlaceOf m (order ++ u ∷ []) new
+  place_on order u old new is c t = record {
+    is_order = follow_both m (beginning m) order (u ∷ []) is.is_order (one_follows m (history_of m order) u (ap (λ es. can_turn m es u) (sym is.history_is) ∙ c));
+    is_place = t.standing;
+    history_is = t.history_is ∙ ap (λ es. after_turn m es u) is.history_is ∙ sym (history_on m order u);
+  }
+
+-- WHAT COMES OF EACH
+
+module _ (m : Meeting) (history : List Entry) where
+  dues_from : (k : ℕ) (ps : List Program) (gs : List Going) → length gs ≡ length ps → ((i : ℕ) (p : Program) → slice_get ps i ≡ Some p → (g : Going) × (slice_get gs i ≡ Some g) × IsGoing m.schema p (entries_of (k + i) history) g)
+      → map comes_of gs ≡ comes_of_each m history k ps
+  dues_from k [] [] n each = refl
+  dues_from k [] (g ∷ gs) n each = absurd (omega (arith, n))
+  dues_from k (p ∷ ps) [] n each = absurd (omega (arith, n))
+  dues_from k (p ∷ ps) (g ∷ gs) n each =
+      let first = each 0 p refl in
+      let same : g ≡ first.0 = cc (first.1) in
+      let unit : k + 0 ≡ k = omega arith in
+      let here : comes_of g ≡ comes m.schema p k history = ap comes_of same ∙ first.2.comes ∙ ap (λ v. comes m.schema p v history) unit in
+      let rest = dues_from (k + 1) ps gs (omega (arith, n)) (λ i q e.
+          let there = each (suc i) q e in
+          let number : k + suc i ≡ (k + 1) + i = omega arith in
+          (there.0, there.1, subst (λ v. IsGoing m.schema q (entries_of v history) there.0) number there.2)) in
+      λ i. here i ∷ rest i
+
+  pub dues_are : (goings : List Going) → AreGoing m.schema m.programs history goings → map comes_of goings ≡ (state_after m history).programs
+  unfolding unit_at
+  dues_are goings are = dues_from 1 m.programs goings are.count (λ i p e.
+      let there = are.each (suc i) p e in
+      let number : suc i ≡ 1 + i = omega arith in
+      (there.0, there.1, subst (λ v. IsGoing m.schema p (entries_of v history) there.0) number there.2))
+
+  pub programs_spelled : (goings : List Going) (f : Due → List ℕ) → AreGoing m.schema m.programs history goings → list_numbers (λ g. f (comes_of g)) goings ≡ list_numbers f (state_after m history).programs
+  programs_spelled goings f are = (λ i. sym (length-map goings comes_of) i ∷ mapped goings i) ∙ ap (list_numbers f) (dues_are goings are) where
+    mapped : (gs : List Going) → flat_map (λ g. f (comes_of g)) gs ≡ flat_map f (map comes_of gs)
+    mapped [] = refl
+    mapped (g ∷ gs) = ap (λ l. f (comes_of g) ++ l) (mapped gs)
+
+  -- what is said of the programs by unit
+  pub by_goings : {Y : Type 0} (goings : List Going) (f : Due → Option Y) (u : ℕ) → AreGoing m.schema m.programs history goings
+      → option_and_then f (unit_at (state_after m history).programs u) ≡ option_and_then (λ g. f (comes_of g)) (unit_at goings u)
+  by_goings goings f u are =
+      ap (λ ds. option_and_then f (unit_at ds u)) (sym (dues_are goings are)) ∙ ap (option_and_then f) (map_at comes_of goings u) ∙ chained_back (unit_at goings u) where
+        chained_back : (o : Option Going) → option_and_then f (option_map comes_of o) ≡ option_and_then (λ g. f (comes_of g)) o
+        chained_back None = refl
+        chained_back (Some g) = refl
+
+  pub due_one : (goings : List Going) (u : ℕ) (o : Option Going) → AreGoing m.schema m.programs history goings → unit_at goings u ≡ o → option_and_then (λ g. statement_due m.schema (comes_of g)) o ≡ due_of m history u
+  due_one goings u o are is = ap (option_and_then (λ g. statement_due m.schema (comes_of g))) (sym is) ∙ sym (by_goings goings (statement_due m.schema) u are) ∙ sym (due_is m history u)
+
+  pub failure_one : (goings : List Going) (u : ℕ) (o : Option Going) → AreGoing m.schema m.programs history goings → unit_at goings u ≡ o → option_and_then (λ g. failure_by (comes_of g)) o ≡ failure_in (state_after m history) u
+  failure_one goings u o are is = ap (option_and_then (λ g. failure_by (comes_of g))) (sym is) ∙ sym (by_goings goings failure_by u are)
+
+-- BY INDEX
+
+pub none_got : {X : Type 0} (xs ys : List X) (u : ℕ) → 0 < u → ys ≡ xs → false ≡ nat_lt (u - 1) (length ys) → unit_at xs u ≡ None
+none_got xs ys u some same e =
+    let far : length ys ≤ u - 1 = grind (arith, nat_tests, e) in
+    let count : length ys ≡ length xs = ap length same in
+    nobody xs u (inr (omega (arith, far, count, some)))
+
+pub one_got : {X : Type 0} (xs ys : List X) (u : ℕ) (x : X) → 0 < u → ys ≡ xs → true ≡ nat_lt (u - 1) (length ys) → x ≡ slice_index_or ys (u - 1) x → unit_at xs u ≡ Some x
+one_got xs ys u x some same e is =
+    let near : u - 1 < length ys = grind (arith, nat_tests, e) in
+    let count : length ys ≡ length xs = ap length same in
+    at_index xs u x some (omega (arith, near, count, some)) ∙ ap Some (ap (λ zs. slice_index_or zs (u - 1) x) (sym same) ∙ sym is)
+
+any_behind : {X : Type 0} (f : X → Bool) (xs : List X) (y : X) → list_any f xs ≡ false → f y ≡ false → list_any f (xs ++ y ∷ []) ≡ false
+any_behind f [] y h g = ap (λ b. b || false) g
+any_behind {X} f (x ∷ xs) y h g = by (λ k. any_behind f xs y k g) (f x) refl h where
+  by : (list_any f xs ≡ false → list_any f (xs ++ y ∷ []) ≡ false) → (b : Bool) → f x ≡ b → (b || list_any f xs) ≡ false → (f x || list_any f (xs ++ y ∷ [])) ≡ false
+  by rest true e k = absurd cc
+  by rest false e k = ap (λ b. b || list_any f (xs ++ y ∷ [])) e ∙ rest k
+
+pub none_more : (f : ℕ → Bool) (n : ℕ) → list_any f (range_with_len 1 n) ≡ false → false ≡ f (n + 1) → list_any f (range_with_len 1 (n + 1)) ≡ false
+none_more f n h g =
+    let next : n + 1 ≡ suc n = omega arith in
+    let last : n + 1 ≡ 1 + n = omega arith in
+    ap (λ k. list_any f (range_with_len 1 k)) next ∙ ap (list_any f) (range_more n 1) ∙ any_behind f (range_with_len 1 n) (1 + n) h (ap f (sym last) ∙ sym g)
+
+pub one_there : (f : ℕ → Bool) (n i : ℕ) → i < n → true ≡ f (i + 1) → true ≡ list_any f (range_with_len 1 n)
+one_there f n i h g = sym (any_in f (i + 1) (range_with_len 1 n) (in_range n 1 (i + 1) (omega arith) (omega (arith, h))) (sym g))
+
+-- one spelled behind another
+pub three_spelled : (start a b c x y z : List ℕ) → start ≡ [] → a ≡ start ++ x → b ≡ a ++ y → c ≡ b ++ z → c ≡ x ++ (y ++ z)
+three_spelled start a b c x y z s e f g = g ∙ ap (λ l. l ++ z) (f ∙ ap (λ l. l ++ y) (e ∙ ap (λ l. l ++ x) s)) ∙ append_assoc x y z
+
+-- WHAT IS PRINTED
+
+module _ (m : Meeting) (database : Making) (goings : List Going) (w : AreStanding m database goings) where
+  pub text_is : (run : Run) → IsMadeRun database run → (reached : List Reached) → reached ≡ map (λ g. reached_of (comes_of g)) goings → (text : List ℕ)
+      → text ≡ run_text m.schema [] run.image.records run.image.lists run.image.next (map (by_unit (range_with_len 1 (length m.programs))) run.image.usage) run.units ++ programs_text 1 m.programs reached
+      → text ≡ state_text m (state_after m database.history)
+  text_is run made reached are text is =
+      let image = made.image_is ∙ ap (λ (d : Making). image_of d.schema d.capacity (state_now d).database) w.database_is in
+      let units = made.units_are ∙ ap (λ (d : Making). (state_now d).units) w.database_is in
+      let programs : reached ≡ map reached_of (state_after m database.history).programs = are ∙ twice goings ∙ ap (map reached_of) (dues_are m database.history goings w.are_going) in
+      is ∙ (λ i. run_text m.schema [] (image i).records (image i).lists (image i).next (map (by_unit (range_with_len 1 (length m.programs))) (image i).usage) (units i) ++ programs_text 1 m.programs (programs i))
+    where
+      twice : (gs : List Going) → map (λ g. reached_of (comes_of g)) gs ≡ map reached_of (map comes_of gs)
+      twice [] = refl
+      twice (g ∷ gs) = ap (λ l. reached_of (comes_of g) ∷ l) (twice gs)

@@ -1,0 +1,6 @@
+pub mod Explored
+pub mod Orders
+pub mod Pairwise
+pub mod Results
+pub mod States
+pub mod Inside

@@ -1,0 +1,82 @@
+//! The state of a meeting as numbers, that tell it from others.
+
+ghost use Rattle.dbtg_explore.specs.Inside.Keys.{due_numbers, how_numbers, state_numbers};
+ghost use Rattle.dbtg_explore.specs.Inside.Places.{IsPlace};
+ghost use Rattle.dbtg_explore.specs.States.{state_after};
+ghost use Rattle.dbtg_going.specs.Goings.{comes_of};
+ghost use Rattle.dbtg_outcomes.specs.Spelling.{list_numbers};
+ghost use Rattle.std.specs.Prelude.{◌≡◌, ◌++◌, ◌∷◌, [], flat_map, IfOk, OnOk};
+
+use crate::meeting::Meeting;
+use crate::place::Place;
+use dbtg_going::Going;
+use dbtg_outcomes::{Spelled, spell_each};
+use dbtg_program::{Due, End};
+use std::alloc::{AllocError, Global};
+
+// How many things there are, and then each.
+fn spell_list<T: Spelled>(things: &[T], out: &mut Vec<u64>) -> Result<(), AllocError>
+    ensures { OnOk result (out.new.items ≡ out.old.items ++ list_numbers T.numbers things.now) }
+{
+    out.push(things.len() as u64)?;
+    spell_each(things, out)
+}
+
+// The kind of an end, and its line.
+fn numbers_of(end: End) -> (u64, u64)
+    ensures { how_numbers end ≡ result.0 ∷ result.1 ∷ [] }
+{
+    match end {
+        End::Stop => (1, 0),
+        End::Assert(line) => (2, line),
+        End::Size(line) => (3, line),
+        End::Astray(line) => (4, line),
+    }
+}
+
+// How a program stands, and its state.
+fn spell_going(going: &Going, out: &mut Vec<u64>) -> Result<(), AllocError>
+    ensures { OnOk result (out.new.items ≡ out.old.items ++ due_numbers (comes_of going.now)) }
+{
+    let (kind, line) = match going.due {
+        Due::Statement(_) => (0, 0),
+        Due::End(end) => numbers_of(end),
+    };
+    out.push(kind)?;
+    out.push(line)?;
+    out.push(going.state.at() as u64)?;
+    out.push(going.state.status() as u64)?;
+    spell_list(going.state.values(), out)
+}
+
+// Each of these programs.
+fn spell_goings(goings: &[Going], out: &mut Vec<u64>) -> Result<(), AllocError>
+    ensures { OnOk result (out.new.items ≡ out.old.items ++ flat_map (λ g. due_numbers (comes_of g)) goings.now) }
+{
+    for going in goings {
+        spell_going(going, out)?;
+    }
+    Ok(())
+}
+
+// How many programs there are, and then each.
+fn spell_programs(goings: &[Going], out: &mut Vec<u64>) -> Result<(), AllocError>
+    ensures { OnOk result (out.new.items ≡ out.old.items ++ list_numbers (λ g. due_numbers (comes_of g)) goings.now) }
+{
+    out.push(goings.len() as u64)?;
+    spell_goings(goings, out)
+}
+
+impl<'a> Meeting<'a> {
+    /// The state of a place as numbers. Two places have the same numbers just where they have the same state.
+    pub(crate) fn state_key(&self, alloc: Global, place: &Place) -> Result<Vec<u64>, AllocError>
+        requires { IsPlace self.now place.now }
+        ensures { IfOk result (λ key. key.items ≡ state_numbers self.now (state_after self.now place.now.database.history)) }
+    {
+        let mut key = Vec::new(alloc);
+        place.database.image()?.spell(&mut key)?;
+        spell_list(place.database.units(), &mut key)?;
+        spell_programs(place.goings.as_slice(), &mut key)?;
+        Ok(key)
+    }
+}

@@ -1,0 +1,114 @@
+//! What is printed of a state, and how its programs have failed.
+
+ghost use Rattle.dbtg_explore.specs.Inside.Places.{IsPlace, failure_by, failure_in};
+ghost use Rattle.dbtg_explore.specs.Orders.{IsMeeting};
+ghost use Rattle.dbtg_explore.specs.Results.{is_failure, reached_of, state_text};
+ghost use Rattle.dbtg_explore.specs.States.{state_after};
+ghost use Rattle.dbtg_going.specs.Goings.{comes_of};
+ghost use Rattle.dbtg_going.specs.Texts.{programs_text};
+ghost use Rattle.dbtg_outcomes.specs.Results.{by_unit};
+ghost use Rattle.dbtg_script.specs.Printing.Texts.{run_text};
+ghost use Rattle.std.specs.List.{range_with_len};
+ghost use Rattle.std.specs.Prelude.{◌≡◌, ◌++◌, [], length, map, IfOk};
+
+use crate::meeting::Meeting;
+use crate::place::Place;
+use dbtg_going::{Going, Reached, Standing, push_programs};
+use dbtg_outcomes::usage_by_unit;
+use dbtg_program::{Due, End};
+use dbtg_schema::Row;
+use dbtg_script::push_run;
+use dbtg_step::Run;
+use std::alloc::{AllocError, Global};
+
+// How far a program is.
+fn reached_of(going: Going) -> Reached
+    ensures { result ≡ reached_of (comes_of going) }
+{
+    let Going { state, due } = going;
+    let standing = match due {
+        Due::End(end) => Standing::Ended(end),
+        Due::Statement(_) => Standing::GoesOn,
+    };
+    Reached { standing, state }
+}
+
+// How far each is.
+fn reached_of_each(alloc: Global, goings: Vec<Going>) -> Result<Row<Reached>, AllocError>
+    ensures { IfOk result (λ each. each ≡ map (λ g. reached_of (comes_of g)) goings.items) }
+{
+    let mut each = Vec::new(alloc);
+    for going in goings {
+        each.push(reached_of(going))?;
+    }
+    Ok(Row::of(each))
+}
+
+// Does a program fail by this end?
+fn is_failure(end: End) -> bool
+    ensures { result ≡ is_failure end }
+{
+    match end {
+        End::Stop => false,
+        End::Assert(_) | End::Size(_) | End::Astray(_) => true,
+    }
+}
+
+// How a program has failed, if it has.
+fn failure_of(going: &Going) -> Option<End>
+    ensures { result ≡ failure_by (comes_of going.now) }
+{
+    match going.due {
+        Due::End(end) if is_failure(end) => Some(end),
+        _ => None,
+    }
+}
+
+impl<'a> Meeting<'a> {
+    /// How the program of the unit has failed, if it has.
+    pub(crate) fn failure(&self, place: &Place, unit: u8) -> Option<End>
+        requires { IsPlace self.now place.now }
+        ensures { result ≡ failure_in (state_after self.now place.now.database.history) unit }
+    {
+        if unit == 0 {
+            return None;
+        }
+        match place.goings.get(unit as usize - 1) {
+            Some(going) => failure_of(going),
+            None => None,
+        }
+    }
+
+    // What is printed of a run and its programs, but that the units that have an area open stand in the order of their numbers.
+    fn text_of(&self, alloc: Global, run: Run, reached: &[Reached]) -> Result<Vec<u8>, AllocError>
+        requires { IsMeeting self.now }
+        ensures { IfOk result (λ text. text.items ≡ run_text self.now.schema [] run.image.records run.image.lists run.image.next (map (by_unit (range_with_len 1 (length self.now.programs))) run.image.usage) run.units ++ programs_text 1 self.now.programs reached.now) }
+    {
+        let mut run = run;
+        let mut out = Vec::new(alloc);
+        run.image.usage = usage_by_unit(alloc, run.image.usage.as_slice(), self.units())?;
+        let (image, units) = (&run.image, run.units.as_slice());
+        push_run(alloc, &mut out, self.schema, &[], image, units)?;
+        push_programs(&mut out, self.programs, reached)?;
+        Ok(out)
+    }
+
+    /// What is printed of a place behind `--`, but that the units that have an area open stand in the order of their numbers.
+    pub(crate) fn into_text(&self, alloc: Global, place: Place<'a>) -> Result<Vec<u8>, AllocError>
+        requires meeting { IsMeeting self.now }
+        requires place { IsPlace self.now place }
+        ensures { IfOk result (λ text. text.items ≡ state_text self.now (state_after self.now place.entry.database.history)) }
+    {
+        let Place { database, goings } = place;
+        match reached_of_each(alloc, goings) {
+            Err(error) => {
+                database.discard();
+                Err(error)
+            }
+            Ok(reached) => {
+                let run = database.into_run()?;
+                self.text_of(alloc, run, reached.as_slice())
+            }
+        }
+    }
+}
