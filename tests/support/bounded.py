@@ -11,7 +11,7 @@ from dataclasses import dataclass, field
 from kit import ROOT
 
 # The options that have no word behind them.
-ALONE = ("--all", "--answers", "--brief", "--echo", "--explain", "--no-explain", "--status", "--svg")
+ALONE = ("--all", "--answers", "--brief", "--echo", "--explain", "--no-explain", "--programs", "--status", "--svg")
 # What one run may take: seconds of a processor, bytes of memory, and seconds by the clock before it is ended.
 SECONDS = 2
 BYTES = 1 << 30
@@ -55,13 +55,13 @@ class Case:
         return options, words
 
     def files(self):
-        """The paths of the schema and the scripts, that which is made first behind the others."""
-        first = [it[1] for it in self.parts()[0] if it[0] == "--first"]
-        return [os.path.join(self.folder, it) for it in [*self.parts()[1], *first]]
+        """The paths of the schema and the scripts, those that are made first and last behind the others."""
+        around = [it[1] for option in ("--first", "--then") for it in self.parts()[0] if it[0] == option]
+        return [os.path.join(self.folder, it) for it in [*self.parts()[1], *around]]
 
     def options(self):
         """The words before the schema, without files and the wish to have a fault explained."""
-        return [self.words[0], *(it for option in self.parts()[0] if option[0] not in ("--first", "--moves", "--turns", "--explain") for it in option)]
+        return [self.words[0], *(it for option in self.parts()[0] if option[0] not in ("--first", "--then", "--moves", "--turns", "--explain") for it in option)]
 
 
 def bytes_of(path):

@@ -22,13 +22,15 @@ use dbtg_command::reason::reason;
 use dbtg_command::{
     Call, Fault, Files, Named, Order, Paths, Wished, call_of, each_fault, read_schema, status_of,
 };
+use dbtg_going::Around;
 use dbtg_outcomes::Wish;
 use dbtg_replay::replay::{check_count, replay};
 use dbtg_replay::{moves_for_turns, refusals_of_first};
-use dbtg_running::{Printed, run};
+use dbtg_running::{Printed, RunOptions, check_programs, run};
 use dbtg_schema::Schema;
 use dbtg_shell::{Broken, Session, converse, write_file};
 use outcomes::{ListingOptions, print_outcomes};
+use std::alloc::Global;
 use std::env;
 use std::io::{self, IsTerminal, Write};
 use std::process::ExitCode;
@@ -126,16 +128,29 @@ fn printed(rt: &HostRuntime, files: &Files<HostRuntime>, call: &Call) -> Result<
         Named::Replay => replay(alloc, files, call.capacity, call.echo, call.first),
         Named::Timeline => timeline(alloc, files, call.capacity, form_of(call), call.first),
         Named::Page => timeline(alloc, files, call.capacity, Form::Page, call.first),
-        _ => check(alloc, files),
+        _ => check_files(alloc, files, call.programs),
+    }
+}
+
+// What `check` prints of programs, or of scripts.
+fn check_files(
+    alloc: Global,
+    files: &Files<HostRuntime>,
+    programs: bool,
+) -> Result<Vec<u8>, Fault> {
+    if programs {
+        check_programs(alloc, files)
+    } else {
+        check(alloc, files)
     }
 }
 
 // The first fault of each file that has one; where none has one, what `check` prints.
 fn tell_each(rt: &HostRuntime, files: &Files<HostRuntime>, call: &Call) -> ExitCode {
-    match each_fault(rt.alloc(), files) {
+    match each_fault(rt.alloc(), files, call.programs) {
         Ok(faults) => {
             if faults.is_empty() {
-                let given = check(rt.alloc(), files);
+                let given = check_files(rt.alloc(), files, call.programs);
                 return print_or_tell(rt, given, files.paths, explains(rt, call));
             }
             for fault in faults.as_slice() {
@@ -222,7 +237,15 @@ fn print_programs(rt: &HostRuntime, call: &Call) -> ExitCode {
         reader: rt,
         paths: &paths,
     };
-    match run(rt.alloc(), &files, call.capacity) {
+    let options = RunOptions {
+        capacity: call.capacity,
+        around: Around {
+            first: call.first,
+            last: call.last,
+        },
+        echo: call.echo,
+    };
+    match run(rt.alloc(), &files, options) {
         Ok(said) => print_with(rt, said.text.as_slice(), status_of_programs(&said)),
         Err(fault) => told_of(rt, &fault, &paths, call.explains),
     }

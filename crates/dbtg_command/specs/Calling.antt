@@ -24,9 +24,11 @@ pub record IsFlag (found : Found) (id : List ℕ) (flag : Bool) : Type 0 where
 abbrev pub words_in : Found → List ℕ → List (List ℕ)
 words_in found id = unwrap_or (option_map raw_values (matched_of found id)) []
 
--- the scripts, or the trace that is given in their place, and behind them the script that is made first, if there is one
+-- the scripts, or the trace that is given in their place, and behind them the one that is made first and the one that is made last,
+-- if there are such
 abbrev pub scripts_in : Found → List (List ℕ)
-scripts_in found = (words_in found (codes "scripts") ++ option_to_list (first_value found (codes "trace"))) ++ option_to_list (first_value found (codes "first"))
+scripts_in found =
+    ((words_in found (codes "scripts") ++ option_to_list (first_value found (codes "trace"))) ++ option_to_list (first_value found (codes "first"))) ++ option_to_list (first_value found (codes "then"))
 
 -- the number that a word says, up to a greatest one, and 0 without a word
 abbrev pub count_for : ℕ → Option (List ℕ) → Option ℕ
@@ -57,7 +59,9 @@ pub record IsCall (asked : Named) (found : Found) (call : Call) : Type 0 where
   pub answers : IsFlag found (codes "answers") call.answers
   pub brief : IsFlag found (codes "brief") call.brief
   pub statuses : IsFlag found (codes "status") call.statuses
+  pub programs : IsFlag found (codes "programs") call.programs
   pub first : call.first ≡ is_some (first_value found (codes "first"))
+  pub last : call.last ≡ is_some (first_value found (codes "then"))
   pub capacity : count_for 1000 (first_value found (codes "capacity")) ≡ Some call.capacity
   pub limit : count_for 1000000000 (first_value found (codes "limit")) ≡ Some call.limit
   pub units : count_for 8 (first_value found (codes "units")) ≡ Some call.units

@@ -1,6 +1,7 @@
 -- What `check` prints, and which faults it tells where it is to tell those of each text.
-use Rattle.std.specs.Prelude.{ℕ, zero, suc, ◌≡◌, ◌+◌, List, [], ◌∷◌, ◌++◌, None, ◌⊎◌, length}
+use Rattle.std.specs.Prelude.{ℕ, zero, suc, ◌≡◌, ◌+◌, Bool, true, false, List, [], ◌∷◌, ◌++◌, None, ◌⊎◌, length}
 use Rattle.dbtg_schema.specs.Lists.{Lists}
+use Rattle.dbtg_program.specs.Faults.{refusal as program_refusal}
 use Rattle.dbtg_script.specs.StatementFaults.{refusal as script_refusal}
 use Rattle.dbtg_script.specs.Statements.{script}
 use Rattle.dbtg_script.specs.Printing.Texts.{schema_line, script_line}
@@ -9,7 +10,7 @@ use Rattle.dbtg_command.specs.declared.fault.Fault.{Fault}
 use Rattle.dbtg_command.specs.declared.fault.Fault.TheVariants.{Memory}
 use Rattle.dbtg_command.specs.declared.place.TextPlace.{TextPlace}
 use Rattle.dbtg_command.specs.declared.place.TextPlace.TheVariants.{Script}
-use Rattle.dbtg_command.specs.Refusals.{schema_in, AcceptsTexts, RefusesScriptText}
+use Rattle.dbtg_command.specs.Refusals.{schema_in, AcceptsTexts, RefusesProgram, RefusesScriptText}
 use Rattle.dbtg_command.specs.Sources.{ReadSchema, Texts, ToldIn, ToldOfSchema}
 
 -- a line for each script, from number n on
@@ -30,20 +31,30 @@ pub record IsCheck (text : List ℕ) (scripts : List (List ℕ)) (out : List ℕ
 abbrev pub ChecksHeld : (TextPlace → List ℕ → Type 0) → ℕ → List ℕ → Type 0
 ChecksHeld holds count out = (texts : Texts holds count kind.Serial) × IsCheck texts.schema texts.scripts out
 
--- what is told of script n: nothing of a text that is held and accepted, else its fault, which is no want of memory
-abbrev pub TellsOfScript : (TextPlace → List ℕ → Type 0) → (TextPlace → Fault → Type 0) → Lists → ℕ → List Fault → Type 0
-TellsOfScript holds fails lists n [] = (text : List ℕ) × holds (Script n) text × (script_refusal lists text ≡ None)
-TellsOfScript holds fails lists n (fault ∷ []) = ToldIn holds fails fault (Script n) (RefusesScriptText fault n lists) × (fault ≡ Memory → ⊥)
-TellsOfScript holds fails lists n (fault ∷ other ∷ more) = ⊥
+-- the text is accepted as a script, or as a program
+abbrev pub IsAccepted : Bool → Lists → List ℕ → Type 0
+IsAccepted false lists text = script_refusal lists text ≡ None
+IsAccepted true lists text = program_refusal lists text ≡ None
 
--- what is told of the first scripts, so many, of one after another
-abbrev pub TellsOfScripts : (TextPlace → List ℕ → Type 0) → (TextPlace → Fault → Type 0) → Lists → ℕ → List Fault → Type 0
-TellsOfScripts holds fails lists zero faults = faults ≡ []
-TellsOfScripts holds fails lists (suc n) faults =
-    (before : List Fault) × (here : List Fault) × TellsOfScripts holds fails lists n before × TellsOfScript holds fails lists (n + 1) here × (faults ≡ before ++ here)
+-- the fault is its refusal, with the number n
+abbrev pub Refuses : Bool → Fault → ℕ → Lists → List ℕ → Type 0
+Refuses false fault n lists text = RefusesScriptText fault n lists text
+Refuses true fault n lists text = RefusesProgram fault n (program_refusal lists text)
 
--- what is told of each text: of the schema alone where it is not accepted, else of each script
-abbrev pub TellsEach : (TextPlace → List ℕ → Type 0) → (TextPlace → Fault → Type 0) → ℕ → List Fault → Type 0
-TellsEach holds fails count faults =
+-- what is told of script n, or of program n: nothing of a text that is held and accepted, else its fault, which is no want of memory
+abbrev pub TellsOfScript : (TextPlace → List ℕ → Type 0) → (TextPlace → Fault → Type 0) → Bool → Lists → ℕ → List Fault → Type 0
+TellsOfScript holds fails programs lists n [] = (text : List ℕ) × holds (Script n) text × IsAccepted programs lists text
+TellsOfScript holds fails programs lists n (fault ∷ []) = ToldIn holds fails fault (Script n) (Refuses programs fault n lists) × (fault ≡ Memory → ⊥)
+TellsOfScript holds fails programs lists n (fault ∷ other ∷ more) = ⊥
+
+-- what is told of the first of them, so many, of one after another
+abbrev pub TellsOfScripts : (TextPlace → List ℕ → Type 0) → (TextPlace → Fault → Type 0) → Bool → Lists → ℕ → List Fault → Type 0
+TellsOfScripts holds fails programs lists zero faults = faults ≡ []
+TellsOfScripts holds fails programs lists (suc n) faults =
+    (before : List Fault) × (here : List Fault) × TellsOfScripts holds fails programs lists n before × TellsOfScript holds fails programs lists (n + 1) here × (faults ≡ before ++ here)
+
+-- what is told of each text: of the schema alone where it is not accepted, else of each script, or of each program
+abbrev pub TellsEach : (TextPlace → List ℕ → Type 0) → (TextPlace → Fault → Type 0) → Bool → ℕ → List Fault → Type 0
+TellsEach holds fails programs count faults =
     ((fault : Fault) × ToldOfSchema holds fails fault × (fault ≡ Memory → ⊥) × (faults ≡ fault ∷ []))
-    ⊎ ((lists : Lists) × ReadSchema holds lists × TellsOfScripts holds fails lists count faults)
+    ⊎ ((lists : Lists) × ReadSchema holds lists × TellsOfScripts holds fails programs lists count faults)

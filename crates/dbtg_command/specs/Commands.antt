@@ -56,6 +56,10 @@ explain = flag (codes "explain")
 abbrev pub first : Rule
 first = file_option (codes "first")
 
+-- a program that is made where all others have ended
+abbrev pub last : Rule
+last = file_option (codes "then")
+
 abbrev pub limit : Rule
 limit = number_option (codes "limit") (codes "1000000")
 
@@ -67,6 +71,10 @@ never = wish_option (codes "never")
 
 abbrev pub no_explain : Rule
 no_explain = flag (codes "no-explain")
+
+-- what is read are programs
+abbrev pub programs : Rule
+programs = flag (codes "programs")
 
 abbrev pub save_turns : Rule
 save_turns = file_option (codes "save-turns")
@@ -122,7 +130,7 @@ name_of named.Shell = codes "shell"
 
 -- what a command can be given, in the order of its help; words that are no options stand in this order
 abbrev pub rules_for : Named → List Rule
-rules_for named.Check = all ∷ first ∷ explain ∷ no_explain ∷ schema ∷ scripts ∷ []
+rules_for named.Check = all ∷ first ∷ programs ∷ explain ∷ no_explain ∷ schema ∷ scripts ∷ []
 rules_for named.Replay = capacity ∷ first ∷ moves ∷ turns_option ∷ echo ∷ explain ∷ no_explain ∷ schema ∷ scripts ∷ []
 rules_for named.Turns = capacity ∷ explain ∷ no_explain ∷ turns_file ∷ schema ∷ scripts ∷ []
 rules_for named.Timeline = capacity ∷ first ∷ moves ∷ turns_option ∷ svg ∷ explain ∷ no_explain ∷ schema ∷ scripts ∷ []
@@ -131,7 +139,7 @@ rules_for named.Outcomes = capacity ∷ first ∷ limit ∷ answers ∷ brief �
 rules_for named.Threads = capacity ∷ save_turns ∷ explain ∷ no_explain ∷ schema ∷ scripts ∷ []
 rules_for named.Audit = capacity ∷ units ∷ status ∷ explain ∷ no_explain ∷ schema ∷ trace ∷ []
 rules_for named.Draw = explain ∷ no_explain ∷ schema ∷ []
-rules_for named.Run = capacity ∷ turns_alone ∷ explain ∷ no_explain ∷ schema ∷ scripts ∷ []
+rules_for named.Run = capacity ∷ first ∷ turns_alone ∷ last ∷ echo ∷ explain ∷ no_explain ∷ schema ∷ scripts ∷ []
 rules_for named.Explain = topic ∷ []
 rules_for named.Shell = capacity ∷ units ∷ schema ∷ []
 

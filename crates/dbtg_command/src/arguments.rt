@@ -1,12 +1,12 @@
 //! What a command can be given: options, files and other words, as `clap` is told of each.
 ghost use Rattle.std.specs.Prelude.{IfOk};
-ghost use Rattle.dbtg_command.specs.Commands.{all, answers, capacity, echo, explain, file_option, file_word, first, flag, limit, moves, no_explain, number_option, save_turns, topic, turns_file, turns_option, units, words, status, trace, always, brief, never, wish_option, turns_alone};
+ghost use Rattle.dbtg_command.specs.Commands.{all, answers, capacity, echo, explain, file_option, file_word, first, flag, last, limit, moves, no_explain, number_option, programs, save_turns, topic, turns_file, turns_option, units, words, status, trace, always, brief, never, wish_option, turns_alone};
 ghost use Rattle.dbtg_command.specs.Inside.Commands.{IsArg, rule_for};
 
 use clap::{Arg, ArgAction};
 use std::alloc::{AllocError, Global};
 
-/// A word that a command can be given: an option, or what stands for files. `Programs`, `Schema`, `Scripts` and `Svg` have what help says of them.
+/// A word that a command can be given: an option, or what stands for files. Those with a text have what help says of them.
 #[derive(Clone, Copy)]
 pub enum Word<'a> {
     All,
@@ -16,12 +16,14 @@ pub enum Word<'a> {
     Capacity,
     Echo,
     Explain,
-    First,
+    First(&'a str),
+    Last,
     Limit,
     Moves,
     Never,
     NoExplain,
-    Programs(&'a str),
+    Programs,
+    ProgramFiles(&'a str),
     SaveTurns,
     Schema(&'a str),
     Scripts(&'a str),
@@ -40,6 +42,9 @@ const WISH_WORDS: [&str; 2] = ["U.I", "STATUS"];
 
 /// What is said of a schema.
 pub const SCHEMA: &str = "The file of the schema; - for standard input";
+
+/// What is said of a script that is made first.
+pub const FIRST: &str = "A script made whole before the others, by the last unit [default: none]";
 
 /// What is said of the scripts of units.
 pub const SCRIPTS: &str =
@@ -172,13 +177,13 @@ fn explain_option<'a>(alloc: Global) -> Arg<'a>
     )
 }
 
-fn first_option<'a>(alloc: Global) -> Arg<'a>
-    ensures { IsArg first result }
+fn last_option<'a>(alloc: Global) -> Arg<'a>
+    ensures { IsArg last result }
 {
     file_option(
         alloc,
-        "first",
-        "A script made whole before the others, by the last unit [default: none]",
+        "then",
+        "A program made to its end where all others have ended, by the last unit [default: none]",
     )
 }
 
@@ -214,6 +219,13 @@ fn no_explain_option<'a>(alloc: Global) -> Arg<'a>
 {
     let help = "Tells a fault by its number alone, on a terminal too";
     flag(alloc, "no-explain", help)
+}
+
+fn programs_option<'a>(alloc: Global) -> Arg<'a>
+    ensures { IsArg programs result }
+{
+    let help = "Reads programs in the place of scripts [default: scripts]";
+    flag(alloc, "programs", help)
 }
 
 fn save_turns_option<'a>(alloc: Global) -> Arg<'a>
@@ -298,12 +310,14 @@ pub fn arg_of<'a>(alloc: Global, word: Word<'a>) -> Result<Arg<'a>, AllocError>
         Word::Capacity => Ok(capacity_option(alloc)),
         Word::Echo => Ok(echo_option(alloc)),
         Word::Explain => Ok(explain_option(alloc)),
-        Word::First => Ok(first_option(alloc)),
+        Word::First(help) => Ok(file_option(alloc, "first", help)),
+        Word::Last => Ok(last_option(alloc)),
         Word::Limit => Ok(limit_option(alloc)),
         Word::Moves => Ok(moves_option(alloc)),
         Word::Never => Ok(never_option(alloc)),
         Word::NoExplain => Ok(no_explain_option(alloc)),
-        Word::Programs(help) => Ok(words(alloc, "scripts", "PROGRAM", help)),
+        Word::Programs => Ok(programs_option(alloc)),
+        Word::ProgramFiles(help) => Ok(words(alloc, "scripts", "PROGRAM", help)),
         Word::SaveTurns => Ok(save_turns_option(alloc)),
         Word::Schema(help) => Ok(file_word(alloc, "schema", "SCHEMA", help)),
         Word::Scripts(help) => Ok(words(alloc, "scripts", "SCRIPT", help)),

@@ -40,8 +40,12 @@ pub struct Call<'a> {
     pub brief: bool,
     /// Statuses alone are compared.
     pub statuses: bool,
-    /// The last script is made before all others.
+    /// What is read are programs.
+    pub programs: bool,
+    /// The last script, or the one before it where there is one that is made last, is made before all others.
     pub first: bool,
+    /// The last script is made where all others have ended.
+    pub last: bool,
     pub capacity: u16,
     /// How many states may come.
     pub limit: u64,
@@ -75,13 +79,14 @@ fn push_path<'a>(paths: &mut Vec<&'a str>, path: Option<&'a str>) -> Result<(), 
     }
 }
 
-// The scripts or the trace, and behind them the script that is made first.
+// The scripts or the trace, and behind them the one that is made first and the one that is made last.
 fn scripts_wanted<'a>(alloc: Global, given: &ArgMatches<'a>) -> Result<Vec<&'a str>, AllocError>
     ensures { IfOk result (λ scripts. map (λ path. path.now) scripts.items ≡ scripts_in (found_of given.now)) }
 {
     let mut scripts = words_of(alloc, given, "scripts")?;
     push_path(&mut scripts, given.get_str("trace"))?;
     push_path(&mut scripts, given.get_str("first"))?;
+    push_path(&mut scripts, given.get_str("then"))?;
     Ok(scripts)
 }
 
@@ -208,7 +213,9 @@ fn given_call<'a>(alloc: Global, named: Named, given: &ArgMatches<'a>) -> Result
         answers: given.get_flag("answers"),
         brief: given.get_flag("brief"),
         statuses: given.get_flag("status"),
+        programs: given.get_flag("programs"),
         first: given.get_str("first").is_some(),
+        last: given.get_str("then").is_some(),
         capacity: capacity as u16,
         limit,
         units: units as u16,

@@ -5,7 +5,7 @@ ghost use Rattle.clap.specs.declared.builder.command.Command.TheViews.{out-Comma
 ghost use Rattle.dbtg_command.specs.Commands.{name_of, program, rules_for};
 ghost use Rattle.dbtg_command.specs.Inside.Commands.{IsApp, alone, rule_for, with_command};
 
-use crate::arguments::{SCHEMA, SCRIPTS, Word, arg_of};
+use crate::arguments::{FIRST, SCHEMA, SCRIPTS, Word, arg_of};
 use clap::error::ErrorKind;
 use clap::{Command, Error};
 use std::alloc::{AllocError, Global};
@@ -57,7 +57,8 @@ fn check_command<'a>(alloc: Global, name: &'a str) -> Result<Command<'a>, AllocE
         "Example: dbtg check shop.schema unit1.script unit2.script",
         &[
             Word::All,
-            Word::First,
+            Word::First(FIRST),
+            Word::Programs,
             Word::Explain,
             Word::NoExplain,
             Word::Schema(SCHEMA),
@@ -104,7 +105,7 @@ fn replay_command<'a>(alloc: Global, name: &'a str) -> Result<Command<'a>, Alloc
         "Example: dbtg replay --capacity 10 --moves shop.moves shop.schema unit1.script unit2.script",
         &[
             Word::Capacity,
-            Word::First,
+            Word::First(FIRST),
             Word::Moves,
             Word::TurnsOption,
             Word::Echo,
@@ -147,7 +148,7 @@ fn timeline_command<'a>(alloc: Global, name: &'a str) -> Result<Command<'a>, All
         "Example: dbtg timeline --moves shop.moves shop.schema unit1.script unit2.script",
         &[
             Word::Capacity,
-            Word::First,
+            Word::First(FIRST),
             Word::Moves,
             Word::TurnsOption,
             Word::Svg("Draws as SVG [default: plain text]"),
@@ -170,7 +171,7 @@ fn page_command<'a>(alloc: Global, name: &'a str) -> Result<Command<'a>, AllocEr
         "Example: dbtg page --moves shop.moves shop.schema unit1.script unit2.script > run.html",
         &[
             Word::Capacity,
-            Word::First,
+            Word::First(FIRST),
             Word::Moves,
             Word::TurnsOption,
             Word::Explain,
@@ -192,7 +193,7 @@ fn outcomes_command<'a>(alloc: Global, name: &'a str) -> Result<Command<'a>, All
         "Example: dbtg outcomes shop.schema unit1.script unit2.script\nWith a small --capacity it is several times as fast, and takes less memory",
         &[
             Word::Capacity,
-            Word::First,
+            Word::First(FIRST),
             Word::Limit,
             Word::Answers,
             Word::Brief,
@@ -253,8 +254,10 @@ fn audit_command<'a>(alloc: Global, name: &'a str) -> Result<Command<'a>, AllocE
 fn run_command<'a>(alloc: Global, name: &'a str) -> Result<Command<'a>, AllocError>
     ensures { IfOk result (IsApp (alone name.entry.now (rules_for Named.Run))) }
 {
+    let first =
+        "A program made to its end before the others, by the unit behind theirs [default: none]";
     let programs =
-        "Files of the programs of units 1, 2, ..: 1 to 8 of them; - for standard input, once";
+        "Files of the programs of units 1, 2, ..: 1 to 8 in all; - for standard input, once";
     described(
         alloc,
         name,
@@ -262,11 +265,14 @@ fn run_command<'a>(alloc: Global, name: &'a str) -> Result<Command<'a>, AllocErr
         "Example: dbtg run --turns shop.turns shop.schema clerk1.program clerk2.program",
         &[
             Word::Capacity,
+            Word::First(first),
             Word::TurnsAlone,
+            Word::Last,
+            Word::Echo,
             Word::Explain,
             Word::NoExplain,
             Word::Schema(SCHEMA),
-            Word::Programs(programs),
+            Word::ProgramFiles(programs),
         ],
     )
 }

@@ -1,3 +1,4 @@
 pub mod Turning
 pub mod Together
+pub mod FirstAndLast
 pub mod Rows

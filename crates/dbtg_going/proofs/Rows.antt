@@ -2,4 +2,5 @@
 -- May use: all definitions; no lemma.
 -- Promises: each row is a theorem that computes.
 pub mod Alternately
+pub mod FirstLast
 pub mod Printed

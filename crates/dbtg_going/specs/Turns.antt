@@ -1,7 +1,7 @@
 -- Programs that run by turns: the unit whose turn it is makes the statement that is due in its program.
 -- u is a unit; programs are those of units 1, 2, ..; a history has the statements that they made, with their answers.
-use Rattle.std.specs.Prelude.{ℕ, ◌≡◌, Bool, nat_lt, List, [], ◌∷◌, ◌++◌, Option, Some, None, length, flat_map, if◌then◌else◌, option_and_then, replicate}
-use Rattle.std.specs.List.{range_with_len}
+use Rattle.std.specs.Prelude.{ℕ, ◌≡◌, ◌+◌, ◌-◌, ◌==◌, Bool, not, ◌&&◌, nat_lt, List, [], ◌∷◌, ◌++◌, Option, Some, None, length, filter, flat_map, if◌then◌else◌, is_none, option_and_then, replicate}
+use Rattle.std.specs.List.{list_all, range_with_len}
 use Rattle.dbtg_schema.specs.Lists.{Lists}
 use Rattle.dbtg_unit.specs.declared.statement.Statement.{Statement}
 use Rattle.dbtg_unit.specs.declared.unit.Entry.{Entry}
@@ -16,6 +16,7 @@ use Rattle.dbtg_step.specs.Machine.SequentialDatabase.{unit_at}
 use Rattle.dbtg_going.specs.declared.member.Standing.{Standing}
 use Rattle.dbtg_going.specs.declared.member.Standing.TheVariants.{Ended, Spent, GoesOn}
 use Rattle.dbtg_going.specs.declared.member.Reached.{Reached}
+use Rattle.dbtg_going.specs.declared.around.Around.{Around}
 use Rattle.dbtg_going.specs.declared.going.ProgramRun.{ProgramRun}
 
 -- WHERE A PROGRAM STANDS
@@ -84,10 +85,45 @@ to_the_end u = replicate most u
 abbrev pub one_by_one : ℕ → List ℕ
 one_by_one units = flat_map to_the_end (range_with_len 1 units)
 
--- the turns that are told; without any each of so many programs goes to its end
-abbrev pub turns_of : ℕ → Option (List ℕ) → List ℕ
-turns_of units (Some turns) = turns
-turns_of units None = one_by_one units
+-- THE FIRST AND THE LAST PROGRAM
+
+-- one less than so many, where there is such a program
+abbrev pub one_less : Bool → ℕ → ℕ
+one_less there n = if there then n - 1 else n
+
+-- how many of so many programs are neither first nor last
+abbrev pub others : Around → ℕ → ℕ
+others around units = one_less around.first (one_less around.last units)
+
+-- the first program goes to its end; its unit is numbered behind those of the others
+abbrev pub first_turns : Around → ℕ → List ℕ
+first_turns around units = if around.first then to_the_end (others around units + 1) else []
+
+-- it is not the unit of the last program, which is numbered behind all
+abbrev pub is_heard : Around → ℕ → ℕ → Bool
+is_heard around units u = not (around.last && u == units)
+
+-- the turns that are told, without those of the last program's unit; where none are told each of the others goes to its end
+abbrev pub other_turns : Around → ℕ → Option (List ℕ) → List ℕ
+other_turns around units (Some turns) = filter (is_heard around units) turns
+other_turns around units None = one_by_one (others around units)
+
+-- the turns before those of the last program
+abbrev pub turns_before : Around → ℕ → Option (List ℕ) → List ℕ
+turns_before around units told = first_turns around units ++ other_turns around units told
+
+-- no unit but the last can make a statement
+abbrev pub have_ended : Lists → List Program → List Entry → Bool
+have_ended schema programs history = list_all (λ u. is_none (statement_of schema programs history u)) (range_with_len 1 (length programs - 1))
+
+-- the last program goes to its end, where all others have ended
+abbrev pub last_turns : Lists → List Program → Around → List Entry → List ℕ
+last_turns schema programs around history = if around.last && have_ended schema programs history then to_the_end (length programs) else []
+
+-- all turns of programs, with those that are told
+abbrev pub turns_of : Lists → ℕ → List Program → Around → Option (List ℕ) → List ℕ
+turns_of schema capacity programs around told =
+    turns_before around (length programs) told ++ last_turns schema programs around (after_turns schema capacity programs [] (turns_before around (length programs) told))
 
 -- WHAT THEY GIVE
 

@@ -1,12 +1,14 @@
-//! Programs that run together: by turns, or one after the other.
+//! Programs that run together: by turns, or one after the other, with a first and a last one around them.
 
 ghost use Rattle.dbtg_going.specs.Goings.{AreAfter};
 ghost use Rattle.dbtg_going.specs.Inside.Members.{AreAt, HaveTurned, IsUnderWay, reached_by};
-ghost use Rattle.dbtg_going.specs.Turns.{IsRunOf, one_by_one, statement_of, to_the_end, turns_of};
+ghost use Rattle.dbtg_going.specs.Turns.{IsRunOf, first_turns, have_ended, is_heard, last_turns, one_by_one, other_turns, others, statement_of, to_the_end, turns_of};
 ghost use Rattle.dbtg_step.specs.Core.Whole.{IsMadeRun};
 ghost use Rattle.dbtg_schema.specs.Sound.{IsSound};
-ghost use Rattle.std.specs.Prelude.{◌≡◌, ◌≤◌, ◌<◌, ◌∷◌, [], IfOk, OnOk, Some, false, length, map, option_map};
+ghost use Rattle.dbtg_step.specs.Core.Whole.{Making as SaidMaking};
+ghost use Rattle.std.specs.Prelude.{◌≡◌, ◌≤◌, ◌<◌, ◌∷◌, ◌+◌, ◌-◌, [], IfOk, OnOk, Some, false, filter, is_none, length, map, option_map};
 
+use crate::around::Around;
 use crate::member::{Going, MOST_STATEMENTS, Member, Reached};
 use dbtg_program::Program;
 use dbtg_schema::{Row, Schema};
@@ -34,6 +36,7 @@ struct Programs<'a> {
     alloc: Global,
     schema: &'a Schema,
     list: &'a [Program],
+    around: Around,
 }
 
 impl<'a> Programs<'a> {
@@ -92,6 +95,23 @@ impl<'a> Programs<'a> {
         }
     }
 
+    // A turn that is told of the unit, which the last program's unit does not hear.
+    fn told_turn(
+        &self,
+        database: &mut WholeDatabase<'_>,
+        members: &mut [Member],
+        unit: u8,
+    ) -> Result<(), AllocError>
+        requires few { length self.now.list.now ≤ 255 }
+        requires under_way { IsUnderWay self.now.schema.now self.now.list.now database.old members.old }
+        ensures { OnOk result (HaveTurned self.now.schema.now self.now.list.now database.old (filter (is_heard self.now.around (length self.now.list.now)) (unit ∷ [])) database.new members.new) }
+    {
+        if self.around.is_heard(self.list.len() as u8, unit) {
+            self.turn(database, members, unit)?;
+        }
+        Ok(())
+    }
+
     // These turns, one after another.
     fn turns(
         &self,
@@ -99,11 +119,12 @@ impl<'a> Programs<'a> {
         members: &mut [Member],
         turns: &[u8],
     ) -> Result<(), AllocError>
-        requires { IsUnderWay self.now.schema.now self.now.list.now database.old members.old }
-        ensures { OnOk result (HaveTurned self.now.schema.now self.now.list.now database.old turns.now database.new members.new) }
+        requires few { length self.now.list.now ≤ 255 }
+        requires under_way { IsUnderWay self.now.schema.now self.now.list.now database.old members.old }
+        ensures { OnOk result (HaveTurned self.now.schema.now self.now.list.now database.old (filter (is_heard self.now.around (length self.now.list.now)) turns.now) database.new members.new) }
     {
         for unit in turns {
-            self.turn(database, members, *unit)?;
+            self.told_turn(database, members, *unit)?;
         }
         Ok(())
     }
@@ -142,7 +163,115 @@ impl<'a> Programs<'a> {
         Ok(())
     }
 
-    // These turns, or without any each program to its end.
+    // The first program, to its end.
+    fn make_first(
+        &self,
+        database: &mut WholeDatabase<'_>,
+        members: &mut [Member],
+    ) -> Result<(), AllocError>
+        requires few { length self.now.list.now ≤ 255 }
+        requires under_way { IsUnderWay self.now.schema.now self.now.list.now database.old members.old }
+        ensures { OnOk result (HaveTurned self.now.schema.now self.now.list.now database.old (first_turns self.now.around (length self.now.list.now)) database.new members.new) }
+    {
+        if !self.around.first {
+            return Ok(());
+        }
+        let others = self.around.others(self.list.len() as u8);
+        self.to_the_end(database, members, others + 1)
+    }
+
+    // The others by these turns, or without any each to its end.
+    fn make_others(
+        &self,
+        database: &mut WholeDatabase<'_>,
+        members: &mut [Member],
+        turns: Option<&[u8]>,
+    ) -> Result<(), AllocError>
+        requires few { length self.now.list.now ≤ 255 }
+        requires under_way { IsUnderWay self.now.schema.now self.now.list.now database.old members.old }
+        ensures { OnOk result (HaveTurned self.now.schema.now self.now.list.now database.old (other_turns self.now.around (length self.now.list.now) (option_map (λ t. t.now) turns.entry)) database.new members.new) }
+    {
+        match turns {
+            Some(turns) => self.turns(database, members, turns),
+            None => {
+                let others = self.around.others(self.list.len() as u8);
+                self.one_by_one(database, members, others)
+            }
+        }
+    }
+
+    // Can the unit make no statement?
+    fn has_ended(&self, members: &[Member], unit: u8) -> bool
+        requires numbered { 0 < unit }
+        requires within { unit ≤ length members.now }
+        ensures { (making : SaidMaking) → IsUnderWay self.now.schema.now self.now.list.now making members.now → result ≡ is_none (statement_of self.now.schema.now self.now.list.now making.history unit) }
+    {
+        members[unit as usize - 1].has_ended(self.schema)
+    }
+
+    // Can no unit but the last make a statement?
+    fn have_ended(&self, members: &[Member]) -> bool
+        requires few { length self.now.list.now ≤ 255 }
+        requires count { length members.now ≡ length self.now.list.now }
+        ensures { (making : SaidMaking) → IsUnderWay self.now.schema.now self.now.list.now making members.now → result ≡ have_ended self.now.schema.now self.now.list.now making.history }
+    {
+        let others = (self.list.len() as u8).saturating_sub(1);
+        for before in 0..others {
+            if !self.has_ended(members, before + 1) {
+                return false;
+            }
+        }
+        true
+    }
+
+    // The last program to its end, where all others have ended.
+    fn make_last(
+        &self,
+        database: &mut WholeDatabase<'_>,
+        members: &mut [Member],
+    ) -> Result<(), AllocError>
+        requires few { length self.now.list.now ≤ 255 }
+        requires under_way { IsUnderWay self.now.schema.now self.now.list.now database.old members.old }
+        ensures { OnOk result (HaveTurned self.now.schema.now self.now.list.now database.old (last_turns self.now.schema.now self.now.list.now self.now.around database.old.history) database.new members.new) }
+    {
+        if self.around.last && self.have_ended(members) {
+            return self.to_the_end(database, members, self.list.len() as u8);
+        }
+        Ok(())
+    }
+
+    // All programs, with the turns that are told.
+    fn make_all(
+        &self,
+        database: &mut WholeDatabase<'_>,
+        members: &mut [Member],
+        turns: Option<&[u8]>,
+    ) -> Result<(), AllocError>
+        requires few { length self.now.list.now ≤ 255 }
+        requires under_way { IsUnderWay self.now.schema.now self.now.list.now database.old members.old }
+        requires opening { database.old.history ≡ [] }
+        ensures { OnOk result (HaveTurned self.now.schema.now self.now.list.now database.old (turns_of self.now.schema.now database.old.capacity self.now.list.now self.now.around (option_map (λ t. t.now) turns.entry)) database.new members.new) }
+    {
+        self.make_first(database, members)?;
+        self.make_others(database, members, turns)?;
+        self.make_last(database, members)
+    }
+
+    // These turns, of members in a vector.
+    fn go_by(
+        &self,
+        database: &mut WholeDatabase<'_>,
+        members: &mut Vec<Member>,
+        turns: &[u8],
+    ) -> Result<(), AllocError>
+        requires few { length self.now.list.now ≤ 255 }
+        requires under_way { IsUnderWay self.now.schema.now self.now.list.now database.old members.old.items }
+        ensures { OnOk result (HaveTurned self.now.schema.now self.now.list.now database.old (filter (is_heard self.now.around (length self.now.list.now)) turns.now) database.new members.new.items) }
+    {
+        self.turns(database, members.as_mut_slice(), turns)
+    }
+
+    // The same of members in a vector.
     fn go(
         &self,
         database: &mut WholeDatabase<'_>,
@@ -151,13 +280,10 @@ impl<'a> Programs<'a> {
     ) -> Result<(), AllocError>
         requires few { length self.now.list.now ≤ 255 }
         requires under_way { IsUnderWay self.now.schema.now self.now.list.now database.old members.old.items }
-        ensures { OnOk result (HaveTurned self.now.schema.now self.now.list.now database.old (turns_of (length self.now.list.now) (option_map (λ t. t.now) turns.entry)) database.new members.new.items) }
+        requires opening { database.old.history ≡ [] }
+        ensures { OnOk result (HaveTurned self.now.schema.now self.now.list.now database.old (turns_of self.now.schema.now database.old.capacity self.now.list.now self.now.around (option_map (λ t. t.now) turns.entry)) database.new members.new.items) }
     {
-        let members = members.as_mut_slice();
-        match turns {
-            Some(turns) => self.turns(database, members, turns),
-            None => self.one_by_one(database, members, self.list.len() as u8),
-        }
+        self.make_all(database, members.as_mut_slice(), turns)
     }
 }
 
@@ -195,22 +321,25 @@ fn finish(
 
 /// The programs by these turns, from the opening database on, with a unit for each: in its turn a unit makes the statement that is
 /// due in its program, and nothing where there is no such unit or its program has ended. Without turns each program goes to its end,
-/// that of unit 1 first. A growth that is refused ends it.
+/// that of unit 1 first. A first program goes to its end before all this, a last one behind it, where all others have ended. A growth
+/// that is refused ends it.
 pub fn run_programs(
     alloc: Global,
     schema: &Schema,
     capacity: u16,
     programs: &[Program],
+    around: Around,
     turns: Option<&[u8]>,
 ) -> Result<ProgramRun, AllocError>
     requires sound { IsSound schema.now }
     requires units { length programs.now ≤ 255 }
-    ensures { IfOk result (λ given. IsRunOf schema.now capacity programs.now (turns_of (length programs.now) (option_map (λ t. t.now) turns.entry)) given) }
+    ensures { IfOk result (λ given. IsRunOf schema.now capacity programs.now (turns_of schema.now capacity programs.now around (option_map (λ t. t.now) turns.entry)) given) }
 {
     let together = Programs {
         alloc,
         schema,
         list: programs,
+        around,
     };
     let mut members = together.beginning()?;
     let mut database = WholeDatabase::opening(alloc, schema, capacity, programs.len() as u8)?;
@@ -269,10 +398,14 @@ pub fn programs_after<'a>(
         alloc,
         schema,
         list: programs,
+        around: Around {
+            first: false,
+            last: false,
+        },
     };
     let mut members = together.beginning()?;
     let mut database = WholeDatabase::opening(alloc, schema, capacity, programs.len() as u8)?;
-    match together.go(&mut database, &mut members, Some(turns)) {
+    match together.go_by(&mut database, &mut members, turns) {
         Ok(()) => with_goings(alloc, database, members),
         Err(error) => {
             database.discard();

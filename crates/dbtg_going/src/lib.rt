@@ -1,10 +1,12 @@
 //! Programs that run by turns, on a database on which each statement is made whole.
 #![tactic(auto)]
 
+mod around;
 mod going;
 mod member;
 mod text;
 
+pub use around::Around;
 pub use going::{ProgramRun, programs_after, run_programs};
 pub use member::{Going, Reached, Standing};
 pub use text::{push_programs, run_text};

@@ -6,7 +6,7 @@ ghost use Rattle.dbtg_going.specs.Turns.{due_after, most, statement_due};
 ghost use Rattle.dbtg_going.specs.declared.member.Reached.{Reached};
 ghost use Rattle.dbtg_program.specs.declared.going.Due.TheVariants as due;
 ghost use Rattle.dbtg_unit.specs.declared.unit.Entry.{Entry};
-ghost use Rattle.std.specs.Prelude.{◌≡◌, ◌<◌, ◌++◌, ◌∷◌, [], IfOk, List, OnOk, option_map};
+ghost use Rattle.std.specs.Prelude.{◌≡◌, ◌<◌, ◌++◌, ◌∷◌, [], IfOk, List, OnOk, is_none, option_map};
 
 use dbtg_program::{Due, End, Program, State, next};
 use dbtg_schema::Schema;
@@ -102,6 +102,16 @@ impl Member {
         match self.going.statement(schema) {
             Some(statement) if self.made < MOST_STATEMENTS => Ok(Some(statement.copy(alloc)?)),
             _ => Ok(None),
+        }
+    }
+
+    /// Can its unit make no statement?
+    pub fn has_ended(&self, schema: &Schema) -> bool
+        ensures { result ≡ is_none (due_after schema.now self.now.made (comes_of self.now.going)) }
+    {
+        match self.going.statement(schema) {
+            Some(_statement) => self.made >= MOST_STATEMENTS,
+            None => true,
         }
     }
 

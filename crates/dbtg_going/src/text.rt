@@ -79,7 +79,7 @@ fn push_program(
     Ok(())
 }
 
-/// The lines of the programs.
+/// Puts the lines of the programs behind a text.
 pub fn push_programs(
     out: &mut Vec<u8>,
     programs: &[Program],

@@ -1,1 +1,3 @@
 mod ProgramsRead
+mod Echoed
+pub mod Rows

@@ -8,7 +8,6 @@ use Rattle.dbtg_program.specs.declared.program.Program.{Program}
 use Rattle.dbtg_program.specs.Faults.{refusal as program_refusal}
 use Rattle.dbtg_program.specs.Reading.{program}
 use Rattle.dbtg_going.specs.declared.going.ProgramRun.{ProgramRun}
-use Rattle.dbtg_going.specs.Texts.{given_text}
 use Rattle.dbtg_going.specs.Turns.{IsRunOf, turns_of}
 use Rattle.dbtg_command.specs.declared.order.OrderKind.{OrderKind}
 use Rattle.dbtg_command.specs.declared.place.TextPlace.{TextPlace}
@@ -17,34 +16,37 @@ use Rattle.dbtg_command.specs.Refusals.{is_count}
 use Rattle.dbtg_command.specs.Sources.{ReadSchema}
 use Rattle.dbtg_command.proofs.Public.{held_behind}
 use Rattle.dbtg_running.specs.declared.command.Printed.{Printed}
-use Rattle.dbtg_running.specs.Running.{AllAccepted, ReadPrograms, ReadsTurns, RunsHeld, failed}
+use Rattle.dbtg_running.specs.declared.command.RunOptions.{RunOptions}
+use Rattle.dbtg_running.specs.Reading.{AllAccepted, ReadPrograms}
+use Rattle.dbtg_running.specs.Running.{ReadsTurns, RunsHeld, failed, run_text}
 
 accepted_behind : (lists : Lists) (front : List (List ℕ)) (text : List ℕ) → AllAccepted lists front → program_refusal lists text ≡ None → AllAccepted lists (front ++ text ∷ [])
 accepted_behind lists [] text all one = (one, tt)
 accepted_behind lists (first ∷ front) text all one = (all.0, accepted_behind lists front text all.1 one)
 
 -- the programs that were read, and one more
-pub programs_behind : (holds : TextPlace → List ℕ → Type 0) (lists : Lists) (n : ℕ) (text : List ℕ) (before after : List Program) → (read : ReadPrograms holds lists n) × (before ≡ map (program lists) read.texts)
-    → holds (Script (n + 1)) text → program_refusal lists text ≡ None → after ≡ before ++ program lists text ∷ [] → (read : ReadPrograms holds lists (n + 1)) × (after ≡ map (program lists) read.texts)
-programs_behind holds lists n text before after so_far held e taken =
-    let texts = so_far.0.texts in
-    let number : n + 1 ≡ 1 + length texts = omega (arith, so_far.0.many) in (
+pub programs_behind : (holds : TextPlace → List ℕ → Type 0) (lists : Lists) (n : ℕ) (text : List ℕ) (before after : List Program) (texts texts' : List (List ℕ))
+    → (read : ReadPrograms holds lists n) × (before ≡ map (program lists) read.texts) × (texts ≡ read.texts) → holds (Script (n + 1)) text → program_refusal lists text ≡ None → after ≡ before ++ program lists text ∷ [] → texts' ≡ texts ++ text ∷ []
+    → (read : ReadPrograms holds lists (n + 1)) × (after ≡ map (program lists) read.texts) × (texts' ≡ read.texts)
+programs_behind holds lists n text before after texts texts' so_far held e taken text_taken =
+    let front = so_far.0.texts in
+    let number : n + 1 ≡ 1 + length front = omega (arith, so_far.0.many) in (
       record {
-        texts = texts ++ text ∷ [];
-        many = length-append texts (text ∷ []) ∙ ap (λ (k : ℕ). k + 1) so_far.0.many;
-        held = held_behind holds 1 texts text so_far.0.held (subst (λ (k : ℕ). holds (Script k) text) number held);
-        accepted = accepted_behind lists texts text so_far.0.accepted e;
+        texts = front ++ text ∷ [];
+        many = length-append front (text ∷ []) ∙ ap (λ (k : ℕ). k + 1) so_far.0.many;
+        held = held_behind holds 1 front text so_far.0.held (subst (λ (k : ℕ). holds (Script k) text) number held);
+        accepted = accepted_behind lists front text so_far.0.accepted e;
       },
-      taken ∙ ap (λ (ps : List Program). ps ++ program lists text ∷ []) so_far.1 ∙ sym (map_push (program lists) texts text),
+      taken ∙ ap (λ (ps : List Program). ps ++ program lists text ∷ []) so_far.1 ∙ sym (map_push (program lists) front text),
+      text_taken ∙ ap (λ (ts : List (List ℕ)). ts ++ text ∷ []) so_far.2,
     )
 
 -- a run of the programs that were read, as it is printed
-pub runs : (holds : TextPlace → List ℕ → Type 0) (lists : Lists) (count : ℕ) (which : OrderKind) (capacity : ℕ) (programs : List Program) (turns : Option (List ℕ)) (given : ProgramRun) (printed : Printed)
-    → is_count count ≡ true → ReadSchema holds lists → (read : ReadPrograms holds lists count) × (programs ≡ map (program lists) read.texts) → ReadsTurns holds which turns
-    → IsRunOf lists capacity programs (turns_of (length programs) turns) given → printed.text.items ≡ given_text lists programs given → printed.failed ≡ list_any (λ r. failed r.standing) given.programs
-    → RunsHeld holds count which capacity printed
-runs holds lists count which capacity programs turns given printed right schema read turns_too run text failed_is =
-    let many : length programs ≡ count = ap length read.1 ∙ (length-map read.0.texts (program lists) ∙ read.0.many) in
+pub runs : (holds : TextPlace → List ℕ → Type 0) (lists : Lists) (count : ℕ) (which : OrderKind) (options : RunOptions) (programs : List Program) (texts : List (List ℕ)) (turns : Option (List ℕ)) (given : ProgramRun) (printed : Printed)
+    → is_count count ≡ true → ReadSchema holds lists → (read : ReadPrograms holds lists count) × (programs ≡ map (program lists) read.texts) × (texts ≡ read.texts) → ReadsTurns holds which turns
+    → IsRunOf lists options.capacity programs (turns_of lists options.capacity programs options.around turns) given → printed.text.items ≡ run_text lists options.echo texts given → printed.failed ≡ list_any (λ r. failed r.standing) given.programs
+    → RunsHeld holds count which options printed
+runs holds lists count which options programs texts turns given printed right schema read turns_too run text failed_is =
     record {
       counted = right;
       lists = lists;
@@ -53,7 +55,7 @@ runs holds lists count which capacity programs turns given printed right schema 
       turns = turns;
       turns_too = turns_too;
       given = given;
-      is_run = subst (λ n. IsRunOf lists capacity (map (program lists) read.0.texts) (turns_of n turns) given) many (subst (λ ps. IsRunOf lists capacity ps (turns_of (length programs) turns) given) read.1 run);
-      text = text ∙ ap (λ ps. given_text lists ps given) read.1;
+      is_run = subst (λ ps. IsRunOf lists options.capacity ps (turns_of lists options.capacity ps options.around turns) given) read.1 run;
+      text = text ∙ ap (λ ts. run_text lists options.echo ts given) read.2;
       failed_is = failed_is;
     }

@@ -1,1 +1,4 @@
+pub mod Reading
+pub mod Echoing
 pub mod Running
+pub mod Checking

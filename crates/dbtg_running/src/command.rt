@@ -2,21 +2,31 @@
 
 ghost use Rattle.dbtg_command.specs.Refusals.{is_count};
 ghost use Rattle.dbtg_command.specs.Sources.{ReadSchema, ToldOfOrder};
-ghost use Rattle.dbtg_going.specs.Texts.{given_text};
 ghost use Rattle.dbtg_going.specs.Turns.{IsRunOf, turns_of};
 ghost use Rattle.dbtg_program.specs.Reading.{program};
-ghost use Rattle.dbtg_running.specs.Running.{ReadPrograms, ReadsTurns, RunsHeld, ToldOfRun, failed};
+ghost use Rattle.dbtg_running.specs.Reading.{ReadPrograms};
+ghost use Rattle.dbtg_running.specs.Running.{ReadsTurns, RunsHeld, ToldOfRun, failed, run_text as said_text};
 ghost use Rattle.dbtg_schema.specs.Sound.{IsSound};
 ghost use Rattle.std.specs.List.{list_any};
 ghost use Rattle.std.specs.Prelude.{◌≡◌, ◌≤◌, IfErr, IfOk, length, map, true};
 
-use crate::programs::read_programs;
+use crate::echo::scripts_made;
+use crate::programs::{Programs, read_programs};
 use dbtg_command::{Fault, OrderKind, Source, read_schema, read_turns};
-use dbtg_going::{ProgramRun, Reached, Standing, run_programs, run_text};
+use dbtg_going::{Around, ProgramRun, Reached, Standing, push_programs, run_programs, run_text};
 use dbtg_program::{End, Program};
-use dbtg_replay::replay::check_count;
+use dbtg_replay::replay::{check_count, push_given};
 use dbtg_schema::{Row, Schema};
 use std::alloc::{AllocError, Global};
+
+/// How programs are run, and what is printed of it.
+#[derive(Clone, Copy)]
+pub struct RunOptions {
+    pub capacity: u16,
+    pub around: Around,
+    /// Each answer has its statement beside it.
+    pub echo: bool,
+}
 
 /// What is printed, and whether a program ended by ASSERT, SIZE or ASTRAY.
 #[derive(Drop)]
@@ -40,18 +50,47 @@ fn any_failed(programs: &[Reached]) -> bool
     programs.iter().any(|reached| failed(reached.standing))
 }
 
+// The text of a run of these programs, in which each answer has its statement beside it.
+fn echoed_text(
+    alloc: Global,
+    schema: &Schema,
+    programs: &Programs,
+    given: &ProgramRun,
+) -> Result<Vec<u8>, AllocError>
+    requires few { length programs.now.texts.items ≤ 255 }
+    requires are { programs.now.list.items ≡ map (program schema.now) programs.now.texts.items }
+    ensures { IfOk result (λ out. out.items ≡ said_text schema.now true programs.now.texts.items given.now) }
+{
+    let list = programs.list.as_slice();
+    let texts = programs.texts.as_slice();
+    let history = given.run.history.as_slice();
+    let made = scripts_made(alloc, schema, list, texts, history)?;
+    let mut out = Vec::new(alloc);
+    push_given(alloc, &mut out, schema, Some(made.as_slice()), &given.run)?;
+    push_programs(&mut out, list, given.programs.as_slice())?;
+    Ok(out)
+}
+
 // What is printed of a run of these programs.
 fn print_run(
     alloc: Global,
     schema: &Schema,
-    programs: &[Program],
+    programs: &Programs,
+    echo: bool,
     given: &ProgramRun,
 ) -> Result<Printed, AllocError>
-    ensures text { IfOk result (λ printed. printed.text.items ≡ given_text schema.now programs.now given.now) }
+    requires few { length programs.now.texts.items ≤ 255 }
+    requires are { programs.now.list.items ≡ map (program schema.now) programs.now.texts.items }
+    ensures text { IfOk result (λ printed. printed.text.items ≡ said_text schema.now echo programs.now.texts.items given.now) }
     ensures failed { IfOk result (λ printed. printed.failed ≡ list_any (λ r. failed r.standing) given.now.programs) }
 {
+    let text = if echo {
+        echoed_text(alloc, schema, programs, given)?
+    } else {
+        run_text(alloc, schema, programs.list.as_slice(), given)?
+    };
     Ok(Printed {
-        text: run_text(alloc, schema, programs, given)?,
+        text,
         failed: any_failed(given.programs.as_slice()),
     })
 }
@@ -72,17 +111,25 @@ fn turns_wanted<S: Source>(alloc: Global, source: &S) -> Result<Option<Row<u8>>,
 fn run_wanted(
     alloc: Global,
     schema: &Schema,
-    capacity: u16,
     programs: &[Program],
     turns: &Option<Row<u8>>,
+    options: RunOptions,
 ) -> Result<ProgramRun, AllocError>
     requires sound { IsSound schema.now }
     requires units { length programs.now ≤ 255 }
-    ensures { IfOk result (λ given. IsRunOf schema.now capacity programs.now (turns_of (length programs.now) turns.now) given) }
+    ensures { IfOk result (λ given. IsRunOf schema.now options.capacity programs.now (turns_of schema.now options.capacity programs.now options.around turns.now) given) }
 {
+    let RunOptions {
+        capacity,
+        around,
+        ..
+    } = options;
     match turns {
-        Some(turns) => run_programs(alloc, schema, capacity, programs, Some(turns.as_slice())),
-        None => run_programs(alloc, schema, capacity, programs, None),
+        Some(turns) => {
+            let told = Some(turns.as_slice());
+            run_programs(alloc, schema, capacity, programs, around, told)
+        }
+        None => run_programs(alloc, schema, capacity, programs, around, None),
     }
 }
 
@@ -91,19 +138,19 @@ fn run_read<S: Source>(
     alloc: Global,
     source: &S,
     known: &Schema,
-    capacity: u16,
-    programs: &[Program],
+    programs: &Programs,
+    options: RunOptions,
 ) -> Result<Printed, Fault>
     requires counted { is_count (S.count source.now) ≡ true }
     requires schema { ReadSchema (S.holds source.now) known.now }
     requires sound { IsSound known.now }
-    requires programs { (read : ReadPrograms (S.holds source.now) known.now (S.count source.now)) × (programs.now ≡ map (program known.now) read.texts) }
-    ensures done { IfOk result (λ printed. RunsHeld (S.holds source.now) (S.count source.now) (S.order source.now) capacity printed) }
+    requires programs { (read : ReadPrograms (S.holds source.now) known.now (S.count source.now)) × (programs.now.list.items ≡ map (program known.now) read.texts) × (programs.now.texts.items ≡ read.texts) }
+    ensures done { IfOk result (λ printed. RunsHeld (S.holds source.now) (S.count source.now) (S.order source.now) options printed) }
     ensures refused { IfErr result (λ fault. ToldOfRun (S.holds source.now) (S.fails source.now) fault (S.count source.now) (S.order source.now)) }
 {
     let turns = turns_wanted(alloc, source)?;
-    let given = run_wanted(alloc, known, capacity, programs, &turns)?;
-    let printed = print_run(alloc, known, programs, &given);
+    let given = run_wanted(alloc, known, programs.list.as_slice(), &turns, options)?;
+    let printed = print_run(alloc, known, programs, options.echo, &given);
     given.discard();
     Ok(printed?)
 }
@@ -113,27 +160,27 @@ fn run_known<S: Source>(
     alloc: Global,
     source: &S,
     known: &Schema,
-    capacity: u16,
+    options: RunOptions,
 ) -> Result<Printed, Fault>
     requires counted { is_count (S.count source.now) ≡ true }
     requires schema { ReadSchema (S.holds source.now) known.now }
     requires sound { IsSound known.now }
-    ensures done { IfOk result (λ printed. RunsHeld (S.holds source.now) (S.count source.now) (S.order source.now) capacity printed) }
+    ensures done { IfOk result (λ printed. RunsHeld (S.holds source.now) (S.count source.now) (S.order source.now) options printed) }
     ensures refused { IfErr result (λ fault. ToldOfRun (S.holds source.now) (S.fails source.now) fault (S.count source.now) (S.order source.now)) }
 {
     let programs = read_programs(alloc, source, known)?;
-    run_read(alloc, source, known, capacity, programs.as_slice())
+    run_read(alloc, source, known, &programs, options)
 }
 
 /// What `run` prints of the schema, the programs and the turns that a source gives, or the first fault. The programs stand in the
 /// places of scripts. Without turns each goes to its end, one after another.
-pub fn run<S: Source>(alloc: Global, source: &S, capacity: u16) -> Result<Printed, Fault>
-    ensures done { IfOk result (λ printed. RunsHeld (S.holds source.now) (S.count source.now) (S.order source.now) capacity printed) }
+pub fn run<S: Source>(alloc: Global, source: &S, options: RunOptions) -> Result<Printed, Fault>
+    ensures done { IfOk result (λ printed. RunsHeld (S.holds source.now) (S.count source.now) (S.order source.now) options printed) }
     ensures refused { IfErr result (λ fault. ToldOfRun (S.holds source.now) (S.fails source.now) fault (S.count source.now) (S.order source.now)) }
 {
     check_count(source.count())?;
     let known = read_schema(alloc, source)?;
-    let said = run_known(alloc, source, &known, capacity);
+    let said = run_known(alloc, source, &known, options);
     known.discard();
     said
 }

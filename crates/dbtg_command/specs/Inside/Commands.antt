@@ -8,7 +8,7 @@ use Rattle.clap.specs.declared.builder.command.Command.{Command}
 use Rattle.clap.specs.declared.builder.command.Command.TheViews.{out-Command as fields_of}
 use Rattle.clap.specs.declared.parser.matches.ArgMatches.{ArgMatches}
 use Rattle.dbtg_command.specs.Calling.{IsCall}
-use Rattle.dbtg_command.specs.Commands.{all, answers, capacity, echo, explain, first, limit, moves, name_of, no_explain, rules_for, save_turns, schema, scripts, shape_with, svg, topic, turns_option, turns_file, units, status, trace, always, brief, never, turns_alone}
+use Rattle.dbtg_command.specs.Commands.{all, answers, capacity, echo, explain, first, last, limit, moves, name_of, no_explain, programs, rules_for, save_turns, schema, scripts, shape_with, svg, topic, turns_option, turns_file, units, status, trace, always, brief, never, turns_alone}
 use Rattle.dbtg_command.specs.declared.arguments.Word.{Word}
 use Rattle.dbtg_command.specs.declared.arguments.Word.TheVariants as word
 use Rattle.dbtg_command.specs.declared.command.Named.{Named}
@@ -23,12 +23,14 @@ rule_for word.Brief = brief
 rule_for word.Capacity = capacity
 rule_for word.Echo = echo
 rule_for word.Explain = explain
-rule_for word.First = first
+rule_for (word.First help) = first
+rule_for word.Last = last
 rule_for word.Limit = limit
 rule_for word.Moves = moves
 rule_for word.Never = never
 rule_for word.NoExplain = no_explain
-rule_for (word.Programs help) = scripts
+rule_for word.Programs = programs
+rule_for (word.ProgramFiles help) = scripts
 rule_for word.SaveTurns = save_turns
 rule_for (word.Schema help) = schema
 rule_for (word.Scripts help) = scripts

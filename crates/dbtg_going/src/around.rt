@@ -1,0 +1,39 @@
+//! The programs that run before and behind all others.
+
+ghost use Rattle.dbtg_going.specs.Turns.{is_heard, one_less, others};
+ghost use Rattle.std.specs.Prelude.{◌≡◌};
+
+/// Is there a program that is made before all others, and one that is made where all others have ended? The last of the programs is
+/// the one that is made last; the one before it, or the last where there is none, is the one that is made first.
+#[derive(Clone, Copy, Debug, PartialEq, Eq)]
+pub struct Around {
+    pub first: bool,
+    pub last: bool,
+}
+
+// One less, where there is such a program.
+fn one_less(there: bool, count: u8) -> u8
+    ensures { result ≡ one_less there count }
+{
+    if there {
+        count.saturating_sub(1)
+    } else {
+        count
+    }
+}
+
+impl Around {
+    /// How many of so many programs are neither first nor last.
+    pub fn others(self, units: u8) -> u8
+        ensures { result ≡ others self units }
+    {
+        one_less(self.first, one_less(self.last, units))
+    }
+
+    // Is it not the unit of the program that is made last?
+    pub(crate) fn is_heard(self, units: u8, unit: u8) -> bool
+        ensures { result ≡ is_heard self units unit }
+    {
+        !(self.last && unit == units)
+    }
+}

@@ -1,0 +1,33 @@
+-- The statements that units made, as the lines of their programs have them: a script for each unit.
+-- text and texts are bytes, u is the number of a unit.
+use Rattle.std.specs.Prelude.{ℕ, ◌+◌, ◌-◌, List, [], ◌∷◌, ◌++◌, map, slice_get, unwrap_or}
+use Rattle.dbtg_schema.specs.Lists.{Lists}
+use Rattle.dbtg_unit.specs.Database.Laws.Replay.{entries_of}
+use Rattle.dbtg_unit.specs.declared.statement.Statement.{Statement}
+use Rattle.dbtg_unit.specs.declared.unit.Entry.{Entry}
+use Rattle.dbtg_script.specs.Lines.{lines}
+use Rattle.dbtg_program.specs.declared.program.Program.{Program}
+use Rattle.dbtg_program.specs.States.{ProgramState, beginning}
+use Rattle.dbtg_program.specs.Going.{Due, due, ended, line_number, next, told}
+use Rattle.dbtg_program.specs.Reading.{program}
+
+-- the line of this number, from 1
+abbrev pub line_of : List (List ℕ) → ℕ → List ℕ
+line_of ls n = unwrap_or (slice_get ls (n - 1)) []
+
+-- what is said where a statement is due; nothing at an end
+abbrev pub where_due : Due → (ProgramState → Statement → List ℕ) → List ℕ
+where_due (due at s) said = said at s
+where_due (ended at how) said = []
+
+-- the line of the statement of each of these entries, which the program of these lines makes from this state on
+abbrev pub lines_made : Lists → Program → List (List ℕ) → ProgramState → List Entry → List ℕ
+lines_made schema program ls state [] = []
+lines_made schema program ls state (e ∷ es) =
+    where_due (next schema program state) (λ at s. line_of ls (line_number program at) ++ 10 ∷ lines_made schema program ls (told program at s e.answer) es)
+
+-- for each program, that of unit u first, the statements that its unit made
+abbrev pub scripts_made : Lists → ℕ → List (List ℕ) → List Entry → List (List ℕ)
+scripts_made schema u [] history = []
+scripts_made schema u (text ∷ texts) history =
+    lines_made schema (program schema text) (lines text) (beginning (program schema text)) (entries_of u history) ∷ scripts_made schema (u + 1) texts history

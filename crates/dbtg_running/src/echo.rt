@@ -1,0 +1,150 @@
+//! The statements that units made, as the lines of their programs have them.
+
+ghost use Rattle.dbtg_program.specs.Going.{line_number};
+ghost use Rattle.dbtg_program.specs.Reading.{program};
+ghost use Rattle.dbtg_program.specs.States.{beginning};
+ghost use Rattle.dbtg_running.specs.Echoing.{line_of, lines_made, scripts_made};
+ghost use Rattle.dbtg_script.specs.Lines.{lines};
+ghost use Rattle.dbtg_unit.specs.Database.Laws.Replay.{entries_of};
+ghost use Rattle.dbtg_unit.specs.declared.unit.Entry.{Entry as SaidEntry};
+ghost use Rattle.std.specs.Prelude.{◌≡◌, ◌≤◌, ◌++◌, ◌∷◌, [], IfOk, List, OnOk, if◌then◌else◌, length, map};
+
+use dbtg_program::{Due, Program, State, next};
+use dbtg_schema::{Row, Schema};
+use dbtg_script::Lines;
+use dbtg_unit::Entry;
+use std::alloc::{AllocError, Global};
+
+fn lines_of<'a>(alloc: Global, text: &'a [u8]) -> Result<Vec<&'a [u8]>, AllocError>
+    ensures { IfOk result (λ found. map (λ l. l.now) found.items ≡ lines text.now) }
+{
+    let mut found = Vec::new(alloc);
+    let mut left = Lines { rest: text };
+    while let Some(line) = left.next() {
+        found.push(line)?;
+    }
+    Ok(found)
+}
+
+// The line of this number, from 1; nothing where there is none.
+fn line_of<'a>(lines: &[&'a [u8]], number: u64) -> &'a [u8]
+    ensures { result.now ≡ line_of (map (λ l. l.now) lines.now) number }
+{
+    match lines.get((number as usize).saturating_sub(1)) {
+        Some(line) => *line,
+        None => b"",
+    }
+}
+
+// The number of the line in which the program stands.
+fn line_number(program: &Program, state: &State) -> u64
+    ensures { result ≡ line_number program.now state.now }
+{
+    match program.lines.get(state.at()) {
+        Some(line) => line.number,
+        None => 0,
+    }
+}
+
+/// A program with the lines of its text.
+#[derive(Drop)]
+struct Followed<'a> {
+    alloc: Global,
+    schema: &'a Schema,
+    program: &'a Program,
+    lines: &'a [&'a [u8]],
+}
+
+impl<'a> Followed<'a> {
+    // Puts the line of the statement that is due, and goes on behind its answer; false where the program has ended.
+    fn push_made(
+        &self,
+        made: &mut Vec<u8>,
+        state: &mut State,
+        entry: &Entry,
+    ) -> Result<bool, AllocError>
+        ensures { (es : List SaidEntry) → IfOk result (λ on. made.old.items ++ lines_made self.now.schema.now self.now.program.now (map (λ l. l.now) self.now.lines.now) state.old (entry.now ∷ es) ≡ made.new.items ++ (if on then lines_made self.now.schema.now self.now.program.now (map (λ l. l.now) self.now.lines.now) state.new es else [])) }
+    {
+        match next(self.alloc, self.schema, self.program, state)? {
+            Due::End(_) => Ok(false),
+            Due::Statement(statement) => {
+                made.extend_from_slice(line_of(self.lines, line_number(self.program, state)))?;
+                made.push(b'\n')?;
+                state.told(self.alloc, self.program, &statement, &entry.answer)?;
+                Ok(true)
+            }
+        }
+    }
+
+    // Goes on behind an entry, with its line where it is of the unit; false where the unit's program has ended.
+    fn follow(
+        &self,
+        made: &mut Vec<u8>,
+        state: &mut State,
+        unit: u8,
+        entry: &Entry,
+    ) -> Result<bool, AllocError>
+        ensures { (es : List SaidEntry) → IfOk result (λ on. made.old.items ++ lines_made self.now.schema.now self.now.program.now (map (λ l. l.now) self.now.lines.now) state.old (entries_of unit (entry.now ∷ es)) ≡ made.new.items ++ (if on then lines_made self.now.schema.now self.now.program.now (map (λ l. l.now) self.now.lines.now) state.new (entries_of unit es) else [])) }
+    {
+        if entry.unit != unit {
+            return Ok(true);
+        }
+        self.push_made(made, state, entry)
+    }
+
+    // The lines of the statements that a unit made.
+    fn lines_made(&self, unit: u8, history: &[Entry]) -> Result<Vec<u8>, AllocError>
+        ensures { IfOk result (λ made. made.items ≡ lines_made self.now.schema.now self.now.program.now (map (λ l. l.now) self.now.lines.now) (beginning self.now.program.now) (entries_of unit history.now)) }
+    {
+        let mut made = Vec::new(self.alloc);
+        let mut state = State::beginning(self.alloc, self.program)?;
+        for entry in history {
+            if !self.follow(&mut made, &mut state, unit, entry)? {
+                return Ok(made);
+            }
+        }
+        Ok(made)
+    }
+}
+
+// The lines of the statements that a unit made, of the text of its program.
+fn script_made(
+    alloc: Global,
+    schema: &Schema,
+    program: &Program,
+    text: &[u8],
+    unit: u8,
+    history: &[Entry],
+) -> Result<Vec<u8>, AllocError>
+    ensures { IfOk result (λ made. made.items ≡ lines_made schema.now program.now (lines text.now) (beginning program.now) (entries_of unit history.now)) }
+{
+    let lines = lines_of(alloc, text)?;
+    let followed = Followed {
+        alloc,
+        schema,
+        program,
+        lines: lines.as_slice(),
+    };
+    followed.lines_made(unit, history)
+}
+
+/// The script of each unit that has just the statements which its program made, as the lines of the program's text.
+pub fn scripts_made(
+    alloc: Global,
+    schema: &Schema,
+    programs: &[Program],
+    texts: &[Row<u8>],
+    history: &[Entry],
+) -> Result<Vec<Row<u8>>, AllocError>
+    requires few { length texts.now ≤ 255 }
+    requires are { programs.now ≡ map (program schema.now) texts.now }
+    ensures { IfOk result (λ made. made.items ≡ scripts_made schema.now 1 texts.now history.now) }
+{
+    let mut made = Vec::new(alloc);
+    for (i, text) in texts.iter().enumerate() {
+        let unit = i as u8 + 1;
+        let script = script_made(alloc, schema, &programs[i], text.as_slice(), unit, history)?;
+        made.push(Row::of(script))?;
+    }
+    Ok(made)
+}
