@@ -20,6 +20,11 @@ class Unit:
         self.events, self.wants, self.has_ticket, self.cells, self.held_areas = None, None, False, [], []
 
 
+def ordinal(n):
+    """1st, 2nd, 3rd, 4th .., 11th .., 21st .."""
+    return f"{n}th" if n // 10 % 10 == 1 else f"{n}{ {1: 'st', 2: 'nd', 3: 'rd'}.get(n % 10, 'th')}"
+
+
 def words_of(line):
     return re.findall(r'"[^"]*"|=|[^ ="]+', line)
 
@@ -124,6 +129,48 @@ class Machine:
         if u.kept:
             words += ["KEPT", *(f"{self.key(k)}/{u.kept[k]}" for k in sorted(u.kept))]
         return " ".join(words)
+
+    def named(self, key):
+        """A key, and whether its record is gone; `none` for no key."""
+        if key is None:
+            return "none"
+        return self.key(key) + (" (deleted)" if key != SYSTEM and key not in self.db.records else "")
+
+    def place_words(self, s, place):
+        """Where a unit stands in a set."""
+        if place is None and self.schema.sets[s].owner is not None:
+            return "none"
+        owner, at = place or (SYSTEM, None)
+        members = self.db.lists.get((s, owner))
+        if at is None:
+            what = "no list" if members is None else f"a list of {len(members)}" if members else "an empty list"
+            return f"{self.named(owner)}, the owner of {what}"
+        if members is None:
+            where = "position lost: there is no list of"
+        elif at not in members:
+            where = "position lost: it is not in the list of"
+        else:
+            where = f"{ordinal(members.index(at) + 1)} of {len(members)} in the list of"
+        return f"{self.named(at)}, {where} {self.named(owner)}"
+
+    def kept_words(self, u):
+        """What a unit keeps: docs/profile/program.md."""
+        for key in sorted(u.kept):
+            is_same = key in self.db.records and self.db.records[key].version == u.kept[key]
+            yield f"kept: {self.named(key)}, version {u.kept[key]}" + ("" if is_same else ", changed since")
+
+    def unit_words(self, u):
+        """The lines in which `.unit` says what is current of a unit: docs/profile/program.md."""
+        yield f"UNIT {u.number}"
+        yield f"run-unit: {self.named(u.run)}"
+        for t, it in enumerate(self.schema.types):
+            yield f"record {it.name}: {self.named(u.records[t])}"
+        for s, it in enumerate(self.schema.sets):
+            yield f"set {it.name}: {self.place_words(s, u.places[s])}"
+        for a, name in enumerate(self.schema.areas):
+            mode = dict(self.db.usage[a]).get(u.number)
+            yield f"area {name}: {self.named(u.areas[a])}; " + (f"open for {mode}" if mode else "not open")
+        yield from (self.kept_words(u) if u.kept else ["kept: nothing"])
 
 
 def read(path):

@@ -1,3 +1,4 @@
 pub mod Asking
 pub mod Sessions
+pub mod UnitWords
 pub mod Inside

@@ -36,6 +36,7 @@ use Rattle.dbtg_command.specs.FaultyWord.{line_at}
 use Rattle.dbtg_command.specs.Misfits.{said_of_word}
 use Rattle.dbtg_command.specs.Refusals.{schema_in}
 use Rattle.dbtg_shell.specs.Asking.{asked_of, behind_spaces, turn_after}
+use Rattle.dbtg_shell.specs.UnitWords.{unit_words}
 use Rattle.dbtg_replay.specs.Replaying.{IsReplay}
 
 -- WHAT A CALLER SEES
@@ -95,6 +96,10 @@ answer_reply schema e =
 -- the answer of the statement that was made last
 abbrev pub IsLastAnswer : Typed → List ℕ → Type 0
 IsLastAnswer typed out = (before : List Entry) (e : Entry) → typed.making.history ≡ before ++ e ∷ [] → out ≡ answer_reply typed.making.schema e
+
+-- what is current of unit u, in words
+abbrev pub unit_said : Making → ℕ → Option (List ℕ)
+unit_said m u = option_map (unit_words m.schema (image_of m.schema m.capacity (state_now m).database)) (slice_get (state_now m).units (u - 1))
 
 -- the line that says there is no such unit
 abbrev pub no_unit_text : ℕ → List ℕ

@@ -49,8 +49,9 @@ const ANSWER_BYTES: usize = 2048;
 const HELP: &str = "\
 STATEMENT         is made by the unit whose turn it is
 2: STATEMENT      is made by unit 2
-.unit 2           gives unit 2 the turn, and shows its currents
-.units            shows the currents of each unit
+.unit             says what is current of the unit whose turn it is
+.unit 2           gives unit 2 the turn, and says what is current of it
+.units            shows the currents of each unit in one line
 .database         shows the records, the lists of the sets and the areas
 .explain          explains the last status or fault
 .explain 0307     explains this status; .explain script 7 this fault

@@ -8,6 +8,7 @@ mod dialogue;
 mod replies;
 mod saved;
 mod session;
+mod words;
 mod writing;
 
 pub use commands::{Reply, Shell};

@@ -1,17 +1,18 @@
 //! What the shell replies to a line: texts of answers, faults and currents.
 ghost use Rattle.std.specs.List.{list_any};
-ghost use Rattle.std.specs.Prelude.{◌≡◌, ◌-◌, ◌%◌, ◌≤◌, ◌<◌, [], ◌∷◌, ◌++◌, codes, decimal, IfOk, OnOk, Some, option_map, slice_get};
+ghost use Rattle.std.specs.Prelude.{◌≡◌, ◌%◌, ◌≤◌, ◌<◌, [], ◌∷◌, ◌++◌, codes, decimal, IfOk, OnOk, Some, option_map};
 ghost use Rattle.std.specs.Str.{bytes_eq};
-ghost use Rattle.dbtg_script.specs.Printing.Texts.{image_text, unit_text, units_text};
+ghost use Rattle.dbtg_script.specs.Printing.Texts.{image_text, units_text};
 ghost use Rattle.dbtg_step.specs.Core.Whole.{state_now};
 ghost use Rattle.dbtg_unit.specs.Database.State.Image.{image_of};
-ghost use Rattle.dbtg_shell.specs.Sessions.{IsFaultText, answer_reply, cause_name, help_words, hint_for, no_unit_text, quit_words, said_or};
+ghost use Rattle.dbtg_shell.specs.Sessions.{IsFaultText, answer_reply, cause_name, help_words, hint_for, no_unit_text, quit_words, said_or, unit_said};
 
 use crate::session::Session;
+use crate::words::unit_words;
 use dbtg_command::explain::{CAUSES, Kind, field, line_at, meaning_of, row_with, said_of_word};
 use dbtg_schema::Schema;
 use dbtg_script::{
-    Cause, image_text, in_front, push_answer, push_named_answer, push_number, push_unit, units_text,
+    Cause, image_text, in_front, push_answer, push_named_answer, push_number, units_text,
 };
 use dbtg_unit::Entry;
 use std::alloc::{AllocError, Global};
@@ -134,14 +135,13 @@ pub fn units_reply(alloc: Global, session: &Session<'_>) -> Result<Vec<u8>, Allo
     units_text(alloc, session.schema(), session.units())
 }
 
-/// The currents of the unit of this number.
+/// What is current of the unit of this number, in words.
 pub fn unit_reply(alloc: Global, session: &Session<'_>, unit: u8) -> Result<Vec<u8>, AllocError>
     requires low { 0 < unit }
     requires high { unit ≤ session.now.making.units }
-    ensures { IfOk result (λ out. option_map (unit_text session.now.making.schema) (slice_get (state_now session.now.making).units (unit - 1)) ≡ Some out.items) }
+    ensures { IfOk result (λ out. unit_said session.now.making unit ≡ Some out.items) }
 {
-    let mut out = Vec::new(alloc);
+    let image = session.image()?;
     let shown = &session.units()[unit as usize - 1];
-    push_unit(&mut out, session.schema(), shown)?;
-    Ok(out)
+    unit_words(alloc, session.schema(), &image, shown)
 }
