@@ -108,7 +108,8 @@ pub fn push_calc(out: &mut Vec<u8>, items: &[Item], calc: &Calc) -> Result<(), A
     out.extend_from_slice(allowed_words(calc.duplicates_allowed))
 }
 
-fn class_words(class: Class) -> &'static [u8]
+/// How a record becomes a member and may cease to be one.
+pub fn class_words(class: Class) -> &'static [u8]
     ensures { result.now ≡ class_text class }
 {
     match class {

@@ -7,7 +7,8 @@ ghost use Rattle.dbtg_shell.specs.Sessions.{Answers, IsFaultText, IsLastAnswer, 
 
 use crate::asked::{Asked, behind_spaces, read_asked};
 use crate::replies::{
-    database_reply, fault_reply, no_unit_reply, push_answer_reply, unit_reply, units_reply,
+    database_reply, fault_reply, no_unit_reply, push_answer_reply, schema_reply, unit_reply,
+    units_reply,
 };
 use crate::session::{Refusal, Session};
 use dbtg_command::explain::{Kind, Topic, explained, fault_topic, status_topic, topic_of};
@@ -52,6 +53,7 @@ STATEMENT         is made by the unit whose turn it is
 .unit             says what is current of the unit whose turn it is
 .unit 2           gives unit 2 the turn, and says what is current of it
 .units            shows the currents of each unit in one line
+.schema           shows the record types with their items, and the sets
 .database         shows the records, the lists of the sets and the areas
 .explain          explains the last status or fault
 .explain 0307     explains this status; .explain script 7 this fault
@@ -247,6 +249,9 @@ impl<'a> Shell<'a> {
             }
             b"units" if rest.is_empty() => {
                 Ok(Reply::Text(units_reply(self.alloc, &self.session)?))
+            }
+            b"schema" if rest.is_empty() => {
+                Ok(Reply::Text(schema_reply(self.alloc, &self.session)?))
             }
             b"explain" => self.explain(rest),
             b"load" if rest.is_empty() => self.text(NO_FILE),

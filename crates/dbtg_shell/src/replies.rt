@@ -2,6 +2,7 @@
 ghost use Rattle.std.specs.List.{list_any};
 ghost use Rattle.std.specs.Prelude.{◌≡◌, ◌%◌, ◌≤◌, ◌<◌, [], ◌∷◌, ◌++◌, codes, decimal, IfOk, OnOk, Some, option_map};
 ghost use Rattle.std.specs.Str.{bytes_eq};
+ghost use Rattle.dbtg_draw.specs.Listing.{schema_lines};
 ghost use Rattle.dbtg_script.specs.Printing.Texts.{image_text, units_text};
 ghost use Rattle.dbtg_step.specs.Core.Whole.{state_now};
 ghost use Rattle.dbtg_unit.specs.Database.State.Image.{image_of};
@@ -10,6 +11,7 @@ ghost use Rattle.dbtg_shell.specs.Sessions.{IsFaultText, answer_reply, cause_nam
 use crate::session::Session;
 use crate::words::unit_words;
 use dbtg_command::explain::{CAUSES, Kind, field, line_at, meaning_of, row_with, said_of_word};
+use dbtg_draw::schema_lines;
 use dbtg_schema::Schema;
 use dbtg_script::{
     Cause, image_text, in_front, push_answer, push_named_answer, push_number, units_text,
@@ -144,4 +146,11 @@ pub fn unit_reply(alloc: Global, session: &Session<'_>, unit: u8) -> Result<Vec<
     let image = session.image()?;
     let shown = &session.units()[unit as usize - 1];
     unit_words(alloc, session.schema(), &image, shown)
+}
+
+/// The schema, a line for each of its parts.
+pub fn schema_reply(alloc: Global, session: &Session<'_>) -> Result<Vec<u8>, AllocError>
+    ensures { IfOk result (λ out. out.items ≡ schema_lines session.now.making.schema) }
+{
+    schema_lines(alloc, session.schema())
 }
