@@ -13,7 +13,7 @@ use Rattle.dbtg_command.specs.declared.explain.Topic.TheVariants.{All, Done, Sta
 use Rattle.dbtg_command.specs.declared.explain.TheConstants.{DONE, STATUS, FAULT}
 use Rattle.dbtg_command.specs.declared.explain.causes.TheConstants.{CAUSES}
 use Rattle.dbtg_command.specs.declared.explain.statuses.TheConstants.{STATUSES}
-use Rattle.dbtg_command.specs.declared.explain.faults.TheConstants.{SCHEMA_FAULTS, SCRIPT_FAULTS, MOVES_FAULTS, TURNS_FAULTS, TRACE_FAULTS}
+use Rattle.dbtg_command.specs.declared.explain.faults.TheConstants.{SCHEMA_FAULTS, SCRIPT_FAULTS, PROGRAM_FAULTS, MOVES_FAULTS, TURNS_FAULTS, TRACE_FAULTS}
 use Rattle.dbtg_command.specs.FaultyWord.{behind_all}
 
 -- the code of a row
@@ -40,6 +40,7 @@ filled parts form = flat_map (λ b. unwrap_or (part_for parts b) (b ∷ [])) for
 abbrev pub faults_of : Kind → List ℕ
 faults_of kind.Schema = SCHEMA_FAULTS.now
 faults_of kind.Script = SCRIPT_FAULTS.now
+faults_of kind.Program = PROGRAM_FAULTS.now
 faults_of kind.Moves = MOVES_FAULTS.now
 faults_of kind.Turns = TURNS_FAULTS.now
 faults_of kind.Trace = TRACE_FAULTS.now
@@ -48,6 +49,7 @@ faults_of kind.Trace = TRACE_FAULTS.now
 abbrev pub kind_row : Kind → List ℕ
 kind_row kind.Schema = codes "schema|schema-language.md, Faults"
 kind_row kind.Script = codes "script|scripts.md, Faults"
+kind_row kind.Program = codes "program|programs.md, Faults"
 kind_row kind.Moves = codes "moves|events.md, Moves"
 kind_row kind.Turns = codes "turns|events.md, Turns"
 kind_row kind.Trace = codes "trace|traces.md, Faults"
@@ -81,6 +83,7 @@ abbrev pub kind_in : List ℕ → Option Kind
 kind_in word =
     if bytes_eq word (codes "schema") then Some kind.Schema
     else if bytes_eq word (codes "script") then Some kind.Script
+    else if bytes_eq word (codes "program") then Some kind.Program
     else if bytes_eq word (codes "moves") then Some kind.Moves
     else if bytes_eq word (codes "turns") then Some kind.Turns
     else if bytes_eq word (codes "trace") then Some kind.Trace
@@ -137,7 +140,9 @@ fault_lines which = flat_map (fault_line which) (lines (faults_of which))
 
 -- the list of all
 abbrev pub all_text : List ℕ
-all_text = (((((codes "0000: done\n" ++ flat_map status_line (lines STATUSES.now)) ++ fault_lines kind.Schema) ++ fault_lines kind.Script) ++ fault_lines kind.Moves) ++ fault_lines kind.Turns) ++ fault_lines kind.Trace
+all_text =
+    ((((((codes "0000: done\n" ++ flat_map status_line (lines STATUSES.now)) ++ fault_lines kind.Schema) ++ fault_lines kind.Script) ++ fault_lines kind.Program) ++ fault_lines kind.Moves) ++ fault_lines kind.Turns)
+    ++ fault_lines kind.Trace
 
 -- what is said of a topic
 abbrev pub topic_text : Topic → List ℕ

@@ -13,6 +13,7 @@ use Rattle.dbtg_script.specs.Moves.{cause_number as moves_cause_number}
 use Rattle.dbtg_script.specs.Printing.Causes.{cause_number as script_cause_number}
 use Rattle.dbtg_script.specs.StatementGrammar.{fits, statement}
 use Rattle.dbtg_script.specs.Tokens.{plain}
+use Rattle.dbtg_program.specs.Faults.{cause_number as program_cause_number}
 use Rattle.dbtg_trace.specs.Faults.{cause_number as trace_cause_number}
 use Rattle.dbtg_command.specs.declared.explain.Kind.{Kind}
 use Rattle.dbtg_command.specs.declared.explain.Kind.TheVariants as kind
@@ -73,6 +74,7 @@ begins_statement word = is_some (start_with fits (plain word) (starts statement)
 abbrev pub other_kind : Kind → List ℕ → List ℕ
 other_kind kind.Schema text = if begins_statement (first_letters text) then codes "; this is a script, and a schema is wanted" else []
 other_kind kind.Script text = if bytes_eq (first_letters text) (codes "SCHEMA") then codes "; this is a schema, and a script is wanted" else []
+other_kind kind.Program text = []
 other_kind kind.Moves text = []
 other_kind kind.Turns text = []
 other_kind kind.Trace text = []
@@ -91,13 +93,13 @@ IsToldIn which Says Other path line number out =
 abbrev pub IsToldOfOrder : Kind → List ℕ → ℕ → ℕ → List ℕ → Type 0
 IsToldOfOrder which path word number out = out ≡ told_at (place_of path (codes ": word ") word) [] (fault_field which number 1) []
 
--- the kind of text that has a fault of this number: a trace has those of scripts too
+-- the kind of text that has a fault of this number: programs and traces have those of scripts too
 abbrev pub kind_with : ℕ → Kind
-kind_with number = if nat_lt number 31 then kind.Script else kind.Trace
+kind_with number = if nat_lt number 21 then kind.Script else (if nat_lt number 31 then kind.Program else kind.Trace)
 
--- this is told of a fault in a line of a trace
-abbrev pub IsToldOfTrace : List ℕ → ℕ → ℕ → List ℕ → Type 0
-IsToldOfTrace path line number out = out ≡ told_at (place_of path (codes ":") line) [] (fault_field (kind_with number) number 1) []
+-- this is told of a fault in a line of a program or a trace
+abbrev pub IsToldOfLine : List ℕ → ℕ → ℕ → List ℕ → Type 0
+IsToldOfLine path line number out = out ≡ told_at (place_of path (codes ":") line) [] (fault_field (kind_with number) number 1) []
 
 -- a file that could not be read is told with its path, and why
 abbrev pub IsUnreadLine : List ℕ → List ℕ → Type 0
@@ -125,8 +127,8 @@ IsReason has lacks schema scripts order (Script n line cause) out =
 IsReason has lacks schema scripts order (Moves word cause) out = IsToldOfOrder kind.Moves (order_path order) word (moves_cause_number cause) out
 IsReason has lacks schema scripts order (Turns word cause) out = IsToldOfOrder kind.Turns (order_path order) word (moves_cause_number cause) out
 IsReason has lacks schema scripts order (Unreadable path) out = IsUnreadLine (string_bytes path) out
-IsReason has lacks schema scripts order (Trace line cause) out = IsToldOfTrace (script_path scripts 1) line (trace_cause_number cause) out
-IsReason has lacks schema scripts order (Program n line cause) out = ⊥
+IsReason has lacks schema scripts order (Trace line cause) out = IsToldOfLine (script_path scripts 1) line (trace_cause_number cause) out
+IsReason has lacks schema scripts order (Program n line cause) out = IsToldOfLine (script_path scripts n) line (program_cause_number cause) out
 IsReason has lacks schema scripts order MovesOver out = ⊥
 IsReason has lacks schema scripts order (StatesOver limit) out = ⊥
 IsReason has lacks schema scripts order ScriptCount out = ⊥
@@ -140,7 +142,7 @@ HasNoReason (Moves word cause) = ⊥
 HasNoReason (Turns word cause) = ⊥
 HasNoReason (Unreadable path) = ⊥
 HasNoReason (Trace line cause) = ⊥
-HasNoReason (Program n line cause) = Unit {0}
+HasNoReason (Program n line cause) = ⊥
 HasNoReason MovesOver = Unit {0}
 HasNoReason (StatesOver limit) = Unit {0}
 HasNoReason ScriptCount = Unit {0}

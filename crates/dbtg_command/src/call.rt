@@ -189,7 +189,7 @@ fn topic_wanted(alloc: Global, given: &ArgMatches) -> Result<Topic, Error>
             alloc,
             Named::Explain,
             ErrorKind::InvalidValue,
-            "no status and no fault is called so: a status of four digits is wanted, or schema, script, moves, turns or trace and the number of a fault; 'dbtg explain' lists all",
+            "no status and no fault is called so: a status of four digits is wanted, or schema, script, program, moves, turns or trace and the number of a fault; 'dbtg explain' lists all",
         )?),
     }
 }

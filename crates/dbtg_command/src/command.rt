@@ -88,10 +88,12 @@ fn explain_command<'a>(alloc: Global, name: &'a str) -> Result<Command<'a>, Allo
         alloc,
         name,
         "Tells what a status or a fault means, when it comes and what to do next",
-        "Examples: dbtg explain 0505, dbtg explain schema 7\nFaults have numbers: schema 1 to 18, script 1 to 14, moves 1 to 2, turns 1 to 2, trace 31 to 33",
+        "Examples: dbtg explain 0505, dbtg explain schema 7\nFaults have numbers: schema 1 to 18, script 1 to 14, program 21 to 27, moves 1 to 2, turns 1 to 2, trace 31 to 33",
         &[Word::Topic],
     )?
-    .override_usage("dbtg explain [CODE | schema N | script N | moves N | turns N | trace N]"))
+    .override_usage(
+        "dbtg explain [CODE | schema N | script N | program N | moves N | turns N | trace N]",
+    ))
 }
 
 // The command `replay`, by the name that its usage shows.

@@ -1,4 +1,4 @@
-//! `explain`: what a status means, or a fault of a schema, a script, moves, turns or a trace.
+//! `explain`: what a status means, or a fault of a schema, a script, a program, moves, turns or a trace.
 ghost use Rattle.std.specs.Prelude.{◌≡◌, ◌++◌, IfOk, OnOk, map, option_map};
 ghost use Rattle.std.specs.List.{flat_map};
 ghost use Rattle.dbtg_script.specs.Lines.{lines};
@@ -35,7 +35,9 @@ mod word;
 
 pub use causes::CAUSES;
 use dbtg_script::{is_number, number};
-use faults::{MOVES_FAULTS, SCHEMA_FAULTS, SCRIPT_FAULTS, TRACE_FAULTS, TURNS_FAULTS};
+use faults::{
+    MOVES_FAULTS, PROGRAM_FAULTS, SCHEMA_FAULTS, SCRIPT_FAULTS, TRACE_FAULTS, TURNS_FAULTS,
+};
 pub use laid::line_at;
 pub use misfit::{said_of_schema_word, said_of_word};
 use row::{next_row, push_form};
@@ -48,6 +50,7 @@ use std::alloc::{AllocError, Global};
 pub enum Kind {
     Schema,
     Script,
+    Program,
     Moves,
     Turns,
     Trace,
@@ -102,6 +105,7 @@ fn faults_of(kind: Kind) -> &'static str
     match kind {
         Kind::Schema => SCHEMA_FAULTS,
         Kind::Script => SCRIPT_FAULTS,
+        Kind::Program => PROGRAM_FAULTS,
         Kind::Moves => MOVES_FAULTS,
         Kind::Turns => TURNS_FAULTS,
         Kind::Trace => TRACE_FAULTS,
@@ -123,6 +127,8 @@ fn kind_of(word: &str) -> Option<Kind>
         Some(Kind::Schema)
     } else if word == "script" {
         Some(Kind::Script)
+    } else if word == "program" {
+        Some(Kind::Program)
     } else if word == "moves" {
         Some(Kind::Moves)
     } else if word == "turns" {
@@ -176,6 +182,7 @@ fn kind_row(kind: Kind) -> &'static [u8]
     let row = match kind {
         Kind::Schema => "schema|schema-language.md, Faults",
         Kind::Script => "script|scripts.md, Faults",
+        Kind::Program => "program|programs.md, Faults",
         Kind::Moves => "moves|events.md, Moves",
         Kind::Turns => "turns|events.md, Turns",
         Kind::Trace => "trace|traces.md, Faults",
@@ -304,6 +311,7 @@ fn all_text(alloc: Global) -> Result<Vec<u8>, AllocError>
     push_statuses(&mut out)?;
     push_faults(&mut out, Kind::Schema)?;
     push_faults(&mut out, Kind::Script)?;
+    push_faults(&mut out, Kind::Program)?;
     push_faults(&mut out, Kind::Moves)?;
     push_faults(&mut out, Kind::Turns)?;
     push_faults(&mut out, Kind::Trace)?;

@@ -2,7 +2,7 @@
 ghost use Rattle.std.specs.Char.{is_ascii_alphabetic};
 ghost use Rattle.std.specs.List.{prefix_len};
 ghost use Rattle.std.specs.Prelude.{◌≡◌, ◌≤◌, [], IfOk, MatchOption, length, map, string_bytes};
-ghost use Rattle.dbtg_command.specs.Reasons.{HasNoReason, IsNotRead, IsReason, IsReasonLine, IsToldIn, IsToldOfOrder, IsScriptNotRead, IsUnreadLine, SaysOfFile, SaysOfLine, SaysOfSchema, SaysOfScript, begins_statement, first_letters, order_path, other_kind, place_of, script_path, told_at, IsToldOfTrace, kind_with};
+ghost use Rattle.dbtg_command.specs.Reasons.{HasNoReason, IsNotRead, IsReason, IsReasonLine, IsToldIn, IsToldOfOrder, IsScriptNotRead, IsUnreadLine, SaysOfFile, SaysOfLine, SaysOfSchema, SaysOfScript, begins_statement, first_letters, order_path, other_kind, place_of, script_path, told_at, IsToldOfLine, kind_with};
 ghost use Rattle.dbtg_command.specs.Sources.{order_map};
 ghost use Rattle.dbtg_command.specs.declared.explain.Kind.TheVariants.{Schema, Script};
 ghost use Rattle.dbtg_command.specs.declared.fault.Fault.TheVariants.{Memory};
@@ -259,20 +259,22 @@ fn order_reason(
     told_at(alloc, place.as_slice(), &[], meaning_of(kind, number), "")
 }
 
-/// The kind of text that has a fault of this number: a trace has those of scripts too.
+/// The kind of text that has a fault of this number: programs and traces have those of scripts too.
 fn kind_with(number: u8) -> Kind
     ensures { result ≡ kind_with number }
 {
-    if number < 31 {
+    if number < 21 {
         Kind::Script
+    } else if number < 31 {
+        Kind::Program
     } else {
         Kind::Trace
     }
 }
 
-/// What there is to say of a fault of a trace.
-fn trace_reason(alloc: Global, path: &str, line: u64, number: u8) -> Result<Vec<u8>, AllocError>
-    ensures { IfOk result (λ out. IsToldOfTrace path.now line number out.items) }
+/// What there is to say of a fault in a line of a program or a trace.
+fn line_reason(alloc: Global, path: &str, line: u64, number: u8) -> Result<Vec<u8>, AllocError>
+    ensures { IfOk result (λ out. IsToldOfLine path.now line number out.items) }
 {
     let place = place_of(alloc, path, ":", line)?;
     let meaning = meaning_of(kind_with(number), number);
@@ -334,9 +336,17 @@ fn told_of<F: FileReader>(
             let told = order_reason(alloc, path, Kind::Turns, *word, cause.number())?;
             Ok(Some(told))
         }
+        Fault::Program {
+            number,
+            line,
+            cause,
+        } => {
+            let path = script_path(paths, *number);
+            Ok(Some(line_reason(alloc, path, *line, cause.number())?))
+        }
         Fault::Trace { line, cause } => {
             let path = script_path(paths, 1);
-            Ok(Some(trace_reason(alloc, path, *line, cause.number())?))
+            Ok(Some(line_reason(alloc, path, *line, cause.number())?))
         }
         Fault::Unreadable { path } => Ok(Some(unread_line(alloc, files, path.as_str())?)),
         _ => Ok(None),

@@ -1,4 +1,4 @@
-//! What the faults of schemas, scripts, moves, turns and traces mean, as the tables of docs/profile say it: a fault's number, what it means,
+//! What the faults of schemas, scripts, programs, moves, turns and traces mean, as the tables of docs/profile say it: a fault's number, what it means,
 //! where it is found, and what to do next.
 
 /// The faults of a schema.
@@ -38,6 +38,16 @@ pub static SCRIPT_FAULTS: &str = "\
 12|FIND CALC or NEXT DUPLICATE of a type without CALC; FIND CALC that names another item or not all; FIND SORTED of a set that is not sorted; FIND OWNER of a SYSTEM set|at the line's end|Search in a way that the schema provides for: the CALC items, a sorted set, a set with an owner.
 13|n that is 0 or above 999,999 in FIND; a key number that is 0 or above 999,999; a generation that is 0 or above 255|at the number|Take a number from 1 to 999,999, and a generation from 1 to 255.
 14|a text of more than 1,048,576 bytes (line 1), or statement 65,536 (its line)|before all else for the text, at its line for the statement|Divide the script: each run-unit has one of at most 65,535 statements.";
+
+/// The faults that a program has beside those of scripts.
+pub static PROGRAM_FAULTS: &str = "\
+21|unknown paragraph; it may stand further below|at the name behind GO TO|Write the paragraph, or correct the spelling.
+22|a paragraph that stands in the text before|at the name|Rename one of the two.
+23|a word in a field's place that is a name, or has a period, and is no item and no counter|at the word|Declare the counter by 01 at the top, take an item of the schema as RECORD.ITEM, or correct the spelling.
+24|a counter with the name of a counter before it or of a record type, or a word that is no name|at the name behind 01|Take a name of 1 to 30 capital letters, digits and hyphens, a letter first, that no counter and no record type has.
+25|a number and a text compared or moved; a text added or subtracted, or a field of texts that is added to or subtracted from|at the second of the two, or at the text|Compare and move values of one kind, and count with numbers alone.
+26|01 behind another sentence|at 01|Declare all counters at the top of the program.
+27|counter 65|at 01|Use fewer counters: a program has at most 64.";
 
 /// The faults of moves.
 pub static MOVES_FAULTS: &str = "\
