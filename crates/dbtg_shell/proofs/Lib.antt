@@ -2,3 +2,4 @@ mod Hints
 mod SessionSteps
 mod SessionTurns
 mod ShellReplies
+mod TakingBack

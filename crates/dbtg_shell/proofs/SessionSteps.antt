@@ -1,8 +1,8 @@
 -- A session by one line more.
-use Rattle.std.proofs.Common.{◌≡◌, ℕ, zero, suc, ◌+◌, ◌-◌, ◌<◌, ◌≤◌, Bool, true, false, List, [], ◌∷◌, ◌++◌, length, map, take, None, Some, slice_get, slice_set, inl, inr, refl, sym, ap, ◌∙◌, subst, arith, length-append, Option}
+use Rattle.std.proofs.Common.{◌≡◌, ℕ, zero, suc, ◌+◌, ◌-◌, ◌<◌, ◌≤◌, Bool, true, false, List, [], ◌∷◌, ◌++◌, length, map, reverse, take, None, Some, slice_get, slice_set, inl, inr, refl, sym, ap, ◌∙◌, subst, arith, length-append, Option}
 use Rattle.std.specs.Prelude.{Err, IfOk, Ok, OnErr, Result, nat_le, option_map, replicate, unwrap_or}
 use Rattle.std.proofs.lemmas.Bool.{and_parts, leb-true}
-use Rattle.std.proofs.lemmas.List.{length-map, map_push, length-set}
+use Rattle.std.proofs.lemmas.List.{length-map, length-reverse, length-set, map_push, reverse-append, reverse-reverse}
 use Rattle.std.proofs.lemmas.Option.{slice_get-map}
 use Rattle.dbtg_schema.specs.Lists.{Lists}
 use Rattle.dbtg_schema.specs.Lookups.{first}
@@ -18,7 +18,7 @@ use Rattle.dbtg_script.specs.StatementFaults.{line_faults, refusal as script_ref
 use Rattle.dbtg_script.specs.Statements.{line_statement, prepend, script}
 use Rattle.dbtg_script.proofs.Public.{is_read_behind, nothing_read}
 use Rattle.dbtg_command.specs.Refusals.{is_count}
-use Rattle.dbtg_shell.specs.Inside.Sessions.{HasMadeLine, IsAsBefore, IsScriptOf, IsSession, MakesLine}
+use Rattle.dbtg_shell.specs.Inside.Sessions.{HasGrown, HasMadeLine, IsAsBefore, IsOwnScript, IsScriptOf, IsSession, MakesLine}
 use Rattle.dbtg_shell.specs.Sessions.{RefusesBehind, RefusesLine, Takes, Typed, text_of}
 use Rattle.dbtg_shell.specs.declared.session.Refusal.{Refusal}
 use Rattle.dbtg_shell.specs.declared.session.Script.{Script}
@@ -38,7 +38,7 @@ front_again (b ∷ bs) line = ap (λ (text : List ℕ). b ∷ text) (front_again
 abbrev pub texts_in : List Script → List (List ℕ)
 texts_in scripts = map (λ (x : Script). x.text.items) scripts
 
-texts_set : (xs : List Script) (k : ℕ) (y : Script) → texts_in (slice_set xs k y) ≡ slice_set (texts_in xs) k y.text.items
+pub texts_set : (xs : List Script) (k : ℕ) (y : Script) → texts_in (slice_set xs k y) ≡ slice_set (texts_in xs) k y.text.items
 texts_set [] k y = refl
 texts_set (x ∷ xs) zero y = refl
 texts_set (x ∷ xs) (suc k) y = ap (λ (ts : List (List ℕ)). x.text.items ∷ ts) (texts_set xs k y)
@@ -57,31 +57,43 @@ text_at making xs u x e = ap (λ (o : Option (List ℕ)). unwrap_or o []) (slice
 
 -- ONE LINE
 
-module _ (schema : Lists) (old new : Making) (scripts : List Script) (session : IsSession schema old scripts) (u : ℕ) (low : 0 < u) (one next : Script) (at : slice_get scripts (u - 1) ≡ Some one) (line : List ℕ) where
+reverse_push : {X : Type 0} (xs : List X) (y : X) → reverse (xs ++ y ∷ []) ≡ y ∷ reverse xs
+reverse_push xs y = reverse-append xs (y ∷ [])
+
+module _ (schema : Lists) (capacity : ℕ) (old new : Making) (scripts : List Script) (session : IsSession schema capacity old scripts) (u : ℕ) (low : 0 < u) (one next : Script) (at : slice_get scripts (u - 1) ≡ Some one) (line : List ℕ) where
   number : u - 1 + 1 ≡ u
   number = omega (arith, low)
 
-  own : IsScriptOf schema one.text.items one.count (entries_of u old.history)
-  own = subst (λ (n : ℕ). IsScriptOf schema one.text.items one.count (entries_of n old.history)) number (session.each (u - 1) one at)
+  abbrev mine : List Entry
+  mine = entries_of u old.history
 
-  own_as_before : IsAsBefore one next → IsScriptOf schema next.text.items next.count (entries_of u old.history)
-  own_as_before same =
-      subst (λ (n : ℕ). IsScriptOf schema next.text.items n (entries_of u old.history)) (sym same.count)
-      (subst (λ (t : List ℕ). IsScriptOf schema t one.count (entries_of u old.history)) (sym same.text) own)
+  own : IsOwnScript schema one mine
+  own = subst (λ (n : ℕ). IsOwnScript schema one (entries_of n old.history)) number (session.each (u - 1) one at)
 
-  each_as_before : IsAsBefore one next → (j : ℕ) (other : Script) → slice_get (slice_set scripts (u - 1) next) j ≡ Some other → IsScriptOf schema other.text.items other.count (entries_of (j + 1) old.history)
+  own_as_before : IsAsBefore one next → IsOwnScript schema next mine
+  own_as_before same = record {
+    is_script =
+        subst (λ (bs : List ℕ). IsScriptOf schema next.text.items (length bs) mine) (sym same.begins)
+        (subst (λ (t : List ℕ). IsScriptOf schema t (length one.begins.items) mine) (sym same.text) own.is_script);
+    grown =
+        subst (λ (bs : List ℕ). HasGrown schema next.text.items (reverse bs) (reverse mine)) (sym same.begins)
+        (subst (λ (t : List ℕ). HasGrown schema t (reverse one.begins.items) (reverse mine)) (sym same.text) own.grown);
+  }
+
+  each_as_before : IsAsBefore one next → (j : ℕ) (other : Script) → slice_get (slice_set scripts (u - 1) next) j ≡ Some other → IsOwnScript schema other (entries_of (j + 1) old.history)
   each_as_before same j other found =
       elim (found_of scripts (u - 1) j next other found) [
         | inl p ↦
-            subst (λ (z : Script). IsScriptOf schema z.text.items z.count (entries_of (j + 1) old.history)) p.1
-            (subst (λ (n : ℕ). IsScriptOf schema next.text.items next.count (entries_of n old.history)) (sym (ap (λ (n : ℕ). n + 1) p.0 ∙ number)) (own_as_before same))
+            subst (λ (z : Script). IsOwnScript schema z (entries_of (j + 1) old.history)) p.1
+            (subst (λ (n : ℕ). IsOwnScript schema next (entries_of n old.history)) (sym (ap (λ (n : ℕ). n + 1) p.0 ∙ number)) (own_as_before same))
         | inr p ↦ session.each j other p.1
       ]
 
-  session_as_before : new ≡ old → IsAsBefore one next → IsSession schema new (slice_set scripts (u - 1) next)
-  session_as_before unchanged same = subst (λ (m : Making). IsSession schema m (slice_set scripts (u - 1) next)) (sym unchanged) (record {
+  session_as_before : new ≡ old → IsAsBefore one next → IsSession schema capacity new (slice_set scripts (u - 1) next)
+  session_as_before unchanged same = subst (λ (m : Making). IsSession schema capacity m (slice_set scripts (u - 1) next)) (sym unchanged) (record {
     sound = session.sound;
     schema_is = session.schema_is;
+    capacity_is = session.capacity_is;
     many = length-set scripts (u - 1) next ∙ session.many;
     counted = session.counted;
     each = each_as_before same;
@@ -91,60 +103,81 @@ module _ (schema : Lists) (old new : Making) (scripts : List Script) (session : 
     abbrev entry : Entry
     entry = record { ticket = length old.history; unit = u; statement = m.statement; answer = m.made.outcome.answer }
 
-    many_made : length (script schema one.text.items) ≡ one.count
-    many_made = ap length own.says ∙ length-map (entries_of u old.history) (λ (e : Entry). e.statement) ∙ sym own.count_is
+    abbrev longer : List ℕ
+    longer = one.text.items ++ line ++ 10 ∷ []
 
-    read : (script_refusal schema (one.text.items ++ line ++ 10 ∷ []) ≡ None) × (script schema (one.text.items ++ line ++ 10 ∷ []) ≡ script schema one.text.items ++ prepend (line_statement schema (trimmed line)) []) × (closes true (one.text.items ++ line ++ 10 ∷ []) ≡ true)
-    read = is_read_behind schema one.text.items line own.closed m.room own.accepted (ap (λ (n : ℕ). first (line_faults schema n (trimmed line))) many_made ∙ m.fine)
+    many_made : length (script schema one.text.items) ≡ length one.begins.items
+    many_made = ap length own.is_script.says ∙ length-map mine (λ (e : Entry). e.statement) ∙ sym own.is_script.count_is
 
-    more : entries_of u (old.history ++ entry ∷ []) ≡ entries_of u old.history ++ entry ∷ []
+    read : (script_refusal schema longer ≡ None) × (script schema longer ≡ script schema one.text.items ++ prepend (line_statement schema (trimmed line)) []) × (closes true longer ≡ true)
+    read = is_read_behind schema one.text.items line own.is_script.closed m.room own.is_script.accepted (ap (λ (n : ℕ). first (line_faults schema n (trimmed line))) many_made ∙ m.fine)
+
+    more : entries_of u (old.history ++ entry ∷ []) ≡ mine ++ entry ∷ []
     more = entries_mine u old.history entry refl
 
-    says_then : script schema (one.text.items ++ line ++ 10 ∷ []) ≡ map (λ (e : Entry). e.statement) (entries_of u (old.history ++ entry ∷ []))
+    says_then : script schema longer ≡ map (λ (e : Entry). e.statement) (entries_of u (old.history ++ entry ∷ []))
     says_then =
-        read.1 ∙ (λ i. own.says i ++ prepend (m.says i) []) ∙ sym (map_push (λ (e : Entry). e.statement) (entries_of u old.history) entry)
+        read.1 ∙ (λ i. own.is_script.says i ++ prepend (m.says i) []) ∙ sym (map_push (λ (e : Entry). e.statement) mine entry)
         ∙ ap (map (λ (e : Entry). e.statement)) (sym more)
 
-    short_then : length (one.text.items ++ line ++ 10 ∷ []) ≤ SCRIPT_BYTES
+    short_then : length longer ≤ SCRIPT_BYTES
     short_then =
         let long = length-append (one.text.items ++ line) (10 ∷ []) in
         let front = length-append one.text.items line in
         omega (arith, long, front, m.room)
 
-    count_then : next.count ≡ length (entries_of u (old.history ++ entry ∷ []))
+    count_then : length next.begins.items ≡ length (entries_of u (old.history ++ entry ∷ []))
     count_then =
-        let grown : length (entries_of u (old.history ++ entry ∷ [])) ≡ length (entries_of u old.history) + 1 = ap length more ∙ length-append (entries_of u old.history) (entry ∷ []) in
-        omega (arith, m.entered.count, own.count_is, grown)
+        let grown : length (entries_of u (old.history ++ entry ∷ [])) ≡ length mine + 1 = ap length more ∙ length-append mine (entry ∷ []) in
+        let begun : length next.begins.items ≡ length one.begins.items + 1 = ap length m.entered.begins ∙ length-append one.begins.items (length one.text.items ∷ []) in
+        omega (arith, begun, own.is_script.count_is, grown)
 
-    own_then : IsScriptOf schema next.text.items next.count (entries_of u (old.history ++ entry ∷ []))
-    own_then = subst (λ (t : List ℕ). IsScriptOf schema t next.count (entries_of u (old.history ++ entry ∷ []))) (sym m.entered.text) (record {
-      accepted = read.0;
-      says = says_then;
-      closed = read.2;
-      short = short_then;
-      count_is = count_then;
-    })
+    -- what stood there is the script of the entries before
+    front_is : IsScriptOf schema one.text.items (length (reverse one.begins.items)) (reverse (reverse mine))
+    front_is =
+        subst (λ (n : ℕ). IsScriptOf schema one.text.items n (reverse (reverse mine))) (sym (length-reverse one.begins.items))
+        (subst (IsScriptOf schema one.text.items (length one.begins.items)) (sym (reverse-reverse mine)) own.is_script)
 
-    each_then : (j : ℕ) (other : Script) → slice_get (slice_set scripts (u - 1) next) j ≡ Some other → IsScriptOf schema other.text.items other.count (entries_of (j + 1) (old.history ++ entry ∷ []))
+    grown_then : HasGrown schema next.text.items (reverse next.begins.items) (reverse (entries_of u (old.history ++ entry ∷ [])))
+    grown_then =
+        subst (λ (t : List ℕ). HasGrown schema t (reverse next.begins.items) (reverse (entries_of u (old.history ++ entry ∷ [])))) (sym m.entered.text)
+        (subst (λ (bs : List ℕ). HasGrown schema longer bs (reverse (entries_of u (old.history ++ entry ∷ [])))) (sym (ap reverse m.entered.begins ∙ reverse_push one.begins.items (length one.text.items)))
+        (subst (HasGrown schema longer (length one.text.items ∷ reverse one.begins.items)) (sym (ap reverse more ∙ reverse_push mine entry))
+        (one.text.items, line, record { text_is = refl; begins = refl; says = m.says }, front_is, own.grown)))
+
+    own_then : IsOwnScript schema next (entries_of u (old.history ++ entry ∷ []))
+    own_then = record {
+      is_script = subst (λ (t : List ℕ). IsScriptOf schema t (length next.begins.items) (entries_of u (old.history ++ entry ∷ []))) (sym m.entered.text) (record {
+        accepted = read.0;
+        says = says_then;
+        closed = read.2;
+        short = short_then;
+        count_is = count_then;
+      });
+      grown = grown_then;
+    }
+
+    each_then : (j : ℕ) (other : Script) → slice_get (slice_set scripts (u - 1) next) j ≡ Some other → IsOwnScript schema other (entries_of (j + 1) (old.history ++ entry ∷ []))
     each_then j other found =
         elim (found_of scripts (u - 1) j next other found) [
           | inl p ↦
-              subst (λ (z : Script). IsScriptOf schema z.text.items z.count (entries_of (j + 1) (old.history ++ entry ∷ []))) p.1
-              (subst (λ (n : ℕ). IsScriptOf schema next.text.items next.count (entries_of n (old.history ++ entry ∷ []))) (sym (ap (λ (n : ℕ). n + 1) p.0 ∙ number)) own_then)
-          | inr p ↦ subst (IsScriptOf schema other.text.items other.count) (sym (entries_other (j + 1) old.history entry (λ (q : u ≡ j + 1). p.0 (omega (arith, q))))) (session.each j other p.1)
+              subst (λ (z : Script). IsOwnScript schema z (entries_of (j + 1) (old.history ++ entry ∷ []))) p.1
+              (subst (λ (n : ℕ). IsOwnScript schema next (entries_of n (old.history ++ entry ∷ []))) (sym (ap (λ (n : ℕ). n + 1) p.0 ∙ number)) own_then)
+          | inr p ↦ subst (IsOwnScript schema other) (sym (entries_other (j + 1) old.history entry (λ (q : u ≡ j + 1). p.0 (omega (arith, q))))) (session.each j other p.1)
         ]
 
-    session_made : IsSession schema new (slice_set scripts (u - 1) next)
+    session_made : IsSession schema capacity new (slice_set scripts (u - 1) next)
     session_made = record {
       sound = session.sound;
       schema_is = ap (λ (x : Making). x.schema) m.made.new_is ∙ session.schema_is;
+      capacity_is = ap (λ (x : Making). x.capacity) m.made.new_is ∙ session.capacity_is;
       many = length-set scripts (u - 1) next ∙ session.many ∙ ap (λ (x : Making). x.units) (sym m.made.new_is);
       counted = ap (λ (x : Making). is_count x.units) m.made.new_is ∙ session.counted;
-      each = λ j other found. subst (λ (es : List Entry). IsScriptOf schema other.text.items other.count (entries_of (j + 1) es)) (ap (λ (x : Making). x.history) (sym m.made.new_is)) (each_then j other found);
+      each = λ j other found. subst (λ (es : List Entry). IsOwnScript schema other (entries_of (j + 1) es)) (ap (λ (x : Making). x.history) (sym m.made.new_is)) (each_then j other found);
     }
 
   -- whatever the line comes to, it leaves a session
-  pub session_then : (result : Result Bool Refusal) → IfOk result (λ made. MakesLine schema old one u line made new next) → OnErr result (new ≡ old) → OnErr result (IsAsBefore one next) → IsSession schema new (slice_set scripts (u - 1) next)
+  pub session_then : (result : Result Bool Refusal) → IfOk result (λ made. MakesLine schema old one u line made new next) → OnErr result (new ≡ old) → OnErr result (IsAsBefore one next) → IsSession schema capacity new (slice_set scripts (u - 1) next)
   session_then (Ok true) taken unchanged same = session_made taken
   session_then (Ok false) taken unchanged same = session_as_before taken.0 taken.1
   session_then (Err refusal) taken unchanged same = session_as_before unchanged same
@@ -166,25 +199,25 @@ module _ (schema : Lists) (old new : Making) (scripts : List Script) (session : 
   }
   typed_then false m = (typed_same m.0 m.1, subst (λ (s : Lists). line_statement s (trimmed line) ≡ None) (sym session.schema_is) m.2)
 
-  pub typed_refused : (refusal : Refusal) → RefusesBehind refusal schema one.count (length one.text.items) line → RefusesLine refusal (typed old scripts) u line
+  pub typed_refused : (refusal : Refusal) → RefusesBehind refusal schema (length one.begins.items) (length one.text.items) line → RefusesLine refusal (typed old scripts) u line
   typed_refused refusal h =
       subst (λ (s : Lists). RefusesBehind refusal s (length (entries_of u old.history)) (length (text_of (typed old scripts) u)) line) (sym session.schema_is)
-      (subst (λ (n : ℕ). RefusesBehind refusal schema n (length (text_of (typed old scripts) u)) line) own.count_is
-      (subst (λ (n : ℕ). RefusesBehind refusal schema one.count n line) (ap length (sym (text_at old scripts u one at))) h))
+      (subst (λ (n : ℕ). RefusesBehind refusal schema n (length (text_of (typed old scripts) u)) line) own.is_script.count_is
+      (subst (λ (n : ℕ). RefusesBehind refusal schema (length one.begins.items) n line) (ap length (sym (text_at old scripts u one at))) h))
 
 -- AT THE OPENING
 
-emptied : (scripts : List Script) (n k : ℕ) (one : Script) → texts_in scripts ≡ replicate n [] → map (λ (x : Script). x.count) scripts ≡ replicate n 0 → slice_get scripts k ≡ Some one → (one.text.items ≡ []) × (one.count ≡ 0)
+emptied : (scripts : List Script) (n k : ℕ) (one : Script) → texts_in scripts ≡ replicate n [] → map (λ (x : Script). x.begins.items) scripts ≡ replicate n [] → slice_get scripts k ≡ Some one → (one.text.items ≡ []) × (one.begins.items ≡ [])
 emptied [] n k one texts counts at = absurd (cc (at))
 emptied (x ∷ xs) zero k one texts counts at = absurd (cc)
 emptied (x ∷ xs) (suc n) zero one texts counts at =
     let same : x ≡ one = cc (at) in
     let text : x.text.items ≡ [] = cc in
-    let count : x.count ≡ 0 = cc (counts) in
-    (ap (λ (z : Script). z.text.items) (sym same) ∙ text, ap (λ (z : Script). z.count) (sym same) ∙ count)
+    let begins : x.begins.items ≡ [] = cc (counts) in
+    (ap (λ (z : Script). z.text.items) (sym same) ∙ text, ap (λ (z : Script). z.begins.items) (sym same) ∙ begins)
 emptied (x ∷ xs) (suc n) (suc k) one texts counts at =
     let texts_then : texts_in xs ≡ replicate n [] = cc (texts) in
-    let counts_then : map (λ (z : Script). z.count) xs ≡ replicate n 0 = cc (counts) in
+    let counts_then : map (λ (z : Script). z.begins.items) xs ≡ replicate n [] = cc (counts) in
     emptied xs n k one texts_then counts_then at
 
 no_script : (schema : Lists) → IsScriptOf schema [] 0 []
@@ -194,14 +227,19 @@ no_script schema = record { accepted = read.0; says = read.1; closed = refl; sho
     read = nothing_read schema
 
 pub opening_session : (schema : Lists) (making : Making) (scripts : List Script) (capacity n : ℕ) → IsSound schema → making ≡ record { schema = schema; capacity = capacity; units = n; history = [] } → is_count n ≡ true
-    → length scripts ≡ n → texts_in scripts ≡ replicate n [] → map (λ (x : Script). x.count) scripts ≡ replicate n 0 → IsSession schema making scripts
+    → length scripts ≡ n → texts_in scripts ≡ replicate n [] → map (λ (x : Script). x.begins.items) scripts ≡ replicate n [] → IsSession schema capacity making scripts
 opening_session schema making scripts capacity n sound is counted many texts counts = record {
   sound = sound;
   schema_is = ap (λ (m : Making). m.schema) is;
+  capacity_is = ap (λ (m : Making). m.capacity) is;
   many = many ∙ ap (λ (m : Making). m.units) (sym is);
   counted = ap (λ (m : Making). is_count m.units) is ∙ counted;
   each = λ k one at.
       let nothing = emptied scripts n k one texts counts at in
-      subst (λ (es : List Entry). IsScriptOf schema one.text.items one.count (entries_of (k + 1) es)) (ap (λ (m : Making). m.history) (sym is))
-      (subst (λ (c : ℕ). IsScriptOf schema one.text.items c []) (sym nothing.1) (subst (λ (t : List ℕ). IsScriptOf schema t 0 []) (sym nothing.0) (no_script schema)));
+      subst (λ (es : List Entry). IsOwnScript schema one (entries_of (k + 1) es)) (ap (λ (m : Making). m.history) (sym is)) (record {
+        is_script =
+            subst (λ (bs : List ℕ). IsScriptOf schema one.text.items (length bs) []) (sym nothing.1)
+            (subst (λ (t : List ℕ). IsScriptOf schema t 0 []) (sym nothing.0) (no_script schema));
+        grown = subst (λ (bs : List ℕ). HasGrown schema one.text.items (reverse bs) []) (sym nothing.1) nothing.0;
+      });
 }

@@ -30,7 +30,7 @@ all_accepted : (schema : Lists) (scripts : List Script) → ((k : ℕ) (one : Sc
 all_accepted schema [] each = tt
 all_accepted schema (x ∷ xs) each = (each 0 x refl, all_accepted schema xs (λ k one at. each (suc k) one at))
 
-module _ (making : Making) (scripts : List Script) (session : IsSession making.schema making scripts) (of : IsHistoryOf making.schema making.capacity making.units making.history) where
+module _ (making : Making) (scripts : List Script) (capacity : ℕ) (session : IsSession making.schema capacity making scripts) (of : IsHistoryOf making.schema making.capacity making.units making.history) where
   abbrev texts : List (List ℕ)
   texts = map (λ (x : Script). x.text.items) scripts
 
@@ -45,7 +45,7 @@ module _ (making : Making) (scripts : List Script) (session : IsSession making.s
   own_of k said None at e = absurd (cc (e))
   own_of k said (Some one) at e =
       let is : script making.schema one.text.items ≡ said = cc (e) in
-      ([], append-nil (map (λ (x : Entry). x.statement) (entries_of (k + 1) making.history)) ∙ sym (session.each k one at).says ∙ is)
+      ([], append-nil (map (λ (x : Entry). x.statement) (entries_of (k + 1) making.history)) ∙ sym (session.each k one at).is_script.says ∙ is)
 
   begins : (u : ℕ) (said : List Statement) → unit_at says u ≡ Some said → (left : List Statement) × (map (λ (e : Entry). e.statement) (entries_of u making.history) ++ left ≡ said)
   unfolding unit_at
@@ -71,7 +71,7 @@ module _ (making : Making) (scripts : List Script) (session : IsSession making.s
           → printed ≡ run_text making.schema making.history image.records image.lists image.next image.usage (state_now making).units)
       by text fine same =
           let counted : is_count (length texts) ≡ true = ap is_count (length-map scripts (λ (x : Script). x.text.items) ∙ session.many) ∙ session.counted in
-          let accepted = all_accepted making.schema scripts (λ k one at. (session.each k one at).accepted) in
+          let accepted = all_accepted making.schema scripts (λ k one at. (session.each k one at).is_script.accepted) in
           let again = made_again text texts making.capacity making.history image (state_now making).units turns counted (fine, subst (λ (s : Lists). AllAccepted s texts) (sym same) accepted)
           (subst (λ (s : Lists). IsSequential s making.capacity (map (script s) texts) making.history image (state_now making).units) (sym same) sequential) are in
           (again.0, λ printed replayed. again.1 printed replayed ∙ ap (λ (s : Lists). run_text s making.history image.records image.lists image.next image.usage (state_now making).units) same)

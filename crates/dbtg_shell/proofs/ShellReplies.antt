@@ -1,11 +1,15 @@
 -- What is told of a line.
-use Rattle.std.proofs.Common.{◌≡◌, ℕ, ◌+◌, ◌-◌, List, [], ◌∷◌, ◌++◌, length, Some, slice_get, inl, inr, ap, sym, ◌∙◌, subst, arith, length-append, IfOk, Result, Ok, Err}
-use Rattle.std.specs.Prelude.{OnErr}
+use Rattle.std.proofs.Common.{◌≡◌, ℕ, true, ◌+◌, ◌-◌, List, [], ◌∷◌, ◌++◌, length, Some, slice_get, inl, inr, ap, sym, ◌∙◌, subst, arith, length-append, IfOk, Result, Ok, Err}
+use Rattle.std.specs.Prelude.{OnErr, codes, if◌then◌else◌}
+use Rattle.std.specs.Str.{bytes_eq}
+use Rattle.std.proofs.lemmas.Bool.{and_parts}
+use Rattle.std.proofs.lemmas.Slice.Eq.{bytes_eq-Decides}
 use Rattle.dbtg_schema.specs.Lists.{Lists}
 use Rattle.dbtg_cells.proofs.Public.{get_behind}
 use Rattle.dbtg_unit.specs.declared.unit.Entry.{Entry}
+use Rattle.dbtg_script.specs.Printing.Spelling.{behind, in_front}
 use Rattle.dbtg_script.specs.declared.fault.Cause.{Cause}
-use Rattle.dbtg_shell.specs.Asking.{asked_of, behind_spaces, turn_after}
+use Rattle.dbtg_shell.specs.Asking.{asked_of, asks_undo, behind_spaces, turn_after, turn_behind, turn_given}
 use Rattle.dbtg_shell.specs.Sessions.{Answers, IsFaultText, IsLastAnswer, IsNoUnit, IsText, IsUnmade, RefusesLine, TakesAsked, TakesLine, Typed, answer_reply, no_unit_text}
 use Rattle.dbtg_shell.specs.declared.asked.Asked.{Asked}
 use Rattle.dbtg_shell.specs.declared.commands.Reply.{Reply}
@@ -43,6 +47,12 @@ is_text A B reply.Untold f told = told
 is_text A B (reply.Save directory) f told = told
 is_text A B (reply.Load path) f told = told
 is_text A B reply.Quit f told = told
+
+-- who takes a statement back keeps the turn
+pub undo_keeps_turn : (units turn : ℕ) (command : List ℕ) → asks_undo command ≡ true → turn_behind units turn command ≡ turn
+undo_keeps_turn units turn command asks =
+    let word : in_front 32 command ≡ codes "undo" = (bytes_eq-Decides (in_front 32 command) (codes "undo")).0 (and_parts _ _ asks).0 in
+    ap (λ (w : List ℕ). if bytes_eq w (codes "unit") then turn_given units turn (behind_spaces (behind 32 command)) else turn) word
 
 -- a line comes to nothing where there is no such unit, and where it has a fault
 module _ {E : Type 0} (u : ℕ) (old new : Typed) (line : List ℕ) (result : Result Reply E) (same : new ≡ old) where

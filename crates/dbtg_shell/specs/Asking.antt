@@ -35,8 +35,16 @@ turn_given units turn rest = if gives_turn units rest then min (number (in_front
 abbrev pub turn_behind : ℕ → ℕ → List ℕ → ℕ
 turn_behind units turn command = if bytes_eq (in_front 32 command) (codes "unit") then turn_given units turn (behind_spaces (behind 32 command)) else turn
 
+-- a command without the carriage return at its end, and without spaces in front
+abbrev pub bare_command : List ℕ → List ℕ
+bare_command command = behind_spaces (in_front 13 command)
+
+-- `.undo`, and else but spaces nothing
+abbrev pub asks_undo : List ℕ → Bool
+asks_undo command = bytes_eq (in_front 32 command) (codes "undo") && (length (behind_spaces (behind 32 command)) == 0)
+
 -- the unit that has the turn after a line: a statement leaves it where it is, of whatever unit it is
 abbrev pub turn_after : ℕ → ℕ → Asked → ℕ
-turn_after units turn (Command command) = turn_behind units turn (behind_spaces (in_front 13 command.now))
+turn_after units turn (Command command) = turn_behind units turn (bare_command command.now)
 turn_after units turn (Statement text) = turn
 turn_after units turn (StatementOf unit text) = turn

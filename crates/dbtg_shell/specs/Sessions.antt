@@ -35,7 +35,7 @@ use Rattle.dbtg_command.specs.Explaining.{fault_field, field, row_of}
 use Rattle.dbtg_command.specs.FaultyWord.{line_at}
 use Rattle.dbtg_command.specs.Misfits.{said_of_word}
 use Rattle.dbtg_command.specs.Refusals.{schema_in}
-use Rattle.dbtg_shell.specs.Asking.{asked_of, behind_spaces, turn_after}
+use Rattle.dbtg_shell.specs.Asking.{asked_of, asks_undo, bare_command, behind_spaces, turn_after}
 use Rattle.dbtg_shell.specs.UnitWords.{unit_words}
 use Rattle.dbtg_replay.specs.Replaying.{IsReplay}
 
@@ -61,6 +61,11 @@ pub record HasTyped (old : Typed) (u : ℕ) (line : List ℕ) (new : Typed) : Ty
 abbrev pub Takes : Typed → ℕ → List ℕ → Bool → Typed → Type 0
 Takes old u line true new = HasTyped old u line new
 Takes old u line false new = (new ≡ old) × (line_statement old.making.schema (trimmed line) ≡ None)
+
+-- the statement that was made last is taken back: its line, typed again, leads to what there was; else there was none, and all is as it was
+abbrev pub Undoes : Typed → Bool → Typed → Type 0
+Undoes old true new = (u : ℕ) × (line : List ℕ) × HasTyped new u line old
+Undoes old false new = (new ≡ old) × (old.making.history ≡ [])
 
 -- the line has this fault after `count` statements, or it is too long after a script of `size` bytes
 abbrev pub RefusesBehind : Refusal → Lists → ℕ → ℕ → List ℕ → Type 0
@@ -171,9 +176,24 @@ TakesLine u old line (Ok told) new =
     (HasTyped old u line new × MayBeText (IsLastAnswer new) told) ⊎ ((new ≡ old) × IsText (IsUnmade old u line) told)
 TakesLine u old line (Err error) new = new ≡ old
 
--- a command changes nothing; a statement is of the unit that has the turn, or of the unit that the line names
+-- what is said where the statement of this entry is taken back
+abbrev pub undone_text : Lists → Option Entry → List ℕ
+undone_text schema None = codes "there is nothing to take back" ++ 10 ∷ []
+undone_text schema (Some e) = codes "taken back: " ++ answer_text schema e
+
+-- the last statement is taken back, and what was answered to it is told. Without memory all is as it was
+abbrev pub TakesBack : {E : Type 0} → Typed → Result Reply E → Typed → Type 0
+TakesBack old (Ok told) new = ((undone : Bool) × Undoes old undone new) × IsText (λ out. out ≡ undone_text old.making.schema (slice_get old.making.history (length old.making.history - 1))) told
+TakesBack old (Err error) new = new ≡ old
+
+-- so it is where a command asks for it; no other command changes what was made
+abbrev pub TakesCommand : {E : Type 0} → Bool → Typed → Result Reply E → Typed → Type 0
+TakesCommand true old told new = TakesBack old told new
+TakesCommand false old told new = new ≡ old
+
+-- a statement is of the unit that has the turn, or of the unit that the line names
 abbrev pub TakesAsked : {E : Type 0} → ℕ → Typed → Asked → Result Reply E → Typed → Type 0
-TakesAsked turn old (asked.Command command) told new = new ≡ old
+TakesAsked turn old (asked.Command command) told new = TakesCommand (asks_undo (bare_command command.now)) old told new
 TakesAsked turn old (asked.Statement line) told new = TakesLine turn old line.now told new
 TakesAsked turn old (asked.StatementOf unit line) told new = TakesLine unit old line.now told new
 

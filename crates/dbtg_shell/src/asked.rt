@@ -1,6 +1,6 @@
 //! What a line of the shell asks for.
 ghost use Rattle.std.specs.Prelude.{◌≡◌};
-ghost use Rattle.dbtg_shell.specs.Asking.{asked_of, behind_spaces};
+ghost use Rattle.dbtg_shell.specs.Asking.{asked_of, asks_undo, behind_spaces};
 ghost use Rattle.dbtg_shell.specs.Inside.Asking.{names_unit};
 
 use dbtg_script::{behind, in_front, is_number, number};
@@ -30,6 +30,13 @@ fn names_unit(line: &[u8]) -> bool
 {
     let front = in_front(line, b':');
     is_number(front) && front.len() < line.len()
+}
+
+/// Is this, behind its period, the command that takes a statement back?
+pub fn asks_undo(command: &[u8]) -> bool
+    ensures { result ≡ asks_undo command.now }
+{
+    in_front(command, b' ') == b"undo".as_slice() && behind_spaces(behind(command, b' ')).is_empty()
 }
 
 /// What a line asks for.

@@ -1,14 +1,13 @@
 //! The commands of the shell, and what each line comes to.
 ghost use Rattle.std.specs.Prelude.{◌≡◌, ◌≤◌, ◌<◌, [], IfNone, IfOk, IfSome, OnErr};
-ghost use Rattle.dbtg_script.specs.Printing.Spelling.{in_front};
 ghost use Rattle.dbtg_script.specs.declared.fault.Cause.TheVariants.{LineNotAllowed};
-ghost use Rattle.dbtg_shell.specs.Asking.{behind_spaces, turn_behind, turn_given};
-ghost use Rattle.dbtg_shell.specs.Sessions.{Answers, IsFaultText, IsLastAnswer, IsNoUnit, IsText, MayBeText, TakesLine, no_unit_text};
+ghost use Rattle.dbtg_shell.specs.Asking.{asks_undo, bare_command, turn_behind, turn_given};
+ghost use Rattle.dbtg_shell.specs.Sessions.{Answers, IsFaultText, IsLastAnswer, IsNoUnit, IsText, MayBeText, TakesBack, TakesCommand, TakesLine, no_unit_text};
 
-use crate::asked::{Asked, behind_spaces, read_asked};
+use crate::asked::{Asked, asks_undo, behind_spaces, read_asked};
 use crate::replies::{
-    database_reply, fault_reply, no_unit_reply, push_answer_reply, schema_reply, unit_reply,
-    units_reply,
+    database_reply, fault_reply, no_unit_reply, push_answer_reply, schema_reply, undone_reply,
+    unit_reply, units_reply,
 };
 use crate::session::{Refusal, Session};
 use dbtg_command::explain::{Kind, Topic, explained, fault_topic, status_topic, topic_of};
@@ -55,6 +54,7 @@ STATEMENT         is made by the unit whose turn it is
 .units            shows the currents of each unit in one line
 .schema           shows the record types with their items, and the sets
 .database         shows the records, the lists of the sets and the areas
+.undo             takes back the last statement of the session, of whichever unit
 .explain          explains the last status or fault
 .explain 0307     explains this status; .explain script 7 this fault
 .load FILE        takes the lines of this file, as if they were typed
@@ -225,13 +225,27 @@ impl<'a> Shell<'a> {
         }
     }
 
-    // A command: `.unit` changes the turn, and no other changes anything.
+    // Takes back the last statement.
+    fn take_back<'b>(&mut self) -> Result<Reply<'b>, AllocError>
+        ensures undone { TakesBack self.old.session result self.new.session }
+        ensures turn { self.new.turn ≡ self.old.turn }
+    {
+        let told = undone_reply(self.alloc, &self.session)?;
+        self.session.undo()?;
+        Ok(Reply::Text(told))
+    }
+
+    // A command: `.unit` changes the turn, `.undo` what was made, and no other anything.
+    #[tactic(auto, using(crate::proofs::ShellReplies::undo_keeps_turn))]
     fn carry_out<'b>(&mut self, command: &'b [u8]) -> Result<Reply<'b>, AllocError>
-        ensures unchanged { self.new.session ≡ self.old.session }
-        ensures turn { IfOk result (λ _. self.new.turn ≡ turn_behind self.old.session.making.units self.old.turn (behind_spaces (in_front 13 command.now))) }
+        ensures done { TakesCommand (asks_undo (bare_command command.now)) self.old.session result self.new.session }
+        ensures turn { IfOk result (λ _. self.new.turn ≡ turn_behind self.old.session.making.units self.old.turn (bare_command command.now)) }
         ensures kept { OnErr result (self.new.turn ≡ self.old.turn) }
     {
         let command = behind_spaces(in_front(command, b'\r'));
+        if asks_undo(command) {
+            return self.take_back();
+        }
         if in_front(command, b' ') == b"unit".as_slice() {
             return self.give_turn(behind_spaces(behind(command, b' ')));
         }

@@ -1,12 +1,12 @@
 //! What the shell replies to a line: texts of answers, faults and currents.
 ghost use Rattle.std.specs.List.{list_any};
-ghost use Rattle.std.specs.Prelude.{◌≡◌, ◌%◌, ◌≤◌, ◌<◌, [], ◌∷◌, ◌++◌, codes, decimal, IfOk, OnOk, Some, option_map};
+ghost use Rattle.std.specs.Prelude.{◌≡◌, ◌-◌, ◌%◌, ◌≤◌, ◌<◌, [], ◌∷◌, ◌++◌, codes, decimal, IfOk, length, OnOk, Some, option_map, slice_get};
 ghost use Rattle.std.specs.Str.{bytes_eq};
 ghost use Rattle.dbtg_draw.specs.Listing.{schema_lines};
 ghost use Rattle.dbtg_script.specs.Printing.Texts.{image_text, units_text};
 ghost use Rattle.dbtg_step.specs.Core.Whole.{state_now};
 ghost use Rattle.dbtg_unit.specs.Database.State.Image.{image_of};
-ghost use Rattle.dbtg_shell.specs.Sessions.{IsFaultText, answer_reply, cause_name, help_words, hint_for, no_unit_text, quit_words, said_or, unit_said};
+ghost use Rattle.dbtg_shell.specs.Sessions.{IsFaultText, answer_reply, cause_name, help_words, hint_for, no_unit_text, quit_words, said_or, undone_text, unit_said};
 
 use crate::session::Session;
 use crate::words::unit_words;
@@ -121,6 +121,20 @@ pub fn no_unit_reply(alloc: Global, units: usize) -> Result<Vec<u8>, AllocError>
     push_number(&mut out, units as u64)?;
     out.push(b'\n')?;
     Ok(out)
+}
+
+/// What is said where the statement that was made last is taken back.
+pub fn undone_reply(alloc: Global, session: &Session<'_>) -> Result<Vec<u8>, AllocError>
+    ensures { IfOk result (λ out. out.items ≡ undone_text session.now.making.schema (slice_get session.now.making.history (length session.now.making.history - 1))) }
+{
+    match session.last() {
+        None => Vec::from_slice(alloc, b"there is nothing to take back\n"),
+        Some(entry) => {
+            let mut out = Vec::from_slice(alloc, b"taken back: ")?;
+            push_answer(&mut out, session.schema(), entry)?;
+            Ok(out)
+        }
+    }
 }
 
 /// The records, the lists of the sets, the least free numbers, and who has each area open.

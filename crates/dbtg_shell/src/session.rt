@@ -1,21 +1,22 @@
 //! A session of the shell: a database in memory, and the script of each unit as it was typed so far.
-ghost use Rattle.std.specs.Prelude.{◌≡◌, ◌++◌, ◌∷◌, ◌+◌, ◌-◌, ◌≤◌, ◌<◌, [], IfErr, IfOk, OnErr, OnOk, length, map, option_map, replicate, slice_get, take, true};
+ghost use Rattle.std.specs.Prelude.{◌≡◌, ◌++◌, ◌∷◌, ◌+◌, ◌-◌, ◌≤◌, ◌<◌, [], IfErr, IfOk, OnErr, OnOk, length, map, option_map, replicate, slice_get, List, ℕ, true};
 ghost use Rattle.dbtg_schema.specs.Sound.{IsSound};
 ghost use Rattle.dbtg_unit.specs.Database.Statements.Fits.{fits};
 ghost use Rattle.dbtg_unit.specs.Database.State.Image.{image_of};
 ghost use Rattle.dbtg_step.specs.Core.Whole.{HasMade, state_now};
 ghost use Rattle.dbtg_command.specs.Refusals.{is_count};
-ghost use Rattle.dbtg_shell.specs.Sessions.{AreTurnsOf, RefusesBehind, RefusesLine, Takes};
-ghost use Rattle.dbtg_shell.specs.Inside.Sessions.{HasEntered, HasNoRoom, IsAsBefore, MakesLine};
+ghost use Rattle.dbtg_shell.specs.Sessions.{AreTurnsOf, RefusesBehind, RefusesLine, Takes, Undoes};
+ghost use Rattle.dbtg_shell.specs.Inside.Sessions.{BeginsHistory, HasEntered, HasNoRoom, IsAsBefore, MakesLine};
 ghost use Rattle.dbtg_shell.specs.declared.session.Refusal.TheVariants.{Fault, Memory};
 
 use dbtg_replay::units_in_turn;
 use dbtg_schema::Schema;
 use dbtg_script::{Cause, LineFault, SCRIPT_BYTES, read_script_line, turns_text};
 use dbtg_step::WholeDatabase;
-use dbtg_unit::{Entry, Image, MOST_STATEMENTS, Statement, Unit};
+use dbtg_unit::{Entry, Image, Statement, Unit};
 use std::alloc::{AllocError, AllocFailed, Global};
 use std::marker::Model;
+use std::mem;
 
 /// Why a line is not made.
 #[derive(Drop)]
@@ -41,46 +42,43 @@ impl<T: Drop> From<AllocFailed<T>> for Refusal {
     }
 }
 
-/// The script of a unit so far: the line of each statement that it made, and how many these are.
+/// The script of a unit so far: the line of each statement that it made, and where each line begins.
 #[derive(Drop)]
 pub struct Script {
     pub text: Vec<u8>,
-    pub count: usize,
+    pub begins: Vec<usize>,
 }
 
 impl Script {
     /// A script without statements.
     fn empty(alloc: Global) -> Self
         ensures text { result.text.items ≡ [] }
-        ensures count { result.count ≡ 0 }
+        ensures begins { result.begins.items ≡ [] }
     {
         Script {
             text: Vec::new(alloc),
-            count: 0,
+            begins: Vec::new(alloc),
         }
     }
 
     /// Appends a line. If no room is found, the script stays as it was.
     fn push_line(&mut self, line: &[u8]) -> Result<(), AllocError>
-        requires { self.old.count < MOST_STATEMENTS }
         ensures taken { OnOk result (self.new.text.items ≡ self.old.text.items ++ line.now ++ 10 ∷ []) }
-        ensures counted { OnOk result (self.new.count ≡ self.old.count + 1) }
+        ensures begun { OnOk result (self.new.begins.items ≡ self.old.begins.items ++ length self.old.text.items ∷ []) }
         ensures text { OnErr result (self.new.text.items ≡ self.old.text.items) }
-        ensures count { OnErr result (self.new.count ≡ self.old.count) }
+        ensures begins { OnErr result (self.new.begins.items ≡ self.old.begins.items) }
     {
         let before = self.text.len();
         self.text.extend_from_slice(line)?;
-        if self.text.push(b'\n').is_err() {
+        if self.text.push(b'\n').is_err() || self.begins.push(before).is_err() {
             self.text.truncate(before);
             return Err(AllocError);
         }
-        self.count += 1;
         Ok(())
     }
 
     /// Appends a line, unless the script would become too long.
     fn enter(&mut self, line: &[u8]) -> Result<(), Refusal>
-        requires { self.old.count < MOST_STATEMENTS }
         ensures entered { OnOk result (HasEntered self.old line.now self.new) }
         ensures room { OnOk result (length self.old.text.items + length line.now < SCRIPT_BYTES) }
         ensures as_before { OnErr result (IsAsBefore self.old self.new) }
@@ -93,14 +91,13 @@ impl Script {
         Ok(())
     }
 
-    /// Drops the last line, which begins at byte `before`.
-    fn drop_line(&mut self, before: usize)
-        requires { 0 < self.old.count }
-        ensures text { self.new.text.items ≡ take before self.old.text.items }
-        ensures count { self.new.count + 1 ≡ self.old.count }
+    /// Drops the last line, if there is one.
+    fn drop_line(&mut self)
+        ensures { (front line : List ℕ) (begins : List ℕ) → self.old.text.items ≡ front ++ line → self.old.begins.items ≡ begins ++ length front ∷ [] → (self.new.text.items ≡ front) × (self.new.begins.items ≡ begins) }
     {
-        self.text.truncate(before);
-        self.count -= 1;
+        if let Some(before) = self.begins.pop() {
+            self.text.truncate(before);
+        }
     }
 }
 
@@ -108,7 +105,7 @@ impl Script {
 fn empty_scripts(alloc: Global, count: u8) -> Result<Vec<Script>, AllocError>
     ensures many { IfOk result (λ scripts. length scripts.items ≡ count) }
     ensures texts { IfOk result (λ scripts. map (λ s. s.text.items) scripts.items ≡ replicate count []) }
-    ensures counts { IfOk result (λ scripts. map (λ s. s.count) scripts.items ≡ replicate count 0) }
+    ensures begins { IfOk result (λ scripts. map (λ s. s.begins.items) scripts.items ≡ replicate count []) }
 {
     let mut scripts = Vec::new(alloc);
     for _ in 0..count {
@@ -128,7 +125,6 @@ fn make_and_enter(
     requires numbered { 0 < unit }
     requires within { unit ≤ database.old.units }
     requires fitting { fits database.old.schema statement ≡ true }
-    requires few { script.old.count < MOST_STATEMENTS }
     ensures made { OnOk result (HasMade database.old unit statement database.new) }
     ensures entered { OnOk result (HasEntered script.old line.now script.new) }
     ensures room { OnOk result (length script.old.text.items + length line.now < SCRIPT_BYTES) }
@@ -136,12 +132,11 @@ fn make_and_enter(
     ensures script { OnErr result (IsAsBefore script.old script.new) }
     ensures refused { IfErr result (λ refusal. HasNoRoom refusal (length script.old.text.items + length line.now)) }
 {
-    let before = script.text.len();
     script.enter(line)?;
     match database.make(unit, statement) {
         Ok(()) => Ok(()),
         Err(_) => {
-            script.drop_line(before);
+            script.drop_line();
             Err(Refusal::Memory)
         }
     }
@@ -163,9 +158,9 @@ fn take_line(
     ensures taken { IfOk result (λ made. MakesLine schema.now database.old script.old unit line.now made database.new script.new) }
     ensures database { OnErr result (database.new ≡ database.old) }
     ensures script { OnErr result (IsAsBefore script.old script.new) }
-    ensures refused { IfErr result (λ refusal. RefusesBehind refusal schema.now script.old.count (length script.old.text.items) line.now) }
+    ensures refused { IfErr result (λ refusal. RefusesBehind refusal schema.now (length script.old.begins.items) (length script.old.text.items) line.now) }
 {
-    match read_script_line(alloc, schema, script.count, line) {
+    match read_script_line(alloc, schema, script.begins.len(), line) {
         Err(LineFault::Refused(cause)) => Err(Refusal::Fault(cause)),
         Err(LineFault::Memory) => Err(Refusal::Memory),
         Ok(None) => Ok(false),
@@ -176,11 +171,50 @@ fn take_line(
     }
 }
 
+// Makes the statements of a history, behind none.
+fn make_each(
+    alloc: Global,
+    database: &mut WholeDatabase<'_>,
+    history: &[Entry],
+) -> Result<(), AllocError>
+    requires nothing { database.old.history ≡ [] }
+    requires history { BeginsHistory database.old.schema database.old.capacity database.old.units history.now }
+    ensures { OnOk result (database.new ≡ record database.old { history = history.now }) }
+{
+    for entry in history {
+        database.make(entry.unit, entry.statement.copy(alloc)?)?;
+    }
+    Ok(())
+}
+
+// The database on which just these statements are made.
+fn made_again<'a>(
+    alloc: Global,
+    schema: &'a Schema,
+    capacity: u16,
+    units: u8,
+    history: &[Entry],
+) -> Result<WholeDatabase<'a>, AllocError>
+    requires sound { IsSound schema.now }
+    requires history { BeginsHistory schema.now capacity units history.now }
+    ensures { IfOk result (λ database. database ≡ record { schema = schema.now; capacity = capacity; units = units; history = history.now }) }
+{
+    let mut database = WholeDatabase::opening(alloc, schema, capacity, units)?;
+    match make_each(alloc, &mut database, history) {
+        Ok(()) => Ok(database),
+        Err(error) => {
+            database.discard();
+            Err(error)
+        }
+    }
+}
+
 /// A database in memory, its units, numbered from 1, and the script of each.
 #[derive(Drop)]
 pub struct Session<'a> {
     alloc: Global,
     schema: &'a Schema,
+    capacity: u16,
     database: WholeDatabase<'a>,
     scripts: Vec<Script>,
 }
@@ -194,7 +228,7 @@ impl<'a> Model for Session<'a> {
 
     ghost view = { λ s. record { making = s.database; texts = map (λ x. x.text.items) s.scripts.items } };
 
-    ghost invariant = { λ s. IsSession s.schema.now s.database s.scripts.items };
+    ghost invariant = { λ s. IsSession s.schema.now s.capacity s.database s.scripts.items };
 }
 
 impl<'a> Session<'a> {
@@ -213,6 +247,7 @@ impl<'a> Session<'a> {
         Ok(Session {
             alloc,
             schema,
+            capacity,
             database: WholeDatabase::opening(alloc, schema, capacity, units)?,
             scripts,
         })
@@ -241,6 +276,23 @@ impl<'a> Session<'a> {
             unit,
             line,
         )
+    }
+
+    /// Takes back the statement that was made last, and says whether there was one.
+    pub fn undo(&mut self) -> Result<bool, AllocError>
+        ensures undone { IfOk result (λ undone. Undoes self.old undone self.new) }
+        ensures unchanged { OnErr result (self.new ≡ self.old) }
+    {
+        let Some((last, earlier)) = self.database.history().split_last() else {
+            return Ok(false);
+        };
+        let unit = last.unit;
+        let units = self.scripts.len() as u8;
+        let before = made_again(self.alloc, self.schema, self.capacity, units, earlier)?;
+        let gone = mem::replace(&mut self.database, before);
+        gone.discard();
+        self.scripts[unit as usize - 1].drop_line();
+        Ok(true)
     }
 
     pub fn schema(&self) -> &'a Schema

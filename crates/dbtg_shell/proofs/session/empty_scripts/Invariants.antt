@@ -7,5 +7,5 @@ abbrev pub invariant-loop : goal.invariant-loop
 invariant-loop l = record {
   many : length l.scripts.items ≡ l.counter;
   texts : map (λ (s : Script). s.text.items) l.scripts.items ≡ replicate l.counter [];
-  counts : map (λ (s : Script). s.count) l.scripts.items ≡ replicate l.counter 0;
+  begins : map (λ (s : Script). s.begins.items) l.scripts.items ≡ replicate l.counter [];
 }

@@ -13,7 +13,8 @@ pub returns : goal.returns
 returns c =
     let making = c.self.inside.database in
     let scripts = c.self.inside.scripts.items in
-    let session = subst (λ (s : Lists). IsSession s making scripts) (sym c.self.invariant.schema_is) c.self.invariant in
+    let capacity = c.self.inside.capacity in
+    let session = subst (λ (s : Lists). IsSession s capacity making scripts) (sym c.self.invariant.schema_is) c.self.invariant in
     let units = c.as_slice.ensures.value ∙ c.in_ok-units.ensures ∙ ap (map (λ (e : Entry). e.unit)) c.history.ensures.history in
     subst (λ (t : Typed). IfOk c.turns_text.result (λ turns. AreTurnsOf t turns.items)) c.self.view_is
-    (IfOk-weaker c.turns_text.result _ _ (λ turns e. are_turns making scripts session c.history.ensures.of turns.items (e ∙ ap turns_text units)) c.turns_text.ensures)
+    (IfOk-weaker c.turns_text.result _ _ (λ turns e. are_turns making scripts capacity session c.history.ensures.of turns.items (e ∙ ap turns_text units)) c.turns_text.ensures)
