@@ -3,13 +3,13 @@ use Rattle.std.proofs.Common.{◌≡◌, ℕ, List, Option, Some, inl, inr, refl
 use Rattle.dbtg_schema.specs.Lists.{Lists}
 use Rattle.dbtg_schema.specs.Texts.SchemaFaults.{refusal}
 use Rattle.dbtg_schema.specs.declared.fault.Fault.{Fault as SchemaRefusal}
+use Rattle.dbtg_command.specs.declared.explain.Kind.{Kind}
 use Rattle.dbtg_command.specs.declared.fault.Fault.{Fault}
 use Rattle.dbtg_command.specs.declared.fault.Fault.TheVariants.{Schema, Script, Moves, Turns, Trace, MovesOver, StatesOver, Unreadable, ScriptCount, Memory, Program}
 use Rattle.dbtg_command.specs.declared.order.Order.{Order}
 use Rattle.dbtg_command.specs.Inside.Files.{FileFails, FileHolds}
-use Rattle.dbtg_command.specs.Reasons.{IsNoSchema, SaysOfLine}
+use Rattle.dbtg_command.specs.Reasons.{IsNoSchema, SaysOfLine, said_in_text}
 use Rattle.dbtg_command.specs.Refusals.{RefusesSchema}
-use Rattle.dbtg_command.specs.Misfits.{said_of_word}
 use Rattle.dbtg_command.specs.Sources.{ReadSchema, ToldOfSchema}
 
 refused : (fault : Fault) (r : Option SchemaRefusal) → RefusesSchema fault r → (fault ≡ Memory → ⊥) → (f : SchemaRefusal) × (r ≡ Some f)
@@ -34,10 +34,10 @@ module _ (has : List ℕ → ℕ → List ℕ → Type 0) (lacks : List ℕ → 
       inr (told.0, first.0, subst (λ (path : List ℕ). has path 65537 told.0) told.1.1 told.1.2, first.1)
 
   -- what is said by the schema that was read is said by that in the file
-  pub said_by_schema : (lists : Lists) (number : ℕ) (line said : List ℕ) → ReadSchema (FileHolds has schema scripts order) lists → said ≡ said_of_word lists number line → SaysOfLine has lacks schema number line said
-  said_by_schema lists number line said read is = inr (
+  pub said_by_schema : (which : Kind) (lists : Lists) (number : ℕ) (line said : List ℕ) → ReadSchema (FileHolds has schema scripts order) lists → said ≡ said_in_text which lists number line → SaysOfLine has lacks which schema number line said
+  said_by_schema which lists number line said read is = inr (
     read.text,
     subst (λ (path : List ℕ). has path 65537 read.text) read.held.1 read.held.2,
     read.accepted,
-    subst (λ (l : Lists). said ≡ said_of_word l number line) read.says is,
+    subst (λ (l : Lists). said ≡ said_in_text which l number line) read.says is,
   )

@@ -9,8 +9,12 @@ use Rattle.dbtg_schema.specs.Texts.Causes.{cause_number as schema_cause_number}
 use Rattle.dbtg_schema.specs.Texts.Forms.{start_with, starts}
 use Rattle.dbtg_schema.specs.Texts.SchemaFaults.{refusal}
 use Rattle.dbtg_schema.specs.declared.fault.Fault.{Fault as SchemaRefusal}
+use Rattle.dbtg_schema.specs.Lists.{Lists}
+use Rattle.dbtg_schema.specs.Lookups.{first, some_and}
+use Rattle.dbtg_script.specs.Lines.{trimmed}
 use Rattle.dbtg_script.specs.Moves.{cause_number as moves_cause_number}
 use Rattle.dbtg_script.specs.Printing.Causes.{cause_number as script_cause_number}
+use Rattle.dbtg_script.specs.StatementFaults.{line_faults}
 use Rattle.dbtg_script.specs.StatementGrammar.{fits, statement}
 use Rattle.dbtg_script.specs.Tokens.{plain}
 use Rattle.dbtg_program.specs.Faults.{cause_number as program_cause_number}
@@ -51,16 +55,29 @@ abbrev pub SaysOfSchema : (List ℕ → ℕ → List ℕ → Type 0) → (List �
 SaysOfSchema has lacks path number said =
     (IsNotRead lacks path × (said ≡ [])) ⊎ ((text : List ℕ) × has path 1048577 text × (said ≡ said_of_schema_word number text))
 
--- this is said of the word of a line, by the schema that is in the file with this path
-abbrev pub SaysOfLine : (List ℕ → ℕ → List ℕ → Type 0) → (List ℕ → ℕ → Type 0) → List ℕ → ℕ → List ℕ → List ℕ → Type 0
-SaysOfLine has lacks schema number line said =
-    (IsNoSchema has lacks schema × (said ≡ [])) ⊎ ((text : List ℕ) × has schema 65537 text × (refusal text ≡ None) × (said ≡ said_of_word (schema_in text) number line))
+-- as a line of a script it would have this fault
+abbrev pub has_script_fault : Lists → ℕ → List ℕ → Bool
+has_script_fault schema number line = some_and (λ cause. script_cause_number cause == number) (first (line_faults schema 0 (trimmed line)))
 
--- this is said of the word of a line of the script that is in the file with this path, by the schema in another file
-abbrev pub SaysOfScript : (List ℕ → ℕ → List ℕ → Type 0) → (List ℕ → ℕ → Type 0) → List ℕ → List ℕ → ℕ → ℕ → List ℕ → Type 0
-SaysOfScript has lacks schema path line number said =
+-- what is said of the word of a line of a text of this kind: of a program's line nothing, unless as a line of a script it has the fault too
+abbrev pub said_in_text : Kind → Lists → ℕ → List ℕ → List ℕ
+said_in_text kind.Program schema number line = if has_script_fault schema number line then said_of_word schema number line else []
+said_in_text kind.Schema schema number line = said_of_word schema number line
+said_in_text kind.Script schema number line = said_of_word schema number line
+said_in_text kind.Moves schema number line = said_of_word schema number line
+said_in_text kind.Turns schema number line = said_of_word schema number line
+said_in_text kind.Trace schema number line = said_of_word schema number line
+
+-- this is said of the word of a line, by the schema that is in the file with this path
+abbrev pub SaysOfLine : (List ℕ → ℕ → List ℕ → Type 0) → (List ℕ → ℕ → Type 0) → Kind → List ℕ → ℕ → List ℕ → List ℕ → Type 0
+SaysOfLine has lacks which schema number line said =
+    (IsNoSchema has lacks schema × (said ≡ [])) ⊎ ((text : List ℕ) × has schema 65537 text × (refusal text ≡ None) × (said ≡ said_in_text which (schema_in text) number line))
+
+-- this is said of the word of a line of the script or program that is in the file with this path, by the schema in another file
+abbrev pub SaysOfScript : (List ℕ → ℕ → List ℕ → Type 0) → (List ℕ → ℕ → Type 0) → Kind → List ℕ → List ℕ → ℕ → ℕ → List ℕ → Type 0
+SaysOfScript has lacks which schema path line number said =
     (IsScriptNotRead lacks schema path × (said ≡ []))
-    ⊎ ((text : List ℕ) × has path 1048577 text × SaysOfLine has lacks schema number (line_at line text) said)
+    ⊎ ((text : List ℕ) × has path 1048577 text × SaysOfLine has lacks which schema number (line_at line text) said)
 
 -- the first word of a text, as far as it is letters
 abbrev pub first_letters : List ℕ → List ℕ
@@ -97,9 +114,14 @@ IsToldOfOrder which path word number out = out ≡ told_at (place_of path (codes
 abbrev pub kind_with : ℕ → Kind
 kind_with number = if nat_lt number 21 then kind.Script else (if nat_lt number 31 then kind.Program else kind.Trace)
 
--- this is told of a fault in a line of a program or a trace
-abbrev pub IsToldOfLine : List ℕ → ℕ → ℕ → List ℕ → Type 0
-IsToldOfLine path line number out = out ≡ told_at (place_of path (codes ":") line) [] (fault_field (kind_with number) number 1) []
+-- this is told of a fault in a line of a program, by what `Says` allows of a word
+abbrev pub IsToldOfProgram : (List ℕ → Type 0) → List ℕ → ℕ → ℕ → List ℕ → Type 0
+IsToldOfProgram Says path line number out =
+    (said : List ℕ) × Says said × (out ≡ told_at (place_of path (codes ":") line) said (fault_field (kind_with number) number 1) [])
+
+-- this is told of a fault in a line of a trace
+abbrev pub IsToldOfTrace : List ℕ → ℕ → ℕ → List ℕ → Type 0
+IsToldOfTrace path line number out = out ≡ told_at (place_of path (codes ":") line) [] (fault_field (kind_with number) number 1) []
 
 -- a file that could not be read is told with its path, and why
 abbrev pub IsUnreadLine : List ℕ → List ℕ → Type 0
@@ -123,12 +145,15 @@ IsReason has lacks schema scripts order (Schema line cause) out =
 IsReason has lacks schema scripts order (Script n line cause) out =
     let number = script_cause_number cause in
     let path = script_path scripts n in
-    IsToldIn kind.Script (SaysOfScript has lacks schema path line number) (SaysOfFile has lacks kind.Script path) path line number out
+    IsToldIn kind.Script (SaysOfScript has lacks kind.Script schema path line number) (SaysOfFile has lacks kind.Script path) path line number out
 IsReason has lacks schema scripts order (Moves word cause) out = IsToldOfOrder kind.Moves (order_path order) word (moves_cause_number cause) out
 IsReason has lacks schema scripts order (Turns word cause) out = IsToldOfOrder kind.Turns (order_path order) word (moves_cause_number cause) out
 IsReason has lacks schema scripts order (Unreadable path) out = IsUnreadLine (string_bytes path) out
-IsReason has lacks schema scripts order (Trace line cause) out = IsToldOfLine (script_path scripts 1) line (trace_cause_number cause) out
-IsReason has lacks schema scripts order (Program n line cause) out = IsToldOfLine (script_path scripts n) line (program_cause_number cause) out
+IsReason has lacks schema scripts order (Trace line cause) out = IsToldOfTrace (script_path scripts 1) line (trace_cause_number cause) out
+IsReason has lacks schema scripts order (Program n line cause) out =
+    let number = program_cause_number cause in
+    let path = script_path scripts n in
+    IsToldOfProgram (SaysOfScript has lacks kind.Program schema path line number) path line number out
 IsReason has lacks schema scripts order MovesOver out = ⊥
 IsReason has lacks schema scripts order (StatesOver limit) out = ⊥
 IsReason has lacks schema scripts order ScriptCount out = ⊥

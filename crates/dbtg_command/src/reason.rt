@@ -2,9 +2,9 @@
 ghost use Rattle.std.specs.Char.{is_ascii_alphabetic};
 ghost use Rattle.std.specs.List.{prefix_len};
 ghost use Rattle.std.specs.Prelude.{◌≡◌, ◌≤◌, [], IfOk, MatchOption, length, map, string_bytes};
-ghost use Rattle.dbtg_command.specs.Reasons.{HasNoReason, IsNotRead, IsReason, IsReasonLine, IsToldIn, IsToldOfOrder, IsScriptNotRead, IsUnreadLine, SaysOfFile, SaysOfLine, SaysOfSchema, SaysOfScript, begins_statement, first_letters, order_path, other_kind, place_of, script_path, told_at, IsToldOfLine, kind_with};
+ghost use Rattle.dbtg_command.specs.Reasons.{HasNoReason, IsNotRead, IsReason, IsReasonLine, IsToldIn, IsToldOfOrder, IsScriptNotRead, IsUnreadLine, SaysOfFile, SaysOfLine, SaysOfSchema, SaysOfScript, begins_statement, first_letters, order_path, other_kind, place_of, script_path, told_at, IsToldOfProgram, IsToldOfTrace, has_script_fault, kind_with, said_in_text};
 ghost use Rattle.dbtg_command.specs.Sources.{order_map};
-ghost use Rattle.dbtg_command.specs.declared.explain.Kind.TheVariants.{Schema, Script};
+ghost use Rattle.dbtg_command.specs.declared.explain.Kind.TheVariants as text_kind;
 ghost use Rattle.dbtg_command.specs.declared.fault.Fault.TheVariants.{Memory};
 
 use crate::explain::{Kind, line_at, meaning_of, said_of_schema_word, said_of_word};
@@ -12,7 +12,8 @@ use crate::fault::Fault;
 use crate::files::{FileReader, Files, Paths, SCRIPT_BYTES, STANDARD_INPUT};
 use crate::order::Order;
 use crate::texts::read_schema;
-use dbtg_script::push_number;
+use dbtg_schema::Schema;
+use dbtg_script::{LineFault, push_number, read_script_line};
 use std::alloc::{AllocError, Global};
 use std::io;
 
@@ -161,18 +162,68 @@ fn nothing_said(alloc: Global, fault: &Fault) -> Result<Vec<u8>, AllocError>
     }
 }
 
+/// Would the line have the fault of this number in a script?
+fn has_script_fault(
+    alloc: Global,
+    schema: &Schema,
+    line: &[u8],
+    number: u8,
+) -> Result<bool, AllocError>
+    ensures { IfOk result (λ has. has ≡ has_script_fault schema.now number line.now) }
+{
+    match read_script_line(alloc, schema, 0, line) {
+        Err(LineFault::Refused(cause)) => Ok(cause.number() == number),
+        Err(LineFault::Memory) => Err(AllocError),
+        Ok(_) => Ok(false),
+    }
+}
+
+/// The same of a line of a program: a script's reader knows no fields, and may find another fault in it.
+fn said_in_program(
+    alloc: Global,
+    schema: &Schema,
+    line: &[u8],
+    number: u8,
+) -> Result<Vec<u8>, AllocError>
+    ensures { IfOk result (λ said. said.items ≡ said_in_text text_kind.Program schema.now number line.now) }
+{
+    if has_script_fault(alloc, schema, line, number)? {
+        return said_of_word(alloc, schema, line, number);
+    }
+    Ok(Vec::new(alloc))
+}
+
+/// What is said of the word of a line that is at fault, in a text of this kind.
+fn said_in_text(
+    alloc: Global,
+    schema: &Schema,
+    kind: Kind,
+    line: &[u8],
+    number: u8,
+) -> Result<Vec<u8>, AllocError>
+    ensures { IfOk result (λ said. said.items ≡ said_in_text kind schema.now number line.now) }
+{
+    match kind {
+        Kind::Program => said_in_program(alloc, schema, line, number),
+        Kind::Schema | Kind::Script | Kind::Moves | Kind::Turns | Kind::Trace => {
+            said_of_word(alloc, schema, line, number)
+        }
+    }
+}
+
 /// What is said of the word of a line that is at fault, by the schema, which is read again.
 fn said_in_line<F: FileReader>(
     alloc: Global,
     files: &Files<F>,
+    kind: Kind,
     line: &[u8],
     number: u8,
 ) -> Result<Vec<u8>, AllocError>
-    ensures { IfOk result (λ said. SaysOfLine (F.has files.now.reader.now) (F.lacks files.now.reader.now) files.now.paths.now.schema.now number line.now said.items) }
+    ensures { IfOk result (λ said. SaysOfLine (F.has files.now.reader.now) (F.lacks files.now.reader.now) kind files.now.paths.now.schema.now number line.now said.items) }
 {
     match read_schema(alloc, files) {
         Ok(known) => {
-            let said = said_of_word(alloc, &known, line, number);
+            let said = said_in_text(alloc, &known, kind, line, number);
             known.discard();
             said
         }
@@ -180,18 +231,19 @@ fn said_in_line<F: FileReader>(
     }
 }
 
-/// What is said of the word of a script that is at fault; nothing where no single word is, or a file is not read again.
+/// What is said of the word of a script or a program that is at fault; nothing where no single word is, or a file is not read again.
 fn said_in_script<F: FileReader>(
     alloc: Global,
     files: &Files<F>,
+    kind: Kind,
     path: &str,
     line: u64,
     number: u8,
 ) -> Result<Vec<u8>, AllocError>
-    ensures { IfOk result (λ said. SaysOfScript (F.has files.now.reader.now) (F.lacks files.now.reader.now) files.now.paths.now.schema.now path.now line number said.items) }
+    ensures { IfOk result (λ said. SaysOfScript (F.has files.now.reader.now) (F.lacks files.now.reader.now) kind files.now.paths.now.schema.now path.now line number said.items) }
 {
     match script_again(files, path) {
-        Some(text) => said_in_line(alloc, files, line_at(text.as_slice(), line), number),
+        Some(text) => said_in_line(alloc, files, kind, line_at(text.as_slice(), line), number),
         None => Ok(Vec::new(alloc)),
     }
 }
@@ -204,12 +256,12 @@ fn script_reason<F: FileReader>(
     line: u64,
     number: u8,
 ) -> Result<Vec<u8>, AllocError>
-    ensures { IfOk result (λ out. IsToldIn Script (SaysOfScript (F.has files.now.reader.now) (F.lacks files.now.reader.now) files.now.paths.now.schema.now path.now line number) (SaysOfFile (F.has files.now.reader.now) (F.lacks files.now.reader.now) Script path.now) path.now line number out.items) }
+    ensures { IfOk result (λ out. IsToldIn text_kind.Script (SaysOfScript (F.has files.now.reader.now) (F.lacks files.now.reader.now) text_kind.Script files.now.paths.now.schema.now path.now line number) (SaysOfFile (F.has files.now.reader.now) (F.lacks files.now.reader.now) text_kind.Script path.now) path.now line number out.items) }
 {
     let place = place_of(alloc, path, ":", line)?;
     let meaning = meaning_of(Kind::Script, number);
     let other = said_of_file(files, Kind::Script, path);
-    let said = said_in_script(alloc, files, path, line, number)?;
+    let said = said_in_script(alloc, files, Kind::Script, path, line, number)?;
     told_at(alloc, place.as_slice(), said.as_slice(), meaning, other)
 }
 
@@ -236,7 +288,7 @@ fn schema_reason<F: FileReader>(
     line: u64,
     number: u8,
 ) -> Result<Vec<u8>, AllocError>
-    ensures { IfOk result (λ out. IsToldIn Schema (SaysOfSchema (F.has files.now.reader.now) (F.lacks files.now.reader.now) path.now number) (SaysOfFile (F.has files.now.reader.now) (F.lacks files.now.reader.now) Schema path.now) path.now line number out.items) }
+    ensures { IfOk result (λ out. IsToldIn text_kind.Schema (SaysOfSchema (F.has files.now.reader.now) (F.lacks files.now.reader.now) path.now number) (SaysOfFile (F.has files.now.reader.now) (F.lacks files.now.reader.now) text_kind.Schema path.now) path.now line number out.items) }
 {
     let place = place_of(alloc, path, ":", line)?;
     let meaning = meaning_of(Kind::Schema, number);
@@ -272,9 +324,25 @@ fn kind_with(number: u8) -> Kind
     }
 }
 
-/// What there is to say of a fault in a line of a program or a trace.
-fn line_reason(alloc: Global, path: &str, line: u64, number: u8) -> Result<Vec<u8>, AllocError>
-    ensures { IfOk result (λ out. IsToldOfLine path.now line number out.items) }
+/// What there is to say of a fault of a program.
+fn program_reason<F: FileReader>(
+    alloc: Global,
+    files: &Files<F>,
+    path: &str,
+    line: u64,
+    number: u8,
+) -> Result<Vec<u8>, AllocError>
+    ensures { IfOk result (λ out. IsToldOfProgram (SaysOfScript (F.has files.now.reader.now) (F.lacks files.now.reader.now) text_kind.Program files.now.paths.now.schema.now path.now line number) path.now line number out.items) }
+{
+    let place = place_of(alloc, path, ":", line)?;
+    let meaning = meaning_of(kind_with(number), number);
+    let said = said_in_script(alloc, files, Kind::Program, path, line, number)?;
+    told_at(alloc, place.as_slice(), said.as_slice(), meaning, "")
+}
+
+/// What there is to say of a fault of a trace.
+fn trace_reason(alloc: Global, path: &str, line: u64, number: u8) -> Result<Vec<u8>, AllocError>
+    ensures { IfOk result (λ out. IsToldOfTrace path.now line number out.items) }
 {
     let place = place_of(alloc, path, ":", line)?;
     let meaning = meaning_of(kind_with(number), number);
@@ -342,11 +410,12 @@ fn told_of<F: FileReader>(
             cause,
         } => {
             let path = script_path(paths, *number);
-            Ok(Some(line_reason(alloc, path, *line, cause.number())?))
+            let told = program_reason(alloc, files, path, *line, cause.number())?;
+            Ok(Some(told))
         }
         Fault::Trace { line, cause } => {
             let path = script_path(paths, 1);
-            Ok(Some(line_reason(alloc, path, *line, cause.number())?))
+            Ok(Some(trace_reason(alloc, path, *line, cause.number())?))
         }
         Fault::Unreadable { path } => Ok(Some(unread_line(alloc, files, path.as_str())?)),
         _ => Ok(None),

@@ -9,3 +9,8 @@ pub returns-in_ok-told-in-Script : goal.returns-in_ok-told-in-Script
 returns-in_ok-told-in-Script g c =
     let told = rw (c.script_path-path.ensures, c.number-in-Script.ensures) at c.in_ok-told-in-Script.ensures in
     rw c.in-Script.is told
+
+pub returns-in_ok-told-in-Program : goal.returns-in_ok-told-in-Program
+returns-in_ok-told-in-Program g c =
+    let told = rw (c.script_path-path-in-Program.ensures, c.number-in-Program.ensures) at c.in_ok-told-in-Program.ensures in
+    rw c.in-Program.is told

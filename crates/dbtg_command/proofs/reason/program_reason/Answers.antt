@@ -1,0 +1,14 @@
+use Rattle.std.proofs.lemmas.Result.{IfOk-weaker}
+use Rattle.dbtg_command.specs.Reasons.{IsToldOfProgram, SaysOfScript}
+use Rattle.dbtg_command.specs.declared.explain.Kind.TheVariants.{Program}
+use Rattle.dbtg_command.proofs.reason.program_reason.Goals as goal
+
+pub returns : goal.returns
+returns g c =
+    let files = c.args.files.now in
+    let has = g.F.FileReader.has files.reader.now in
+    let lacks = g.F.FileReader.lacks files.reader.now in
+    let Says = SaysOfScript has lacks Program files.paths.now.schema.now c.args.path.now c.args.line c.args.number in
+    IfOk-weaker c.told_at.result _ (λ out. IsToldOfProgram Says c.args.path.now c.args.line c.args.number out.items)
+    (λ out is. (c.in_ok-said.said.items, c.in_ok-said.ensures, rw (c.as_slice.ensures.value, c.in_ok-place.ensures, c.as_slice-2.ensures.value, c.meaning_of-meaning.ensures, c.kind_with.ensures) at is))
+    c.told_at.ensures
