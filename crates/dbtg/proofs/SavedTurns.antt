@@ -1,5 +1,5 @@
 -- The turns that are saved of a run on threads: `replay` by them prints the same.
-use Rattle.std.proofs.Common.{◌≡◌, ℕ, zero, suc, ◌+◌, true, List, ◌++◌, length, map, None, Some, sym, ap, ◌∙◌, subst, arith}
+use Rattle.std.proofs.Common.{◌≡◌, ℕ, zero, suc, ◌+◌, Bool, true, false, List, ◌++◌, length, map, None, Some, sym, ap, ◌∙◌, subst, arith}
 use Rattle.dbtg_schema.specs.Lists.{Lists}
 use Rattle.dbtg_unit.specs.declared.statement.Statement.{Statement}
 use Rattle.dbtg_unit.specs.declared.unit.Entry.{Entry}
@@ -15,8 +15,8 @@ use Rattle.dbtg_command.specs.declared.place.TextPlace.{TextPlace}
 use Rattle.dbtg_command.specs.Refusals.{AcceptsTexts, is_count, schema_in}
 use Rattle.dbtg_command.specs.Sources.{ReadSchema, ReadScripts}
 use Rattle.dbtg_command.proofs.Public.{all_accepted, read_texts}
-use Rattle.dbtg_replay.specs.Replaying.{IsReplay}
-use Rattle.dbtg_replay.proofs.Public.{made_again}
+use Rattle.dbtg_replay.specs.Replaying.{IsShownReplay}
+use Rattle.dbtg_replay.proofs.Public.{made_again_behind}
 use Rattle.dbtg.specs.Threading.{IsHistoryOfAll, IsPrintedOnThreads, ThreadsHeld, audit_line}
 
 begins : (lists : Lists) (capacity : ℕ) (scripts : List (List Statement)) (history : List Entry) (image : Image) (units : List Unit) → IsHistoryOfAll lists capacity scripts history image units
@@ -37,24 +37,24 @@ sequential lists capacity scripts history image units all = record {
   scripts_begin = begins lists capacity scripts history image units all;
 }
 
-saved_again : (text : List ℕ) (scripts : List (List ℕ)) (capacity : ℕ) (out turns : List ℕ) → is_count (length scripts) ≡ true → AcceptsTexts text scripts
-    → IsPrintedOnThreads (schema_in text) capacity (map (script (schema_in text)) scripts) out turns
-    → (turns_refusal turns ≡ None) × ((printed : List ℕ) → IsReplay text scripts (Turns turns) capacity printed → out ≡ printed ++ audit_line)
-saved_again text scripts capacity out turns right accepted printed_is =
+saved_again : (first : Bool) (text : List ℕ) (scripts : List (List ℕ)) (capacity : ℕ) (out turns : List ℕ) → is_count (length scripts) ≡ true → AcceptsTexts text scripts
+    → IsPrintedOnThreads first (schema_in text) capacity (map (script (schema_in text)) scripts) out turns
+    → (turns_refusal turns ≡ None) × ((printed : List ℕ) → IsShownReplay first false text scripts (Turns turns) capacity printed → out ≡ printed ++ audit_line)
+saved_again first text scripts capacity out turns right accepted printed_is =
     let lists = schema_in text in
     let law = sequential lists capacity (map (script lists) scripts) printed_is.history printed_is.image printed_is.units printed_is.is_history in
-    let again = made_again text scripts capacity printed_is.history printed_is.image printed_is.units turns right accepted law printed_is.are_turns in
+    let again = made_again_behind first text scripts capacity printed_is.history printed_is.image printed_is.units printed_is.behind turns right accepted law printed_is.in_turn printed_is.are_turns in
     (again.0, λ printed r. printed_is.is_text ∙ ap (λ xs. xs ++ audit_line) (sym (again.1 printed r)))
 
 -- what the statements that were read come to on threads is what the texts do
-pub runs_on_threads : (holds : TextPlace → List ℕ → Type 0) (lists : Lists) (count capacity : ℕ) (out turns : List ℕ)
+pub runs_on_threads : (holds : TextPlace → List ℕ → Type 0) (lists : Lists) (count : ℕ) (first : Bool) (capacity : ℕ) (out turns : List ℕ)
     → is_count count ≡ true → ReadSchema holds lists → (scripts : ReadScripts holds lists count)
-    → IsPrintedOnThreads lists capacity (map (script lists) scripts.texts) out turns → ThreadsHeld holds count capacity out turns
-runs_on_threads holds lists count capacity out turns right read scripts run =
+    → IsPrintedOnThreads first lists capacity (map (script lists) scripts.texts) out turns → ThreadsHeld holds count first capacity out turns
+runs_on_threads holds lists count first capacity out turns right read scripts run =
     let counted = ap is_count scripts.many ∙ right in
     let accepted = all_accepted holds lists count read scripts in
-    let of_texts = subst (λ (s : Lists). IsPrintedOnThreads s capacity (map (script s) scripts.texts) out turns) read.says run in
-    let saved = saved_again read.text scripts.texts capacity out turns counted accepted of_texts in (
+    let of_texts = subst (λ (s : Lists). IsPrintedOnThreads first s capacity (map (script s) scripts.texts) out turns) read.says run in
+    let saved = saved_again first read.text scripts.texts capacity out turns counted accepted of_texts in (
       read_texts holds lists count read scripts Serial tt,
       record {
         count = counted;

@@ -1,5 +1,5 @@
 -- What is printed of texts at hand is what a source that gives them has printed.
-use Rattle.std.proofs.Common.{◌≡◌, ℕ, false, List, length, ◌∙◌, subst}
+use Rattle.std.proofs.Common.{◌≡◌, ℕ, Bool, false, List, length, ◌∙◌, subst}
 use Rattle.dbtg_command.specs.declared.order.Order.{Order}
 use Rattle.dbtg_command.specs.declared.order.Order.TheVariants.{Serial}
 use Rattle.dbtg_command.specs.declared.order.OrderKind.{OrderKind}
@@ -17,8 +17,9 @@ at_hand_replay schema scripts order which capacity out e held =
     (subst (λ (ss : List (List ℕ)). IsReplay texts.schema ss order capacity out) (all_are schema order scripts texts.scripts texts.holds_scripts texts.many)
     (subst (λ (o : Order (List ℕ)). IsReplay texts.schema texts.scripts o capacity out) (order_is schema scripts order texts.order texts.holds_order (texts.is_kind ∙ e)) held.1))
 
-pub at_hand_threads : (schema : List ℕ) (scripts : List (List ℕ)) (capacity : ℕ) (out turns : List ℕ) → ThreadsHeld (StandsIn schema scripts Serial) (length scripts) capacity out turns → IsThreads schema scripts capacity out turns
-at_hand_threads schema scripts capacity out turns held =
+pub at_hand_threads : (schema : List ℕ) (scripts : List (List ℕ)) (first : Bool) (capacity : ℕ) (out turns : List ℕ) → ThreadsHeld (StandsIn schema scripts Serial) (length scripts) first capacity out turns
+    → IsThreads first schema scripts capacity out turns
+at_hand_threads schema scripts first capacity out turns held =
     let texts = held.0 in
-    subst (λ (s : List ℕ). IsThreads s scripts capacity out turns) texts.holds_schema
-    (subst (λ (ss : List (List ℕ)). IsThreads texts.schema ss capacity out turns) (all_are schema Serial scripts texts.scripts texts.holds_scripts texts.many) held.1)
+    subst (λ (s : List ℕ). IsThreads first s scripts capacity out turns) texts.holds_schema
+    (subst (λ (ss : List (List ℕ)). IsThreads first texts.schema ss capacity out turns) (all_are schema Serial scripts texts.scripts texts.holds_scripts texts.many) held.1)

@@ -192,7 +192,7 @@ fn print_run(
 fn begins_with_file(call: &Call) -> bool {
     let runs = matches!(
         call.named,
-        Named::Outcomes | Named::Page | Named::Replay | Named::Timeline
+        Named::Outcomes | Named::Page | Named::Replay | Named::Threads | Named::Timeline
     );
     runs && call.first && call.schema != "-" && call.scripts.last().is_some_and(|path| *path != "-")
 }
@@ -214,8 +214,11 @@ fn print_threads<R: Threads + Wait + Sync>(rt: &HostRuntime, threads: &R, call: 
         reader: rt,
         paths: &paths,
     };
-    match run_on_threads(threads, rt.alloc(), &files, call.capacity) {
-        Ok(said) => print_saved(rt, &said, call.saved),
+    match run_on_threads(threads, rt.alloc(), &files, call.capacity, call.first) {
+        Ok(said) => {
+            tell_refusals(rt, &files, call);
+            print_saved(rt, &said, call.saved)
+        }
         Err(fault) => told_of(rt, &fault, &paths, explains(rt, call)),
     }
 }

@@ -1,19 +1,23 @@
 //! Running scripts on threads, and the text of what comes of it.
-ghost use Rattle.std.specs.Prelude.{◌≡◌, ◌++◌, ℕ, List, IfErr, IfOk, length, map, true};
+ghost use Rattle.std.specs.Prelude.{◌≡◌, ◌<◌, ◌++◌, ℕ, All, List, IfErr, IfOk, IfSome, false, length, map, true};
 ghost use Rattle.dbtg_schema.specs.Sound.{IsSound};
+ghost use Rattle.dbtg_unit.specs.Database.Statements.Fits.{fits};
 ghost use Rattle.dbtg_script.specs.Printing.Texts.{run_text};
 ghost use Rattle.dbtg_script.specs.Printing.WordTexts.{turns_text};
 ghost use Rattle.dbtg_step.specs.Laws.{scripts_fit};
+ghost use Rattle.dbtg_run.specs.UnitView.{BelongsTo};
+ghost use Rattle.dbtg_replay.specs.Ordering.{first_turns};
 ghost use Rattle.dbtg_command.specs.Refusals.{RefusesReplay, is_count};
 ghost use Rattle.dbtg.specs.Threading.{IsHistoryOfAll, IsPrintedOnThreads, IsThreads, ThreadsHeld, audit_line};
-ghost use Rattle.dbtg_command.specs.Sources.{ToldOfRun};
+ghost use Rattle.dbtg.specs.Inside.Threading.{HasMadeFirst};
+ghost use Rattle.dbtg_command.specs.Sources.{ReadSchema, ToldOfRun};
 ghost use Rattle.dbtg_command.specs.declared.order.Order.TheVariants as by;
 ghost use Rattle.dbtg_command.specs.declared.order.OrderKind.TheVariants.{Serial};
 
-use dbtg_command::{AtHand, Fault, Order, Source};
+use dbtg_command::{AtHand, Fault, Order, Source, copy_scripts};
 use dbtg_replay::replay::schema_for_run;
-use dbtg_replay::{read_scripts, units_in_turn};
-use dbtg_run::{Database, NoGate, Settled, run_units};
+use dbtg_replay::{first_turns, read_scripts, units_in_turn};
+use dbtg_run::{Database, NoGate, RunUnit, Settled, Unsettled, run_script, run_units};
 use dbtg_schema::{Row, Schema};
 use dbtg_script::{push_run, turns_text};
 use dbtg_unit::Statement;
@@ -45,16 +49,19 @@ fn settled_text(alloc: Global, settled: &Settled) -> Result<Vec<u8>, AllocError>
     Ok(out)
 }
 
-// What a settled database has to say.
-fn said_of(alloc: Global, settled: &Settled) -> Result<OnThreads, AllocError>
-    ensures printed { IfOk result (λ said. said.printed.items ≡ run_text settled.now.schema settled.now.history settled.now.image.records settled.now.image.lists settled.now.image.next settled.now.image.usage settled.now.units ++ audit_line) }
-    ensures turns { IfOk result (λ said. said.turns.items ≡ turns_text (map (λ e. e.unit) settled.now.history)) }
+// What a settled database has to say, where the first tickets were drawn in these turns.
+fn said_of(alloc: Global, settled: &Settled, first: &[u8]) -> Result<Option<OnThreads>, AllocError>
+    ensures printed { IfOk result (λ found. IfSome found (λ said. said.printed.items ≡ run_text settled.now.schema settled.now.history settled.now.image.records settled.now.image.lists settled.now.image.next settled.now.image.usage settled.now.units ++ audit_line)) }
+    ensures turns { IfOk result (λ found. IfSome found (λ said. (behind : List ℕ) × (map (λ e. e.unit) settled.now.history ≡ first.now ++ behind) × (said.turns.items ≡ turns_text behind))) }
 {
     let units = units_in_turn(alloc, settled.history.as_slice())?;
-    Ok(OnThreads {
+    let Some(behind) = units.as_slice().strip_prefix(first) else {
+        return Ok(None);
+    };
+    Ok(Some(OnThreads {
         printed: settled_text(alloc, settled)?,
-        turns: turns_text(alloc, units.as_slice())?,
-    })
+        turns: turns_text(alloc, behind)?,
+    }))
 }
 
 // Runs each script by a unit of its own, on a thread of its own.
@@ -82,44 +89,151 @@ fn run_of<R: Threads + Wait + Sync>(
     }
 }
 
-/// Runs scripts on threads, and says what came of it.
-fn threads_text<R: Threads + Wait + Sync>(
+// The last unit makes its script, alone. What is left are the scripts of the others, and an empty one for it.
+fn make_first<R: Wait>(
+    rt: &R,
+    alloc: Global,
+    db: &Database,
+    units: &mut Vec<RunUnit>,
+    scripts: &[Row<Statement>],
+) -> Result<Vec<Row<Statement>>, AllocError>
+    requires belong { All (BelongsTo db.now) units.old.items }
+    requires fit { All (λ script. All (λ x. fits db.now.schema x ≡ true) script) scripts.now }
+    requires count { length units.old.items ≡ length scripts.now }
+    requires some { 0 < length scripts.now }
+    ensures belong { All (BelongsTo db.now) units.new.items }
+    ensures made { IfOk result (λ left. HasMadeFirst scripts.now units.old.items left.items units.new.items) }
+{
+    let (Some((script, others)), Some(unit)) = (scripts.split_last(), units.pop()) else {
+        return Err(AllocError);
+    };
+    let mut unit = unit;
+    let ran = run_script(rt, alloc, db, &mut unit, script.as_slice(), &NoGate);
+    units.push_reserved(unit);
+    ran?;
+    let mut left = copy_scripts(alloc, others)?.into_vec();
+    left.push(Row::of(Vec::new(alloc)))?;
+    Ok(left)
+}
+
+// The last unit makes its script before the others begin; then each of these makes its own, on a thread of its own.
+fn run_behind_first<R: Threads + Wait + Sync>(
     rt: &R,
     alloc: Global,
     schema: Schema,
     capacity: u16,
     scripts: &[Row<Statement>],
-) -> Result<OnThreads, AllocError>
+) -> Result<Settled, AllocError>
     requires sound { IsSound schema }
     requires count { is_count (length scripts.now) ≡ true }
     requires fit { scripts_fit schema scripts.now ≡ true }
-    ensures { IfOk result (λ said. IsPrintedOnThreads schema capacity scripts.now said.printed.items said.turns.items) }
+    ensures history { IfOk result (λ settled. IsHistoryOfAll schema capacity scripts.now settled.history settled.image settled.units) }
+    ensures schema { IfOk result (λ settled. settled.schema ≡ schema) }
 {
-    let settled = run_of(rt, alloc, schema, capacity, scripts)?;
-    let said = said_of(alloc, &settled);
-    settled.discard();
-    said
+    let (db, units) = Database::make(alloc, schema, capacity, scripts.len() as u8)?;
+    let mut units = units;
+    let ran = match make_first(rt, alloc, &db, &mut units, scripts) {
+        Ok(left) => run_units(rt, alloc, db, units, left.as_slice(), &NoGate),
+        Err(_) => Err(Unsettled {
+            fault: dbtg_run::Fault::NoMemory,
+            db,
+            units,
+        }),
+    };
+    match ran {
+        Ok(settled) => Ok(settled),
+        Err(unsettled) => {
+            unsettled.discard();
+            Err(AllocError)
+        }
+    }
+}
+
+// Runs scripts on threads, the last of them before the others where it is made first.
+fn run_scripts<R: Threads + Wait + Sync>(
+    rt: &R,
+    alloc: Global,
+    schema: &Schema,
+    capacity: u16,
+    scripts: &[Row<Statement>],
+    first: bool,
+) -> Result<Settled, AllocError>
+    requires sound { IsSound schema.now }
+    requires count { is_count (length scripts.now) ≡ true }
+    requires fit { scripts_fit schema.now scripts.now ≡ true }
+    ensures history { IfOk result (λ settled. IsHistoryOfAll schema.now capacity scripts.now settled.history settled.image settled.units) }
+    ensures schema { IfOk result (λ settled. settled.schema ≡ schema.now) }
+{
+    let own = schema.copy(alloc)?;
+    if first {
+        run_behind_first(rt, alloc, own, capacity, scripts)
+    } else {
+        run_of(rt, alloc, own, capacity, scripts)
+    }
+}
+
+// Runs scripts on threads, and says what came of it. A script that is made first draws the first tickets, since no thread is started
+// before its end. No contract of units says so: a run in which it did otherwise would be made again.
+fn threads_text<R: Threads + Wait + Sync>(
+    rt: &R,
+    alloc: Global,
+    schema: &Schema,
+    capacity: u16,
+    scripts: &[Row<Statement>],
+    first: bool,
+) -> Result<OnThreads, AllocError>
+    requires sound { IsSound schema.now }
+    requires count { is_count (length scripts.now) ≡ true }
+    requires fit { scripts_fit schema.now scripts.now ≡ true }
+    ensures { IfOk result (λ said. IsPrintedOnThreads first schema.now capacity scripts.now said.printed.items said.turns.items) }
+{
+    let turns = first_turns(alloc, first, scripts)?;
+    'again: for _ in rt.forever() {
+        let settled = run_scripts(rt, alloc, schema, capacity, scripts, first)?;
+        let found = said_of(alloc, &settled, turns.as_slice());
+        settled.discard();
+        if let Some(said) = found? {
+            return Ok(said);
+        }
+    }
+    unreachable!()
+}
+
+// What is printed of the scripts over a schema that was read.
+fn threads_known<R: Threads + Wait + Sync, S: Source>(
+    rt: &R,
+    alloc: Global,
+    source: &S,
+    known: &Schema,
+    capacity: u16,
+    first: bool,
+) -> Result<OnThreads, Fault>
+    requires counted { is_count (S.count source.now) ≡ true }
+    requires read { ReadSchema (S.holds source.now) known.now }
+    requires sound { IsSound known.now }
+    ensures done { IfOk result (λ said. ThreadsHeld (S.holds source.now) (S.count source.now) first capacity said.printed.items said.turns.items) }
+    ensures refused { IfErr result (λ fault. ToldOfRun (S.holds source.now) (S.fails source.now) fault (S.count source.now) Serial) }
+{
+    let scripts = read_scripts(alloc, source, known)?;
+    Ok(threads_text(rt, alloc, known, capacity, scripts.as_slice(), first)?)
 }
 
 /// What `threads` prints of the schema and the scripts that a source gives, with the turns by which `replay` prints the same, or
-/// the first fault.
+/// the first fault. The last script is made before all others, where it is made first.
 pub fn run_on_threads<R: Threads + Wait + Sync, S: Source>(
     rt: &R,
     alloc: Global,
     source: &S,
     capacity: u16,
+    first: bool,
 ) -> Result<OnThreads, Fault>
-    ensures done { IfOk result (λ said. ThreadsHeld (S.holds source.now) (S.count source.now) capacity said.printed.items said.turns.items) }
+    ensures done { IfOk result (λ said. ThreadsHeld (S.holds source.now) (S.count source.now) first capacity said.printed.items said.turns.items) }
     ensures refused { IfErr result (λ fault. ToldOfRun (S.holds source.now) (S.fails source.now) fault (S.count source.now) Serial) }
 {
     let known = schema_for_run(alloc, source)?;
-    match read_scripts(alloc, source, &known) {
-        Ok(scripts) => Ok(threads_text(rt, alloc, known, capacity, scripts.as_slice())?),
-        Err(fault) => {
-            known.discard();
-            Err(fault)
-        }
-    }
+    let said = threads_known(rt, alloc, source, &known, capacity, first);
+    known.discard();
+    said
 }
 
 /// What `threads` prints of a schema and scripts at hand, and that the audit of the history is equal, or their first fault.
@@ -130,7 +244,7 @@ pub fn threads_bytes<'a, R: Threads + Wait + Sync>(
     scripts: &'a [Row<u8>],
     capacity: u16,
 ) -> Result<(Vec<u8>, bool), Fault>
-    ensures done { IfOk result (λ said. (turns : List ℕ) × IsThreads schema.now scripts.now capacity said.0.items turns) }
+    ensures done { IfOk result (λ said. (turns : List ℕ) × IsThreads false schema.now scripts.now capacity said.0.items turns) }
     ensures equal { IfOk result (λ said. said.1 ≡ true) }
     ensures refused { IfErr result (λ fault. RefusesReplay fault schema.now scripts.now by.Serial) }
 {
@@ -139,7 +253,7 @@ pub fn threads_bytes<'a, R: Threads + Wait + Sync>(
         scripts,
         order: Order::Serial,
     };
-    match run_on_threads(rt, alloc, &texts, capacity) {
+    match run_on_threads(rt, alloc, &texts, capacity, false) {
         Ok(said) => Ok((said.printed, true)),
         Err(fault) => Err(fault),
     }

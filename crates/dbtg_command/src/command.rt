@@ -222,6 +222,7 @@ fn threads_command<'a>(alloc: Global, name: &'a str) -> Result<Command<'a>, Allo
         "Example: dbtg threads --capacity 10 shop.schema unit1.script unit2.script",
         &[
             Word::Capacity,
+            Word::First,
             Word::SaveTurns,
             Word::Explain,
             Word::NoExplain,

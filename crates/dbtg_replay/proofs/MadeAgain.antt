@@ -1,9 +1,10 @@
 -- A history in which each unit makes its script: its turns are read back, and `replay` by them prints what the history leads to.
-use Rattle.std.proofs.Common.{◌≡◌, ℕ, zero, suc, ◌+◌, ◌<◌, ◌≤◌, true, List, ◌∷◌, [], ◌++◌, length, map, Option, Some, None, slice_get, refl, sym, ap, ◌∙◌, subst, arith, nat_le}
+use Rattle.std.proofs.Common.{◌≡◌, ℕ, zero, suc, ◌+◌, ◌<◌, ◌≤◌, Bool, true, false, List, ◌∷◌, [], ◌++◌, length, map, Option, Some, None, slice_get, refl, sym, ap, ◌∙◌, subst, arith, nat_le}
 use Rattle.std.specs.Prelude.{option_map}
 use Rattle.std.specs.List.{list_all}
 use Rattle.std.proofs.lemmas.Bool.{and_from, and_parts, le-leb, leb-true}
 use Rattle.std.proofs.lemmas.List.{length-append, length-map}
+use Rattle.std.proofs.lemmas.List.Folds.{list_all-append}
 use Rattle.dbtg_schema.specs.Lists.{Lists}
 use Rattle.dbtg_unit.specs.declared.limits.TheConstants.{MOST_STATEMENTS}
 use Rattle.dbtg_unit.specs.declared.statement.Statement.{Statement}
@@ -25,7 +26,8 @@ use Rattle.dbtg_script.specs.Printing.WordTexts.{turns_text}
 use Rattle.dbtg_script.proofs.Public.{turns_read_back}
 use Rattle.dbtg_command.specs.declared.order.Order.TheVariants.{Turns}
 use Rattle.dbtg_command.specs.Refusals.{AcceptsTexts, AllAccepted, is_count, schema_in, turns_in}
-use Rattle.dbtg_replay.specs.Replaying.{IsReplay}
+use Rattle.dbtg_replay.specs.Ordering.{first_turns}
+use Rattle.dbtg_replay.specs.Replaying.{IsReplay, IsShownReplay}
 use Rattle.dbtg_replay.proofs.SameRun.{same_text}
 use Rattle.dbtg_replay.proofs.ScriptLength.{few_statements}
 use Rattle.dbtg_replay.proofs.UnitEntries.{AllWithin, Begins, Few, all_made, all_within, total, total_few}
@@ -59,11 +61,13 @@ numbers n (e ∷ es) most within =
     let high : e.unit ≤ 99 = omega (arith, within.1, most) in
     and_from (is_unit_number e.unit) (list_all is_unit_number (map (λ (f : Entry). f.unit) es)) (and_from (nat_le 1 e.unit) (nat_le e.unit 99) (le-leb 1 e.unit low) (le-leb e.unit 99 high)) (numbers n es most within.2)
 
--- the turns are accepted, and what is printed of the run by them is what the history leads to
-pub made_again : (text : List ℕ) (scripts : List (List ℕ)) (capacity : ℕ) (history : List Entry) (image : Image) (units : List Unit) (turns : List ℕ) → is_count (length scripts) ≡ true → AcceptsTexts text scripts
-    → IsSequential (schema_in text) capacity (map (script (schema_in text)) scripts) history image units → turns ≡ turns_text (map (λ (e : Entry). e.unit) history)
-    → (turns_refusal turns ≡ None) × ((printed : List ℕ) → IsReplay text scripts (Turns turns) capacity printed → printed ≡ run_text (schema_in text) history image.records image.lists image.next image.usage units)
-made_again text scripts capacity history image after turns right accepted law are = (ap turns_refusal are ∙ back.0, again)
+-- the turns behind those of a script that is made first are accepted, and what is printed of the run by them is what the history
+-- leads to
+pub made_again_behind : (first : Bool) (text : List ℕ) (scripts : List (List ℕ)) (capacity : ℕ) (history : List Entry) (image : Image) (units : List Unit) (behind turns : List ℕ) → is_count (length scripts) ≡ true
+    → AcceptsTexts text scripts → IsSequential (schema_in text) capacity (map (script (schema_in text)) scripts) history image units
+    → map (λ (e : Entry). e.unit) history ≡ first_turns first (map (script (schema_in text)) scripts) ++ behind → turns ≡ turns_text behind
+    → (turns_refusal turns ≡ None) × ((printed : List ℕ) → IsShownReplay first false text scripts (Turns turns) capacity printed → printed ≡ run_text (schema_in text) history image.records image.lists image.next image.usage units)
+made_again_behind first text scripts capacity history image after behind turns right accepted law split are = (ap turns_refusal are ∙ back.0, again)
   where
     lists : Lists
     lists = schema_in text
@@ -73,6 +77,9 @@ made_again text scripts capacity history image after turns right accepted law ar
 
     units : List ℕ
     units = map (λ (e : Entry). e.unit) history
+
+    front : List ℕ
+    front = first_turns first all
 
     many : length all ≡ length scripts
     many = length-map scripts (script lists)
@@ -89,21 +96,33 @@ made_again text scripts capacity history image after turns right accepted law ar
     made : (made_turns (map length all) units ≡ units) × (length history ≤ total (map length all))
     made = all_made (map length all) history (subst (λ n. AllWithin n history) (sym lefts) within) (few all history law.scripts_begin)
 
-    short : length units ≤ MOST_MOVES
+    short : length behind ≤ MOST_MOVES
     short =
         let t = total_few (map length all) MOST_STATEMENTS (few_each lists scripts accepted.1) in
         let h = made.1 in
         let u = length-map history (λ (e : Entry). e.unit) in
-        omega (arith, t, h, u, lefts, many, most)
+        let b = ap length split ∙ length-append front behind in
+        omega (arith, t, h, u, b, lefts, many, most)
 
-    back : (turns_refusal (turns_text units) ≡ None) × (turns_in (turns_text units) ≡ units)
-    back = turns_read_back units (numbers (length all) history (omega (arith, many, most)) within) short
+    numbered : list_all is_unit_number behind ≡ true
+    numbered =
+        let every = numbers (length all) history (omega (arith, many, most)) within in
+        (and_parts (list_all is_unit_number front) (list_all is_unit_number behind) (sym (list_all-append is_unit_number front behind) ∙ sym (ap (list_all is_unit_number) split) ∙ every)).1
 
-    says : turns_in turns ≡ units
-    says = ap turns_in are ∙ back.1
+    back : (turns_refusal (turns_text behind) ≡ None) × (turns_in (turns_text behind) ≡ behind)
+    back = turns_read_back behind numbered short
 
-    again : (printed : List ℕ) → IsReplay text scripts (Turns turns) capacity printed → printed ≡ run_text lists history image.records image.lists image.next image.usage after
+    says : front ++ turns_in turns ≡ units
+    says = ap (λ us. front ++ us) (ap turns_in are ∙ back.1) ∙ sym split
+
+    again : (printed : List ℕ) → IsShownReplay first false text scripts (Turns turns) capacity printed → printed ≡ run_text lists history image.records image.lists image.next image.usage after
     again printed r =
         let given = r.run.given in
         let same : units ≡ map (λ (e : Entry). e.unit) given.history = sym (r.run.is_run.1.in_turn ∙ ap (made_turns (map length all)) says ∙ made.0) in
         r.run.is_text ∙ sym (same_text lists capacity all history given.history image given.image after given.units law r.run.is_run.1.sequential same)
+
+-- the same where no script is made first
+pub made_again : (text : List ℕ) (scripts : List (List ℕ)) (capacity : ℕ) (history : List Entry) (image : Image) (units : List Unit) (turns : List ℕ) → is_count (length scripts) ≡ true → AcceptsTexts text scripts
+    → IsSequential (schema_in text) capacity (map (script (schema_in text)) scripts) history image units → turns ≡ turns_text (map (λ (e : Entry). e.unit) history)
+    → (turns_refusal turns ≡ None) × ((printed : List ℕ) → IsReplay text scripts (Turns turns) capacity printed → printed ≡ run_text (schema_in text) history image.records image.lists image.next image.usage units)
+made_again text scripts capacity history image units turns right accepted law are = made_again_behind false text scripts capacity history image units (map (λ (e : Entry). e.unit) history) turns right accepted law refl are

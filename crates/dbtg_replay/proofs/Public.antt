@@ -1,6 +1,7 @@
 -- The lemmas that other crates cite. All others are this crate's own, free to change.
 
--- the turns of a history in which each unit makes its script are accepted, and `replay` by them prints what the history leads to
-pub use Rattle.dbtg_replay.proofs.MadeAgain.{made_again}
+-- the turns of a history in which each unit makes its script are accepted, and `replay` by them prints what the history leads to; the
+-- same of those behind the turns of a script that is made first
+pub use Rattle.dbtg_replay.proofs.MadeAgain.{made_again, made_again_behind}
 -- a line without a fault that holds a statement has room behind so many
 pub use Rattle.dbtg_replay.proofs.ScriptLength.{room_for}
