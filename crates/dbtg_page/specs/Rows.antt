@@ -51,9 +51,9 @@ core_row c answer = state_row c.schema answer (image_of c.schema c.capacity (seq
 abbrev pub newest_answer : Lists → List Entry → List ℕ
 newest_answer schema history = unwrap_or (option_map (answer_text schema) (slice_get history (length history - 1))) []
 
--- an event: its unit, its letter, and the place of its statement in the script
+-- an event: its unit, its letter, the place of its statement in the script, and where the unit is blocked for what it waits, and who holds that
 unfoldable pub event_row : Event → List ℕ
-event_row e = row (codes "EVENT") (decimal e.unit ∷ (letter e.mark ∷ []) ∷ decimal e.place ∷ [])
+event_row e = row (codes "EVENT") (decimal e.unit ∷ (letter e.mark ∷ []) ∷ decimal e.place ∷ e.wait ∷ [])
 
 -- behind a ticket, its answer and what it leads to
 abbrev pub ticket_row : CoreState → Mark → List ℕ

@@ -14,7 +14,7 @@ ghost use Rattle.dbtg_timeline.specs.Watching.{opening_core};
 ghost use Rattle.dbtg_page.specs.Json.{row};
 ghost use Rattle.dbtg_page.specs.Rows.{core_row, event_row, front_rows, move_rows, newest_answer, page_text, rows_of_moves, run_rows, state_row, ticket_row};
 
-use crate::json::{push_row, push_row_of_three};
+use crate::json::{push_end, push_field, push_kind, push_row, push_row_of_three};
 use crate::markup::MARKUP;
 use crate::script::SCRIPT;
 use dbtg_schema::{Area, RecordType, Row, Schema, SetType};
@@ -165,20 +165,18 @@ fn push_state(
     push_row_of_three(out, b"STATE", answer, database.as_slice(), units.as_slice())
 }
 
-#[tactic(auto, unfolding(crate::specs::Rows::event_row))]
+#[tactic(auto, unfolding(crate::specs::Rows::event_row, crate::specs::Json::row))]
 fn push_event(out: &mut Vec<u8>, event: &Event) -> Result<(), AllocError>
     ensures { OnOk result (out.new.items ≡ out.old.items ++ event_row event.now) }
 {
     let mut unit = Buffer::new();
     let mut place = Buffer::new();
-    let letters = [letter(event.mark)];
-    push_row_of_three(
-        out,
-        b"EVENT",
-        unit.format(event.unit).as_bytes(),
-        &letters,
-        place.format(event.place).as_bytes(),
-    )
+    push_kind(out, b"EVENT")?;
+    push_field(out, unit.format(event.unit).as_bytes())?;
+    push_field(out, &[letter(event.mark)])?;
+    push_field(out, place.format(event.place).as_bytes())?;
+    push_field(out, event.wait.as_slice())?;
+    push_end(out)
 }
 
 // Behind a ticket, what it leads to.

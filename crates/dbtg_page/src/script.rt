@@ -62,7 +62,7 @@ function read() {
       const [answer, image, units] = fields;
       if (events.length > 0) events[events.length - 1].answer = answerOf(answer);
       states.push({ after: events.length, line: answer, text: image, units, image: imageOf(image), currents: linesOf(units).map(currentsOf) });
-    } else if (kind === 'EVENT') events.push({ unit: Number(fields[0]), letter: fields[1], place: Number(fields[2]) });
+    } else if (kind === 'EVENT') events.push({ unit: Number(fields[0]), letter: fields[1], place: Number(fields[2]), wait: fields[3] });
   }
 }
 
@@ -75,11 +75,11 @@ function stateAfter(n) {
 }
 
 function unitsAfter(n) {
-  const units = scripts.map(() => ({ answers: [], areas: 0, cells: 0, open: false, ticket: false, waits: false }));
-  for (const { unit, letter, answer } of events.slice(0, n)) {
+  const units = scripts.map(() => ({ answers: [], areas: 0, cells: 0, open: false, ticket: false, waits: '' }));
+  for (const { unit, letter, answer, wait } of events.slice(0, n)) {
     const it = units[unit - 1];
     if (!it) continue;
-    it.waits = letter === 'B';
+    it.waits = wait;
     if (letter === 'b') Object.assign(it, { open: true, ticket: false });
     if (letter === 'a') it.areas += 1;
     if (letter === 'c') it.cells += 1;
@@ -254,9 +254,9 @@ function picture(state, before, currents) {
 
 function told(n) {
   if (n === 0) return '<p>The opening database. Step on with the arrow keys: right and left by event, down and up by ticket.</p>';
-  const { unit, letter, answer, ...event } = events[n - 1];
+  const { unit, letter, answer, wait } = events[n - 1];
   const first = `<b>Unit ${unit}</b> ${LETTERS[letter]} &middot; <code>${escaped(statementOf(events[n - 1]))}</code>`;
-  if (!answer) return `<p>${first}</p>`;
+  if (!answer) return `<p>${first}</p>${wait && `<p>It ${escaped(wait)}.</p>`}`;
   const [, name, meaning, next] = answer.cause || ['', '', '', ''];
   const status = `<span class='status${answer.refused ? ' refused' : ''}' style='display:inline'>${answer.status}</span>`;
   if (!answer.refused) return `<p>${first}</p><p>Ticket ${answer.ticket}: ${status} done ${escaped(answer.found)}</p>`;
@@ -271,7 +271,7 @@ function lane(it, number, chosen, event) {
     const status = answer ? `<span class='status${answer.refused ? ' refused' : ''}'>${answer.ticket}: ${answer.status} ${escaped(answer.refused ? answer.cause[1] : answer.found)}</span>` : '';
     return `<li class='${kinds.filter(Boolean).join(' ')}'>${escaped(text)}${status}</li>`;
   });
-  const waits = it.waits ? ` <span class='waits'>is blocked</span>` : '';
+  const waits = it.waits && ` <span class='waits'>${escaped(it.waits)}</span>`;
   return `<section class='lane'><h2 class='${number === chosen ? 'chosen' : ''}' data-unit='${number}'>Unit ${number}${waits}<small>${holds}</small></h2><ol>${statements.join('')}</ol></section>`;
 }
 
