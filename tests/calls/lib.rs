@@ -9,6 +9,8 @@ mod dbtg_cells_calls;
 #[cfg(test)]
 mod dbtg_draw_calls;
 #[cfg(test)]
+mod dbtg_explore_calls;
+#[cfg(test)]
 mod dbtg_program_calls;
 #[cfg(test)]
 mod dbtg_run_calls;

@@ -1,5 +1,15 @@
 pub mod Turning
 pub mod Alike
+pub mod ComesOut
 pub mod Keyed
 pub mod Placed
+pub mod Before
+pub mod Entering
+pub mod Failing
+pub mod Inserting
+pub mod Searched
+pub mod Steps
+pub mod Noting
+pub mod Visiting
+pub mod Rounding
 pub mod Rows

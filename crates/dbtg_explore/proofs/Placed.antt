@@ -70,7 +70,15 @@ module _ (m : Meeting) (database : Making) (goings : List Going) (w : AreStandin
         let is = is_due m.schema there.0.state there.0.due x (ap (statement_due m.schema) there.2.comes ∙ e) in
         let number = has_number goings u there.0 there.1 in
         record {
-          program = p; going = there.0; program_found = found; going_found = there.1; at = there.2; due_is = is.0; fit = is.1; numbered = number.0; within = number.1;
+          program = p;
+          going = there.0;
+          program_found = found;
+          going_found = there.1;
+          at = there.2;
+          due_is = is.0;
+          fit = is.1;
+          numbered = number.0;
+          within = number.1;
         }
 
   -- A TURN
@@ -133,9 +141,9 @@ module _ (m : Meeting) where
       record {
         is_order = none_follow m (beginning m);
         is_place = subst (λ (n : Making). AreStanding m n place.goings.items) (sym d) (subst (λ gs. AreStanding m database gs) (sym g) (record {
-            database_is = a.database_is ∙ (λ i. record (making_by m.schema m.capacity m.programs m.begun) { history = (sym history) i });
-            are_going = a.are_going;
-          }));
+          database_is = a.database_is ∙ (λ i. record (making_by m.schema m.capacity m.programs m.begun) { history = (sym history) i });
+          are_going = a.are_going;
+        }));
         history_is = ap (λ (n : Making). n.history) d ∙ history ∙ sym (no_turn m (beginning m));
       }
 
@@ -168,9 +176,9 @@ module _ (m : Meeting) (history : List Entry) where
       let unit : k + 0 ≡ k = omega arith in
       let here : comes_of g ≡ comes m.schema p k history = ap comes_of same ∙ first.2.comes ∙ ap (λ v. comes m.schema p v history) unit in
       let rest = dues_from (k + 1) ps gs (omega (arith, n)) (λ i q e.
-          let there = each (suc i) q e in
-          let number : k + suc i ≡ (k + 1) + i = omega arith in
-          (there.0, there.1, subst (λ v. IsGoing m.schema q (entries_of v history) there.0) number there.2)) in
+      let there = each (suc i) q e in
+      let number : k + suc i ≡ (k + 1) + i = omega arith in
+      (there.0, there.1, subst (λ v. IsGoing m.schema q (entries_of v history) there.0) number there.2)) in
       λ i. here i ∷ rest i
 
   pub dues_are : (goings : List Going) → AreGoing m.schema m.programs history goings → map comes_of goings ≡ (state_after m history).programs

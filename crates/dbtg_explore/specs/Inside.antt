@@ -1,4 +1,11 @@
 -- What no contract of an exported function reaches: how the code keeps its parts, and words that lemmas use. Nobody has to believe it.
 -- May use: the definitions beside this folder, which name nothing of it.
+pub mod Ends
+pub mod Failures
+pub mod Found
 pub mod Keys
 pub mod Places
+pub mod Rounds
+pub mod Search
+pub mod Steps
+pub mod Visits

@@ -1,4 +1,5 @@
 pub mod Explored
+pub mod Laws
 pub mod Orders
 pub mod Pairwise
 pub mod Results

@@ -1,11 +1,19 @@
 //! All that programs can come to when they meet: every order of their statements, by the states to which they lead.
 #![tactic(auto)]
 
+mod endless;
+mod ends;
 mod explored;
+mod failures;
+mod found;
+mod graph;
 mod key;
+mod laws;
 mod meeting;
 mod place;
+mod search;
 mod text;
 
-pub use explored::{Endless, Explored, Failure};
+pub use explored::{Endless, Explored, Failure, explore};
+pub use laws::every_run_comes_out;
 pub use meeting::Meeting;

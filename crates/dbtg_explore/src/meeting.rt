@@ -162,12 +162,7 @@ impl<'a> Meeting<'a> {
     }
 
     // These turns, one after another.
-    fn turns(
-        &self,
-        alloc: Global,
-        place: &mut Place<'a>,
-        turns: &[u8],
-    ) -> Result<(), AllocError>
+    fn turns(&self, alloc: Global, place: &mut Place<'a>, turns: &[u8]) -> Result<(), AllocError>
         requires place { IsPlace self.now place.old }
         requires turns { CanFollow self.now place.old.database.history turns.now }
         ensures { OnOk result (HaveTurned self.now turns.now place.old place.new) }

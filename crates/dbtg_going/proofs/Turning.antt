@@ -200,7 +200,7 @@ there_is [] k h = absurd (omega arith)
 there_is (x ∷ xs) zero h = (x, refl)
 there_is (x ∷ xs) (suc k) h = there_is xs k (omega arith)
 
-numbered_one : {X : Type 0} (xs : List X) (u : ℕ) → 0 < u → u ≤ length xs → (x : X) × (unit_at xs u ≡ Some x)
+pub numbered_one : {X : Type 0} (xs : List X) (u : ℕ) → 0 < u → u ≤ length xs → (x : X) × (unit_at xs u ≡ Some x)
 unfolding unit_at
 numbered_one xs zero some within = absurd (omega arith)
 numbered_one xs (suc k) some within = there_is xs k (omega arith)

@@ -17,7 +17,7 @@ mod wishes;
 
 pub use answered::Answered;
 pub use laws::{every_run_comes_out, orders_are_all_merges};
-pub use meeting::Meeting;
+pub use meeting::{Meeting, as_numbers};
 pub use outcomes::{OneResult, Outcomes, all_outcomes};
 pub use search::Stop;
 pub use spelled::{Spelled, spell_each};

@@ -56,8 +56,8 @@ fn made_by_each(alloc: Global, history: &[Entry], units: u8) -> Result<Row<u64>,
     Ok(made)
 }
 
-// Bytes as numbers.
-fn as_numbers(alloc: Global, bytes: &[u8]) -> Result<Vec<u64>, AllocError>
+/// Bytes as numbers.
+pub fn as_numbers(alloc: Global, bytes: &[u8]) -> Result<Vec<u64>, AllocError>
     ensures { IfOk result (λ numbers. numbers.items ≡ bytes.now) }
 {
     let mut numbers = Vec::new(alloc);

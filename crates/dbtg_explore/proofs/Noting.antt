@@ -1,0 +1,173 @@
+-- What is noted of one order more.
+-- m is a meeting, o and p are orders, seen are those that are behind, f is a failure.
+use Rattle.std.proofs.Common.{◌≡◌, refl, sym, ◌∙◌, ap, subst, ℕ, suc, ◌+◌, ◌-◌, ◌<◌, ◌≤◌, Bool, true, false, not, List, [], ◌∷◌, ◌++◌, length, map, get_or, Option, None, Some, arith, inl, inr, ◌⊎◌, ⊎_elim, true≢false, if◌then◌else◌}
+use Rattle.std.specs.Prelude.{Contains, option_and_then}
+use Rattle.std.specs.List.{list_any, range_with_len}
+use Rattle.std.proofs.lemmas.Bool.{cases_Bool, cases_lt}
+use Rattle.std.proofs.lemmas.List.{map_push}
+use Rattle.std.proofs.lemmas.List.Folds.{list_any_at, list_any_none}
+use Rattle.std.proofs.lemmas.List.FromFn.{get_or-range_with_len, length-range_with_len}
+use Rattle.std.proofs.lemmas.List.Elements.{Contains-append_left, Contains-push, Contains-push_cases}
+use Rattle.dbtg_program.specs.declared.program.End.{End}
+use Rattle.dbtg_program.specs.declared.program.Program.{Program}
+use Rattle.dbtg_step.specs.Machine.SequentialDatabase.{unit_at}
+use Rattle.dbtg_unit.specs.declared.unit.Entry.{Entry}
+use Rattle.dbtg_explore.specs.declared.ends.Ends as given
+use Rattle.dbtg_explore.specs.declared.explored.Failure.{Failure}
+use Rattle.dbtg_explore.specs.Inside.Ends.{AreEndsOf, AreFailuresOf, AreResultsOf, FailsAt, FailsIn, IsBehind, Notes, NotesResult}
+use Rattle.dbtg_explore.specs.Inside.Failures.{Take}
+use Rattle.dbtg_explore.specs.Inside.Found.{FoundOrders, IsEntered}
+use Rattle.dbtg_explore.specs.Inside.Search.{AreFirsts}
+use Rattle.dbtg_explore.specs.Inside.Places.{failure_by, failure_in}
+use Rattle.dbtg_explore.specs.Orders.{IsBefore, IsEnd, IsOrder, Meeting, can_go_on, history_of}
+use Rattle.dbtg_explore.specs.Results.{result_text}
+use Rattle.dbtg_explore.specs.States.{comes_of_each, state_after, state_of}
+use Rattle.dbtg_explore.proofs.Searched.{contains_none, known_result, new_result, no_result, no_results}
+use Rattle.dbtg_explore.proofs.Steps.{in_map, none_before, none_beyond, of_map}
+
+-- FAILURES
+
+pub takes_none : (fs : List Failure) (P : Failure → Type 0) → ((f : Failure) → P f → ⊥) → Take P fs fs
+takes_none fs P none = record { kept = λ f c. c; all = λ f p. absurd (none f p); only = λ f c. inl c; in_order = λ h. h }
+
+pub takes_both : (P Q R : Failure → Type 0) (a b c : List Failure) → Take P a b → Take Q b c → ((f : Failure) → R f → P f ⊎ Q f) → ((f : Failure) → P f ⊎ Q f → R f) → Take R a c
+takes_both P Q R a b c p q of to = record {
+  kept = λ f d. q.kept f (p.kept f d);
+  all = λ f r. ⊎_elim (λ x. q.kept f (p.all f x)) (q.all f) (of f r);
+  only = λ f d. ⊎_elim (λ e. ⊎_elim (λ g. inl g) (λ x. inr (to f (inl x))) (p.only f e)) (λ x. inr (to f (inr x))) (q.only f d);
+  in_order = λ h. q.in_order (p.in_order h);
+}
+
+-- the failures of units up to n
+abbrev pub FailsTo : Meeting → List Entry → ℕ → Failure → Type 0
+FailsTo m history n f = (f.unit ≤ n) × FailsIn (state_after m history) f
+
+module _ (m : Meeting) (history : List Entry) where
+  each_comes : (u : ℕ) (ps : List Program) → length (comes_of_each m history u ps) ≡ length ps
+  each_comes u [] = refl
+  each_comes u (p ∷ ps) = let rest = each_comes (u + 1) ps in omega arith
+
+  -- only units that have programs fail
+  fails_within : (f : Failure) → FailsIn (state_after m history) f → (0 < f.unit) × (f.unit ≤ length m.programs)
+  fails_within f is = (
+    elim (cases_lt 0 f.unit) [
+      | inl low ↦ low
+      | inr high ↦
+          let zero_is : f.unit ≡ 0 = omega arith in
+          absurd (nothing 0 (subst (λ u. failure_in (state_after m history) u ≡ Some f.how) zero_is is) (none_before (state_after m history).programs))
+    ],
+    elim (cases_lt (length m.programs) f.unit) [
+      | inl beyond ↦ let long = each_comes 1 m.programs in absurd (nothing f.unit is (none_beyond (state_after m history).programs f.unit (omega arith)))
+      | inr within ↦ omega arith
+    ],
+  ) where
+    nothing : (u : ℕ) → failure_in (state_after m history) u ≡ Some f.how → unit_at (state_after m history).programs u ≡ None → ⊥
+    nothing u e none = let clash : None ≡ Some f.how = ap (option_and_then failure_by) (sym none) ∙ e in cc
+
+  pub fails_one : (u : ℕ) (how : End) (fs gs : List Failure) → Some how ≡ failure_in (state_after m history) u → Take (λ f. record { unit = u; how = how } ≡ f) fs gs → Take (FailsAt m history u) fs gs
+  fails_one u how fs gs is t = record {
+    kept = t.kept;
+    all = λ f p.
+        let there : Some how ≡ Some f.how = is ∙ ap (failure_in (state_after m history)) (sym p.0) ∙ p.1 in
+        let same : how ≡ f.how = cc in
+        t.all f (λ i. record { unit = sym p.0 i; how = same i });
+    only = λ f c. ⊎_elim (λ d. inl d) (λ e. inr (ap (λ (g : Failure). g.unit) (sym e), subst (FailsIn (state_after m history)) e (sym is))) (t.only f c);
+    in_order = t.in_order;
+  }
+
+  pub fails_none : (u : ℕ) (fs : List Failure) → None ≡ failure_in (state_after m history) u → Take (FailsAt m history u) fs fs
+  fails_none u fs none = takes_none fs (FailsAt m history u) (λ f p. let clash : None ≡ Some f.how = none ∙ ap (failure_in (state_after m history)) (sym p.0) ∙ p.1 in cc)
+
+  pub fails_first : (fs : List Failure) → Take (FailsTo m history 0) fs fs
+  fails_first fs = takes_none fs (FailsTo m history 0) (λ f p. let low = p.0 in let high = (fails_within f p.1).0 in omega arith)
+
+  pub fails_next : (n : ℕ) (a b c : List Failure) → Take (FailsTo m history n) a b → Take (FailsAt m history (n + 1)) b c → Take (FailsTo m history (n + 1)) a c
+  fails_next n a b c p q =
+      takes_both (FailsTo m history n) (FailsAt m history (n + 1)) (FailsTo m history (n + 1)) a b c p q
+      (λ f r. let most = r.0 in elim (cases_lt n f.unit) [
+        | inl above ↦ inr (omega arith, r.1)
+        | inr below ↦ inl (omega arith, r.1)
+      ])
+      (λ f r. ⊎_elim (λ low. let most = low.0 in (omega arith, low.1)) (λ at. let most = at.0 in (omega arith, at.1)) r)
+
+  pub fails_all : (a b : List Failure) → Take (FailsTo m history (length m.programs)) a b → Take (FailsIn (state_after m history)) a b
+  fails_all a b p = record {
+    kept = p.kept;
+    all = λ f is. p.all f ((fails_within f is).1, is);
+    only = λ f c. ⊎_elim (λ d. inl d) (λ r. inr r.1) (p.only f c);
+    in_order = p.in_order;
+  }
+
+module _ (m : Meeting) where
+  pub no_failures : AreFailuresOf m [] []
+  no_failures = record { fail = λ f c. absurd (contains_none f c); all = λ f o c. absurd (contains_none o c); in_order = tt }
+
+  -- the failures after one order more
+  pub failures_more : (seen : List (List ℕ)) (o : List ℕ) (history : List Entry) (fs gs : List Failure) → history ≡ history_of m o → Take (FailsIn (state_after m history)) fs gs → AreFailuresOf m seen fs → AreFailuresOf m (seen ++ o ∷ []) gs
+  failures_more seen o history fs gs is t h =
+      let taken : Take (FailsIn (state_of m o)) fs gs = subst (λ es. Take (FailsIn (state_after m es)) fs gs) is t in
+      record {
+        fail = λ f c. ⊎_elim (λ d. let r = h.fail f d in (r.0, Contains-append_left seen (o ∷ []) r.0 r.1, r.2)) (λ fails. (o, Contains-push seen o, fails)) (taken.only f c);
+        all = λ f p c fails.
+            ⊎_elim (λ d. taken.kept f (h.all f p d fails)) (λ e. taken.all f (subst (λ q. FailsIn (state_of m q) f) (sym e) fails)) (Contains-push_cases seen o p c);
+        in_order = taken.in_order h.in_order;
+      }
+
+  -- RESULTS
+
+  pub no_results_yet : AreResultsOf m [] (record { keys = []; orders = [] })
+  no_results_yet = record { firsts = no_results (IsEnd m) (result_text m); keys_are = refl }
+
+  -- where a program can go on the order is no end
+  pub goes_on_there : (o : List ℕ) (old : FoundOrders) → (IsEnd m o → ⊥) → NotesResult m o old old
+  goes_on_there o old no_end seen behind h = record { firsts = no_result (IsEnd m) (result_text m) seen old.orders o h.firsts no_end; keys_are = h.keys_are }
+
+  pub ends_there : (o order : List ℕ) (key : List ℕ) (old new : FoundOrders) → IsEnd m o → order ≡ o → key ≡ result_text m o → IsEntered old key order new → NotesResult m o old new
+  ends_there o order key old new end order_is key_is (inl known) seen behind h =
+      let r = of_map (result_text m) old.orders key (subst (λ ks. Contains ks key) h.keys_are known.0) in
+      subst (AreResultsOf m (seen ++ o ∷ [])) (sym known.1)
+      (record { firsts = known_result (IsEnd m) (result_text m) seen old.orders o h.firsts behind r.0 r.1 (r.2 ∙ key_is); keys_are = h.keys_are })
+  ends_there o order key old new end order_is key_is (inr put) seen behind h =
+      let orders : new.orders ≡ old.orders ++ o ∷ [] = put.orders_are ∙ ap (λ (p : List ℕ). old.orders ++ p ∷ []) order_is in
+      record {
+        firsts = subst (AreFirsts (IsEnd m) (result_text m) (seen ++ o ∷ [])) (sym orders)
+            (new_result (IsEnd m) (result_text m) seen old.orders o h.firsts behind end (λ r c e.
+            put.absent (subst (λ ks. Contains ks key) (sym h.keys_are) (subst (Contains (map (result_text m) old.orders)) (e ∙ sym key_is) (in_map (result_text m) old.orders r c)))));
+        keys_are = put.keys_are ∙ (λ j. h.keys_are j ++ key_is j ∷ []) ∙ sym (map_push (result_text m) old.orders o) ∙ ap (map (result_text m)) (sym orders);
+      }
+
+  cannot_go : (history : List Entry) (u : ℕ) → unit_at m.programs u ≡ None → can_go_on m history u ≡ false
+  cannot_go history u none = rw none refl
+
+  -- no program can go on where none of those that there are can
+  pub at_end : (history : List Entry) → not (list_any (can_go_on m history) (range_with_len 1 (length m.programs))) ≡ true → (u : ℕ) → can_go_on m history u ≡ false
+  at_end history none u =
+      elim (cases_lt 0 u) [
+        | inl low ↦ elim (cases_lt (length m.programs) u) [
+          | inl beyond ↦ cannot_go history u (none_beyond m.programs u beyond)
+          | inr within ↦ elim (cases_Bool (can_go_on m history u)) [
+            | inl can ↦
+                let units = range_with_len 1 (length m.programs) in
+                let long : length units ≡ length m.programs = length-range_with_len 1 (length m.programs) in
+                let at : get_or units (u - 1) 0 ≡ 1 + (u - 1) = get_or-range_with_len 1 (length m.programs) (u - 1) 0 (omega arith) in
+                let is : get_or units (u - 1) 0 ≡ u = omega arith in
+                let one : list_any (can_go_on m history) units ≡ true = list_any_at (can_go_on m history) units (u - 1) 0 (omega arith) (ap (can_go_on m history) is ∙ can) in
+                absurd (true≢false (sym none ∙ ap not one))
+            | inr cannot ↦ cannot
+          ]
+        ]
+        | inr high ↦ let is : u ≡ 0 = omega arith in cannot_go history u (ap (unit_at m.programs) is ∙ none_before m.programs)
+      ]
+
+  pub not_at_end : (history : List Entry) → not (list_any (can_go_on m history) (range_with_len 1 (length m.programs))) ≡ false → ((u : ℕ) → can_go_on m history u ≡ false) → ⊥
+  not_at_end history some none =
+      let units = range_with_len 1 (length m.programs) in
+      let no_one : list_any (can_go_on m history) units ≡ false = list_any_none (can_go_on m history) units (λ k d low. none (get_or units k d)) in
+      true≢false (sym (ap not no_one) ∙ some)
+
+  -- both
+  pub notes_both : (o : List ℕ) (history : List Entry) (old new : given.Ends) → history ≡ history_of m o → Take (FailsIn (state_after m history)) old.failures.items new.failures.items → NotesResult m o old.results new.results → Notes m o old new
+  notes_both o history old new is takes notes seen behind h = record {
+    results = notes seen behind h.results;
+    failures = failures_more seen o history old.failures.items new.failures.items is takes h.failures;
+  }

@@ -1,0 +1,77 @@
+-- A way round, as the code goes it.
+-- m is a meeting, u is a unit, o is an order.
+use Rattle.std.proofs.Common.{◌≡◌, refl, sym, ◌∙◌, ap, subst, ℕ, zero, suc, ◌+◌, ◌<◌, ◌≤◌, ◌==◌, Bool, true, false, List, [], ◌∷◌, ◌++◌, append_assoc, append-nil, length, get_or, take, arith, inl, inr, true≢false}
+use Rattle.std.specs.Prelude.{Contains}
+use Rattle.std.proofs.lemmas.Bool.{cases_lt}
+use Rattle.std.proofs.lemmas.List.{take_more}
+use Rattle.dbtg_unit.specs.declared.unit.Entry.{Entry}
+use Rattle.dbtg_explore.specs.declared.place.Place.{Place}
+use Rattle.dbtg_explore.specs.Explored.{IsEndless}
+use Rattle.dbtg_explore.specs.Inside.Keys.{state_numbers}
+use Rattle.dbtg_explore.specs.Inside.Places.{HasTurned, IsPlace, IsPlaceOf}
+use Rattle.dbtg_explore.specs.Inside.Rounds.{ComesBack, HasEach, HasGone}
+use Rattle.dbtg_explore.specs.Orders.{IsMeeting, Meeting, can_turn, history_of}
+use Rattle.dbtg_explore.specs.States.{state_after, state_of}
+use Rattle.dbtg_explore.proofs.Keyed.{same_state}
+use Rattle.dbtg_explore.proofs.Placed.{place_on}
+use Rattle.dbtg_explore.proofs.Steps.{none_before, none_beyond}
+
+-- units up to n have turns in the round, if they can have any
+abbrev pub HasEachTo : Meeting → List Entry → List ℕ → ℕ → Type 0
+HasEachTo m history round n = (u : ℕ) → u ≤ n → can_turn m history u ≡ true → Contains round u
+
+pub is_some : (n : ℕ) → false ≡ (n == 0) → 0 < n
+is_some zero e = absurd (true≢false (sym e))
+is_some (suc n) e = omega arith
+
+module _ (m : Meeting) where
+  cannot_before : (history : List Entry) → can_turn m history 0 ≡ false
+  cannot_before history = rw (none_before m.programs) refl
+
+  cannot_beyond : (history : List Entry) (u : ℕ) → length m.programs < u → can_turn m history u ≡ false
+  cannot_beyond history u h = rw (none_beyond m.programs u h) refl
+
+  pub has_first : (history : List Entry) (round : List ℕ) → HasEachTo m history round 0
+  has_first history round u low can =
+      let is : u ≡ 0 = omega arith in
+      absurd (true≢false (sym can ∙ ap (can_turn m history) is ∙ cannot_before history))
+
+  pub has_next : (history : List Entry) (round : List ℕ) (n : ℕ) → HasEachTo m history round n → (can_turn m history (n + 1) ≡ true → Contains round (n + 1)) → HasEachTo m history round (n + 1)
+  has_next history round n h one u low can =
+      elim (cases_lt n u) [
+        | inl above ↦ let is : u ≡ n + 1 = omega arith in subst (Contains round) (sym is) (one (sym (ap (can_turn m history) is) ∙ can))
+        | inr below ↦ h u (omega arith) can
+      ]
+
+  pub has_all : (history : List Entry) (round : List ℕ) (n : ℕ) → n ≡ length m.programs → HasEachTo m history round n → HasEach m history round
+  has_all history round n is h u can =
+      elim (cases_lt (length m.programs) u) [
+        | inl beyond ↦ absurd (true≢false (sym can ∙ cannot_beyond history u beyond))
+        | inr within ↦ h u (omega arith) can
+      ]
+
+  pub gone_nowhere : (here : Place) → IsPlace m here → HasGone m [] here here
+  gone_nowhere here is = record { is_place = is; leads = λ o at. subst (λ p. IsPlaceOf m p here) (sym (append-nil o)) at }
+
+  pub gone_further : (turns : List ℕ) (i : ℕ) (a b c : Place) → i < length turns → HasGone m (take i turns) a b → can_turn m b.database.history (get_or turns i 0) ≡ true → HasTurned m (get_or turns i 0) b.database c.database c.goings.items → HasGone m (take (i + 1) turns) a c
+  gone_further turns i a b c low gone can turned =
+      subst (λ us. HasGone m us a c) (sym (take_more turns i 0 low))
+      (record {
+        is_place = turned.standing;
+        leads = λ o at. subst (λ p. IsPlaceOf m p c) (append_assoc o (take i turns) (get_or turns i 0 ∷ [])) (place_on m (o ++ take i turns) (get_or turns i 0) b c (gone.leads o at) can turned);
+      })
+
+  pub come_back : IsMeeting m → (round before after : List ℕ) (old new : Place) → before ≡ state_numbers m (state_after m old.database.history) → after ≡ state_numbers m (state_after m new.database.history) → after ≡ before → HasGone m round old new → (o : List ℕ) → IsPlaceOf m o old → ComesBack m o round
+  come_back meets round before after old new before_is after_is same gone o at =
+      let there = gone.leads o at in
+      let first : state_numbers m (state_of m (o ++ round)) ≡ after = ap (λ (es : List Entry). state_numbers m (state_after m es)) (sym there.history_is) ∙ sym after_is in
+      let last : before ≡ state_numbers m (state_of m o) = before_is ∙ ap (λ (es : List Entry). state_numbers m (state_after m es)) at.history_is in
+      record { is_order = there.is_order; same = same_state m meets (o ++ round) o (first ∙ same ∙ last) }
+
+  pub goes_for_ever : (round : List ℕ) (old : Place) → 0 < length round → HasEach m old.database.history round → (o : List ℕ) → IsPlaceOf m o old → ComesBack m o round → IsEndless m (record { turns = o; round = round })
+  goes_for_ever round old some each o at back = record {
+    is_order = back.is_order;
+    comes_back = back.same;
+    goes = some;
+    fair = λ u can. each u (ap (λ (es : List Entry). can_turn m es u) at.history_is ∙ can);
+  }

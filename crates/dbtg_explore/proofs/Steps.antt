@@ -1,0 +1,201 @@
+-- The steps of a search, as the code makes them.
+-- m is a meeting, o and p are orders, u is a unit, i is the place of an order that is found.
+use Rattle.std.proofs.Common.{◌≡◌, refl, sym, ◌∙◌, ap, subst, ℕ, zero, suc, ◌+◌, ◌<◌, ◌≤◌, Bool, true, false, ◌&&◌, not, List, [], ◌∷◌, ◌++◌, append_assoc, append-nil, length, length-append, map, get_or, Option, None, Some, arith, inl, inr, ⊎_elim}
+use Rattle.std.specs.Prelude.{Contains, slice_get}
+use Rattle.std.proofs.lemmas.List.{get_or_append_left, map_push}
+use Rattle.std.proofs.lemmas.List.Elements.{Contains-get_or}
+use Rattle.dbtg_unit.specs.declared.unit.Entry.{Entry}
+use Rattle.dbtg_step.specs.Machine.SequentialDatabase.{unit_at}
+use Rattle.dbtg_explore.specs.declared.search.Search as given
+use Rattle.dbtg_explore.specs.Inside.Found.{FoundOrders, IsEntered, IsPut}
+use Rattle.dbtg_explore.specs.Inside.Search.{IsUnderWay}
+use Rattle.dbtg_explore.specs.Inside.Steps.{Goes, IsAt, can_follow, numbers_of}
+use Rattle.dbtg_explore.specs.Orders.{IsMeeting, IsOrder, Meeting, beginning, can_turn, due_of, history_of}
+use Rattle.dbtg_explore.specs.States.{AreApart, HasMoreStates, state_of}
+use Rattle.dbtg_explore.proofs.Alike.{can_turn_alike, same_after}
+use Rattle.dbtg_explore.proofs.Keyed.{same_numbers, same_state}
+use Rattle.dbtg_explore.proofs.Searched.{GoOn, at_beginning, contains_behind, contains_cases, contains_here, contains_none, known_state, new_state, next_place, no_turn}
+use Rattle.dbtg_explore.proofs.Turning.{follow_front, last_can, none_follow, order_on}
+
+-- LISTS
+
+pub in_map : {A B : Type 0} (f : A → B) (xs : List A) (x : A) → Contains xs x → Contains (map f xs) (f x)
+in_map f [] x c = absurd (contains_none x c)
+in_map f (y ∷ xs) x c =
+    ⊎_elim (λ e. subst (Contains (map f (y ∷ xs))) (ap f e) (contains_here (f y) (map f xs))) (λ d. contains_behind (f y) (map f xs) (f x) (in_map f xs x d)) (contains_cases y xs x c)
+
+pub of_map : {A B : Type 0} (f : A → B) (xs : List A) (y : B) → Contains (map f xs) y → (x : A) × Contains xs x × (f x ≡ y)
+of_map f [] y c = absurd (contains_none y c)
+of_map f (x ∷ xs) y c =
+    elim (contains_cases (f x) (map f xs) y c) [
+      | inl e ↦ (x, contains_here x xs, e)
+      | inr d ↦ let r = of_map f xs y d in (r.0, contains_behind x xs r.0 r.1, r.2)
+    ]
+
+none_past : {X : Type 0} (xs : List X) (n : ℕ) → length xs ≤ n → slice_get xs n ≡ None
+none_past [] n h = refl
+none_past (x ∷ xs) zero h = absurd (omega arith)
+none_past (x ∷ xs) (suc n) h = none_past xs n (omega arith)
+
+-- units from 1 on have elements, as many as there are
+pub none_beyond : {X : Type 0} (xs : List X) (u : ℕ) → length xs < u → unit_at xs u ≡ None
+unfolding unit_at
+none_beyond xs zero h = absurd (omega arith)
+none_beyond xs (suc n) h = none_past xs n (omega arith)
+
+pub none_before : {X : Type 0} (xs : List X) → unit_at xs 0 ≡ None
+unfolding unit_at
+none_before xs = refl
+
+module _ (m : Meeting) where
+  cannot_turn : (history : List Entry) (u : ℕ) → unit_at m.programs u ≡ None → can_turn m history u ≡ false
+  cannot_turn history u none = rw none refl
+
+  -- no other units than those of programs can have a turn
+  pub cannot_before : (o : List ℕ) → can_follow m o 0 ≡ false
+  cannot_before o = cannot_turn (history_of m o) 0 (none_before m.programs)
+
+  pub cannot_beyond : (o : List ℕ) (u : ℕ) → length m.programs < u → can_follow m o u ≡ false
+  cannot_beyond o u h = cannot_turn (history_of m o) u (none_beyond m.programs u h)
+
+  pub goes_on : GoOn (IsOrder m) (can_follow m) (state_of m)
+  goes_on = record {
+    first = none_follow m (beginning m);
+    more = order_on m;
+    front = λ o u is. follow_front m (beginning m) o (u ∷ []) is;
+    last = last_can m;
+    can_alike = λ o p u e. can_turn_alike m (history_of m o) (history_of m p) u e;
+    state_alike = λ o p u _ _ e. same_after m o p u e;
+  }
+
+  abbrev Under : List (List ℕ) → ℕ → ℕ → Type 0
+  Under = IsUnderWay (IsOrder m) (can_follow m) (state_of m)
+
+  -- the first order of all
+  module _ (old found : FoundOrders) (none : old ≡ record { keys = []; orders = [] }) (key : List ℕ) (is : key ≡ numbers_of m []) (first : List ℕ) (first_is : first ≡ []) (entered : IsEntered old key first found) where
+    pub begins : (found.orders ≡ [] ∷ []) × (found.keys ≡ map (numbers_of m) ([] ∷ []))
+    begins =
+        elim entered [
+          | inl known ↦ absurd (contains_none key (subst (λ (f : FoundOrders). Contains f.keys key) none known.0))
+          | inr put ↦ (
+            put.orders_are ∙ (λ i. (none i).orders ++ first_is i ∷ []),
+            put.keys_are ∙ (λ i. (none i).keys ++ is i ∷ []),
+          )
+        ]
+
+    pub at_first : (s : given.Search) → s.found ≡ found → length found.orders ≤ s.limit → IsAt m 0 0 s
+    at_first s found_is few =
+        let orders : s.found.orders ≡ [] ∷ [] = ap (λ (f : FoundOrders). f.orders) found_is ∙ begins.0 in
+        record {
+          under_way = subst (λ os. Under os 0 0) (sym orders) (at_beginning (IsOrder m) (can_follow m) (state_of m) goes_on);
+          keys_are = ap (λ (f : FoundOrders). f.keys) found_is ∙ begins.1 ∙ ap (map (numbers_of m)) (sym orders);
+          few = let long = ap (λ (f : FoundOrders). length f.orders) found_is in omega arith;
+        }
+
+    pub over_first : (limit : ℕ) → limit < length found.orders → HasMoreStates m limit
+    over_first limit more =
+        let way = subst (λ os. Under os 0 0) (sym begins.0) (at_beginning (IsOrder m) (can_follow m) (state_of m) goes_on) in
+        record { orders = found.orders; are_apart = record { are_orders = way.are_orders; apart = way.apart }; more = more }
+
+  -- ONE TURN MORE
+
+  record Turned (old new : FoundOrders) (i u : ℕ) : Type 0 where
+    way : Under new.orders i u
+    keys_are : new.keys ≡ map (numbers_of m) new.orders
+    more : List (List ℕ)
+    kept : new.orders ≡ old.orders ++ more
+
+  -- the order found at place i, with a turn of unit u
+  abbrev turned : List (List ℕ) → ℕ → ℕ → List ℕ
+  turned os i u = get_or os i [] ++ u ∷ []
+
+  module _ (meets : IsMeeting m) (i u : ℕ) (old : given.Search) (in_range : i < length old.found.orders) (at : IsAt m i u old) (can : can_follow m (get_or old.found.orders i []) u ≡ true) where
+    pub next_is_order : IsOrder m (turned old.found.orders i u)
+    next_is_order = goes_on.more (get_or old.found.orders i []) u (at.under_way.are_orders _ (Contains-get_or old.found.orders i [] in_range)) can
+
+    module _ (next : List ℕ) (next_is : next ≡ turned old.found.orders i u) (key : List ℕ) (key_is : key ≡ numbers_of m next) where
+      same_key : key ≡ numbers_of m (turned old.found.orders i u)
+      same_key = key_is ∙ ap (numbers_of m) next_is
+
+      known_there : (o : List ℕ) → numbers_of m o ≡ key → state_of m o ≡ state_of m (turned old.found.orders i u)
+      known_there o e = same_state m meets o (turned old.found.orders i u) (e ∙ same_key)
+
+      known_turn : Contains old.found.keys key → Turned old.found old.found i (u + 1)
+      known_turn c =
+          let r = of_map (numbers_of m) old.found.orders key (subst (λ ks. Contains ks key) at.keys_are c) in
+          record {
+            way = known_state (IsOrder m) (can_follow m) (state_of m) goes_on old.found.orders i u in_range at.under_way r.0 r.1 (known_there r.0 r.2);
+            keys_are = at.keys_are;
+            more = [];
+            kept = sym (append-nil old.found.orders);
+          }
+
+      new_turn : (new : FoundOrders) → IsPut old.found key next new → Turned old.found new i (u + 1)
+      new_turn new put =
+          let orders : new.orders ≡ old.found.orders ++ turned old.found.orders i u ∷ [] = put.orders_are ∙ ap (λ (o : List ℕ). old.found.orders ++ o ∷ []) next_is in
+          record {
+            way = subst (λ os. Under os i (u + 1)) (sym orders)
+                (new_state (IsOrder m) (can_follow m) (state_of m) goes_on old.found.orders i u in_range at.under_way can (λ o c e.
+                put.absent (subst (λ ks. Contains ks key) (sym at.keys_are) (subst (Contains (map (numbers_of m) old.found.orders)) (same_numbers m o (turned old.found.orders i u) e ∙ sym same_key) (in_map (numbers_of m) old.found.orders o c)))));
+            keys_are = put.keys_are ∙ (λ j. at.keys_are j ++ same_key j ∷ []) ∙ sym (map_push (numbers_of m) old.found.orders (turned old.found.orders i u)) ∙ ap (map (numbers_of m)) (sym orders);
+            more = turned old.found.orders i u ∷ [];
+            kept = orders;
+          }
+
+      module _ (found : FoundOrders) (entered : IsEntered old.found key next found) where
+        has_turned : Turned old.found found i (u + 1)
+        has_turned =
+            elim entered [
+              | inl known ↦ subst (λ f. Turned old.found f i (u + 1)) (sym known.1) (known_turn known.0)
+              | inr put ↦ new_turn found put
+            ]
+
+        -- the search goes on
+        pub goes_further : (new : given.Search) → new.found ≡ found → new.limit ≡ old.limit → length found.orders ≤ old.limit → Goes m i (u + 1) old new
+        goes_further new found_is limit_is few =
+            let t = subst (λ (f : FoundOrders). Turned old.found f i (u + 1)) (sym found_is) has_turned in
+            let long = ap (λ (f : FoundOrders). length f.orders) found_is in
+            record { at = record { under_way = t.way; keys_are = t.keys_are; few = omega arith }; more = t.more; kept = t.kept; limit_is = limit_is }
+
+        -- or there are more states than there may be
+        pub goes_over : old.limit < length found.orders → HasMoreStates m old.limit
+        goes_over more =
+            let way = has_turned.way in
+            record { orders = found.orders; are_apart = record { are_orders = way.are_orders; apart = way.apart }; more = more }
+
+  -- FROM ONE UNIT TO THE NEXT
+
+  pub stays : (s : given.Search) (i u : ℕ) (in_range : i < length s.found.orders) (at : IsAt m i u s) → can_follow m (get_or s.found.orders i []) u ≡ false → Goes m i (u + 1) s s
+  stays s i u in_range at cannot = record {
+    at = record { under_way = no_turn (IsOrder m) (can_follow m) (state_of m) goes_on s.found.orders i u in_range at.under_way cannot; keys_are = at.keys_are; few = at.few };
+    more = [];
+    kept = sym (append-nil s.found.orders);
+    limit_is = refl;
+  }
+
+  pub goes_both : (i u v : ℕ) (a b c : given.Search) → Goes m i u a b → Goes m i v b c → Goes m i v a c
+  goes_both i u v a b c g h = record {
+    at = h.at;
+    more = g.more ++ h.more;
+    kept = h.kept ∙ ap (λ os. os ++ h.more) g.kept ∙ append_assoc a.found.orders g.more h.more;
+    limit_is = h.limit_is ∙ g.limit_is;
+  }
+
+  pub kept_at : (i j u : ℕ) (a b : given.Search) → Goes m i u a b → j < length a.found.orders → get_or b.found.orders j [] ≡ get_or a.found.orders j []
+  kept_at i j u a b g low = ap (λ os. get_or os j []) g.kept ∙ get_or_append_left a.found.orders g.more [] j low
+
+  pub kept_range : (i j u : ℕ) (a b : given.Search) → Goes m i u a b → j < length a.found.orders → j < length b.found.orders
+  kept_range i j u a b g low = let e = ap length g.kept in let f = length-append a.found.orders g.more in omega arith
+
+  -- all units had their turn
+  pub goes_to_next : (i : ℕ) (a b : given.Search) → i < length a.found.orders → Goes m i (length m.programs + 1) a b → Goes m (i + 1) 0 a b
+  goes_to_next i a b low g = record {
+    at = record {
+      under_way = next_place (IsOrder m) (can_follow m) (state_of m) goes_on b.found.orders i (length m.programs + 1) (kept_range i i (length m.programs + 1) a b g low) g.at.under_way (λ v le. cannot_beyond (get_or b.found.orders i []) v (omega arith));
+      keys_are = g.at.keys_are;
+      few = g.at.few;
+    };
+    more = g.more;
+    kept = g.kept;
+    limit_is = g.limit_is;
+  }

@@ -1,0 +1,155 @@
+-- All states, and what they come to.
+-- m is a meeting, o and p are orders, i is the place of an order that is found.
+use Rattle.std.proofs.Common.{◌≡◌, refl, sym, ◌∙◌, ap, subst, ℕ, ◌+◌, ◌<◌, ◌≤◌, Bool, true, false, List, [], ◌∷◌, ◌++◌, length, get_or, take, Option, None, Some, arith, inl, inr, if◌then◌else◌}
+use Rattle.std.specs.Prelude.{Contains, IfSome, option_and_then}
+use Rattle.std.proofs.lemmas.Bool.{cases_Bool}
+use Rattle.std.proofs.lemmas.List.{get_or-take, get_or_default, length-take, take-append-le, take_all, take_more}
+use Rattle.dbtg_program.specs.declared.program.End.{End}
+use Rattle.dbtg_program.specs.States.{ProgramState}
+use Rattle.dbtg_program.specs.Going.{Due, due, ended}
+use Rattle.dbtg_step.specs.Machine.SequentialDatabase.{unit_at}
+use Rattle.dbtg_explore.specs.declared.ends.Ends as ends
+use Rattle.dbtg_explore.specs.declared.explored.Explored as given
+use Rattle.dbtg_explore.specs.declared.explored.Failure.{Failure}
+use Rattle.dbtg_explore.specs.declared.search.Search as search
+use Rattle.dbtg_explore.specs.Explored.{IsEndless, IsExplored}
+use Rattle.dbtg_explore.specs.Inside.Ends.{AreEndsOf, FailsIn, IsBehind, Notes}
+use Rattle.dbtg_explore.specs.Inside.Places.{failure_by}
+use Rattle.dbtg_explore.specs.Inside.Search.{HasFirst}
+use Rattle.dbtg_explore.specs.Inside.Steps.{Goes, IsAt, can_follow}
+use Rattle.dbtg_explore.specs.Inside.Visits.{HasVisited, IsThrough, IsVisited}
+use Rattle.dbtg_explore.specs.Orders.{IsBefore, IsEnd, IsOrder, Meeting, history_of}
+use Rattle.dbtg_explore.specs.Pairwise.{ArePairwise}
+use Rattle.dbtg_explore.specs.Results.{AreFailures, AreResults, Fails, is_failure, result_text, state_text}
+use Rattle.dbtg_explore.specs.States.{CountsStates, MeetingState, state_of}
+use Rattle.dbtg_explore.proofs.Alike.{can_go_on_alike}
+use Rattle.dbtg_explore.proofs.Before.{no_later_trans}
+use Rattle.dbtg_explore.proofs.Searched.{all_found, in_order_at}
+use Rattle.dbtg_explore.proofs.Steps.{goes_on, kept_at, kept_range}
+
+-- what is before place i is before the order at it
+is_behind : (os : List (List ℕ)) (i : ℕ) → ArePairwise IsBefore os → i < length os → IsBehind (take i os) (get_or os i [])
+is_behind os i in_order low p c =
+    let few = length-take i os in
+    let short = c.1 in
+    let at : get_or os c.0 [] ≡ p = sym (get_or-take i os c.0 [] (omega arith)) ∙ get_or_default (take i os) c.0 [] p c.1 ∙ c.2 in
+    subst (λ q. IsBefore q (get_or os i [])) at (in_order_at os c.0 i in_order (omega arith) low)
+
+-- states before place i are visited, and there may be no more than the limit
+pub record IsOnTheWay (m : Meeting) (limit i : ℕ) (s : search.Search) (e : ends.Ends) : Type 0 where
+  pub visited : IsVisited m i s e
+  pub limit_is : s.limit ≡ limit
+  pub within : i ≤ length s.found.orders
+
+module _ (m : Meeting) where
+  -- one more
+  pub visited_more : (i : ℕ) (old new : search.Search) (before after : ends.Ends) (o : List ℕ) → i < length old.found.orders → IsVisited m i old before → Goes m (i + 1) 0 old new → o ≡ get_or new.found.orders i [] → Notes m o before after → HasVisited m i old new after
+  visited_more i old new before after o low visited goes is notes =
+      let same : get_or new.found.orders i [] ≡ get_or old.found.orders i [] = kept_at m (i + 1) i 0 old new goes low in
+      let here : o ≡ get_or old.found.orders i [] = is ∙ same in
+      let behind = subst (IsBehind (take i old.found.orders)) (sym here) (is_behind old.found.orders i visited.at.under_way.in_order low) in
+      let noted = notes (take i old.found.orders) behind visited.ends in
+      let longer : take (i + 1) old.found.orders ≡ take i old.found.orders ++ o ∷ [] = take_more old.found.orders i [] low ∙ ap (λ (p : List ℕ). take i old.found.orders ++ p ∷ []) (sym here) in
+      let kept : take (i + 1) new.found.orders ≡ take (i + 1) old.found.orders = ap (take (i + 1)) goes.kept ∙ take-append-le (i + 1) old.found.orders goes.more (omega arith) in
+      record {
+        visited = record { at = goes.at; ends = subst (λ os. AreEndsOf m os after) (sym (kept ∙ longer)) noted };
+        within = kept_range m (i + 1) i 0 old new goes low;
+        limit_is = goes.limit_is;
+      }
+
+  pub on_the_way : (limit : ℕ) (s : search.Search) (e : ends.Ends) → IsAt m 0 0 s → s.limit ≡ limit → AreEndsOf m [] e → IsOnTheWay m limit 0 s e
+  on_the_way limit s e at limit_is none = record { visited = record { at = at; ends = none }; limit_is = limit_is; within = omega arith }
+
+  pub one_on_the_way : (limit i : ℕ) (old new : search.Search) (before after : ends.Ends) → IsOnTheWay m limit i old before → HasVisited m i old new after → IsOnTheWay m limit (i + 1) new after
+  one_on_the_way limit i old new before after way h = record { visited = h.visited; limit_is = h.limit_is ∙ way.limit_is; within = let low = h.within in omega arith }
+
+  pub is_through : (limit i : ℕ) (s : search.Search) (e : ends.Ends) → IsOnTheWay m limit i s e → length s.found.orders ≤ i → IsThrough m limit s e
+  is_through limit i s e way end =
+      let within = way.within in
+      let all : i ≡ length s.found.orders = omega arith in
+      record { visited = subst (λ (k : ℕ). IsVisited m k s e) all way.visited; limit_is = way.limit_is }
+
+  -- WHERE ALL ARE VISITED
+
+  -- a failure in a state
+  record HasFailed (state : MeetingState) (f : Failure) : Type 0 where
+    at : ProgramState
+    ended_is : unit_at state.programs f.unit ≡ Some (ended at f.how)
+    is_failure_is : is_failure f.how ≡ true
+
+  has_failed : (state : MeetingState) (f : Failure) → FailsIn state f → HasFailed state f
+  has_failed state f is = by (unit_at state.programs f.unit) refl is where
+    by_end : (at : ProgramState) (how : End) (b : Bool) → unit_at state.programs f.unit ≡ Some (ended at how) → is_failure how ≡ b → (if b then Some how else None) ≡ Some f.how → HasFailed state f
+    by_end at how true there fails e =
+        let same : how ≡ f.how = cc in
+        record { at = at; ended_is = there ∙ (λ i. Some (ended at (same i))); is_failure_is = ap is_failure (sym same) ∙ fails }
+    by_end at how false there fails e = absurd (cc)
+
+    by : (d : Option Due) → unit_at state.programs f.unit ≡ d → option_and_then failure_by d ≡ Some f.how → HasFailed state f
+    by None there e = absurd (cc)
+    by (Some (due at s)) there e = absurd (cc)
+    by (Some (ended at how)) there e = by_end at how (is_failure how) there refl e
+
+  fails_there : (state : MeetingState) (f : Failure) (at : ProgramState) → unit_at state.programs f.unit ≡ Some (ended at f.how) → is_failure f.how ≡ true → FailsIn state f
+  fails_there state f at there fails = ap (option_and_then failure_by) there ∙ ap (λ (b : Bool). if b then Some f.how else None) fails
+
+  module _ (limit : ℕ) (s : search.Search) (e : ends.Ends) (through : IsThrough m limit s e) where
+    seen : take (length s.found.orders) s.found.orders ≡ s.found.orders
+    seen = take_all (length s.found.orders) s.found.orders (omega arith)
+
+    noted : AreEndsOf m s.found.orders e
+    noted = subst (λ os. AreEndsOf m os e) seen through.visited.ends
+
+    first_of : (o : List ℕ) → IsOrder m o → HasFirst (state_of m) s.found.orders o
+    first_of = all_found (IsOrder m) (can_follow m) (state_of m) (goes_on m) s.found.orders (length s.found.orders) (omega arith) through.visited.at.under_way
+
+    pub counts : CountsStates m (length s.found.orders)
+    counts = record {
+      orders = s.found.orders;
+      are_apart = record { are_orders = through.visited.at.under_way.are_orders; apart = through.visited.at.under_way.apart };
+      all = λ o is. let first = first_of o is in (first.first, first.is_found, first.same);
+      count = refl;
+    }
+
+    pub are_results : AreResults m e.results.orders
+    are_results =
+        let results = noted.results.firsts in
+        record {
+          ends = results.ends;
+          all = λ o end.
+              let first = first_of o end.is_order in
+              let there : IsEnd m first.first = record {
+                is_order = through.visited.at.under_way.are_orders first.first first.is_found;
+                at_end = λ u. can_go_on_alike m (history_of m first.first) (history_of m o) u first.same ∙ end.at_end u;
+              } in
+              let result = results.all first.first first.is_found there in
+              (result.first, result.is_found, result.same ∙ ap (state_text m) first.same, no_later_trans result.first first.first o result.no_later first.no_later);
+          once = results.once;
+          in_order = results.in_order;
+        }
+
+    pub are_failures : AreFailures m e.failures.items
+    are_failures =
+        let failures = noted.failures in
+        record {
+          fail = λ f c.
+              let at = failures.fail f c in
+              let failed = has_failed (state_of m at.0) f at.2 in
+              record { order = at.0; is_order = through.visited.at.under_way.are_orders at.0 at.1; state = failed.at; ended_is = failed.ended_is; is_failure_is = failed.is_failure_is };
+          all = λ f fails.
+              let first = first_of fails.order fails.is_order in
+              failures.all f first.first first.is_found (subst (λ (state : MeetingState). FailsIn state f) (sym first.same) (fails_there (state_of m fails.order) f fails.state fails.ended_is fails.is_failure_is));
+          in_order = failures.in_order;
+        }
+
+    pub is_within : length s.found.orders ≤ limit
+    is_within = let few = through.visited.at.few in let same = through.limit_is in omega arith
+
+    -- so all is explored, but for ways round
+    pub is_explored : (all : given.Explored) → all.states ≡ length s.found.orders → all.results ≡ e.results.orders → all.failures ≡ e.failures.items → IfSome all.endless (IsEndless m) → IsExplored m all
+    is_explored all states_are results_are failures_are endless = record {
+      states = subst (CountsStates m) (sym states_are) counts;
+      results = subst (AreResults m) (sym results_are) are_results;
+      failures = subst (AreFailures m) (sym failures_are) are_failures;
+      endless = endless;
+    }

@@ -1,0 +1,10 @@
+use Rattle.std.proofs.Common.{◌≡◌, ◌∙◌, sym, ap}
+use Rattle.std.proofs.lemmas.Slice.Eq.{bytes_eq-Decides}
+use Rattle.dbtg_explore.proofs.Rounding.{come_back}
+use Rattle.dbtg_explore.proofs.endless.comes_back.Goals as goal
+
+pub returns : goal.returns
+returns c = λ e.
+    come_back c.args.meeting.now c.requires.meeting c.args.round.now c.as_slice-2.result.now c.as_slice.result.now c.args.here.now c.go.new.here
+    (c.as_slice-2.ensures.value ∙ c.in_ok-before.ensures) (c.as_slice.ensures.value ∙ c.in_ok-after.ensures)
+    ((bytes_eq-Decides c.as_slice.result.now c.as_slice-2.result.now).0 (sym c.eq.ensures ∙ e)) (c.in_ok-go.ensures c.if-not-branch.false)

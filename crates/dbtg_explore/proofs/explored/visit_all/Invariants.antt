@@ -1,0 +1,10 @@
+use Rattle.std.proofs.Common.{◌≡◌, ◌-◌}
+use Rattle.dbtg_explore.specs.Inside.Visits.{IsVisited}
+use Rattle.dbtg_explore.proofs.Visiting.{IsOnTheWay}
+use Rattle.dbtg_explore.proofs.explored.visit_all.Given as goal
+
+abbrev pub invariant-loop-place : goal.invariant-loop-place
+invariant-loop-place l = IsOnTheWay l.meeting l.limit l.place l.search l.ends
+
+abbrev pub decreases-loop-place : goal.decreases-loop-place
+decreases-loop-place l = l.limit - l.place

@@ -1,0 +1,49 @@
+-- What is noted of the orders that a search has found: results and failures.
+-- m is a meeting, o and p are orders, seen are those that are behind.
+use Rattle.std.specs.Prelude.{ℕ, ◌≡◌, ◌++◌, List, [], ◌∷◌, Some, Contains, map}
+use Rattle.dbtg_unit.specs.declared.unit.Entry.{Entry}
+use Rattle.dbtg_explore.specs.declared.ends.Ends as given
+use Rattle.dbtg_explore.specs.declared.explored.Failure.{Failure}
+use Rattle.dbtg_explore.specs.Inside.Found.{FoundOrders}
+use Rattle.dbtg_explore.specs.Inside.Places.{failure_in}
+use Rattle.dbtg_explore.specs.Inside.Search.{AreFirsts}
+use Rattle.dbtg_explore.specs.Orders.{IsBefore, IsEnd, Meeting}
+use Rattle.dbtg_explore.specs.Pairwise.{ArePairwise}
+use Rattle.dbtg_explore.specs.Results.{FailsBefore, result_text}
+use Rattle.dbtg_explore.specs.States.{MeetingState, state_after, state_of}
+
+-- a program has failed so in a state
+abbrev pub FailsIn : MeetingState → Failure → Type 0
+FailsIn state f = failure_in state f.unit ≡ Some f.how
+
+-- that of unit u after a history
+abbrev pub FailsAt : Meeting → List Entry → ℕ → Failure → Type 0
+FailsAt m history u f = (f.unit ≡ u) × FailsIn (state_after m history) f
+
+-- the failures after these orders, each once, in their order
+pub record AreFailuresOf (m : Meeting) (seen : List (List ℕ)) (failures : List Failure) : Type 0 where
+  pub fail : (f : Failure) → Contains failures f → (o : List ℕ) × Contains seen o × FailsIn (state_of m o) f
+  pub all : (f : Failure) (o : List ℕ) → Contains seen o → FailsIn (state_of m o) f → Contains failures f
+  pub in_order : ArePairwise FailsBefore failures
+
+-- the results after these orders, each under its text
+pub record AreResultsOf (m : Meeting) (seen : List (List ℕ)) (results : FoundOrders) : Type 0 where
+  pub firsts : AreFirsts (IsEnd m) (result_text m) seen results.orders
+  pub keys_are : results.keys ≡ map (result_text m) results.orders
+
+-- all that is noted after these orders
+pub record AreEndsOf (m : Meeting) (seen : List (List ℕ)) (ends : given.Ends) : Type 0 where
+  pub results : AreResultsOf m seen ends.results
+  pub failures : AreFailuresOf m seen ends.failures.items
+
+-- an order is behind all these
+abbrev pub IsBehind : List (List ℕ) → List ℕ → Type 0
+IsBehind seen o = (p : List ℕ) → Contains seen p → IsBefore p o
+
+-- one order more, which is behind all others, has its result noted
+abbrev pub NotesResult : Meeting → List ℕ → FoundOrders → FoundOrders → Type 0
+NotesResult m o old new = (seen : List (List ℕ)) → IsBehind seen o → AreResultsOf m seen old → AreResultsOf m (seen ++ o ∷ []) new
+
+-- and its failures
+abbrev pub Notes : Meeting → List ℕ → given.Ends → given.Ends → Type 0
+Notes m o old new = (seen : List (List ℕ)) → IsBehind seen o → AreEndsOf m seen old → AreEndsOf m (seen ++ o ∷ []) new

@@ -1,0 +1,46 @@
+-- The law of the machine of events and the orders: every run in which programs come to their ends is one of the results.
+-- m is a meeting, u a unit.
+use Rattle.std.specs.Prelude.{ℕ, ◌≡◌, ◌≤◌, true, false, List, [], ◌∷◌, ◌++◌, Some, map, length}
+use Rattle.std.specs.List.{range_with_len}
+use Rattle.dbtg_script.specs.Printing.Texts.{run_text}
+use Rattle.dbtg_unit.specs.declared.moves.Move.{Move}
+use Rattle.dbtg_unit.specs.declared.statement.Statement.{Statement}
+use Rattle.dbtg_unit.specs.declared.unit.Entry.{Entry}
+use Rattle.dbtg_unit.specs.Database.Laws.Replay.{entries_of}
+use Rattle.dbtg_program.specs.declared.program.Program.{Program}
+use Rattle.dbtg_program.specs.Going.{AreOf}
+use Rattle.dbtg_step.specs.declared.results.Run.{Run}
+use Rattle.dbtg_step.specs.Laws.{scripts_fit}
+use Rattle.dbtg_step.specs.Machine.Headline.{RunIs}
+use Rattle.dbtg_step.specs.Machine.SequentialDatabase.{unit_at}
+use Rattle.dbtg_going.specs.Texts.{programs_text}
+use Rattle.dbtg_outcomes.specs.Results.{by_unit}
+use Rattle.dbtg_explore.specs.Orders.{IsEnd, Meeting, beginning, can_go_on, history_of, waits}
+use Rattle.dbtg_explore.specs.Results.{reached_of, result_text}
+use Rattle.dbtg_explore.specs.States.{state_after}
+
+-- the statements of a history are those of the programs, each to its end: it begins as the meeting does; the entries of each unit are of its
+-- program; the last program makes none behind that as long as it has to wait; and at the end no program can go on
+pub record MakesAll (m : Meeting) (history : List Entry) : Type 0 where
+  pub rest : List Entry
+  pub begins : history ≡ beginning m ++ rest
+  pub of_programs : (u : ℕ) (program : Program) → unit_at m.programs u ≡ Some program → AreOf m.schema program (entries_of u history)
+  pub waited : (before after : List Entry) (e : Entry) → rest ≡ before ++ e ∷ after → waits m (beginning m ++ before) e.unit ≡ false
+  pub at_end : (u : ℕ) → can_go_on m history u ≡ false
+
+-- what is printed of a run behind `--`, but that the units that have an area open stand in the order of their numbers
+abbrev pub text_of_run : Meeting → Run → List ℕ
+text_of_run m run =
+    run_text m.schema [] run.image.records run.image.lists run.image.next (map (by_unit (range_with_len 1 (length m.programs))) run.image.usage) run.units
+    ++ programs_text 1 m.programs (map reached_of (state_after m run.history).programs)
+
+-- a run has the history of an order that comes to an end, and its text
+pub record ComesOut (m : Meeting) (run : Run) : Type 0 where
+  pub order : List ℕ
+  pub is_end : IsEnd m order
+  pub history_is : run.history ≡ history_of m order
+  pub text_is : text_of_run m run ≡ result_text m order
+
+-- whatever the moves and the scripts, a script for each program: if the run makes all statements of the programs, and no others
+abbrev pub EveryRunComesOut : Meeting → Type 0
+EveryRunComesOut m = (scripts : List (List Statement)) (moves : List Move) (run : Run) → length scripts ≡ length m.programs → scripts_fit m.schema scripts ≡ true → RunIs m.schema m.capacity scripts moves run → MakesAll m run.history → ComesOut m run

@@ -1,0 +1,70 @@
+//! Orders that were found, each the first under its key.
+
+ghost use Rattle.dbtg_explore.specs.Inside.Found.{IsEntered};
+ghost use Rattle.std.specs.Prelude.{◌≡◌, ◌<◌, [], length, slice_index_or, OnOk};
+
+use dbtg_schema::Row;
+use indexmap::IndexSet;
+use std::alloc::{AllocError, Global};
+use std::marker::Model;
+
+/// Orders in which they were found, each under a key that none before it has.
+#[derive(Drop)]
+pub struct Found {
+    keys: IndexSet<Vec<u64>>,
+    orders: Vec<Row<u8>>,
+}
+
+impl Model for Found {
+    ghost use Rattle.std.specs.Prelude.{map};
+    ghost use Rattle.dbtg_explore.specs.Inside.Found.{FoundOrders};
+
+    ghost Value = { FoundOrders };
+
+    ghost view = { λ f. record { keys = map (λ k. k.items) f.keys.keys; orders = f.orders.items } };
+}
+
+impl Found {
+    /// None.
+    pub fn none(alloc: Global) -> Self
+        ensures { result ≡ record { keys = []; orders = [] } }
+    {
+        Self {
+            keys: IndexSet::new(alloc),
+            orders: Vec::new(alloc),
+        }
+    }
+
+    /// How many there are.
+    pub fn len(&self) -> usize
+        ensures { result ≡ length self.now.orders }
+    {
+        self.orders.len()
+    }
+
+    /// The order that was found at this place, from 0.
+    pub fn at(&self, place: usize) -> &[u8]
+        requires { place < length self.now.orders }
+        ensures { result.now ≡ slice_index_or self.now.orders place [] }
+    {
+        self.orders[place].as_slice()
+    }
+
+    /// Puts an order behind the others, if its key is new. Gives the place of the key.
+    pub fn enter(&mut self, key: Vec<u64>, order: Row<u8>) -> Result<usize, AllocError>
+        ensures { OnOk result (IsEntered self.old key.items order self.new) }
+    {
+        let (place, is_new) = self.keys.insert_full(key)?;
+        if is_new {
+            self.orders.push(order)?;
+        }
+        Ok(place)
+    }
+
+    /// The orders, without their keys.
+    pub fn into_orders(self) -> Row<Row<u8>>
+        ensures { result ≡ self.orders }
+    {
+        Row::of(self.orders)
+    }
+}

@@ -1,0 +1,91 @@
+//! Explores programs that meet, as a caller does, with memory to spare. That a way round is found where there is one no contract says.
+
+use dbtg_explore::{Explored, Meeting, explore};
+use dbtg_program::{End, read_program};
+use dbtg_schema::Schema;
+use std::test::*;
+
+/// One area, and nothing else that the programs name.
+const HOUSE: &[u8] =
+    b"SCHEMA NAME IS HOUSE.\nAREA NAME IS MAIN.\nRECORD NAME IS ROOM; WITHIN MAIN.\n  02 NUMBER PICTURE IS 9(4).\n";
+
+/// Opens the area, and keeps it open.
+const OPENS: &[u8] = b"OPEN AREA MAIN USAGE-MODE IS EXCLUSIVE UPDATE\n";
+
+/// Tries to open the area until it can, and closes it.
+const TRIES: &[u8] =
+    b"AGAIN.\nOPEN AREA MAIN USAGE-MODE IS EXCLUSIVE UPDATE\nIF STATUS = 0129 GO TO AGAIN\nCLOSE AREA MAIN\n";
+
+/// Tries as many times as it can count.
+const COUNTS: &[u8] =
+    b"01 TRIES PIC 9(4)\nAGAIN.\nADD 1 TO TRIES\nOPEN AREA MAIN USAGE-MODE IS EXCLUSIVE UPDATE\nIF STATUS = 0129 GO TO AGAIN\nCLOSE AREA MAIN\n";
+
+/// Opens the area, which it wants to be refused.
+const ASSERTS: &[u8] =
+    b"OPEN AREA MAIN USAGE-MODE IS EXCLUSIVE UPDATE\nASSERT STATUS = 0129\n";
+
+/// What comes of these programs; none where memory is refused or there are more states than the limit.
+fn explored(rt: &HostRuntime, texts: &[&[u8]], limit: usize) -> Option<Explored> {
+    let schema = Schema::read(rt.alloc(), HOUSE).ok()?;
+    let mut programs = Vec::new(rt.alloc());
+    for text in texts {
+        programs.push(read_program(rt.alloc(), &schema, text).ok()?).ok()?;
+    }
+    let meeting = Meeting {
+        schema: &schema,
+        capacity: 10,
+        programs: programs.as_slice(),
+        begun: &[],
+        last_waits: false,
+    };
+    explore(rt.alloc(), &meeting, limit).ok()
+}
+
+// Unit 2 tries for ever where unit 1 was first; unit 1 is refused where unit 2 was, and has ended.
+#[test]
+fn one_tries_in_vain(rt: HostRuntime) {
+    let Some(all) = explored(&rt, &[OPENS, TRIES], 100) else {
+        panic!(rt; "not explored")
+    };
+    assert!(rt; all.states == 8);
+    assert!(rt; all.results.len() == 2);
+    assert!(rt; all.results.as_slice()[0].as_slice() == [2, 1, 2].as_slice());
+    assert!(rt; all.results.as_slice()[1].as_slice() == [2, 2, 1].as_slice());
+    assert!(rt; all.failures.is_empty());
+    let Some(endless) = all.endless else {
+        panic!(rt; "no way round")
+    };
+    assert!(rt; endless.turns.as_slice() == [1, 2].as_slice());
+    assert!(rt; endless.round.as_slice() == [2].as_slice());
+}
+
+// Each lets the other go on, so neither can try for ever.
+#[test]
+fn nobody_tries_in_vain(rt: HostRuntime) {
+    let Some(all) = explored(&rt, &[TRIES, TRIES], 100) else {
+        panic!(rt; "not explored")
+    };
+    assert!(rt; all.results.len() == 1);
+    assert!(rt; all.results.as_slice()[0].as_slice() == [1, 1, 2, 2].as_slice());
+    assert!(rt; all.endless.is_none());
+}
+
+// Each try is a new state.
+#[test]
+fn tries_that_are_counted_come_to_the_limit(rt: HostRuntime) {
+    assert!(rt; explored(&rt, &[OPENS, COUNTS], 200).is_none());
+    assert!(rt; explored(&rt, &[COUNTS], 3).is_some());
+    assert!(rt; explored(&rt, &[COUNTS], 2).is_none());
+}
+
+// Unit 1 fails where it is first, and not where unit 2 is; where it fails unit 2 tries for ever.
+#[test]
+fn one_fails_although_another_goes_on(rt: HostRuntime) {
+    let Some(all) = explored(&rt, &[ASSERTS, TRIES], 100) else {
+        panic!(rt; "not explored")
+    };
+    assert!(rt; all.failures.len() == 1);
+    assert!(rt; all.failures.as_slice()[0].unit == 1);
+    assert!(rt; all.failures.as_slice()[0].how == End::Assert(2));
+    assert!(rt; all.endless.is_some());
+}
