@@ -27,11 +27,13 @@ def text_of(lines):
     return "".join(line.text() + "\n" for line in lines)
 
 
-def machine_after(schema, capacity, units, lines):
-    """The machine that has made the statements of the lines, each whole, in their order."""
+def machine_after(schema, capacity, units, lines, first=None):
+    """The machine that has made the statements of the lines, each whole, in their order; the script with the text `first` before them."""
     scripts = ["".join(it.statement + "\n" for it in lines if it.unit == unit) for unit in range(1, units + 1)]
-    machine = Machine(schema, capacity, scripts)
-    list(machine.run_turns([it.unit for it in lines]))
+    load = [] if first is None else [it for it in lines_of(first) if has_statement(it)]
+    machine = Machine(schema, capacity, scripts + ([] if first is None else [first]))
+    list(machine.run_turns([units + 1] * len(load) + [it.unit for it in lines]))
+    machine.lines = machine.lines[len(load):]
     return machine
 
 
@@ -42,11 +44,13 @@ def is_so(said, answer, statuses):
     return answer == said or answer.startswith(said + " ")
 
 
-def audited(schema, capacity, units, lines, statuses=False):
-    """What `audit` prints of this trace, on standard output and on standard error."""
-    machine = machine_after(schema, capacity, units, lines)
+def audited(schema, capacity, units, lines, statuses=False, first=None, every=False):
+    """What `audit` prints of this trace, on standard output and on standard error; with `every` all that differs."""
+    machine = machine_after(schema, capacity, units, lines, first)
     answers = [it.split(" ", 2)[2] for it in machine.lines]
-    for line, answer in zip(lines, answers):
-        if not is_so(line.said, answer, statuses):
-            return "", f"trace differs line {line.number}: said {line.said}, is {answer}\n"
+    told = [
+        f"trace differs line {line.number}: said {line.said}, is {answer}\n" for line, answer in zip(lines, answers) if not is_so(line.said, answer, statuses)
+    ]
+    if told:
+        return "", "".join(told if every else told[:1])
     return printed(machine).partition("--\n")[2] + "AUDIT EQUAL\n", ""

@@ -14,7 +14,7 @@ mod timeline;
 mod wishes;
 
 use clap::error::ErrorKind;
-use dbtg_audit::{Verdict, audit};
+use dbtg_audit::{AuditOptions, Verdict, audit};
 use dbtg_command::check::check;
 use dbtg_command::draw::draw;
 use dbtg_command::explain::{Topic, explained, status_topic};
@@ -192,6 +192,7 @@ fn print_run(
 fn begins_with_file(call: &Call) -> bool {
     let runs = matches!(
         call.named,
+        Named::Audit | Named::Outcomes | Named::Page | Named::Replay | Named::Timeline
         Named::Outcomes | Named::Page | Named::Replay | Named::Threads | Named::Timeline
     );
     runs && call.first && call.schema != "-" && call.scripts.last().is_some_and(|path| *path != "-")
@@ -295,18 +296,28 @@ fn audit_files(rt: &HostRuntime, call: &Call) -> ExitCode
         reader: rt,
         paths: &paths,
     };
-    match audit(
-        rt.alloc(),
-        &files,
-        call.capacity,
-        call.units as u8,
-        call.statuses,
-    ) {
-        Ok(Verdict::Equal(text)) => print_text(rt, text.as_slice()),
-        Ok(Verdict::Differs { told, status }) => {
-            tell_difference(rt, told.as_slice(), status, call.explains)
+    let options = AuditOptions {
+        capacity: call.capacity,
+        units: call.units as u8,
+        statuses: call.statuses,
+        all: call.all,
+    };
+    match audit(rt.alloc(), &files, options) {
+        Ok(said) => {
+            tell_refusals(rt, &files, call);
+            print_verdict(rt, &said, call.explains)
         }
         Err(fault) => told_of(rt, &fault, &paths, call.explains),
+    }
+}
+
+fn print_verdict(rt: &HostRuntime, said: &Verdict, explains: bool) -> ExitCode {
+    match said {
+        Verdict::Equal(text) => print_text(rt, text.as_slice()),
+        Verdict::Differs { told, status } => {
+            tell_difference(rt, told.as_slice(), *status, explains)
+        }
+        Verdict::Listed(told) => tell_lines(rt, told.as_slice()),
     }
 }
 
@@ -318,13 +329,19 @@ fn tell_text(rt: &HostRuntime, text: &[u8]) {
 
 // The line of a trace that differs; with `--explain` what its status means.
 fn tell_difference(rt: &HostRuntime, line: &[u8], status: u16, explains: bool) -> ExitCode {
-    let Ok(line) = String::from_utf8_lossy(rt.alloc(), line) else {
-        return told(rt, &Fault::Memory);
-    };
-    let _ = eprint!(rt; "{line}");
+    let ended = tell_lines(rt, line);
     if explains {
         tell_status(rt, status);
     }
+    ended
+}
+
+// The lines of a trace that differ.
+fn tell_lines(rt: &HostRuntime, lines: &[u8]) -> ExitCode {
+    let Ok(lines) = String::from_utf8_lossy(rt.alloc(), lines) else {
+        return told(rt, &Fault::Memory);
+    };
+    let _ = eprint!(rt; "{lines}");
     ExitCode::FAILURE
 }
 

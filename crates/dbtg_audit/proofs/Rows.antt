@@ -17,7 +17,9 @@ use Rattle.dbtg_unit.proofs.Rows.Defined.Schemas.{card, main, customers}
 use Rattle.dbtg_unit.proofs.Rows.Words.{customer_key, store, text}
 use Rattle.dbtg_trace.specs.declared.traced.Said.{Said}
 use Rattle.dbtg_trace.specs.declared.traced.Traced.{Traced}
-use Rattle.dbtg_audit.specs.Auditing.{IsFirstDifference, is_so}
+use Rattle.dbtg_audit.specs.declared.auditing.Recorded.{Recorded}
+use Rattle.dbtg_audit.specs.Telling.{difference_text}
+use Rattle.dbtg_audit.specs.Auditing.{IsFirstDifference, all_units, behind_load, differences_text, is_so, loads}
 
 -- WHAT IS SAID OF AN ANSWER
 
@@ -104,7 +106,10 @@ behind = line 6 2 (Get None) (status 0) ∷ []
 abbrev history : List Entry
 history = opened 0 1 ∷ stored ∷ opened 2 2 ∷ entry 3 2 store_ada no_duplicate ∷ []
 
-line_5_is_told : IsFirstDifference false card 100 2 (before ++ here ∷ behind) (record { line = 5; said = status 0; history = history })
+abbrev recorded : Recorded
+recorded = record { units = 2; load = None; traced = before ++ here ∷ behind }
+
+line_5_is_told : IsFirstDifference false card 100 recorded (record { line = 5; said = status 0; history = history })
 unfolding effect AnswersHold
 line_5_is_told = record {
   before = before;
@@ -120,3 +125,31 @@ line_5_is_told = record {
   so_before = refl;
   differs = refl;
 }
+
+-- THE SCRIPT THAT IS MADE FIRST
+
+-- what was the trace's beginning, as a script that unit 3 makes first; unit 2 then stores again
+abbrev loaded : Recorded
+loaded = record { units = 2; load = Some (OpenArea main Update ∷ store_ada ∷ []); traced = line 1 2 (OpenArea main Update) (status 0) ∷ line 2 2 store_ada (status 505) ∷ [] }
+
+three_units : all_units loaded ≡ 3
+three_units = refl
+
+unit_3_loads : loads loaded.units loaded.load ≡ (3, OpenArea main Update) ∷ (3, store_ada) ∷ []
+unit_3_loads = refl
+
+nothing_is_said_of_the_load : behind_load loaded (opened 0 3 ∷ stored ∷ opened 2 2 ∷ entry 3 2 store_ada no_duplicate ∷ []) ≡ opened 2 2 ∷ entry 3 2 store_ada no_duplicate ∷ []
+nothing_is_said_of_the_load = refl
+
+-- EVERY LINE
+
+-- of two lines the one that differs is told
+the_second_is_told : differences_text false card (line 4 1 (Get None) (with_key 0 (customer_key 1)) ∷ line 7 1 (Get None) (status 413) ∷ []) (got ∷ got ∷ []) ≡ difference_text card 7 (status 413) got ++ []
+the_second_is_told = refl
+
+both_are_told : differences_text true card (line 1 2 store_ada (status 0) ∷ line 2 2 store_ada (status 511) ∷ []) (refused ∷ refused ∷ []) ≡ difference_text card 1 (status 0) refused ++ (difference_text card 2 (status 511) refused ++ [])
+both_are_told = refl
+
+-- by statuses alone another key is not told
+nothing_is_told : differences_text true card (line 4 1 (Get None) (with_key 0 (customer_key 2)) ∷ []) (got ∷ []) ≡ []
+nothing_is_told = refl

@@ -1,6 +1,7 @@
 -- What the audit of a trace says: whether the sequential database gives the answers of which the trace tells.
--- traced are the statements of a trace, in their order, with what is said of their answers.
-use Rattle.std.specs.Prelude.{ℕ, ◌≡◌, ◌==◌, ◌&&◌, ◌||◌, ◌++◌, Bool, true, false, List, [], ◌∷◌, Option, Some, None, map}
+-- traced are the statements of a trace, in their order, with what is said of their answers; recorded is a trace with its units, and it
+-- may be a script that is made first.
+use Rattle.std.specs.Prelude.{ℕ, ◌≡◌, ◌+◌, ◌==◌, ◌&&◌, ◌||◌, ◌++◌, Bool, true, false, List, [], ◌∷◌, Option, Some, None, if◌then◌else◌, drop, length, map}
 use Rattle.dbtg_schema.specs.Lists.{Lists}
 use Rattle.dbtg_schema.specs.Lookups.{some_and}
 use Rattle.dbtg_cells.specs.Keys.{key_eq, values_eq}
@@ -15,7 +16,11 @@ use Rattle.dbtg_trace.specs.declared.traced.Said.{Said}
 use Rattle.dbtg_trace.specs.declared.traced.Traced.{Traced}
 use Rattle.dbtg_audit.specs.declared.auditing.Audited.{Audited}
 use Rattle.dbtg_audit.specs.declared.auditing.Audited.TheVariants.{Equal, Differs}
+use Rattle.dbtg_audit.specs.declared.auditing.AllAudited.{AllAudited}
+use Rattle.dbtg_audit.specs.declared.auditing.AllAudited.TheVariants as every
 use Rattle.dbtg_audit.specs.declared.auditing.Difference.{Difference}
+use Rattle.dbtg_audit.specs.declared.auditing.Recorded.{Recorded}
+use Rattle.dbtg_audit.specs.Telling.{difference_text}
 
 -- WHAT IS SAID OF ANSWERS
 
@@ -42,39 +47,81 @@ all_so statuses (t ∷ traced) [] = false
 abbrev pub asked : List Traced → List (ℕ × Statement)
 asked = map (λ t. (t.unit, t.statement))
 
--- the history in which the sequential database answers these statements
-pub record Answers (schema : Lists) (capacity units : ℕ) (traced : List Traced) (history : List Entry) : Type 0 where
-  pub statements_are : statements_of history ≡ asked traced
-  pub history_of : IsHistoryOf schema capacity units history
+-- how many units there are: those of the trace, and behind them the one whose script is made first
+abbrev pub units_with : ℕ → Option (List Statement) → ℕ
+units_with units None = units
+units_with units (Some script) = units + 1
+
+-- the statements of the script that is made first, all of the unit behind the others
+abbrev pub loads : ℕ → Option (List Statement) → List (ℕ × Statement)
+loads units None = []
+loads units (Some script) = map (λ x. (units + 1, x)) script
+
+abbrev pub all_units : Recorded → ℕ
+all_units recorded = units_with recorded.units recorded.load
+
+-- the history in which the sequential database answers these statements, behind those that are made first
+pub record Answers (schema : Lists) (capacity : ℕ) (recorded : Recorded) (traced : List Traced) (history : List Entry) : Type 0 where
+  pub statements_are : statements_of history ≡ loads recorded.units recorded.load ++ asked traced
+  pub history_of : IsHistoryOf schema capacity (all_units recorded) history
+
+-- the entries behind those that are made first
+abbrev pub behind_load : Recorded → List Entry → List Entry
+behind_load recorded history = drop (length (loads recorded.units recorded.load)) history
 
 -- THE AUDIT
 
 -- all that is said of that history's answers is so, and it leads to this image and these units
-pub record IsEqual (statuses : Bool) (schema : Lists) (capacity units : ℕ) (traced : List Traced) (given : Run) : Type 0 where
-  pub statements_are : statements_of given.history ≡ asked traced
-  pub leads : LeadsTo schema capacity units given.history given.image given.units
-  pub so : all_so statuses traced given.history ≡ true
+pub record IsEqual (statuses : Bool) (schema : Lists) (capacity : ℕ) (recorded : Recorded) (given : Run) : Type 0 where
+  pub statements_are : statements_of given.history ≡ loads recorded.units recorded.load ++ asked recorded.traced
+  pub leads : LeadsTo schema capacity (all_units recorded) given.history given.image given.units
+  pub so : all_so statuses recorded.traced (behind_load recorded given.history) ≡ true
 
 -- all is so of the statements before one, and not of that one: its answer is that of the last entry
-pub record IsFirstDifference (statuses : Bool) (schema : Lists) (capacity units : ℕ) (traced : List Traced) (found : Difference) : Type 0 where
+pub record IsFirstDifference (statuses : Bool) (schema : Lists) (capacity : ℕ) (recorded : Recorded) (found : Difference) : Type 0 where
   pub before : List Traced
   pub here : Traced
   pub behind : List Traced
-  pub traced_is : traced ≡ before ++ here ∷ behind
+  pub traced_is : recorded.traced ≡ before ++ here ∷ behind
   pub line_is : found.line ≡ here.line
   pub said_is : found.said ≡ here.said
   pub past : List Entry
   pub entry : Entry
   pub history_is : found.history ≡ past ++ entry ∷ []
-  pub answers : Answers schema capacity units (before ++ here ∷ []) found.history
-  pub so_before : all_so statuses before past ≡ true
+  pub answers : Answers schema capacity recorded (before ++ here ∷ []) found.history
+  pub so_before : all_so statuses before (behind_load recorded past) ≡ true
   pub differs : is_so statuses here.said entry ≡ false
 
 -- all that is said is so of no history of these statements
-abbrev pub IsUnequal : Bool → Lists → ℕ → ℕ → List Traced → Type 0
-IsUnequal statuses schema capacity units traced = (history : List Entry) → Answers schema capacity units traced history → all_so statuses traced history ≡ false
+abbrev pub IsUnequal : Bool → Lists → ℕ → Recorded → Type 0
+IsUnequal statuses schema capacity recorded =
+    (history : List Entry) → Answers schema capacity recorded recorded.traced history → all_so statuses recorded.traced (behind_load recorded history) ≡ false
 
 -- all is so; or something is not, and that is told which is the first
-abbrev pub IsAudited : Bool → Lists → ℕ → ℕ → List Traced → Audited → Type 0
-IsAudited statuses schema capacity units traced (Equal given) = IsEqual statuses schema capacity units traced given
-IsAudited statuses schema capacity units traced (Differs found) = IsFirstDifference statuses schema capacity units traced found × IsUnequal statuses schema capacity units traced
+abbrev pub IsAudited : Bool → Lists → ℕ → Recorded → Audited → Type 0
+IsAudited statuses schema capacity recorded (Equal given) = IsEqual statuses schema capacity recorded given
+IsAudited statuses schema capacity recorded (Differs found) = IsFirstDifference statuses schema capacity recorded found × IsUnequal statuses schema capacity recorded
+
+-- EVERY DIFFERENCE
+
+-- what a line says of an answer is so, and nothing is told of it; or it is told
+abbrev pub told_text : Bool → Lists → ℕ → Said → Entry → List ℕ
+told_text statuses schema line said e = if is_so statuses said e then [] else difference_text schema line said e
+
+-- what is told of all lines, one for one with the entries
+abbrev pub differences_text : Bool → Lists → List Traced → List Entry → List ℕ
+differences_text statuses schema [] entries = []
+differences_text statuses schema (t ∷ traced) [] = []
+differences_text statuses schema (t ∷ traced) (e ∷ entries) = told_text statuses schema t.line t.said e ++ differences_text statuses schema traced entries
+
+-- this is told of the history in which all statements are answered, and something that is said is not so
+pub record AreDifferences (statuses : Bool) (schema : Lists) (capacity : ℕ) (recorded : Recorded) (told : List ℕ) : Type 0 where
+  pub history : List Entry
+  pub answers : Answers schema capacity recorded recorded.traced history
+  pub told_is : told ≡ differences_text statuses schema recorded.traced (behind_load recorded history)
+  pub unequal : all_so statuses recorded.traced (behind_load recorded history) ≡ false
+
+-- all is so; or something is not, and every line of which this holds is told
+abbrev pub IsAllAudited : Bool → Lists → ℕ → Recorded → AllAudited → Type 0
+IsAllAudited statuses schema capacity recorded (every.Equal given) = IsEqual statuses schema capacity recorded given
+IsAllAudited statuses schema capacity recorded (every.Differ told) = AreDifferences statuses schema capacity recorded told.items

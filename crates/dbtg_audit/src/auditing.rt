@@ -1,5 +1,5 @@
 //! The audit of a trace: each statement is made whole, and its answer compared with what the trace says of it.
-ghost use Rattle.std.specs.Prelude.{◌≡◌, ◌≤◌, ◌<◌, ◌-◌, Bool, List, [], length, slice_get, Some, true, IfOk};
+ghost use Rattle.std.specs.Prelude.{◌≡◌, ◌≤◌, ◌<◌, ◌-◌, Bool, List, [], length, slice_get, Some, true, IfOk, IfSome};
 ghost use Rattle.std.specs.List.{list_all};
 ghost use Rattle.dbtg_schema.specs.Sound.{IsSound};
 ghost use Rattle.dbtg_unit.specs.declared.unit.Entry.{Entry};
@@ -7,15 +7,26 @@ ghost use Rattle.dbtg_unit.specs.Database.Statements.Fits.{fits};
 ghost use Rattle.dbtg_step.specs.Core.Whole.{HasMade, Making};
 ghost use Rattle.dbtg_trace.specs.Parts.{is_unit};
 ghost use Rattle.dbtg_trace.specs.declared.traced.Traced.{Traced};
-ghost use Rattle.dbtg_audit.specs.Auditing.{IsAudited, is_so};
-ghost use Rattle.dbtg_audit.specs.Inside.Audits.{HasMadeUpTo};
+ghost use Rattle.dbtg_audit.specs.Auditing.{IsAllAudited, IsAudited, is_so};
+ghost use Rattle.dbtg_audit.specs.declared.auditing.Recorded.{Recorded as SeenRecorded};
+ghost use Rattle.dbtg_audit.specs.Inside.Audits.{HasMadeUpTo, HasToldAll, IsLoaded};
 
+use crate::every::tell_all;
+use crate::loading::loaded;
 use crate::said::is_so;
 use dbtg_schema::{Row, Schema};
 use dbtg_step::{Run, WholeDatabase};
 use dbtg_trace::{Said, Traced};
 use dbtg_unit::{Entry, Statement};
 use std::alloc::{AllocError, Global};
+
+/// What was recorded elsewhere: a trace of so many units, and it may be a script that is made first, by a unit behind them.
+#[derive(Drop)]
+pub struct Recorded {
+    pub units: u8,
+    pub load: Option<Row<Statement>>,
+    pub traced: Row<Traced>,
+}
 
 /// An answer of which a trace says something else: the line that says so, what it says, and the history up to the entry that has
 /// the answer, which is the last.
@@ -33,6 +44,15 @@ pub enum Audited {
     Equal(Run),
     /// The first answer of which it says something else.
     Differs(Difference),
+}
+
+/// What the audit of every line of a trace comes to.
+#[derive(Drop)]
+pub enum AllAudited {
+    /// All that the trace says is so: its history, with the image and the units to which it leads.
+    Equal(Run),
+    /// What is told of each answer of which it says something else.
+    Differ(Vec<u8>),
 }
 
 // Whether what is said of the newest entry's answer is so.
@@ -68,7 +88,6 @@ fn make_up_to(
 ) -> Result<Option<(u64, Said)>, AllocError>
     requires fitting { list_all (λ t. fits database.old.schema t.statement) traced ≡ true }
     requires units { list_all (λ t. is_unit database.old.units t.unit) traced ≡ true }
-    requires fresh { database.old.history ≡ [] }
     ensures { IfOk result (λ found. HasMadeUpTo statuses database.old traced found database.new) }
 {
     for one in traced.into_vec() {
@@ -90,7 +109,8 @@ fn audited_of(
     database: WholeDatabase<'_>,
     found: Option<(u64, Said)>,
 ) -> Result<Audited, AllocError>
-    ensures { IfOk result (λ audited. (statuses : Bool) (old : Making) (traced : List Traced) → HasMadeUpTo statuses old traced found database.entry → IsAudited statuses old.schema old.capacity old.units traced audited) }
+    ensures { IfOk result (λ audited. (statuses : Bool) (old : Making) (recorded : SeenRecorded) → IsLoaded old.schema old.capacity recorded.units recorded.load old
+        → HasMadeUpTo statuses old recorded.traced found database.entry → IsAudited statuses old.schema old.capacity recorded audited) }
 {
     match database.into_run() {
         Ok(run) => match found {
@@ -113,18 +133,72 @@ pub fn audit_trace(
     alloc: Global,
     schema: &Schema,
     capacity: u16,
-    units: u8,
-    traced: Row<Traced>,
+    recorded: Recorded,
     statuses: bool,
 ) -> Result<Audited, AllocError>
     requires sound { IsSound schema.now }
-    requires fitting { list_all (λ t. fits schema.now t.statement) traced ≡ true }
-    requires units { list_all (λ t. is_unit units t.unit) traced ≡ true }
-    ensures { IfOk result (λ audited. IsAudited statuses schema.now capacity units traced audited) }
+    requires few { recorded.units < 255 }
+    requires load { IfSome recorded.load (λ script. list_all (fits schema.now) script ≡ true) }
+    requires fitting { list_all (λ t. fits schema.now t.statement) recorded.traced ≡ true }
+    requires units { list_all (λ t. is_unit recorded.units t.unit) recorded.traced ≡ true }
+    ensures { IfOk result (λ audited. IsAudited statuses schema.now capacity recorded audited) }
 {
-    let mut database = WholeDatabase::opening(alloc, schema, capacity, units)?;
+    let Recorded {
+        units,
+        load,
+        traced,
+    } = recorded;
+    let mut database = loaded(alloc, schema, capacity, units, load)?;
     match make_up_to(&mut database, traced, statuses) {
         Ok(found) => audited_of(database, found),
+        Err(error) => {
+            database.discard();
+            Err(error)
+        }
+    }
+}
+
+// What an audit comes to, where all statements are made and this is told of those that differ.
+fn all_audited_of(
+    database: WholeDatabase<'_>,
+    so: bool,
+    told: Vec<u8>,
+) -> Result<AllAudited, AllocError>
+    ensures { IfOk result (λ audited. (statuses : Bool) (old : Making) (recorded : SeenRecorded) → IsLoaded old.schema old.capacity recorded.units recorded.load old
+        → HasToldAll statuses old.schema old recorded.traced database.entry [] told.items so → IsAllAudited statuses old.schema old.capacity recorded audited) }
+{
+    if so {
+        return Ok(AllAudited::Equal(database.into_run()?));
+    }
+    database.discard();
+    Ok(AllAudited::Differ(told))
+}
+
+/// The same of every line: behind an answer of which the trace says something else, its statements are made on what the sequential
+/// database comes to.
+pub fn audit_every_line(
+    alloc: Global,
+    schema: &Schema,
+    capacity: u16,
+    recorded: Recorded,
+    statuses: bool,
+) -> Result<AllAudited, AllocError>
+    requires sound { IsSound schema.now }
+    requires few { recorded.units < 255 }
+    requires load { IfSome recorded.load (λ script. list_all (fits schema.now) script ≡ true) }
+    requires fitting { list_all (λ t. fits schema.now t.statement) recorded.traced ≡ true }
+    requires units { list_all (λ t. is_unit recorded.units t.unit) recorded.traced ≡ true }
+    ensures { IfOk result (λ audited. IsAllAudited statuses schema.now capacity recorded audited) }
+{
+    let Recorded {
+        units,
+        load,
+        traced,
+    } = recorded;
+    let mut told = Vec::new(alloc);
+    let mut database = loaded(alloc, schema, capacity, units, load)?;
+    match tell_all(&mut told, schema, &mut database, traced, statuses) {
+        Ok(so) => all_audited_of(database, so, told),
         Err(error) => {
             database.discard();
             Err(error)

@@ -2,9 +2,11 @@
 #![tactic(auto)]
 
 mod auditing;
+mod every;
+mod loading;
 mod report;
 mod said;
 mod telling;
 
-pub use auditing::{Audited, Difference, audit_trace};
-pub use report::{Verdict, audit};
+pub use auditing::{AllAudited, Audited, Difference, Recorded, audit_every_line, audit_trace};
+pub use report::{AuditOptions, Verdict, audit};

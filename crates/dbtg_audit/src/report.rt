@@ -1,29 +1,43 @@
 //! The command `audit`: the schema and the trace that a source gives, audited, and the text of what comes of it.
-ghost use Rattle.std.specs.Prelude.{ℕ, ◌≡◌, ◌++◌, ◌∷◌, [], Bool, List, IfErr, IfOk};
+ghost use Rattle.std.specs.Prelude.{ℕ, ◌≡◌, ◌++◌, ◌∷◌, ◌<◌, [], Bool, List, IfErr, IfOk, IfSome, nat_le, true};
+ghost use Rattle.std.specs.List.{list_all};
 ghost use Rattle.dbtg_schema.specs.Sound.{IsSound};
 ghost use Rattle.dbtg_unit.specs.declared.unit.Entry.{Entry};
 ghost use Rattle.dbtg_unit.specs.Database.Statements.Codes.{status_code};
-ghost use Rattle.dbtg_trace.specs.declared.traced.Traced.{Traced};
-ghost use Rattle.dbtg_command.specs.Sources.{ReadSchema, ToldOfTrace};
-ghost use Rattle.dbtg_audit.specs.Auditing.{IsAudited};
-ghost use Rattle.dbtg_audit.specs.Reported.{AuditHeld, IsVerdict, ToldOfAudit, equal_text};
+ghost use Rattle.dbtg_unit.specs.Database.Statements.Fits.{fits};
+ghost use Rattle.dbtg_command.specs.Sources.{ReadSchema};
+ghost use Rattle.dbtg_audit.specs.Auditing.{IsAllAudited, IsAudited};
+ghost use Rattle.dbtg_audit.specs.declared.auditing.Recorded.{Recorded as SeenRecorded};
+ghost use Rattle.dbtg_trace.specs.Parts.{is_unit};
+ghost use Rattle.dbtg_audit.specs.Reported.{AuditHeld, IsFirstVerdict, IsListedVerdict, IsLoad, IsVerdict, ToldOfAudit, ToldOfLoad, ToldOfRecorded, equal_text};
 ghost use Rattle.dbtg_audit.specs.Telling.{difference_text};
 
-use crate::auditing::{Audited, Difference, audit_trace};
+use crate::auditing::{AllAudited, Audited, Difference, Recorded, audit_every_line, audit_trace};
 use crate::telling::push_difference;
-use dbtg_command::{Fault, Source, read_schema, read_trace};
+use dbtg_command::{Fault, Source, TextPlace, read_schema, read_trace, take_script};
 use dbtg_schema::{Row, Schema};
 use dbtg_script::{image_text, units_text};
 use dbtg_step::Run;
-use dbtg_unit::Entry;
+use dbtg_unit::{Entry, Statement};
 use std::alloc::{AllocError, Global};
 
-/// What `audit` prints: on standard output where all that the trace says is so, and else on standard error, with the status of the
-/// answer that differs.
+/// How a trace is audited: the capacity, the units that it has, whether statuses alone are compared, and whether every line that
+/// differs is told.
+#[derive(Clone, Copy)]
+pub struct AuditOptions {
+    pub capacity: u16,
+    pub units: u8,
+    pub statuses: bool,
+    pub all: bool,
+}
+
+/// What `audit` prints: on standard output where all that the trace says is so, and else on standard error: the first line that
+/// differs, with the status of its answer, or each line that differs.
 #[derive(Drop)]
 pub enum Verdict {
     Equal(Vec<u8>),
     Differs { told: Vec<u8>, status: u16 },
+    Listed(Vec<u8>),
 }
 
 // The image and the units, and the line of an audit that is equal.
@@ -66,7 +80,7 @@ fn difference_of(
 }
 
 fn verdict_of(alloc: Global, schema: &Schema, audited: Audited) -> Result<Verdict, AllocError>
-    ensures { IfOk result (λ said. (statuses : Bool) (capacity units : ℕ) (traced : List Traced) → IsAudited statuses schema.now capacity units traced audited → IsVerdict statuses schema.now capacity units traced said) }
+    ensures { IfOk result (λ said. (statuses : Bool) (capacity : ℕ) (recorded : SeenRecorded) → IsAudited statuses schema.now capacity recorded audited → IsFirstVerdict statuses schema.now capacity recorded said) }
 {
     match audited {
         Audited::Equal(given) => {
@@ -81,39 +95,102 @@ fn verdict_of(alloc: Global, schema: &Schema, audited: Audited) -> Result<Verdic
     }
 }
 
+// The same of every line.
+fn listed_verdict_of(
+    alloc: Global,
+    schema: &Schema,
+    audited: AllAudited,
+) -> Result<Verdict, AllocError>
+    ensures { IfOk result (λ said. (statuses : Bool) (capacity : ℕ) (recorded : SeenRecorded) → IsAllAudited statuses schema.now capacity recorded audited → IsListedVerdict statuses schema.now capacity recorded said) }
+{
+    match audited {
+        AllAudited::Equal(given) => {
+            let text = equal_text(alloc, schema, &given);
+            given.discard();
+            Ok(Verdict::Equal(text?))
+        }
+        AllAudited::Differ(told) => Ok(Verdict::Listed(told)),
+    }
+}
+
+// The script that is made first: the second text beside the schema, if there is one.
+fn read_load<S: Source>(
+    alloc: Global,
+    source: &S,
+    known: &Schema,
+) -> Result<Option<Row<Statement>>, Fault>
+    ensures read { IfOk result (λ load. IsLoad (S.holds source.now) known.now (nat_le 2 (S.count source.now)) load) }
+    ensures fitting { IsSound known.now → IfOk result (λ load. IfSome load (λ script. list_all (fits known.now) script ≡ true)) }
+    ensures refused { IfErr result (λ fault. ToldOfLoad (S.holds source.now) (S.fails source.now) fault known.now (S.count source.now)) }
+{
+    if source.count() < 2 {
+        return Ok(None);
+    }
+    let text = source.read(alloc, TextPlace::Script(2))?;
+    let mut scripts = Row::of(Vec::new(alloc));
+    take_script(alloc, &mut scripts, known, 2, text.as_slice())?;
+    Ok(scripts.into_vec().pop())
+}
+
+// What is printed of what was recorded.
+fn verdict_on(
+    alloc: Global,
+    known: &Schema,
+    recorded: Recorded,
+    options: AuditOptions,
+) -> Result<Verdict, AllocError>
+    requires sound { IsSound known.now }
+    requires few { recorded.units < 255 }
+    requires load { IfSome recorded.load (λ script. list_all (fits known.now) script ≡ true) }
+    requires fitting { list_all (λ t. fits known.now t.statement) recorded.traced ≡ true }
+    requires units { list_all (λ t. is_unit recorded.units t.unit) recorded.traced ≡ true }
+    ensures { IfOk result (λ said. IsVerdict options known.now recorded said) }
+{
+    let AuditOptions {
+        capacity,
+        statuses,
+        ..
+    } = options;
+    if options.all {
+        let audited = audit_every_line(alloc, known, capacity, recorded, statuses)?;
+        return listed_verdict_of(alloc, known, audited);
+    }
+    let audited = audit_trace(alloc, known, capacity, recorded, statuses)?;
+    verdict_of(alloc, known, audited)
+}
+
 // What is printed of the trace over a schema that was read.
 fn audit_known<S: Source>(
     alloc: Global,
     source: &S,
     known: &Schema,
-    capacity: u16,
-    units: u8,
-    statuses: bool,
+    options: AuditOptions,
 ) -> Result<Verdict, Fault>
     requires read { ReadSchema (S.holds source.now) known.now }
     requires sound { IsSound known.now }
-    ensures done { IfOk result (λ said. AuditHeld (S.holds source.now) statuses capacity units said) }
-    ensures refused { IfErr result (λ fault. ToldOfTrace (S.holds source.now) (S.fails source.now) fault known.now units) }
+    requires few { options.units < 255 }
+    ensures done { IfOk result (λ said. AuditHeld (S.holds source.now) (S.count source.now) options said) }
+    ensures refused { IfErr result (λ fault. ToldOfRecorded (S.holds source.now) (S.fails source.now) fault known.now options.units (S.count source.now)) }
 {
-    let traced = read_trace(alloc, source, known, units)?;
-    let audited = audit_trace(alloc, known, capacity, units, Row::of(traced), statuses)?;
-    Ok(verdict_of(alloc, known, audited)?)
+    let traced = Row::of(read_trace(alloc, source, known, options.units)?);
+    let load = read_load(alloc, source, known)?;
+    let recorded = Recorded {
+        units: options.units,
+        load,
+        traced,
+    };
+    Ok(verdict_on(alloc, known, recorded, options)?)
 }
 
-/// What `audit` prints of the schema and the trace that a source gives, with so many units, or the first fault. By statuses alone,
-/// keys and items are not compared.
-pub fn audit<S: Source>(
-    alloc: Global,
-    source: &S,
-    capacity: u16,
-    units: u8,
-    statuses: bool,
-) -> Result<Verdict, Fault>
-    ensures done { IfOk result (λ said. AuditHeld (S.holds source.now) statuses capacity units said) }
-    ensures refused { IfErr result (λ fault. ToldOfAudit (S.holds source.now) (S.fails source.now) fault units) }
+/// What `audit` prints of the schema and the trace that a source gives, or the first fault. A second script of the source is made
+/// first, by a unit behind those of the trace. By statuses alone, keys and items are not compared.
+pub fn audit<S: Source>(alloc: Global, source: &S, options: AuditOptions) -> Result<Verdict, Fault>
+    requires few { options.units < 255 }
+    ensures done { IfOk result (λ said. AuditHeld (S.holds source.now) (S.count source.now) options said) }
+    ensures refused { IfErr result (λ fault. ToldOfAudit (S.holds source.now) (S.fails source.now) fault options.units (S.count source.now)) }
 {
     let known = read_schema(alloc, source)?;
-    let said = audit_known(alloc, source, &known, capacity, units, statuses);
+    let said = audit_known(alloc, source, &known, options);
     known.discard();
     said
 }

@@ -9,7 +9,7 @@ use std::alloc::{AllocError, Global};
 /// A word that a command can be given: an option, or what stands for files. Those with a text have what help says of them.
 #[derive(Clone, Copy)]
 pub enum Word<'a> {
-    All,
+    All(&'a str),
     Always,
     Answers,
     Brief,
@@ -113,13 +113,6 @@ fn words<'a>(alloc: Global, name: &'a str, shown: &'a str, help: &'a str) -> Arg
         .num_args(0..)
         .action(ArgAction::Append)
         .help(help)
-}
-
-fn all_option<'a>(alloc: Global) -> Arg<'a>
-    ensures { IsArg all result }
-{
-    let help = "Tells the first fault of each file [default: the first of all]";
-    flag(alloc, "all", help)
 }
 
 fn always_option<'a>(alloc: Global) -> Result<Arg<'a>, AllocError>
@@ -303,7 +296,7 @@ pub fn arg_of<'a>(alloc: Global, word: Word<'a>) -> Result<Arg<'a>, AllocError>
     ensures { IfOk result (IsArg (rule_for word.entry)) }
 {
     match word {
-        Word::All => Ok(all_option(alloc)),
+        Word::All(help) => Ok(flag(alloc, "all", help)),
         Word::Always => always_option(alloc),
         Word::Answers => Ok(answers_option(alloc)),
         Word::Brief => Ok(brief_option(alloc)),

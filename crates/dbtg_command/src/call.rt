@@ -24,7 +24,7 @@ use std::alloc::{AllocError, Global};
 #[derive(Drop)]
 pub struct Call<'a> {
     pub named: Named,
-    /// The first fault of each file is told.
+    /// The first fault of each file is told, or every line of a trace that differs.
     pub all: bool,
     /// A fault has a second line.
     pub explains: bool,
@@ -247,7 +247,10 @@ fn reads_twice(call: &Call) -> bool {
 
 // Is standard input to be read twice, for the faults and for the text?
 fn reads_again(call: &Call) -> bool {
-    call.all && (is_input(call.schema) || call.scripts.iter().any(|path| is_input(*path)))
+    let is_check = matches!(call.named, Named::Check);
+    is_check
+        && call.all
+        && (is_input(call.schema) || call.scripts.iter().any(|path| is_input(*path)))
 }
 
 // What is wrong with the paths, where something is.

@@ -56,7 +56,7 @@ fn check_command<'a>(alloc: Global, name: &'a str) -> Result<Command<'a>, AllocE
         "Reads a schema and scripts, and tells how large they are",
         "Example: dbtg check shop.schema unit1.script unit2.script",
         &[
-            Word::All,
+            Word::All("Tells the first fault of each file [default: the first of all]"),
             Word::First(FIRST),
             Word::Programs,
             Word::Explain,
@@ -243,8 +243,10 @@ fn audit_command<'a>(alloc: Global, name: &'a str) -> Result<Command<'a>, AllocE
         "Example: dbtg audit --units 2 shop.schema shop.trace",
         &[
             Word::Capacity,
+            Word::First,
             Word::Units,
             Word::Status,
+            Word::All("Tells every line that differs [default: the first]"),
             Word::Explain,
             Word::NoExplain,
             Word::Schema(SCHEMA),

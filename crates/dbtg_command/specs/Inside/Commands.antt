@@ -16,7 +16,7 @@ use Rattle.dbtg_command.specs.declared.call.Call.{Call}
 
 -- the rule of a word
 abbrev pub rule_for : Word → Rule
-rule_for word.All = all
+rule_for (word.All help) = all
 rule_for word.Always = always
 rule_for word.Answers = answers
 rule_for word.Brief = brief
