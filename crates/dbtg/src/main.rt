@@ -192,8 +192,12 @@ fn print_run(
 fn begins_with_file(call: &Call) -> bool {
     let runs = matches!(
         call.named,
-        Named::Audit | Named::Outcomes | Named::Page | Named::Replay | Named::Timeline
-        Named::Outcomes | Named::Page | Named::Replay | Named::Threads | Named::Timeline
+        Named::Audit
+            | Named::Outcomes
+            | Named::Page
+            | Named::Replay
+            | Named::Threads
+            | Named::Timeline
     );
     runs && call.first && call.schema != "-" && call.scripts.last().is_some_and(|path| *path != "-")
 }

@@ -222,7 +222,7 @@ fn threads_command<'a>(alloc: Global, name: &'a str) -> Result<Command<'a>, Allo
         "Example: dbtg threads --capacity 10 shop.schema unit1.script unit2.script",
         &[
             Word::Capacity,
-            Word::First,
+            Word::First(FIRST),
             Word::SaveTurns,
             Word::Explain,
             Word::NoExplain,
@@ -243,7 +243,7 @@ fn audit_command<'a>(alloc: Global, name: &'a str) -> Result<Command<'a>, AllocE
         "Example: dbtg audit --units 2 shop.schema shop.trace",
         &[
             Word::Capacity,
-            Word::First,
+            Word::First(FIRST),
             Word::Units,
             Word::Status,
             Word::All("Tells every line that differs [default: the first]"),
