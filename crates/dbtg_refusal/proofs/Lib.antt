@@ -1,0 +1,7 @@
+mod FirstNumber
+mod FirstElement
+mod FoundInLists
+mod ImageView
+mod SameObstacle
+mod LegalNow
+pub mod Rows

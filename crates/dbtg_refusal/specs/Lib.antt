@@ -1,0 +1,4 @@
+pub mod Obstacles
+pub mod Said
+pub mod Sentences
+pub mod Inside
