@@ -1,16 +1,19 @@
 -- What is told of a line.
-use Rattle.std.proofs.Common.{◌≡◌, ℕ, true, ◌+◌, ◌-◌, List, [], ◌∷◌, ◌++◌, length, Some, slice_get, inl, inr, ap, sym, ◌∙◌, subst, arith, length-append, IfOk, Result, Ok, Err}
+use Rattle.std.proofs.Common.{◌≡◌, ℕ, true, ◌+◌, ◌-◌, List, [], ◌∷◌, ◌++◌, length, Some, slice_get, inl, inr, ap, sym, ◌∙◌, subst, arith, length-append, IfOk, Result, Ok, Err, None}
 use Rattle.std.specs.Prelude.{OnErr, codes, if◌then◌else◌}
 use Rattle.std.specs.Str.{bytes_eq}
 use Rattle.std.proofs.lemmas.Bool.{and_parts}
 use Rattle.std.proofs.lemmas.Slice.Eq.{bytes_eq-Decides}
 use Rattle.dbtg_schema.specs.Lists.{Lists}
+use Rattle.std.proofs.lemmas.Option.{none-some}
 use Rattle.dbtg_cells.proofs.Public.{get_behind}
+use Rattle.dbtg_step.specs.Core.Whole.{state_now}
+use Rattle.dbtg_refusal.specs.Said.{said_in}
 use Rattle.dbtg_unit.specs.declared.unit.Entry.{Entry}
 use Rattle.dbtg_script.specs.Printing.Spelling.{behind, in_front}
 use Rattle.dbtg_script.specs.declared.fault.Cause.{Cause}
 use Rattle.dbtg_shell.specs.Asking.{asked_of, asks_undo, behind_spaces, turn_after, turn_behind, turn_given}
-use Rattle.dbtg_shell.specs.Sessions.{Answers, IsFaultText, IsLastAnswer, IsNoUnit, IsText, IsUnmade, RefusesLine, TakesAsked, TakesLine, Typed, answer_reply, no_unit_text}
+use Rattle.dbtg_shell.specs.Sessions.{Answers, IsFaultText, IsLastAnswer, IsLastSaid, IsNoUnit, IsText, IsUnmade, RefusesLine, TakesAsked, TakesLine, Typed, answer_reply, no_unit_text}
 use Rattle.dbtg_shell.specs.declared.asked.Asked.{Asked}
 use Rattle.dbtg_shell.specs.declared.commands.Reply.{Reply}
 use Rattle.dbtg_shell.specs.declared.commands.Reply.TheVariants as reply
@@ -29,6 +32,19 @@ is_last typed schema one out at same told = λ before e is.
     let found : Some one ≡ Some e = at ∙ last_entry typed.making.history before e is in
     let entry : one ≡ e = cc (found) in
     subst (λ (s : Lists). out ≡ answer_reply s e) same (subst (λ (x : Entry). out ≡ answer_reply schema x) entry told)
+
+-- what is said of the last entry
+pub said_last : {E V : Type 0} (items : V → List ℕ) (typed : Typed) (one : Entry) (told : Result V E) → Some one ≡ slice_get typed.making.history (length typed.making.history - 1)
+    → IfOk told (λ out. items out ≡ said_in typed.making.schema typed.making.capacity (state_now typed.making) one) → IfOk told (λ out. IsLastSaid typed (items out))
+said_last items typed one (Ok out) at said = λ before e is.
+    let found : Some one ≡ Some e = at ∙ last_entry typed.making.history before e is in
+    let entry : one ≡ e = cc (found) in
+    subst (λ (x : Entry). items out ≡ said_in typed.making.schema typed.making.capacity (state_now typed.making) x) entry said
+said_last items typed one (Err error) at said = said
+
+-- nothing is said where no statement was made
+pub said_nothing : (typed : Typed) → None ≡ slice_get typed.making.history (length typed.making.history - 1) → IsLastSaid typed []
+said_nothing typed at = λ before e is. absurd (none-some e (at ∙ last_entry typed.making.history before e is))
 
 -- WHAT IS TOLD
 

@@ -38,6 +38,7 @@ use Rattle.dbtg_command.specs.Refusals.{schema_in}
 use Rattle.dbtg_shell.specs.Asking.{asked_of, asks_undo, bare_command, behind_spaces, turn_after}
 use Rattle.dbtg_shell.specs.UnitWords.{unit_words}
 use Rattle.dbtg_replay.specs.Replaying.{IsReplay}
+use Rattle.dbtg_refusal.specs.Said.{said_in}
 
 -- WHAT A CALLER SEES
 
@@ -102,6 +103,11 @@ answer_reply schema e =
 abbrev pub IsLastAnswer : Typed → List ℕ → Type 0
 IsLastAnswer typed out = (before : List Entry) (e : Entry) → typed.making.history ≡ before ++ e ∷ [] → out ≡ answer_reply typed.making.schema e
 
+-- what is in the way of the statement that was made last; nothing where it is done
+abbrev pub IsLastSaid : Typed → List ℕ → Type 0
+IsLastSaid typed said =
+    let m = typed.making in
+    (before : List Entry) (e : Entry) → m.history ≡ before ++ e ∷ [] → said ≡ said_in m.schema m.capacity (state_now m) e
 -- what is current of unit u, in words
 abbrev pub unit_said : Making → ℕ → Option (List ℕ)
 unit_said m u = option_map (unit_words m.schema (image_of m.schema m.capacity (state_now m).database)) (slice_get (state_now m).units (u - 1))

@@ -7,6 +7,7 @@ ghost use Rattle.dbtg_shell.specs.Sessions.{Answers, IsFaultText, IsLastAnswer, 
 use crate::asked::{Asked, asks_undo, behind_spaces, read_asked};
 use crate::replies::{
     database_reply, fault_reply, no_unit_reply, push_answer_reply, schema_reply, undone_reply,
+    with_here,
     unit_reply, units_reply,
 };
 use crate::session::{Refusal, Session};
@@ -321,15 +322,26 @@ impl<'a> Shell<'a> {
 
     fn explain<'b>(&self, rest: &str) -> Result<Reply<'b>, AllocError> {
         let words = words_of(self.alloc, rest)?;
-        let topic = if words.is_empty() {
-            self.last_topic()
-        } else {
-            topic_of(words.as_slice())
-        };
-        match topic {
+        if words.is_empty() {
+            return self.explain_last();
+        }
+        match topic_of(words.as_slice()) {
             Some(topic) => Ok(Reply::Text(explained(self.alloc, &topic)?)),
-            None if words.is_empty() => self.text(NOTHING_YET),
             None => self.text(NO_TOPIC),
+        }
+    }
+
+    fn explain_last<'b>(&self) -> Result<Reply<'b>, AllocError> {
+        let Some(topic) = self.last_topic() else {
+            return self.text(NOTHING_YET);
+        };
+        let page = explained(self.alloc, &topic)?;
+        match self.last {
+            Last::Status(_) => {
+                let said = self.session.last_said()?;
+                Ok(Reply::Text(with_here(self.alloc, said.as_slice(), page)?))
+            }
+            _ => Ok(Reply::Text(page)),
         }
     }
 }

@@ -7,6 +7,7 @@ ghost use Rattle.dbtg_script.specs.Printing.Texts.{image_text, units_text};
 ghost use Rattle.dbtg_step.specs.Core.Whole.{state_now};
 ghost use Rattle.dbtg_unit.specs.Database.State.Image.{image_of};
 ghost use Rattle.dbtg_shell.specs.Sessions.{IsFaultText, answer_reply, cause_name, help_words, hint_for, no_unit_text, quit_words, said_or, undone_text, unit_said};
+ghost use Rattle.dbtg_shell.specs.Inside.Sessions.{with_here};
 
 use crate::session::Session;
 use crate::words::unit_words;
@@ -14,6 +15,8 @@ use dbtg_command::explain::{CAUSES, Kind, field, line_at, meaning_of, row_with, 
 use dbtg_draw::schema_lines;
 use dbtg_schema::Schema;
 use dbtg_script::{
+    Cause, behind, image_text, in_front, push_answer, push_named_answer, push_number, push_unit,
+    units_text,
     Cause, image_text, in_front, push_answer, push_named_answer, push_number, units_text,
 };
 use dbtg_unit::Entry;
@@ -108,6 +111,21 @@ pub fn fault_reply(
     let meaning = meaning_of(Kind::Script, number);
     let word = said_of_word(alloc, schema, line_at(line, 1), number)?;
     fault_line(alloc, number, meaning, word.as_slice(), hint_for(line))
+}
+
+/// The page of a status, with what is said of the refusal as its second line.
+pub fn with_here(alloc: Global, said: &[u8], page: Vec<u8>) -> Result<Vec<u8>, AllocError>
+    ensures { IfOk result (λ out. out.items ≡ with_here said.now page.items) }
+{
+    if said.is_empty() {
+        return Ok(page);
+    }
+    let mut out = Vec::from_slice(alloc, in_front(page.as_slice(), b'\n'))?;
+    out.extend_from_slice(b"\nHere: ")?;
+    out.extend_from_slice(said)?;
+    out.push(b'\n')?;
+    out.extend_from_slice(behind(page.as_slice(), b'\n'))?;
+    Ok(out)
 }
 
 /// The line that says which numbers units have, for a number that no unit has.

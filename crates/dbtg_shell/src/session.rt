@@ -5,10 +5,11 @@ ghost use Rattle.dbtg_unit.specs.Database.Statements.Fits.{fits};
 ghost use Rattle.dbtg_unit.specs.Database.State.Image.{image_of};
 ghost use Rattle.dbtg_step.specs.Core.Whole.{HasMade, state_now};
 ghost use Rattle.dbtg_command.specs.Refusals.{is_count};
-ghost use Rattle.dbtg_shell.specs.Sessions.{AreTurnsOf, RefusesBehind, RefusesLine, Takes, Undoes};
+ghost use Rattle.dbtg_shell.specs.Sessions.{AreTurnsOf, RefusesBehind, RefusesLine, Takes, Undoes, IsLastSaid};
 ghost use Rattle.dbtg_shell.specs.Inside.Sessions.{BeginsHistory, HasEntered, HasNoRoom, IsAsBefore, MakesLine};
 ghost use Rattle.dbtg_shell.specs.declared.session.Refusal.TheVariants.{Fault, Memory};
 
+use dbtg_refusal::said_of;
 use dbtg_replay::units_in_turn;
 use dbtg_schema::Schema;
 use dbtg_script::{Cause, LineFault, SCRIPT_BYTES, read_script_line, turns_text};
@@ -306,6 +307,16 @@ impl<'a> Session<'a> {
         ensures { option_map (λ e. e.now) result ≡ slice_get self.now.making.history (length self.now.making.history - 1) }
     {
         self.database.history().last()
+    }
+
+    /// What is in the way of the statement that was made last; nothing where it is done.
+    pub fn last_said(&self) -> Result<Vec<u8>, AllocError>
+        ensures { IfOk result (λ said. IsLastSaid self.now said.items) }
+    {
+        match self.last() {
+            Some(entry) => said_of(self.alloc, self.schema, &self.database, entry),
+            None => Ok(Vec::new(self.alloc)),
+        }
     }
 
     pub fn units(&self) -> &[Unit]

@@ -1,5 +1,5 @@
--- What a session of the shell keeps, its scripts and their lines, and what a line does to them.
-use Rattle.std.specs.Prelude.{ℕ, ◌≡◌, ◌+◌, ◌≤◌, ◌<◌, ◌∷◌, ◌++◌, Bool, true, false, List, [], length, map, None, reverse, Some, slice_get}
+-- What a session of the shell keeps, its scripts and their lines, what a line does to them, and the page of a refusal.
+use Rattle.std.specs.Prelude.{ℕ, ◌≡◌, ◌+◌, ◌≤◌, ◌<◌, ◌∷◌, ◌++◌, Bool, true, false, List, [], length, map, None, reverse, Some, slice_get, ◌==◌, codes, if◌then◌else◌}
 use Rattle.dbtg_schema.specs.Lists.{Lists}
 use Rattle.dbtg_schema.specs.Lookups.{first}
 use Rattle.dbtg_schema.specs.Sound.{IsSound}
@@ -11,6 +11,7 @@ use Rattle.dbtg_script.specs.declared.limits.TheConstants.{SCRIPT_BYTES}
 use Rattle.dbtg_script.specs.Lines.{closes, trimmed}
 use Rattle.dbtg_script.specs.StatementFaults.{line_faults, refusal as script_refusal}
 use Rattle.dbtg_script.specs.Statements.{line_statement, script}
+use Rattle.dbtg_script.specs.Printing.Spelling.{behind, in_front}
 use Rattle.dbtg_script.specs.declared.fault.Cause.TheVariants.{TooMuch}
 use Rattle.dbtg_shell.specs.declared.session.Refusal.{Refusal}
 use Rattle.dbtg_shell.specs.declared.session.Refusal.TheVariants.{Fault, Memory}
@@ -86,3 +87,8 @@ MakesLine schema old one u line false new next = (new ≡ old) × IsAsBefore one
 abbrev pub HasNoRoom : Refusal → ℕ → Type 0
 HasNoRoom Memory size = Unit {0}
 HasNoRoom (Fault cause) size = (cause ≡ TooMuch) × (SCRIPT_BYTES ≤ size)
+
+-- the second line of the page of a status: what is said of the refusal
+abbrev pub with_here : List ℕ → List ℕ → List ℕ
+with_here said page =
+    if length said == 0 then page else in_front 10 page ++ 10 ∷ codes "Here: " ++ said ++ 10 ∷ behind 10 page
