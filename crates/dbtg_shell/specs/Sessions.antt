@@ -108,6 +108,7 @@ abbrev pub IsLastSaid : Typed → List ℕ → Type 0
 IsLastSaid typed said =
     let m = typed.making in
     (before : List Entry) (e : Entry) → m.history ≡ before ++ e ∷ [] → said ≡ said_in m.schema m.capacity (state_now m) e
+
 -- what is current of unit u, in words
 abbrev pub unit_said : Making → ℕ → Option (List ℕ)
 unit_said m u = option_map (unit_words m.schema (image_of m.schema m.capacity (state_now m).database)) (slice_get (state_now m).units (u - 1))

@@ -7,8 +7,7 @@ ghost use Rattle.dbtg_shell.specs.Sessions.{Answers, IsFaultText, IsLastAnswer, 
 use crate::asked::{Asked, asks_undo, behind_spaces, read_asked};
 use crate::replies::{
     database_reply, fault_reply, no_unit_reply, push_answer_reply, schema_reply, undone_reply,
-    with_here,
-    unit_reply, units_reply,
+    unit_reply, units_reply, with_here,
 };
 use crate::session::{Refusal, Session};
 use dbtg_command::explain::{Kind, Topic, explained, fault_topic, status_topic, topic_of};
@@ -233,6 +232,7 @@ impl<'a> Shell<'a> {
     {
         let told = undone_reply(self.alloc, &self.session)?;
         self.session.undo()?;
+        self.last = Last::Nothing;
         Ok(Reply::Text(told))
     }
 

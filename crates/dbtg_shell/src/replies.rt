@@ -15,9 +15,7 @@ use dbtg_command::explain::{CAUSES, Kind, field, line_at, meaning_of, row_with, 
 use dbtg_draw::schema_lines;
 use dbtg_schema::Schema;
 use dbtg_script::{
-    Cause, behind, image_text, in_front, push_answer, push_named_answer, push_number, push_unit,
-    units_text,
-    Cause, image_text, in_front, push_answer, push_named_answer, push_number, units_text,
+    Cause, behind, image_text, in_front, push_answer, push_named_answer, push_number, units_text,
 };
 use dbtg_unit::Entry;
 use std::alloc::{AllocError, Global};

@@ -5,7 +5,7 @@ ghost use Rattle.dbtg_unit.specs.Database.Statements.Fits.{fits};
 ghost use Rattle.dbtg_unit.specs.Database.State.Image.{image_of};
 ghost use Rattle.dbtg_step.specs.Core.Whole.{HasMade, state_now};
 ghost use Rattle.dbtg_command.specs.Refusals.{is_count};
-ghost use Rattle.dbtg_shell.specs.Sessions.{AreTurnsOf, RefusesBehind, RefusesLine, Takes, Undoes, IsLastSaid};
+ghost use Rattle.dbtg_shell.specs.Sessions.{AreTurnsOf, IsLastSaid, RefusesBehind, RefusesLine, Takes, Undoes};
 ghost use Rattle.dbtg_shell.specs.Inside.Sessions.{BeginsHistory, HasEntered, HasNoRoom, IsAsBefore, MakesLine};
 ghost use Rattle.dbtg_shell.specs.declared.session.Refusal.TheVariants.{Fault, Memory};
 
