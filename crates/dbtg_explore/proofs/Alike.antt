@@ -1,6 +1,6 @@
 -- What comes after a state depends on the state alone.
 -- m is a meeting, u a unit, o and p are orders.
-use Rattle.std.proofs.Common.{◌≡◌, ◌≢◌, ℕ, zero, suc, ◌+◌, ◌-◌, Bool, true, false, ◌&&◌, List, [], ◌∷◌, ◌++◌, length, map, Option, Some, None, ◌⊎◌, inl, inr, refl, ap, subst, sym, ◌∙◌, slice_get, arith}
+use Rattle.std.proofs.Common.{◌≡◌, ℕ, zero, suc, ◌+◌, ◌-◌, Bool, true, false, ◌&&◌, List, [], ◌∷◌, ◌++◌, length, Option, Some, None, refl, ap, sym, ◌∙◌, slice_get, arith}
 use Rattle.std.specs.Prelude.{◌==◌, if◌then◌else◌, is_some, not, option_and_then, option_map, slice_set}
 use Rattle.std.specs.List.{list_any, range_with_len}
 use Rattle.dbtg_schema.specs.Lists.{Lists}
@@ -9,7 +9,7 @@ use Rattle.dbtg_unit.specs.declared.unit.Answer.{Answer}
 use Rattle.dbtg_unit.specs.declared.unit.Entry.{Entry}
 use Rattle.dbtg_unit.specs.Database.Statements.Effect.{Outcome}
 use Rattle.dbtg_unit.specs.Database.Statements.Fits.{fits}
-use Rattle.dbtg_unit.specs.Database.Laws.Replay.{State, after, after_outcome, entries_of, opening_state, outcome_of, replay}
+use Rattle.dbtg_unit.specs.Database.Laws.Replay.{after, after_outcome, entries_of, opening_state, outcome_of}
 use Rattle.dbtg_unit.proofs.Public.{entries_mine, entries_other, replays_one_more}
 use Rattle.dbtg_program.specs.declared.program.Program.{Program}
 use Rattle.dbtg_program.specs.States.{ProgramState, beginning as program_beginning}
@@ -18,9 +18,9 @@ use Rattle.dbtg_step.specs.Machine.SequentialDatabase.{unit_at, with_unit_at}
 use Rattle.dbtg_going.specs.Turns as turns
 use Rattle.dbtg_going.specs.Turns.{comes, made, statement_due}
 use Rattle.dbtg_going.proofs.Turning.{state_behind}
-use Rattle.dbtg_explore.specs.Orders.{CanFollow, Meeting, after_order, after_turn, beginning, can_go_on, can_turn, due_of, history_of, waits, IsOrder}
+use Rattle.dbtg_explore.specs.Orders.{CanFollow, Meeting, after_order, after_turn, can_go_on, can_turn, due_of, history_of, IsOrder}
 use Rattle.dbtg_explore.specs.States.{MeetingState, comes_of_each, sequential_after, state_after, state_of}
-use Rattle.dbtg_explore.proofs.Turning.{first_can, follow_both, follow_rest, history_on, last_can, one_follows, order_on}
+use Rattle.dbtg_explore.proofs.Turning.{history_on, last_can, order_on}
 
 -- WHAT A STATE SAYS
 

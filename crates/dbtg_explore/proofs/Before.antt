@@ -94,9 +94,3 @@ pub no_later_trans : (a b c : List ℕ) → IsNoLater a b → IsNoLater b c → 
 no_later_trans a b c (inl e) g = subst (λ (l : List ℕ). IsNoLater l c) (sym e) g
 no_later_trans a b c (inr h) (inl e) = subst (λ (l : List ℕ). IsNoLater a l) e (inr h)
 no_later_trans a b c (inr h) (inr g) = inr (before_trans a b c h g)
-
--- of two that are no later than each other
-pub no_later_both : (a b : List ℕ) → IsNoLater a b → IsNoLater b a → a ≡ b
-no_later_both a b (inl e) g = e
-no_later_both a b (inr h) (inl e) = sym e
-no_later_both a b (inr h) (inr g) = absurd (before_itself a (before_trans a b a h g))

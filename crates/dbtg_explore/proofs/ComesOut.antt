@@ -1,9 +1,8 @@
 -- A run of moves that makes all statements of programs has the history of one of the orders.
 -- m is a meeting, es are entries, o is an order, u is a unit.
-use Rattle.std.proofs.Common.{◌≡◌, ◌≢◌, refl, sym, ◌∙◌, ap, subst, ℕ, zero, suc, ◌+◌, ◌<◌, ◌≤◌, Bool, true, false, ◌&&◌, List, [], ◌∷◌, ◌++◌, length, map, Option, Some, None, ◌⊎◌, inl, inr, arith, append-nil, append_assoc, slice_get}
-use Rattle.std.specs.Prelude.{◌==◌, filter, if◌then◌else◌, is_some, not, option_and_then, option_map}
+use Rattle.std.proofs.Common.{◌≡◌, ◌≢◌, refl, sym, ◌∙◌, ap, subst, ℕ, zero, suc, ◌+◌, ◌<◌, ◌≤◌, Bool, true, false, ◌&&◌, List, [], ◌∷◌, ◌++◌, length, map, Option, Some, None, inl, inr, arith, append-nil, append_assoc, slice_get}
+use Rattle.std.specs.Prelude.{◌==◌, if◌then◌else◌, is_some, not, option_and_then, option_map}
 use Rattle.std.specs.List.{list_all, range_with_len}
-use Rattle.std.proofs.lemmas.Bool.{and_parts}
 use Rattle.std.proofs.lemmas.List.{length-append}
 use Rattle.std.proofs.lemmas.List.Elements.{filter-append}
 use Rattle.dbtg_script.specs.Printing.Texts.{run_text}
@@ -13,11 +12,11 @@ use Rattle.dbtg_unit.specs.declared.unit.Entry.{Entry}
 use Rattle.dbtg_unit.specs.Database.State.Image.{image_of}
 use Rattle.dbtg_unit.specs.Database.Statements.Effect.{Outcome}
 use Rattle.dbtg_unit.specs.Database.Statements.Fits.{fits}
-use Rattle.dbtg_unit.specs.Database.Laws.Replay.{AnswersHold, TicketsInOrder, after_entry, entries_of, opening_state, outcome_of, replay}
-use Rattle.dbtg_unit.proofs.Public.{In, all_at, all_in, answers_behind, element_at, entries_mine, entries_other, in_filter, in_left, in_map, in_right, opening_length, replays_one_more}
+use Rattle.dbtg_unit.specs.Database.Laws.Replay.{AnswersHold, TicketsInOrder, entries_of, opening_state, outcome_of, replay}
+use Rattle.dbtg_unit.proofs.Public.{In, all_at, answers_behind, element_at, entries_mine, entries_other, in_filter, in_left, in_map, in_right, opening_length, replays_one_more}
 use Rattle.dbtg_program.specs.declared.program.Program.{Program}
 use Rattle.dbtg_program.specs.States.{ProgramState, beginning as program_beginning}
-use Rattle.dbtg_program.specs.Going.{AreOf, Due, GoOn, IsDue, after_due, due, ended, next, state_after as program_state_after}
+use Rattle.dbtg_program.specs.Going.{Due, GoOn, IsDue, after_due, due, ended, next, state_after as program_state_after}
 use Rattle.dbtg_step.specs.declared.results.Run.{Run}
 use Rattle.dbtg_step.specs.Laws.{scripts_fit}
 use Rattle.dbtg_step.specs.Machine.Headline.{RunIs}

@@ -1,6 +1,6 @@
 -- Two states of a meeting are one where their numbers are the same.
 -- m is a meeting, u a unit, o and p are orders.
-use Rattle.std.proofs.Common.{◌≡◌, ℕ, zero, suc, ◌+◌, Bool, true, false, List, [], ◌∷◌, ◌++◌, length, map, Option, Some, None, refl, ap, subst, sym, ◌∙◌, append_assoc, arith}
+use Rattle.std.proofs.Common.{◌≡◌, ℕ, zero, suc, ◌+◌, Bool, true, false, List, [], ◌∷◌, ◌++◌, length, Option, Some, None, refl, ap, subst, sym, ◌∙◌, append_assoc}
 use Rattle.std.specs.Prelude.{⊤, flat_map, if◌then◌else◌, nat_lt, option_and_then}
 use Rattle.std.specs.List.{list_all}
 use Rattle.dbtg_schema.specs.Lists.{Lists}
@@ -12,20 +12,19 @@ use Rattle.dbtg_unit.specs.Database.Statements.Effect.{Outcome}
 use Rattle.dbtg_unit.specs.Database.Statements.Fits.{fits}
 use Rattle.dbtg_unit.specs.Database.Laws.Replay.{entries_of, opening_state}
 use Rattle.dbtg_unit.proofs.Public.{opening_is_legal, replay_keeps_legal}
-use Rattle.dbtg_program.specs.declared.program.End.{End}
 use Rattle.dbtg_program.specs.declared.program.End.TheVariants.{Stop, Assert, Size, Astray}
 use Rattle.dbtg_program.specs.declared.program.Program.{Program}
-use Rattle.dbtg_program.specs.States.{ProgramState, beginning as program_beginning}
-use Rattle.dbtg_program.specs.Going.{Due, Step, at_line, due, ended, ends, from_step, goes, line_at, line_number, makes, next, within, state_after as program_state_after}
+use Rattle.dbtg_program.specs.States.{ProgramState}
+use Rattle.dbtg_program.specs.Going.{Due, Step, at_line, due, ended, ends, from_step, goes, line_at, line_number, makes, next, within}
 use Rattle.dbtg_step.specs.Machine.SequentialDatabase.{unit_at}
 use Rattle.dbtg_step.proofs.Public.{fits_more}
 use Rattle.dbtg_going.specs.Turns as turns
 use Rattle.dbtg_going.specs.Turns.{after_turns, comes, made, most, statement_due, statement_of}
-use Rattle.dbtg_outcomes.specs.Inside.Spelling.{Apart, behind, image_apart, list_apart, one_apart, unit_apart, value_apart}
+use Rattle.dbtg_outcomes.specs.Inside.Spelling.{Apart, behind, image_apart, list_apart, unit_apart, value_apart}
 use Rattle.dbtg_outcomes.specs.Spelling.{image_numbers, list_numbers, unit_numbers, value_numbers}
 use Rattle.dbtg_outcomes.proofs.States.SameImages.{same_databases}
 use Rattle.dbtg_explore.specs.Orders.{IsMeeting, Meeting, after_order, after_turn, beginning, due_of, history_of}
-use Rattle.dbtg_explore.specs.States.{MeetingState, comes_of_each, sequential_after, state_after, state_of}
+use Rattle.dbtg_explore.specs.States.{MeetingState, comes_of_each, state_after, state_of}
 use Rattle.dbtg_explore.specs.Inside.Keys.{due_numbers, how_numbers, program_numbers, state_numbers}
 
 -- WHAT IS DUE

@@ -1,6 +1,6 @@
 -- What is noted of one order more.
 -- m is a meeting, o and p are orders, seen are those that are behind, f is a failure.
-use Rattle.std.proofs.Common.{◌≡◌, refl, sym, ◌∙◌, ap, subst, ℕ, suc, ◌+◌, ◌-◌, ◌<◌, ◌≤◌, Bool, true, false, not, List, [], ◌∷◌, ◌++◌, length, map, get_or, Option, None, Some, arith, inl, inr, ◌⊎◌, ⊎_elim, true≢false, if◌then◌else◌}
+use Rattle.std.proofs.Common.{◌≡◌, refl, sym, ◌∙◌, ap, subst, ℕ, ◌+◌, ◌-◌, ◌<◌, ◌≤◌, true, false, not, List, [], ◌∷◌, ◌++◌, length, map, get_or, None, Some, arith, inl, inr, ◌⊎◌, ⊎_elim, true≢false}
 use Rattle.std.specs.Prelude.{Contains, option_and_then}
 use Rattle.std.specs.List.{list_any, range_with_len}
 use Rattle.std.proofs.lemmas.Bool.{cases_Bool, cases_lt}
@@ -14,12 +14,12 @@ use Rattle.dbtg_step.specs.Machine.SequentialDatabase.{unit_at}
 use Rattle.dbtg_unit.specs.declared.unit.Entry.{Entry}
 use Rattle.dbtg_explore.specs.declared.ends.Ends as given
 use Rattle.dbtg_explore.specs.declared.explored.Failure.{Failure}
-use Rattle.dbtg_explore.specs.Inside.Ends.{AreEndsOf, AreFailuresOf, AreResultsOf, FailsAt, FailsIn, IsBehind, Notes, NotesResult}
+use Rattle.dbtg_explore.specs.Inside.Ends.{AreFailuresOf, AreResultsOf, FailsAt, FailsIn, Notes, NotesResult}
 use Rattle.dbtg_explore.specs.Inside.Failures.{Take}
 use Rattle.dbtg_explore.specs.Inside.Found.{FoundOrders, IsEntered}
 use Rattle.dbtg_explore.specs.Inside.Search.{AreFirsts}
 use Rattle.dbtg_explore.specs.Inside.Places.{failure_by, failure_in}
-use Rattle.dbtg_explore.specs.Orders.{IsBefore, IsEnd, IsOrder, Meeting, can_go_on, history_of}
+use Rattle.dbtg_explore.specs.Orders.{IsEnd, Meeting, can_go_on, history_of}
 use Rattle.dbtg_explore.specs.Results.{result_text}
 use Rattle.dbtg_explore.specs.States.{comes_of_each, state_after, state_of}
 use Rattle.dbtg_explore.proofs.Searched.{contains_none, known_result, new_result, no_result, no_results}

@@ -1,6 +1,6 @@
 -- Where a meeting is, and how a turn leads on from there.
 -- m is a meeting, u a unit, x a statement.
-use Rattle.std.proofs.Common.{◌≡◌, ℕ, zero, suc, ◌+◌, ◌-◌, ◌<◌, ◌≤◌, Bool, true, false, ◌&&◌, List, [], ◌∷◌, ◌++◌, length, map, Option, Some, None, ◌⊎◌, inl, inr, refl, ap, subst, sym, ◌∙◌, slice_get, take, drop, take-append-drop, append_assoc, arith}
+use Rattle.std.proofs.Common.{◌≡◌, ℕ, zero, suc, ◌+◌, ◌-◌, ◌<◌, ◌≤◌, Bool, true, false, ◌&&◌, List, [], ◌∷◌, ◌++◌, length, map, Option, Some, None, inr, refl, ap, subst, sym, ◌∙◌, slice_get, take, drop, take-append-drop, append_assoc, arith}
 use Rattle.std.specs.Prelude.{flat_map, is_some, not, option_and_then, option_map, nat_lt, slice_index_or, ◌||◌}
 use Rattle.std.specs.List.{list_any, range_with_len}
 use Rattle.std.proofs.lemmas.Bool.Decides.{nat_tests}
@@ -29,7 +29,7 @@ use Rattle.dbtg_script.specs.Printing.Texts.{run_text}
 use Rattle.dbtg_outcomes.specs.Results.{by_unit}
 use Rattle.dbtg_outcomes.specs.Spelling.{list_numbers}
 use Rattle.dbtg_explore.specs.declared.place.Place.{Place}
-use Rattle.dbtg_explore.specs.Orders.{CanFollow, IsOrder, Meeting, after_order, after_turn, beginning, can_go_on, can_turn, due_of, history_of, waits}
+use Rattle.dbtg_explore.specs.Orders.{CanFollow, IsOrder, Meeting, after_order, after_turn, beginning, can_turn, due_of, history_of, waits}
 use Rattle.dbtg_explore.specs.Results.{reached_of, state_text}
 use Rattle.dbtg_explore.specs.States.{comes_of_each, state_after}
 use Rattle.dbtg_explore.specs.Inside.Places.{AreStanding, HasTurned, HaveTurned, IsPlace, IsPlaceOf, failure_by, failure_in}

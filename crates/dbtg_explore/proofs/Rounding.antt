@@ -1,6 +1,6 @@
 -- A way round, as the code goes it.
 -- m is a meeting, u is a unit, o is an order.
-use Rattle.std.proofs.Common.{◌≡◌, refl, sym, ◌∙◌, ap, subst, ℕ, zero, suc, ◌+◌, ◌<◌, ◌≤◌, ◌==◌, Bool, true, false, List, [], ◌∷◌, ◌++◌, append_assoc, append-nil, length, get_or, take, arith, inl, inr, true≢false}
+use Rattle.std.proofs.Common.{◌≡◌, refl, sym, ◌∙◌, ap, subst, ℕ, zero, suc, ◌+◌, ◌<◌, ◌≤◌, ◌==◌, true, false, List, [], ◌∷◌, ◌++◌, append_assoc, append-nil, length, get_or, take, arith, inl, inr, true≢false}
 use Rattle.std.specs.Prelude.{Contains}
 use Rattle.std.proofs.lemmas.Bool.{cases_lt}
 use Rattle.std.proofs.lemmas.List.{take_more}
@@ -10,7 +10,7 @@ use Rattle.dbtg_explore.specs.Explored.{IsEndless}
 use Rattle.dbtg_explore.specs.Inside.Keys.{state_numbers}
 use Rattle.dbtg_explore.specs.Inside.Places.{HasTurned, IsPlace, IsPlaceOf}
 use Rattle.dbtg_explore.specs.Inside.Rounds.{ComesBack, HasEach, HasGone}
-use Rattle.dbtg_explore.specs.Orders.{IsMeeting, Meeting, can_turn, history_of}
+use Rattle.dbtg_explore.specs.Orders.{IsMeeting, Meeting, can_turn}
 use Rattle.dbtg_explore.specs.States.{state_after, state_of}
 use Rattle.dbtg_explore.proofs.Keyed.{same_state}
 use Rattle.dbtg_explore.proofs.Placed.{place_on}

@@ -1,11 +1,11 @@
 -- A search through all states, over what is needed of them: orders, what can follow one, the state to which one leads.
 -- o and p are orders, u and v units, i a place among the orders that are found.
 use Rattle.std.proofs.Common.{◌≡◌, ℕ, zero, suc, ◌+◌, ◌<◌, ◌≤◌, Bool, true, false, List, [], ◌∷◌, ◌++◌, length, refl, sym, ◌∙◌, ap, subst, arith, inl, inr, ◌⊎◌, get_or, ⊎_elim}
-use Rattle.std.specs.Prelude.{Contains, ⊤}
+use Rattle.std.specs.Prelude.{Contains}
 use Rattle.std.proofs.lemmas.Bool.{cases_lt}
 use Rattle.std.proofs.lemmas.List.{get_or_append_left, get_or_default, length_push}
 use Rattle.std.proofs.lemmas.List.Elements.{Contains-get_or, Contains-append_left, Contains-push, Contains-push_cases}
-use Rattle.dbtg_explore.specs.Orders.{IsBefore, IsNoLater}
+use Rattle.dbtg_explore.specs.Orders.{IsBefore}
 use Rattle.dbtg_explore.specs.Inside.Search.{AreFirsts, HasFirst, IsUnderWay, LeadApart}
 use Rattle.dbtg_explore.specs.Pairwise.{ArePairwise}
 use Rattle.dbtg_explore.proofs.Before.{before_last, before_next, before_push, before_trans, no_later_push, no_later_trans}

@@ -1,6 +1,6 @@
 -- The steps of a search, as the code makes them.
 -- m is a meeting, o and p are orders, u is a unit, i is the place of an order that is found.
-use Rattle.std.proofs.Common.{◌≡◌, refl, sym, ◌∙◌, ap, subst, ℕ, zero, suc, ◌+◌, ◌<◌, ◌≤◌, Bool, true, false, ◌&&◌, not, List, [], ◌∷◌, ◌++◌, append_assoc, append-nil, length, length-append, map, get_or, Option, None, Some, arith, inl, inr, ⊎_elim}
+use Rattle.std.proofs.Common.{◌≡◌, refl, sym, ◌∙◌, ap, subst, ℕ, zero, suc, ◌+◌, ◌<◌, ◌≤◌, true, false, List, [], ◌∷◌, ◌++◌, append_assoc, append-nil, length, length-append, map, get_or, None, arith, inl, inr, ⊎_elim}
 use Rattle.std.specs.Prelude.{Contains, slice_get}
 use Rattle.std.proofs.lemmas.List.{get_or_append_left, map_push}
 use Rattle.std.proofs.lemmas.List.Elements.{Contains-get_or}
@@ -10,8 +10,8 @@ use Rattle.dbtg_explore.specs.declared.search.Search as given
 use Rattle.dbtg_explore.specs.Inside.Found.{FoundOrders, IsEntered, IsPut}
 use Rattle.dbtg_explore.specs.Inside.Search.{IsUnderWay}
 use Rattle.dbtg_explore.specs.Inside.Steps.{Goes, IsAt, can_follow, numbers_of}
-use Rattle.dbtg_explore.specs.Orders.{IsMeeting, IsOrder, Meeting, beginning, can_turn, due_of, history_of}
-use Rattle.dbtg_explore.specs.States.{AreApart, HasMoreStates, state_of}
+use Rattle.dbtg_explore.specs.Orders.{IsMeeting, IsOrder, Meeting, beginning, can_turn, history_of}
+use Rattle.dbtg_explore.specs.States.{HasMoreStates, state_of}
 use Rattle.dbtg_explore.proofs.Alike.{can_turn_alike, same_after}
 use Rattle.dbtg_explore.proofs.Keyed.{same_numbers, same_state}
 use Rattle.dbtg_explore.proofs.Searched.{GoOn, at_beginning, contains_behind, contains_cases, contains_here, contains_none, known_state, new_state, next_place, no_turn}

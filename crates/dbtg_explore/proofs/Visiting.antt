@@ -1,8 +1,7 @@
 -- All states, and what they come to.
 -- m is a meeting, o and p are orders, i is the place of an order that is found.
-use Rattle.std.proofs.Common.{◌≡◌, refl, sym, ◌∙◌, ap, subst, ℕ, ◌+◌, ◌<◌, ◌≤◌, Bool, true, false, List, [], ◌∷◌, ◌++◌, length, get_or, take, Option, None, Some, arith, inl, inr, if◌then◌else◌}
-use Rattle.std.specs.Prelude.{Contains, IfSome, option_and_then}
-use Rattle.std.proofs.lemmas.Bool.{cases_Bool}
+use Rattle.std.proofs.Common.{◌≡◌, refl, sym, ◌∙◌, ap, subst, ℕ, ◌+◌, ◌<◌, ◌≤◌, Bool, true, false, List, [], ◌∷◌, ◌++◌, length, get_or, take, Option, None, Some, arith, if◌then◌else◌}
+use Rattle.std.specs.Prelude.{IfSome, option_and_then}
 use Rattle.std.proofs.lemmas.List.{get_or-take, get_or_default, length-take, take-append-le, take_all, take_more}
 use Rattle.dbtg_program.specs.declared.program.End.{End}
 use Rattle.dbtg_program.specs.States.{ProgramState}
@@ -20,7 +19,7 @@ use Rattle.dbtg_explore.specs.Inside.Steps.{Goes, IsAt, can_follow}
 use Rattle.dbtg_explore.specs.Inside.Visits.{HasVisited, IsThrough, IsVisited}
 use Rattle.dbtg_explore.specs.Orders.{IsBefore, IsEnd, IsOrder, Meeting, history_of}
 use Rattle.dbtg_explore.specs.Pairwise.{ArePairwise}
-use Rattle.dbtg_explore.specs.Results.{AreFailures, AreResults, Fails, is_failure, result_text, state_text}
+use Rattle.dbtg_explore.specs.Results.{AreFailures, AreResults, is_failure, state_text}
 use Rattle.dbtg_explore.specs.States.{CountsStates, MeetingState, state_of}
 use Rattle.dbtg_explore.proofs.Alike.{can_go_on_alike}
 use Rattle.dbtg_explore.proofs.Before.{no_later_trans}
@@ -62,12 +61,6 @@ module _ (m : Meeting) where
 
   pub one_on_the_way : (limit i : ℕ) (old new : search.Search) (before after : ends.Ends) → IsOnTheWay m limit i old before → HasVisited m i old new after → IsOnTheWay m limit (i + 1) new after
   one_on_the_way limit i old new before after way h = record { visited = h.visited; limit_is = h.limit_is ∙ way.limit_is; within = let low = h.within in omega arith }
-
-  pub is_through : (limit i : ℕ) (s : search.Search) (e : ends.Ends) → IsOnTheWay m limit i s e → length s.found.orders ≤ i → IsThrough m limit s e
-  is_through limit i s e way end =
-      let within = way.within in
-      let all : i ≡ length s.found.orders = omega arith in
-      record { visited = subst (λ (k : ℕ). IsVisited m k s e) all way.visited; limit_is = way.limit_is }
 
   -- WHERE ALL ARE VISITED
 

@@ -1,6 +1,6 @@
 -- The law of the machine of events and the orders: every run in which programs come to their ends is one of the results.
 -- m is a meeting, u a unit.
-use Rattle.std.specs.Prelude.{ℕ, ◌≡◌, ◌≤◌, true, false, List, [], ◌∷◌, ◌++◌, Some, map, length}
+use Rattle.std.specs.Prelude.{ℕ, ◌≡◌, true, false, List, [], ◌∷◌, ◌++◌, Some, map, length}
 use Rattle.std.specs.List.{range_with_len}
 use Rattle.dbtg_script.specs.Printing.Texts.{run_text}
 use Rattle.dbtg_unit.specs.declared.moves.Move.{Move}

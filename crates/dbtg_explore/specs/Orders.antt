@@ -1,6 +1,6 @@
 -- Programs that meet, and the orders in which they can make their statements.
 -- m is a meeting, u a unit; an order is the units whose turn it is, one after another; a history has the statements that were made.
-use Rattle.std.specs.Prelude.{ℕ, ◌≡◌, ◌≤◌, ◌<◌, ◌-◌, ◌==◌, ◌&&◌, ◌⊎◌, Bool, true, false, not, List, [], ◌∷◌, Option, Some, None, is_some, length, option_and_then, if◌then◌else◌, ⊤}
+use Rattle.std.specs.Prelude.{ℕ, ◌≡◌, ◌≤◌, ◌<◌, ◌-◌, ◌==◌, ◌&&◌, ◌⊎◌, Bool, true, false, not, List, [], ◌∷◌, Option, is_some, length, option_and_then, ⊤}
 use Rattle.std.specs.List.{list_any, range_with_len}
 use Rattle.dbtg_schema.specs.Lists.{Lists}
 use Rattle.dbtg_schema.specs.Sound.{IsSound}

@@ -1,6 +1,5 @@
 -- How the code keeps where a meeting is.
 use Rattle.std.specs.Prelude.{ℕ, ◌≡◌, List, Option, Some, None, if◌then◌else◌, length, option_and_then}
-use Rattle.dbtg_unit.specs.declared.unit.Entry.{Entry}
 use Rattle.dbtg_step.specs.Core.Whole.{Making}
 use Rattle.dbtg_going.specs.declared.member.Going.{Going}
 use Rattle.dbtg_program.specs.declared.program.End.{End}

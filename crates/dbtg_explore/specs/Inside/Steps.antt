@@ -1,6 +1,6 @@
 -- What the code of a search holds.
 -- m is a meeting, o is an order, i is the place of an order that is found, u is a unit.
-use Rattle.std.specs.Prelude.{ℕ, ◌≡◌, ◌≤◌, ◌++◌, Bool, List, length, map, slice_index_or, []}
+use Rattle.std.specs.Prelude.{ℕ, ◌≡◌, ◌≤◌, ◌++◌, Bool, List, length, map}
 use Rattle.dbtg_explore.specs.declared.search.Search as given
 use Rattle.dbtg_explore.specs.Inside.Keys.{state_numbers}
 use Rattle.dbtg_explore.specs.Inside.Search.{IsUnderWay}

@@ -1,4 +1,4 @@
-use Rattle.std.proofs.Common.{◌≡◌, ◌+◌, ℕ, subst, length, arith}
+use Rattle.std.proofs.Common.{◌≡◌, ℕ, subst, length, arith}
 use Rattle.dbtg_explore.specs.Inside.Failures.{Take}
 use Rattle.dbtg_explore.proofs.Noting.{FailsTo, fails_all, fails_first, fails_next}
 use Rattle.dbtg_explore.proofs.ends.note_failures.Goals as goal

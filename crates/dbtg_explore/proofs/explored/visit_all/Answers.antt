@@ -1,5 +1,4 @@
-use Rattle.std.proofs.Common.{◌≤◌, length, arith}
-use Rattle.dbtg_explore.proofs.Visiting.{is_through, on_the_way, one_on_the_way}
+use Rattle.dbtg_explore.proofs.Visiting.{on_the_way, one_on_the_way}
 use Rattle.dbtg_explore.proofs.explored.visit_all.Goals as goal
 
 pub loop-place-init : goal.loop-place-init

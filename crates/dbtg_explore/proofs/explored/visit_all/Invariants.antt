@@ -1,5 +1,4 @@
-use Rattle.std.proofs.Common.{◌≡◌, ◌-◌}
-use Rattle.dbtg_explore.specs.Inside.Visits.{IsVisited}
+use Rattle.std.proofs.Common.{◌-◌}
 use Rattle.dbtg_explore.proofs.Visiting.{IsOnTheWay}
 use Rattle.dbtg_explore.proofs.explored.visit_all.Given as goal
 

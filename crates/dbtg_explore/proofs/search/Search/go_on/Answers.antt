@@ -1,4 +1,4 @@
-use Rattle.std.proofs.Common.{◌≡◌, ◌+◌, ◌∙◌, ℕ, List, [], ap, subst, sym, length, get_or, arith}
+use Rattle.std.proofs.Common.{◌≡◌, ◌+◌, ℕ, List, [], subst, sym, length, get_or, arith}
 use Rattle.std.proofs.lemmas.Result.{err_from_is_err_and}
 use Rattle.dbtg_explore.specs.Inside.Places.{IsPlaceOf}
 use Rattle.dbtg_explore.specs.Inside.Steps.{Goes}
