@@ -173,6 +173,10 @@ class Runs:
         shown = [(name, program.fields[name]) for name in program.counters]
         return f"PROGRAM {number} {how}" + "".join(f" {n}={v}" if isinstance(v, int) else f' {n}="{v}"' for n, v in shown)
 
+    def text(self):
+        """All that is printed."""
+        return printed(self.machine) + "".join(self.said(it) + "\n" for it in range(1, len(self.programs) + 1))
+
     def echo(self):
         """Each answer with its statement in front."""
         width = max([len(it) for it in self.lines if len(it) <= WIDEST], default=0)
@@ -184,7 +188,7 @@ def asked(folder, words):
     options, flags, files = {}, [], []
     words = iter(words[1:])
     for word in words:
-        if word in ("--capacity", "--turns", "--first", "--then"):
+        if word in ("--capacity", "--limit", "--turns", "--first", "--then"):
             options[word] = next(words)
         elif word.startswith("--"):
             flags.append(word)
@@ -213,5 +217,4 @@ def run(folder, words):
         runs.to_the_end(count)
     if "--echo" in flags:
         runs.echo()
-    said = "".join(runs.said(it) + "\n" for it in range(1, count + 1))
-    return printed(runs.machine) + said
+    return runs.text()

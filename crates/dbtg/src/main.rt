@@ -22,6 +22,7 @@ use dbtg_command::reason::reason;
 use dbtg_command::{
     Call, Fault, Files, Named, Order, Paths, Wished, call_of, each_fault, read_schema, status_of,
 };
+use dbtg_exploring::{Exploring, explore_programs};
 use dbtg_going::Around;
 use dbtg_outcomes::Wish;
 use dbtg_replay::replay::{check_count, replay};
@@ -40,7 +41,7 @@ use threads::{OnThreads, run_on_threads};
 use timeline::{Form, timeline};
 use wishes::{Judged, judge_outcomes};
 
-/// The exit status of a run in which a program ended by ASSERT, SIZE or ASTRAY.
+/// The exit status where a program ended by ASSERT, SIZE or ASTRAY, or can end so.
 const PROGRAM_FAILED: u8 = 4;
 
 /// The exit status of a program whose reader has gone away: the one with which a shell reports that SIGPIPE ended it.
@@ -239,6 +240,14 @@ fn print_saved(rt: &HostRuntime, said: &OnThreads, saved: Option<&str>) -> ExitC
     print_text(rt, said.printed.as_slice())
 }
 
+// Which programs are made before and behind all others.
+fn around_of(call: &Call) -> Around {
+    Around {
+        first: call.first,
+        last: call.last,
+    }
+}
+
 fn print_programs(rt: &HostRuntime, call: &Call) -> ExitCode {
     let paths = paths_of(call.schema, call.scripts.as_slice(), call.order);
     let files = Files {
@@ -247,15 +256,37 @@ fn print_programs(rt: &HostRuntime, call: &Call) -> ExitCode {
     };
     let options = RunOptions {
         capacity: call.capacity,
-        around: Around {
-            first: call.first,
-            last: call.last,
-        },
+        around: around_of(call),
         echo: call.echo,
     };
-    match run(rt.alloc(), &files, options) {
+    print_said(rt, run(rt.alloc(), &files, options), &paths, call)
+}
+
+fn tell_explored(rt: &HostRuntime, call: &Call) -> ExitCode {
+    let paths = paths_of(call.schema, call.scripts.as_slice(), call.order);
+    let asked = Exploring {
+        capacity: call.capacity,
+        around: around_of(call),
+        limit: call.limit,
+    };
+    let files = Files {
+        reader: rt,
+        paths: &paths,
+    };
+    let said = explore_programs(rt.alloc(), &files, asked);
+    print_said(rt, said, &paths, call)
+}
+
+// What a command prints of programs, or its fault.
+fn print_said(
+    rt: &HostRuntime,
+    said: Result<Printed, Fault>,
+    paths: &Paths,
+    call: &Call,
+) -> ExitCode {
+    match said {
         Ok(said) => print_with(rt, said.text.as_slice(), status_of_programs(&said)),
-        Err(fault) => told_of(rt, &fault, &paths, call.explains),
+        Err(fault) => told_of(rt, &fault, paths, call.explains),
     }
 }
 
@@ -450,6 +481,7 @@ fn carry_out<R: Threads + Wait + Sync>(rt: &HostRuntime, threads: &R, call: &Cal
         Named::Outcomes => tell_outcomes(rt, call),
         Named::Threads => print_threads(rt, threads, call),
         Named::Run => print_programs(rt, call),
+        Named::Explore => tell_explored(rt, call),
         Named::Audit => print_audit(rt, call),
         Named::Explain => print_topic(rt, &call.topic),
         Named::Shell => run_shell(rt, call),

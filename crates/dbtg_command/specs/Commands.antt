@@ -63,6 +63,10 @@ last = file_option (codes "then")
 abbrev pub limit : Rule
 limit = number_option (codes "limit") (codes "1000000")
 
+-- the usual number where programs meet
+abbrev pub limit_of_programs : Rule
+limit_of_programs = number_option (codes "limit") (codes "100000")
+
 abbrev pub moves : Rule
 moves = file_option (codes "moves")
 
@@ -124,6 +128,7 @@ name_of named.Outcomes = codes "outcomes"
 name_of named.Threads = codes "threads"
 name_of named.Audit = codes "audit"
 name_of named.Run = codes "run"
+name_of named.Explore = codes "explore"
 name_of named.Draw = codes "draw"
 name_of named.Explain = codes "explain"
 name_of named.Shell = codes "shell"
@@ -140,6 +145,7 @@ rules_for named.Threads = capacity ∷ first ∷ save_turns ∷ explain ∷ no_e
 rules_for named.Audit = capacity ∷ first ∷ units ∷ status ∷ all ∷ explain ∷ no_explain ∷ schema ∷ trace ∷ []
 rules_for named.Draw = explain ∷ no_explain ∷ schema ∷ []
 rules_for named.Run = capacity ∷ first ∷ turns_alone ∷ last ∷ echo ∷ explain ∷ no_explain ∷ schema ∷ scripts ∷ []
+rules_for named.Explore = capacity ∷ first ∷ turns_alone ∷ last ∷ limit_of_programs ∷ explain ∷ no_explain ∷ schema ∷ scripts ∷ []
 rules_for named.Explain = topic ∷ []
 rules_for named.Shell = capacity ∷ units ∷ schema ∷ []
 
@@ -152,5 +158,5 @@ abbrev pub program : App
 program = record {
   top = record (new_shape (codes "dbtg")) { is_leaf = false; has_version = true; propagate_version = true; subcommand_required = true; arg_required_else_help = true };
   subs = map (λ asked. shape_with (name_of asked) (rules_for asked))
-      (named.Check ∷ named.Replay ∷ named.Turns ∷ named.Timeline ∷ named.Page ∷ named.Outcomes ∷ named.Threads ∷ named.Run ∷ named.Audit ∷ named.Draw ∷ named.Explain ∷ named.Shell ∷ []);
+      (named.Check ∷ named.Replay ∷ named.Turns ∷ named.Timeline ∷ named.Page ∷ named.Outcomes ∷ named.Threads ∷ named.Run ∷ named.Explore ∷ named.Audit ∷ named.Draw ∷ named.Explain ∷ named.Shell ∷ []);
 }

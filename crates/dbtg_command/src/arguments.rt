@@ -1,6 +1,6 @@
 //! What a command can be given: options, files and other words, as `clap` is told of each.
 ghost use Rattle.std.specs.Prelude.{IfOk};
-ghost use Rattle.dbtg_command.specs.Commands.{all, answers, capacity, echo, explain, file_option, file_word, first, flag, last, limit, moves, no_explain, number_option, programs, save_turns, topic, turns_file, turns_option, units, words, status, trace, always, brief, never, wish_option, turns_alone};
+ghost use Rattle.dbtg_command.specs.Commands.{all, answers, capacity, echo, explain, file_option, file_word, first, flag, last, limit, limit_of_programs, moves, no_explain, number_option, programs, save_turns, topic, turns_file, turns_option, units, words, status, trace, always, brief, never, wish_option, turns_alone};
 ghost use Rattle.dbtg_command.specs.Inside.Commands.{IsArg, rule_for};
 
 use clap::{Arg, ArgAction};
@@ -19,6 +19,7 @@ pub enum Word<'a> {
     First(&'a str),
     Last,
     Limit,
+    LimitOfPrograms,
     Moves,
     Never,
     NoExplain,
@@ -32,6 +33,7 @@ pub enum Word<'a> {
     Topic,
     Trace,
     TurnsAlone,
+    TurnsBefore,
     TurnsOption,
     TurnsFile,
     Units,
@@ -45,6 +47,14 @@ pub const SCHEMA: &str = "The file of the schema; - for standard input";
 
 /// What is said of a script that is made first.
 pub const FIRST: &str = "A script made whole before the others, by the last unit [default: none]";
+
+/// What is said of a program that is made first.
+pub const FIRST_PROGRAM: &str =
+    "A program made to its end before the others, by the unit behind theirs [default: none]";
+
+/// What is said of the programs of units.
+pub const PROGRAMS: &str =
+    "Files of the programs of units 1, 2, ..: 1 to 8 in all; - for standard input, once";
 
 /// What is said of the scripts of units.
 pub const SCRIPTS: &str =
@@ -187,6 +197,13 @@ fn limit_option<'a>(alloc: Global) -> Arg<'a>
     number_option(alloc, "limit", "1000000", help)
 }
 
+fn limit_of_programs_option<'a>(alloc: Global) -> Arg<'a>
+    ensures { IsArg limit_of_programs result }
+{
+    let help = "States to allow, 1 to 1000000000; a hundred thousand can take 500 MB";
+    number_option(alloc, "limit", "100000", help)
+}
+
 fn moves_option<'a>(alloc: Global) -> Arg<'a>
     ensures { IsArg moves result }
 {
@@ -267,6 +284,13 @@ fn turns_alone<'a>(alloc: Global) -> Arg<'a>
     )
 }
 
+fn turns_before_option<'a>(alloc: Global) -> Arg<'a>
+    ensures { IsArg turns_alone result }
+{
+    let help = "The file of the turns to go on from; - for standard input [default: none]";
+    file_option(alloc, "turns", help)
+}
+
 fn turns_option<'a>(alloc: Global) -> Result<Arg<'a>, AllocError>
     ensures { IfOk result (IsArg turns_option) }
 {
@@ -306,6 +330,7 @@ pub fn arg_of<'a>(alloc: Global, word: Word<'a>) -> Result<Arg<'a>, AllocError>
         Word::First(help) => Ok(file_option(alloc, "first", help)),
         Word::Last => Ok(last_option(alloc)),
         Word::Limit => Ok(limit_option(alloc)),
+        Word::LimitOfPrograms => Ok(limit_of_programs_option(alloc)),
         Word::Moves => Ok(moves_option(alloc)),
         Word::Never => Ok(never_option(alloc)),
         Word::NoExplain => Ok(no_explain_option(alloc)),
@@ -319,6 +344,7 @@ pub fn arg_of<'a>(alloc: Global, word: Word<'a>) -> Result<Arg<'a>, AllocError>
         Word::Topic => Ok(topic_words(alloc)),
         Word::Trace => Ok(trace_word(alloc)),
         Word::TurnsAlone => Ok(turns_alone(alloc)),
+        Word::TurnsBefore => Ok(turns_before_option(alloc)),
         Word::TurnsOption => turns_option(alloc),
         Word::TurnsFile => Ok(turns_word(alloc)),
         Word::Units => Ok(units_option(alloc)),

@@ -5,7 +5,7 @@ ghost use Rattle.clap.specs.declared.builder.command.Command.TheViews.{out-Comma
 ghost use Rattle.dbtg_command.specs.Commands.{name_of, program, rules_for};
 ghost use Rattle.dbtg_command.specs.Inside.Commands.{IsApp, alone, rule_for, with_command};
 
-use crate::arguments::{FIRST, SCHEMA, SCRIPTS, Word, arg_of};
+use crate::arguments::{FIRST, FIRST_PROGRAM, PROGRAMS, SCHEMA, SCRIPTS, Word, arg_of};
 use clap::error::ErrorKind;
 use clap::{Command, Error};
 use std::alloc::{AllocError, Global};
@@ -259,10 +259,6 @@ fn audit_command<'a>(alloc: Global, name: &'a str) -> Result<Command<'a>, AllocE
 fn run_command<'a>(alloc: Global, name: &'a str) -> Result<Command<'a>, AllocError>
     ensures { IfOk result (IsApp (alone name.entry.now (rules_for Named.Run))) }
 {
-    let first =
-        "A program made to its end before the others, by the unit behind theirs [default: none]";
-    let programs =
-        "Files of the programs of units 1, 2, ..: 1 to 8 in all; - for standard input, once";
     described(
         alloc,
         name,
@@ -270,14 +266,37 @@ fn run_command<'a>(alloc: Global, name: &'a str) -> Result<Command<'a>, AllocErr
         "Example: dbtg run --turns shop.turns shop.schema clerk1.program clerk2.program",
         &[
             Word::Capacity,
-            Word::First(first),
+            Word::First(FIRST_PROGRAM),
             Word::TurnsAlone,
             Word::Last,
             Word::Echo,
             Word::Explain,
             Word::NoExplain,
             Word::Schema(SCHEMA),
-            Word::ProgramFiles(programs),
+            Word::ProgramFiles(PROGRAMS),
+        ],
+    )
+}
+
+// The command `explore`, by the name that its usage shows.
+fn explore_command<'a>(alloc: Global, name: &'a str) -> Result<Command<'a>, AllocError>
+    ensures { IfOk result (IsApp (alone name.entry.now (rules_for Named.Explore))) }
+{
+    described(
+        alloc,
+        name,
+        "Lists all that can come out when programs meet, how they fail, and whether they can go on for ever",
+        "Example: dbtg explore --first load.program shop.schema clerk1.program clerk2.program\nThe turns of a result are those for 'dbtg run' with the same --first and --then; status 4 where a program can fail",
+        &[
+            Word::Capacity,
+            Word::First(FIRST_PROGRAM),
+            Word::TurnsBefore,
+            Word::Last,
+            Word::LimitOfPrograms,
+            Word::Explain,
+            Word::NoExplain,
+            Word::Schema(SCHEMA),
+            Word::ProgramFiles(PROGRAMS),
         ],
     )
 }
@@ -307,13 +326,14 @@ pub enum Named {
     Outcomes,
     Threads,
     Run,
+    Explore,
     Audit,
     Draw,
     Explain,
     Shell,
 }
 
-pub const ALL: [Named; 12] = [
+pub const ALL: [Named; 13] = [
     Named::Check,
     Named::Replay,
     Named::Turns,
@@ -322,6 +342,7 @@ pub const ALL: [Named; 12] = [
     Named::Outcomes,
     Named::Threads,
     Named::Run,
+    Named::Explore,
     Named::Audit,
     Named::Draw,
     Named::Explain,
@@ -341,6 +362,7 @@ pub fn name_of<'a>(named: Named) -> &'a str
         Named::Outcomes => "outcomes",
         Named::Threads => "threads",
         Named::Run => "run",
+        Named::Explore => "explore",
         Named::Audit => "audit",
         Named::Draw => "draw",
         Named::Explain => "explain",
@@ -359,6 +381,7 @@ fn shown_name<'a>(named: Named) -> &'a str {
         Named::Outcomes => "dbtg outcomes",
         Named::Threads => "dbtg threads",
         Named::Run => "dbtg run",
+        Named::Explore => "dbtg explore",
         Named::Audit => "dbtg audit",
         Named::Draw => "dbtg draw",
         Named::Explain => "dbtg explain",
@@ -378,6 +401,7 @@ fn command_of<'a>(alloc: Global, named: Named, name: &'a str) -> Result<Command<
         Named::Outcomes => outcomes_command(alloc, name),
         Named::Threads => threads_command(alloc, name),
         Named::Run => run_command(alloc, name),
+        Named::Explore => explore_command(alloc, name),
         Named::Audit => audit_command(alloc, name),
         Named::Draw => draw_command(alloc, name),
         Named::Explain => explain_command(alloc, name),

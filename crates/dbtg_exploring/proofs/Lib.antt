@@ -1,0 +1,4 @@
+mod LeftOut
+mod MeetingsRead
+mod Results
+mod Rows

@@ -1,0 +1,32 @@
+-- Lines of an exploration, as they are printed.
+use Rattle.std.specs.Prelude.{◌≡◌, refl, List, ℕ, [], ◌∷◌, ◌++◌, Some, None, codes}
+use Rattle.std.specs.Fmt.{digits}
+use Rattle.dbtg_program.specs.declared.program.End.TheVariants.{Assert, Size}
+use Rattle.dbtg_explore.specs.declared.explored.Endless.{Endless}
+use Rattle.dbtg_explore.specs.declared.explored.Explored.{Explored}
+use Rattle.dbtg_explore.specs.declared.explored.Failure.{Failure}
+use Rattle.dbtg_exploring.specs.Texts.{count_text, endless_text, failure_text, result_head, with_turns}
+
+-- a way that begins behind two told turns
+abbrev pub way : Endless
+way = record { turns = 1 ∷ 2 ∷ []; round = 2 ∷ 2 ∷ 1 ∷ [] }
+
+-- it may go round from the beginning on
+abbrev pub at_once : Endless
+at_once = record { turns = []; round = 1 ∷ [] }
+
+counted : count_text (record { states = 412; results = (1 ∷ []) ∷ (2 ∷ []) ∷ []; failures = []; endless = None }) ≡ codes "states 412, results 2" ++ 10 ∷ []
+unfolding digits
+counted = refl
+
+ways : endless_text (3 ∷ 1 ∷ []) (Some way) ++ endless_text [] (Some at_once) ++ endless_text [] None ≡ codes "endless turns 3 1*2 2 then 2*2 1" ++ 10 ∷ codes "endless turns then 1" ++ 10 ∷ []
+unfolding digits with_turns
+ways = refl
+
+failures : failure_text (record { unit = 2; how = Assert 12 }) ++ failure_text (record { unit = 3; how = Size 9 }) ≡ codes "fails 2 ASSERT line 12" ++ 10 ∷ codes "fails 3 SIZE line 9" ++ 10 ∷ []
+unfolding digits
+failures = refl
+
+heads : result_head 1 (1 ∷ 1 ∷ 2 ∷ []) ++ result_head 2 [] ≡ codes "result 1" ++ 10 ∷ codes "turns 1*2 2" ++ 10 ∷ codes "result 2" ++ 10 ∷ codes "turns" ++ 10 ∷ []
+unfolding digits with_turns
+heads = refl

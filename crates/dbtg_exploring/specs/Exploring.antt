@@ -1,0 +1,92 @@
+-- What `explore` prints of the texts that a source gives, and which fault it tells.
+-- told are the turns that are told, none where the source gives none; asked is what an exploration is asked for.
+use Rattle.std.specs.Prelude.{ℕ, ◌≡◌, ◌≤◌, Bool, true, not, List, [], ◌++◌, Option, Some, None, ◌⊎◌, ◌==◌, flat_map, length, map, unwrap_or}
+use Rattle.dbtg_schema.specs.Lists.{Lists}
+use Rattle.dbtg_program.specs.declared.program.Program.{Program}
+use Rattle.dbtg_program.specs.Reading.{program}
+use Rattle.dbtg_going.specs.Turns.{after_turns, turns_before}
+use Rattle.dbtg_command.specs.declared.fault.Fault.{Fault}
+use Rattle.dbtg_command.specs.declared.fault.Fault.TheVariants as fault
+use Rattle.dbtg_command.specs.declared.order.OrderKind.{OrderKind}
+use Rattle.dbtg_command.specs.declared.place.TextPlace.{TextPlace}
+use Rattle.dbtg_command.specs.Refusals.{is_count}
+use Rattle.dbtg_command.specs.Sources.{ReadSchema}
+use Rattle.dbtg_running.specs.declared.command.Printed.{Printed}
+use Rattle.dbtg_running.specs.Reading.{ReadPrograms}
+use Rattle.dbtg_running.specs.Running.{ReadsTurns, ToldOfRun}
+use Rattle.dbtg_explore.specs.declared.explored.Explored.{Explored}
+use Rattle.dbtg_explore.specs.Explored.{IsExplored}
+use Rattle.dbtg_explore.specs.Orders.{Meeting}
+use Rattle.dbtg_explore.specs.States.{HasMoreStates}
+use Rattle.dbtg_exploring.specs.declared.setting.Exploring.{Exploring}
+use Rattle.dbtg_exploring.specs.Texts.{AreResultTexts, count_text, endless_text, failure_text}
+
+-- the meeting of these programs that is asked for, with the turns that are behind
+abbrev pub meeting_of : Lists → List Program → Exploring → List ℕ → Meeting
+meeting_of schema programs asked begun = record {
+  schema = schema;
+  capacity = asked.capacity;
+  programs = programs;
+  begun = begun;
+  last_waits = asked.around.last;
+}
+
+-- these turns make all that the first program and the told turns make
+abbrev pub Begins : Lists → List Program → List ℕ → Exploring → List ℕ → Type 0
+Begins schema programs told asked begun =
+    after_turns schema asked.capacity programs [] begun ≡ after_turns schema asked.capacity programs [] (turns_before asked.around (length programs) (Some told))
+
+-- the text tells all that the programs can come to from there on, in no more states than the limit; it is said whether a program fails
+pub record IsExploration (schema : Lists) (programs : List Program) (told : List ℕ) (asked : Exploring) (printed : Printed) : Type 0 where
+  pub begun : List ℕ
+  pub begins : Begins schema programs told asked begun
+  pub all : Explored
+  pub are_all : IsExplored (meeting_of schema programs asked begun) all
+  pub within : all.states ≤ asked.limit
+  pub results : List ℕ
+  pub are_results : AreResultTexts schema programs told asked 1 all.results results
+  pub text : printed.text.items ≡ count_text all ++ endless_text told all.endless ++ flat_map failure_text all.failures ++ results
+  pub failed_is : printed.failed ≡ not (length all.failures == 0)
+
+-- there are more states than the limit, and the fault says so, unless memory ran out
+abbrev pub IsOver : Meeting → ℕ → Fault → Type 0
+IsOver m limit fault.Memory = Unit {0}
+IsOver m limit (fault.StatesOver n) = (n ≡ limit) × HasMoreStates m limit
+IsOver m limit fault.MovesOver = ⊥
+IsOver m limit (fault.Schema line cause) = ⊥
+IsOver m limit (fault.Script n line cause) = ⊥
+IsOver m limit (fault.Program n line cause) = ⊥
+IsOver m limit (fault.Moves word cause) = ⊥
+IsOver m limit (fault.Turns word cause) = ⊥
+IsOver m limit (fault.Trace line cause) = ⊥
+IsOver m limit (fault.Unreadable path) = ⊥
+IsOver m limit fault.ScriptCount = ⊥
+
+-- it is so of the programs from there on
+abbrev pub GivesUp : Lists → List Program → List ℕ → Exploring → Fault → Type 0
+GivesUp schema programs told asked fault = (begun : List ℕ) × Begins schema programs told asked begun × IsOver (meeting_of schema programs asked begun) asked.limit fault
+
+-- what is read before programs meet: 1 to 8 programs, and the turns that are told, and nothing is refused
+pub record ReadMeeting (holds : TextPlace → List ℕ → Type 0) (count : ℕ) (which : OrderKind) : Type 0 where
+  pub counted : is_count count ≡ true
+  pub schema : Lists
+  pub schema_read : ReadSchema holds schema
+  pub programs_read : ReadPrograms holds schema count
+  pub turns : Option (List ℕ)
+  pub turns_read : ReadsTurns holds which turns
+
+abbrev pub programs_in : {holds : TextPlace → List ℕ → Type 0} {count : ℕ} {which : OrderKind} → ReadMeeting holds count which → List Program
+programs_in read = map (program read.schema) read.programs_read.texts
+
+abbrev pub told_in : {holds : TextPlace → List ℕ → Type 0} {count : ℕ} {which : OrderKind} → ReadMeeting holds count which → List ℕ
+told_in read = unwrap_or read.turns []
+
+-- what is printed of texts that are held
+abbrev pub ExploresHeld : (TextPlace → List ℕ → Type 0) → ℕ → OrderKind → Exploring → Printed → Type 0
+ExploresHeld holds count which asked printed = (read : ReadMeeting holds count which) × IsExploration read.schema (programs_in read) (told_in read) asked printed
+
+-- a fault that is told as of a run; or all is read, and there are too many states
+abbrev pub ToldOfExploring : (TextPlace → List ℕ → Type 0) → (TextPlace → Fault → Type 0) → Fault → ℕ → OrderKind → Exploring → Type 0
+ToldOfExploring holds fails fault count which asked =
+    ToldOfRun holds fails fault count which
+    ⊎ ((read : ReadMeeting holds count which) × GivesUp read.schema (programs_in read) (told_in read) asked fault)

@@ -1,0 +1,109 @@
+//! The command `explore`.
+
+ghost use Rattle.dbtg_command.specs.Refusals.{is_count};
+ghost use Rattle.dbtg_command.specs.Sources.{ReadSchema};
+ghost use Rattle.dbtg_explore.specs.Explored.{IsExplored};
+ghost use Rattle.dbtg_explore.specs.Orders.{IsMeeting};
+ghost use Rattle.dbtg_exploring.specs.Exploring.{ExploresHeld, GivesUp, IsExploration, IsOver, ToldOfExploring};
+ghost use Rattle.dbtg_program.specs.Reading.{program};
+ghost use Rattle.dbtg_running.specs.Reading.{ReadPrograms};
+ghost use Rattle.dbtg_running.specs.Running.{ReadsTurns};
+ghost use Rattle.dbtg_schema.specs.Sound.{IsSound};
+ghost use Rattle.std.specs.Prelude.{◌≡◌, ◌≤◌, ◌++◌, IfErr, IfOk, Some, filter, length, map, option_map, true, unwrap_or, []};
+
+use crate::begun::begun_turns;
+use crate::setting::{Exploring, Setting};
+use dbtg_command::{Fault, Source, read_schema};
+use dbtg_explore::{Explored, Meeting, explore};
+use dbtg_outcomes::Stop;
+use dbtg_replay::replay::check_count;
+use dbtg_running::{Printed, read_programs, turns_wanted};
+use dbtg_schema::{Row, Schema};
+use std::alloc::Global;
+
+// All that programs can come to, unless there are too many states.
+fn explored(alloc: Global, meeting: &Meeting, limit: u64) -> Result<Explored, Fault>
+    requires { IsMeeting meeting.now }
+    ensures done { IfOk result (IsExplored meeting.now) }
+    ensures within { IfOk result (λ all. all.states ≤ limit) }
+    ensures refused { IfErr result (λ fault. IsOver meeting.now limit fault) }
+{
+    match explore(alloc, meeting, limit as usize) {
+        Ok(all) => Ok(all),
+        Err(Stop::Memory) => Err(Fault::Memory),
+        Err(Stop::States) => Err(Fault::StatesOver { limit }),
+    }
+}
+
+// What is printed of programs that meet.
+fn explore_setting(alloc: Global, setting: &Setting) -> Result<Printed, Fault>
+    requires sound { IsSound setting.now.schema.now }
+    requires few { length setting.now.programs.now ≤ 255 }
+    ensures done { IfOk result (IsExploration setting.now.schema.now setting.now.programs.now setting.now.told.now setting.now.asked) }
+    ensures refused { IfErr result (GivesUp setting.now.schema.now setting.now.programs.now setting.now.told.now setting.now.asked) }
+{
+    let begun = begun_turns(alloc, setting)?;
+    let meeting = Meeting {
+        schema: setting.schema,
+        capacity: setting.asked.capacity,
+        programs: setting.programs,
+        begun: begun.as_slice(),
+        last_waits: setting.asked.around.last,
+    };
+    let all = explored(alloc, &meeting, setting.asked.limit)?;
+    Ok(Printed {
+        text: setting.exploration_text(alloc, &all)?,
+        failed: !all.failures.is_empty(),
+    })
+}
+
+// The turns, none where none are told.
+fn told_of(turns: &Option<Row<u8>>) -> &[u8]
+    ensures { result.now ≡ unwrap_or turns.now [] }
+{
+    match turns {
+        Some(turns) => turns.as_slice(),
+        None => &[],
+    }
+}
+
+// What is printed of the programs over a schema that was read.
+fn explore_known<S: Source>(
+    alloc: Global,
+    source: &S,
+    known: &Schema,
+    asked: Exploring,
+) -> Result<Printed, Fault>
+    requires counted { is_count (S.count source.now) ≡ true }
+    requires schema { ReadSchema (S.holds source.now) known.now }
+    requires sound { IsSound known.now }
+    ensures done { IfOk result (λ printed. ExploresHeld (S.holds source.now) (S.count source.now) (S.order source.now) asked printed) }
+    ensures refused { IfErr result (λ fault. ToldOfExploring (S.holds source.now) (S.fails source.now) fault (S.count source.now) (S.order source.now) asked) }
+{
+    let programs = read_programs(alloc, source, known)?;
+    let turns = turns_wanted(alloc, source)?;
+    let setting = Setting {
+        schema: known,
+        programs: programs.list.as_slice(),
+        told: told_of(&turns),
+        asked,
+    };
+    explore_setting(alloc, &setting)
+}
+
+/// What `explore` prints of the schema, the programs and the turns that a source gives, or the first fault: all that the programs can
+/// come to when they meet. The programs stand in the places of scripts, the first and the last one behind the others.
+pub fn explore_programs<S: Source>(
+    alloc: Global,
+    source: &S,
+    asked: Exploring,
+) -> Result<Printed, Fault>
+    ensures done { IfOk result (λ printed. ExploresHeld (S.holds source.now) (S.count source.now) (S.order source.now) asked printed) }
+    ensures refused { IfErr result (λ fault. ToldOfExploring (S.holds source.now) (S.fails source.now) fault (S.count source.now) (S.order source.now) asked) }
+{
+    check_count(source.count())?;
+    let known = read_schema(alloc, source)?;
+    let said = explore_known(alloc, source, &known, asked);
+    known.discard();
+    said
+}

@@ -1,0 +1,10 @@
+//! The command `explore`: all that the programs of a source can come to when they meet.
+#![tactic(auto)]
+
+mod begun;
+mod command;
+mod setting;
+mod text;
+
+pub use command::explore_programs;
+pub use setting::Exploring;

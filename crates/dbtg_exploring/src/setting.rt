@@ -1,0 +1,24 @@
+//! What is explored.
+
+use dbtg_going::Around;
+use dbtg_program::Program;
+use dbtg_schema::Schema;
+
+/// What an exploration is asked for.
+#[derive(Clone, Copy)]
+pub struct Exploring {
+    pub capacity: u16,
+    /// Is there a program that is made first, and one that is made last?
+    pub around: Around,
+    /// How many states may come.
+    pub limit: u64,
+}
+
+/// Programs, the turns that are told, and what is asked for.
+#[derive(Clone, Copy)]
+pub struct Setting<'a> {
+    pub schema: &'a Schema,
+    pub programs: &'a [Program],
+    pub told: &'a [u8],
+    pub asked: Exploring,
+}

@@ -1,0 +1,163 @@
+"""All that programs can come to when they meet: docs/explore.md. Each state is made anew by the turns that lead to it."""
+import re
+
+import machine
+from run_of_programs import Runs, asked
+from schema import Schema
+
+
+def left_behind(text):
+    """What a run leaves behind, where the units that have an area open stand in the order of their numbers."""
+    behind = text.partition("--\n")[2]
+    return re.sub(r"(?m)^(AREA [^ \n]+)(.+)$", lambda it: " ".join([it[1], *sorted(it[2].split())]), behind)
+
+
+class Meeting:
+    """Programs that meet: those before the last ones that `--first` and `--then` name, the turns that are behind when they do."""
+
+    def __init__(self, schema, capacity, texts, first=False, then=False, turns=()):
+        self.schema, self.capacity, self.texts = Schema(schema), capacity, texts
+        self.then, self.turns = then, list(turns)
+        self.first = len(texts) - then if first else None
+
+    def after(self, order):
+        """The runs after this order."""
+        runs = Runs(self.schema, self.capacity, self.texts)
+        if self.first:
+            runs.to_the_end(self.first)
+        for unit in self.turns:
+            if not self.then or unit != len(self.texts):
+                runs.turn(unit)
+        for unit in order:
+            runs.turn(unit)
+        return runs
+
+    def next_units(self, runs):
+        """The units that can have their turn."""
+        units = [unit for unit, program in enumerate(runs.programs, 1) if program.due(self.schema) is not None]
+        return units[:-1] if self.then and len(units) > 1 and units[-1] == len(self.texts) else units
+
+
+def state_of(runs):
+    """All that what comes after depends on, as words that tell states apart."""
+    db = runs.machine.db
+    records = [(key, it.items, it.version, sorted(it.owners.items())) for key, it in sorted(db.records.items())]
+    units = [(u.run, u.records, u.areas, u.places, sorted(u.kept.items()), sorted(u.modes.items())) for u in runs.machine.units]
+    programs = [(program.due(runs.schema), program.at, program.end, program.status, program.fields) for program in runs.programs]
+    return repr((records, sorted(db.lists.items()), db.generations, db.usage, units, programs))
+
+
+def failures_of(runs):
+    """The units whose programs have failed, and how."""
+    ends = [(unit, program.end) for unit, program in enumerate(runs.programs, 1) if program.due(runs.schema) is None]
+    return {it for it in ends if it[1] != "STOP"}
+
+
+def failures_text(failures):
+    in_order = sorted(failures, key=lambda it: (it[0], int(it[1].split()[-1]), it[1]))
+    return "".join(f"fails {unit} {how}\n" for unit, how in in_order)
+
+
+class Explored:
+    """The states with the first of the shortest orders to each, the steps between them, the ends by what they leave behind, with the
+    first order to each, and the failures."""
+
+    def __init__(self, meeting, limit):
+        self.meeting, self.is_over = meeting, False
+        self.orders, self.steps, self.units = {}, {}, {}
+        self.results, self.failures = {}, set()
+        found = [self.meet([])]
+        for state in found:
+            self.steps[state] = []
+            for unit in self.units[state]:
+                after = self.meet([*self.orders[state], unit])
+                self.steps[state].append((unit, after))
+                if len(self.orders) > len(found):
+                    found.append(after)
+            if len(found) > limit:
+                self.is_over = True
+                return
+
+    def meet(self, order):
+        """The state after an order; it is noted where no order before led to it."""
+        run = self.meeting.after(order)
+        state = state_of(run)
+        if state not in self.orders:
+            self.orders[state], self.units[state] = order, self.meeting.next_units(run)
+            self.failures |= failures_of(run)
+            if not self.units[state]:
+                self.results.setdefault(left_behind(run.text()), (order, run.text()))
+        return state
+
+    def is_endless(self):
+        """Whether there is a way round on which each program that can go on has its turn."""
+        return any(self.is_fair(states) for states in self.rounds())
+
+    def is_fair(self, states):
+        inside = {unit for state in states for unit, after in self.steps[state] if after in states}
+        return bool(inside) and any(inside >= set(self.units[state]) for state in states)
+
+    def rounds(self):
+        """The greatest sets of states of which each leads to each."""
+        marks, low, stack, given = {}, {}, [], set()
+        for start in self.steps:
+            path = [] if start in marks else [(start, iter(self.steps[start]))]
+            if path:
+                marks[start] = low[start] = len(marks)
+                stack.append(start)
+            while path:
+                state, left = path[-1]
+                after = next((it for _, it in left if it not in given and (it not in marks or self.lower(low, state, marks[it]))), None)
+                if after is not None:
+                    marks[after] = low[after] = len(marks)
+                    stack.append(after)
+                    path.append((after, iter(self.steps[after])))
+                    continue
+                path.pop()
+                if path:
+                    self.lower(low, path[-1][0], low[state])
+                if low[state] == marks[state]:
+                    group = set(stack[stack.index(state):])
+                    del stack[stack.index(state):]
+                    given |= group
+                    yield group
+
+    @staticmethod
+    def lower(low, state, mark):
+        low[state] = min(low[state], mark)
+        return False
+
+    def head(self):
+        return f"states {len(self.orders)}, results {len(self.results)}\n"
+
+    def results_text(self):
+        texts = []
+        for number, (order, printed) in enumerate(self.results.values(), 1):
+            turns = machine.steps_text([*self.meeting.turns, *order])
+            texts.append(f"result {number}\nturns {turns}{printed}" if turns else f"result {number}\nturns\n{printed}")
+        return "".join(texts)
+
+
+def round_holds(meeting, turns, way):
+    """Whether the turns lead to a state to which the way comes back, and in it each program that can go on there has its turn."""
+    before, after = meeting.after(turns), meeting.after([*turns, *way])
+    return bool(way) and state_of(before) == state_of(after) and set(way) >= set(meeting.next_units(before))
+
+
+ENDLESS = re.compile(r"(?m)^endless turns(.*) then (.*)\n")
+
+
+def explore(folder, words, wanted):
+    """What `explore` with these words prints. There is no promise which way round a line `endless` tells: the line is that of the text
+    that is wanted, if it can be gone for ever."""
+    options, _, (schema, *texts) = asked(folder, words)
+    turns = machine.turns_in(machine.read(f"{folder}/{options['--turns']}")) if "--turns" in options else []
+    meeting = Meeting(schema, int(options.get("--capacity", "100")), texts, "--first" in options, "--then" in options, turns)
+    states = Explored(meeting, int(options.get("--limit", "100000")))
+    if states.is_over:
+        return ""
+    line, told = "", ENDLESS.search(wanted)
+    if states.is_endless():
+        holds = told and round_holds(meeting, machine.turns_in(told[1])[len(turns):], machine.turns_in(told[2]))
+        line = told[0] if holds else "endless\n"
+    return states.head() + line + failures_text(states.failures) + states.results_text()
