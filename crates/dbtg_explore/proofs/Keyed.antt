@@ -20,8 +20,8 @@ use Rattle.dbtg_step.specs.Machine.SequentialDatabase.{unit_at}
 use Rattle.dbtg_step.proofs.Public.{fits_more}
 use Rattle.dbtg_going.specs.Turns as turns
 use Rattle.dbtg_going.specs.Turns.{after_turns, comes, made, most, statement_due, statement_of}
-use Rattle.dbtg_outcomes.specs.Inside.Spelling.{Apart, behind, image_apart, list_apart, unit_apart, value_apart}
-use Rattle.dbtg_outcomes.specs.Spelling.{image_numbers, list_numbers, unit_numbers, value_numbers}
+use Rattle.dbtg_outcomes.specs.Inside.Spelling.{behind, image_apart, list_apart, unit_apart, value_apart}
+use Rattle.dbtg_outcomes.specs.Spelling.{Apart, image_numbers, list_numbers, unit_numbers, value_numbers}
 use Rattle.dbtg_outcomes.proofs.States.SameImages.{same_databases}
 use Rattle.dbtg_explore.specs.Orders.{IsMeeting, Meeting, after_order, after_turn, beginning, due_of, history_of}
 use Rattle.dbtg_explore.specs.States.{MeetingState, comes_of_each, state_after, state_of}

@@ -1,5 +1,5 @@
 -- Things spelled as numbers: the numbers tell things apart, and where one ends.
-use Rattle.std.specs.Prelude.{ℕ, List, [], ◌∷◌, ◌++◌, Option, Some, None, length, flat_map}
+use Rattle.std.specs.Prelude.{ℕ, ◌≡◌, List, [], ◌∷◌, ◌++◌, Option, Some, None, length, flat_map}
 use Rattle.dbtg_cells.specs.declared.key.DbKey.{DbKey}
 use Rattle.dbtg_cells.specs.declared.key.Owner.{Owner}
 use Rattle.dbtg_cells.specs.declared.key.Owner.TheVariants.{System, Rec}
@@ -11,6 +11,10 @@ use Rattle.dbtg_unit.specs.declared.unit.Place.{Place}
 use Rattle.dbtg_unit.specs.declared.unit.Currency.{Currency}
 use Rattle.dbtg_unit.specs.declared.unit.Unit as unit
 use Rattle.dbtg_unit.specs.Database.State.Image.{Image}
+
+-- whatever is spelled behind two things, where all is spelled alike the things are one, and so is what is behind them
+abbrev pub Apart : {X : Type 0} → (X → List ℕ) → Type 0
+Apart {X} numbers = (x y : X) (a b : List ℕ) → numbers x ++ a ≡ numbers y ++ b → (x ≡ y) × (a ≡ b)
 
 -- a number is spelled as itself
 abbrev pub one_number : ℕ → List ℕ

@@ -1,8 +1,8 @@
 //! Things spelled as numbers, so that two are one just where they are spelled alike. Whatever is spelled behind a thing, the
 //! numbers tell where it ends.
 ghost use Rattle.std.specs.Prelude.{◌≡◌, ◌++◌, ℕ, List, OnOk, flat_map};
-ghost use Rattle.dbtg_outcomes.specs.Inside.Spelling.{Apart, list_apart, one_apart, option_apart, pair_apart};
-ghost use Rattle.dbtg_outcomes.specs.Spelling.{list_numbers, one_number, option_numbers, pair_numbers};
+ghost use Rattle.dbtg_outcomes.specs.Inside.Spelling.{list_apart, one_apart, option_apart, pair_apart};
+ghost use Rattle.dbtg_outcomes.specs.Spelling.{Apart, list_numbers, one_number, option_numbers, pair_numbers};
 
 use dbtg_schema::Row;
 use std::alloc::AllocError;

@@ -2,3 +2,4 @@
 -- May use: the definitions beside this folder, which name nothing of it.
 pub mod Asking
 pub mod Sessions
+pub mod UnitWords

@@ -1,4 +1,3 @@
 pub mod Asking
 pub mod Sessions
-pub mod UnitWords
 pub mod Inside

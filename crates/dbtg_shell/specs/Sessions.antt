@@ -36,7 +36,6 @@ use Rattle.dbtg_command.specs.FaultyWord.{line_at}
 use Rattle.dbtg_command.specs.Misfits.{said_of_word}
 use Rattle.dbtg_command.specs.Refusals.{schema_in}
 use Rattle.dbtg_shell.specs.Asking.{asked_of, asks_undo, bare_command, behind_spaces, turn_after}
-use Rattle.dbtg_shell.specs.UnitWords.{unit_words}
 use Rattle.dbtg_replay.specs.Replaying.{IsReplay}
 use Rattle.dbtg_refusal.specs.Said.{said_in}
 
@@ -108,10 +107,6 @@ abbrev pub IsLastSaid : Typed → List ℕ → Type 0
 IsLastSaid typed said =
     let m = typed.making in
     (before : List Entry) (e : Entry) → m.history ≡ before ++ e ∷ [] → said ≡ said_in m.schema m.capacity (state_now m) e
-
--- what is current of unit u, in words
-abbrev pub unit_said : Making → ℕ → Option (List ℕ)
-unit_said m u = option_map (unit_words m.schema (image_of m.schema m.capacity (state_now m).database)) (slice_get (state_now m).units (u - 1))
 
 -- the line that says there is no such unit
 abbrev pub no_unit_text : ℕ → List ℕ

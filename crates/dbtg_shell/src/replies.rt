@@ -6,8 +6,9 @@ ghost use Rattle.dbtg_draw.specs.Listing.{schema_lines};
 ghost use Rattle.dbtg_script.specs.Printing.Texts.{image_text, units_text};
 ghost use Rattle.dbtg_step.specs.Core.Whole.{state_now};
 ghost use Rattle.dbtg_unit.specs.Database.State.Image.{image_of};
-ghost use Rattle.dbtg_shell.specs.Sessions.{IsFaultText, answer_reply, cause_name, help_words, hint_for, no_unit_text, quit_words, said_or, undone_text, unit_said};
+ghost use Rattle.dbtg_shell.specs.Sessions.{IsFaultText, answer_reply, cause_name, help_words, hint_for, no_unit_text, quit_words, said_or, undone_text};
 ghost use Rattle.dbtg_shell.specs.Inside.Sessions.{with_here};
+ghost use Rattle.dbtg_shell.specs.Inside.UnitWords.{unit_said};
 
 use crate::session::Session;
 use crate::words::unit_words;

@@ -4,7 +4,7 @@ ghost use Rattle.std.specs.Prelude.{◌≡◌, ◌+◌, ◌++◌, ◌∷◌, ◌
 ghost use Rattle.dbtg_schema.specs.Lookups.{at};
 ghost use Rattle.dbtg_cells.specs.Keys.{key_eq, owner_eq};
 ghost use Rattle.dbtg_unit.specs.Database.State.Units.{place_in};
-ghost use Rattle.dbtg_shell.specs.UnitWords.{among_words, area_lines, at_words, current_words, key_words, kept_line, kept_lines, kept_words, line_of, list_of, list_words, many_words, member_words, open_words, ordinal, ordinal_end, owner_words, place_words, set_lines, type_lines, unit_words};
+ghost use Rattle.dbtg_shell.specs.Inside.UnitWords.{among_words, area_lines, at_words, current_words, key_words, kept_line, kept_lines, kept_words, line_of, list_of, list_words, many_words, member_words, open_words, ordinal, ordinal_end, owner_words, place_words, set_lines, type_lines, unit_words};
 
 use dbtg_cells::{DbKey, Mode, Owner, same_key, same_owner};
 use dbtg_schema::{Area, RecordType, Row, Schema, SetNo, SetType};

@@ -5,11 +5,7 @@ use Rattle.dbtg_cells.specs.declared.key.Owner.TheVariants.{System, Rec}
 use Rattle.dbtg_cells.specs.declared.key.Value.TheVariants.{Num, Text}
 use Rattle.dbtg_cells.specs.declared.usage.Mode.{Mode}
 use Rattle.dbtg_cells.specs.declared.usage.Mode.TheVariants as mode
-use Rattle.dbtg_outcomes.specs.Spelling.{currency_numbers, image_numbers, kept_numbers, key_numbers, list_numbers, mode_number, mode_numbers, noted_numbers, one_number, option_numbers, owner_numbers, pair_numbers, place_numbers, stored_numbers, unit_numbers, value_numbers}
-
--- whatever is spelled behind two things, where all is spelled alike the things are one, and so is what is behind them
-abbrev pub Apart : {X : Type 0} → (X → List ℕ) → Type 0
-Apart {X} numbers = (x y : X) (a b : List ℕ) → numbers x ++ a ≡ numbers y ++ b → (x ≡ y) × (a ≡ b)
+use Rattle.dbtg_outcomes.specs.Spelling.{Apart, currency_numbers, image_numbers, kept_numbers, key_numbers, list_numbers, mode_number, mode_numbers, noted_numbers, one_number, option_numbers, owner_numbers, pair_numbers, place_numbers, stored_numbers, unit_numbers, value_numbers}
 
 pub one_apart : Apart one_number
 one_apart x y a b e = (cc, cc)
