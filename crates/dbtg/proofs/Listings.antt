@@ -115,7 +115,7 @@ texts_behind old a b c d = ap (λ x. x ++ c ++ d) (append_assoc old a b) ∙ ap 
 
 -- of a result that is made by its turns
 module _ (m : Meeting) (one : OneResult) (moves : List Move) (given : Run) (run : IsRunByTurns m.schema m.capacity m.scripts one.turns moves given) where
-  -- the text, where so many turns and moves in front are left out
+  -- the text, where this number of turns and moves in front is left out
   pub result_told : (first : Option (List ℕ)) (front : Front) (k : ℕ) (shown : List Move) (old new : List ℕ) → IsFront m front → shown ≡ moves → length moves ≤ MOST_MOVES
       → new ≡ old ++ result_line k one ++ worded (codes "turns") (turns_text (drop front.turns one.turns)) ++ worded (codes "moves") (moves_words_text (drop front.moves shown)) ++ shown_text m first k given
       → (text : List ℕ) × (new ≡ old ++ text) × IsResultText m first k one text

@@ -28,7 +28,7 @@ has_at [] k d below = absurd (omega arith)
 has_at (x ∷ xs) zero d below = inl refl
 has_at (x ∷ xs) (suc k) d below = inr (has_at xs k d (omega arith))
 
--- the units with which a database was made, so many
+-- how many units a database was made with
 abbrev opened : Database → ℕ → List UnitView
 opened db count = opening_views db.board.shared.table_id db.about count
 

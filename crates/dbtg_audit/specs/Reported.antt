@@ -33,7 +33,7 @@ abbrev pub IsLoad : (TextPlace → List ℕ → Type 0) → Lists → Bool → O
 IsLoad holds lists false load = load ≡ None
 IsLoad holds lists true load = (text : List ℕ) × holds (Script 2) text × (script_refusal lists text ≡ None) × (load ≡ Some (script lists text))
 
--- a schema, a trace of so many units, and a script where there is one, that are held and accepted
+-- a schema, a trace of these units, and a script where there is one, which are held and accepted
 pub record TextsOfAudit (holds : TextPlace → List ℕ → Type 0) (count units : ℕ) : Type 0 where
   pub lists : Lists
   pub schema : ReadSchema holds lists

@@ -20,7 +20,7 @@ use dbtg_trace::{Said, Traced};
 use dbtg_unit::{Entry, Statement};
 use std::alloc::{AllocError, Global};
 
-/// What was recorded elsewhere: a trace of so many units, and it may be a script that is made first, by a unit behind them.
+/// What was recorded elsewhere: a trace and how many units it has, and it may be a script that is made first, by a unit behind them.
 #[derive(Drop)]
 pub struct Recorded {
     pub units: u8,

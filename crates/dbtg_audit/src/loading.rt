@@ -51,7 +51,7 @@ fn opened_with<'a>(
     }
 }
 
-/// The database of so many units, behind the script that is made first.
+/// The database with its units, behind the script that is made first.
 pub fn loaded<'a>(
     alloc: Global,
     schema: &'a Schema,

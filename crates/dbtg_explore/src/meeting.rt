@@ -80,7 +80,7 @@ impl<'a> Meeting<'a> {
         self.due(place, unit).is_some()
     }
 
-    // Can one of so many programs go on?
+    // Can one of the programs of the first units go on?
     fn can_one_go_on(&self, place: &Place, units: u8) -> bool
         requires { IsPlace self.now place.now }
         ensures { result ≡ list_any (can_go_on self.now place.now.database.history) (range_with_len 1 units) }

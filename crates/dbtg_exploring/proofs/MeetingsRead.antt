@@ -1,5 +1,5 @@
 -- What was read, and what is then true of the programs that meet.
-use Rattle.std.proofs.Common.{◌≡◌, ℕ, List, [], length, map, Option, Some, ◌⊎◌, inl, inr, refl, subst, true}
+use Rattle.std.proofs.Common.{◌≡◌, ℕ, List, [], length, map, Option, Some, inr, refl, subst, true}
 use Rattle.std.specs.Prelude.{unwrap_or}
 use Rattle.dbtg_schema.specs.Lists.{Lists}
 use Rattle.dbtg_program.specs.declared.program.Program.{Program}

@@ -1,5 +1,5 @@
 -- The texts of results stand one behind another.
-use Rattle.std.proofs.Common.{◌≡◌, ℕ, ◌+◌, ◌<◌, zero, suc, List, [], ◌∷◌, ◌++◌, take, length, refl, sym, ap, ◌∙◌, subst, arith, get_or}
+use Rattle.std.proofs.Common.{◌≡◌, ℕ, ◌+◌, ◌<◌, List, [], ◌∷◌, ◌++◌, take, length, refl, sym, ap, ◌∙◌, subst, arith, get_or}
 use Rattle.std.proofs.lemmas.List.{append-nil, append_assoc, length-take-le, take_more}
 use Rattle.dbtg_schema.specs.Lists.{Lists}
 use Rattle.dbtg_program.specs.declared.program.Program.{Program}
@@ -31,8 +31,8 @@ module _ (schema : Lists) (programs : List Program) (told : List ℕ) (asked : E
       let many : k ≡ 1 + length (take i results) = omega (arith, taken, k_is) in
       let next : take i results ++ order ∷ [] ≡ take (i + 1) results = ap (λ (o : List ℕ). take i results ++ o ∷ []) at ∙ sym (take_more results i order below) in
       subst (λ os. AreResultTexts schema programs told asked 1 os new) next
-          (subst (AreResultTexts schema programs told asked 1 (take i results ++ order ∷ [])) (sym new_is)
-              (one_more 1 (take i results) order out text are (subst (λ n. IsResultText schema programs told asked n order text) many is)))
+      (subst (AreResultTexts schema programs told asked 1 (take i results ++ order ∷ [])) (sym new_is)
+      (one_more 1 (take i results) order out text are (subst (λ n. IsResultText schema programs told asked n order text) many is)))
 
 -- three texts behind one
 pub texts_behind : (old a b c : List ℕ) → old ++ a ++ b ++ c ≡ old ++ (a ++ b ++ c)

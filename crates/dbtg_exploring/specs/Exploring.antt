@@ -1,6 +1,6 @@
 -- What `explore` prints of the texts that a source gives, and which fault it tells.
 -- told are the turns that are told, none where the source gives none; asked is what an exploration is asked for.
-use Rattle.std.specs.Prelude.{ℕ, ◌≡◌, ◌≤◌, Bool, true, not, List, [], ◌++◌, Option, Some, None, ◌⊎◌, ◌==◌, flat_map, length, map, unwrap_or}
+use Rattle.std.specs.Prelude.{ℕ, ◌≡◌, ◌≤◌, true, not, List, [], ◌++◌, Option, Some, ◌⊎◌, ◌==◌, flat_map, length, map, unwrap_or}
 use Rattle.dbtg_schema.specs.Lists.{Lists}
 use Rattle.dbtg_program.specs.declared.program.Program.{Program}
 use Rattle.dbtg_program.specs.Reading.{program}

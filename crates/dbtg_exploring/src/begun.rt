@@ -24,12 +24,7 @@ fn first_turns(alloc: Global, around: Around, units: u8) -> Result<Vec<u8>, Allo
 }
 
 // Puts the turns that are heard behind others: all but those of the last program's unit.
-fn push_heard(
-    turns: &mut Vec<u8>,
-    around: Around,
-    units: u8,
-    told: &[u8],
-) -> Result<(), AllocError>
+fn push_heard(turns: &mut Vec<u8>, around: Around, units: u8, told: &[u8]) -> Result<(), AllocError>
     ensures { OnOk result (turns.new.items ≡ turns.old.items ++ filter (is_heard around units) told.now) }
 {
     for unit in told {

@@ -61,12 +61,7 @@ fn push_counts(out: &mut Vec<u8>, all: &Explored) -> Result<(), AllocError>
 }
 
 // The turns of a way round.
-fn push_way(
-    alloc: Global,
-    out: &mut Vec<u8>,
-    turns: &[u8],
-    round: &[u8],
-) -> Result<(), AllocError>
+fn push_way(alloc: Global, out: &mut Vec<u8>, turns: &[u8], round: &[u8]) -> Result<(), AllocError>
     ensures { OnOk result (out.new.items ≡ out.old.items ++ way_text turns.now round.now) }
 {
     push_with_turns(alloc, out, b"endless turns", turns)?;

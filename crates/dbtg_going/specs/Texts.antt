@@ -26,7 +26,7 @@ standing_text (Ended how) = end_text how
 standing_text Spent = codes "SPENT"
 standing_text GoesOn = codes "GOES ON"
 
--- so many fields of a program are items of records, whose names have a period; behind them stand its counters
+-- how many fields of a program are items of records, whose names have a period; its counters stand behind them
 abbrev pub count_items : Program → ℕ
 count_items program = length (filter (λ f. has_byte 46 f.name) program.fields)
 

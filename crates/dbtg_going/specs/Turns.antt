@@ -63,7 +63,7 @@ abbrev pub with_outcome : List Entry → ℕ → Statement → Option Outcome �
 with_outcome history u s None = history
 with_outcome history u s (Some outcome) = history ++ record { ticket = length history; unit = u; statement = s; answer = outcome.answer } ∷ []
 
--- the same with the outcome that the statement has in the sequential database of so many units; with no statement nothing is made
+-- the same with the outcome that the statement has in the sequential database, with this number of units; with no statement nothing is made
 abbrev pub made : Lists → ℕ → ℕ → List Entry → ℕ → Option Statement → List Entry
 made schema capacity units history u None = history
 made schema capacity units history u (Some s) = with_outcome history u s (outcome_of schema capacity (replay schema capacity (opening_state schema units) history) u s)
@@ -81,17 +81,17 @@ after_turns schema capacity programs history (u ∷ us) = after_turns schema cap
 unfoldable pub to_the_end : ℕ → List ℕ
 to_the_end u = replicate most u
 
--- each of so many programs to its end, that of unit 1 first
+-- each of these units' programs to its end, that of unit 1 first
 abbrev pub one_by_one : ℕ → List ℕ
 one_by_one units = flat_map to_the_end (range_with_len 1 units)
 
 -- THE FIRST AND THE LAST PROGRAM
 
--- one less than so many, where there is such a program
+-- one less, where there is such a program
 abbrev pub one_less : Bool → ℕ → ℕ
 one_less there n = if there then n - 1 else n
 
--- how many of so many programs are neither first nor last
+-- how many of the programs are neither first nor last
 abbrev pub others : Around → ℕ → ℕ
 others around units = one_less around.first (one_less around.last units)
 

@@ -23,15 +23,15 @@ fn one_less(there: bool, count: u8) -> u8
 }
 
 impl Around {
-    /// How many of so many programs are neither first nor last.
+    /// How many of the programs are neither first nor last, where there are `units` of them.
     pub fn others(self, units: u8) -> u8
         ensures { result ≡ others self units }
     {
         one_less(self.first, one_less(self.last, units))
     }
 
-    // Is it not the unit of the program that is made last?
-    pub(crate) fn is_heard(self, units: u8, unit: u8) -> bool
+    /// Is it another unit than that of the program that is made last?
+    pub fn is_heard(self, units: u8, unit: u8) -> bool
         ensures { result ≡ is_heard self units unit }
     {
         !(self.last && unit == units)

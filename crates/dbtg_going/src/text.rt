@@ -17,7 +17,8 @@ fn push_with_line(out: &mut Vec<u8>, word: &[u8], line: u64) -> Result<(), Alloc
     push_number(out, line)
 }
 
-fn push_end(out: &mut Vec<u8>, end: End) -> Result<(), AllocError>
+/// How a program ended, and in which line.
+pub fn push_end(out: &mut Vec<u8>, end: End) -> Result<(), AllocError>
     ensures { OnOk result (out.new.items ≡ out.old.items ++ end_text end) }
 {
     match end {

@@ -95,8 +95,8 @@ fn print_run(
     })
 }
 
-// The turns, if the source gives any.
-fn turns_wanted<S: Source>(alloc: Global, source: &S) -> Result<Option<Row<u8>>, Fault>
+/// The turns, if the source gives any.
+pub fn turns_wanted<S: Source>(alloc: Global, source: &S) -> Result<Option<Row<u8>>, Fault>
     ensures read { IfOk result (λ turns. ReadsTurns (S.holds source.now) (S.order source.now) turns) }
     ensures refused { IfErr result (λ fault. ToldOfOrder (S.holds source.now) (S.fails source.now) fault (S.order source.now)) }
 {

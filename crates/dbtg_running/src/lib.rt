@@ -7,4 +7,5 @@ mod echo;
 mod programs;
 
 pub use check::check_programs;
-pub use command::{Printed, RunOptions, run};
+pub use command::{Printed, RunOptions, run, turns_wanted};
+pub use programs::{Programs, read_programs};

@@ -1,10 +1,8 @@
 -- Lines of an exploration, as they are printed.
-use Rattle.std.specs.Prelude.{◌≡◌, refl, List, ℕ, [], ◌∷◌, ◌++◌, Some, None, codes}
+use Rattle.std.specs.Prelude.{◌≡◌, refl, [], ◌∷◌, ◌++◌, Some, None, codes}
 use Rattle.std.specs.Fmt.{digits}
 use Rattle.dbtg_program.specs.declared.program.End.TheVariants.{Assert, Size}
 use Rattle.dbtg_explore.specs.declared.explored.Endless.{Endless}
-use Rattle.dbtg_explore.specs.declared.explored.Explored.{Explored}
-use Rattle.dbtg_explore.specs.declared.explored.Failure.{Failure}
 use Rattle.dbtg_exploring.specs.Texts.{count_text, endless_text, failure_text, result_head, with_turns}
 
 -- a way that begins behind two told turns

@@ -1,5 +1,4 @@
-use Rattle.std.proofs.Common.{rules, ◌≡◌, []}
-use Rattle.dbtg_going.specs.Turns.{after_turns}
+use Rattle.std.proofs.Common.{rules}
 use Rattle.dbtg_exploring.proofs.LeftOut.{begins_alike}
 use Rattle.dbtg_exploring.proofs.begun.begun_turns.Goals as goal
 

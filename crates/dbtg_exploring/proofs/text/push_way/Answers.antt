@@ -1,4 +1,4 @@
-use Rattle.std.proofs.Common.{◌≡◌, ◌++◌, ℕ, List, [], ◌∷◌, ap, ◌∙◌}
+use Rattle.std.proofs.Common.{◌++◌, ℕ, List, [], ◌∷◌, ap, ◌∙◌}
 use Rattle.std.specs.Prelude.{codes}
 use Rattle.dbtg_exploring.specs.Texts.{with_turns}
 use Rattle.dbtg_exploring.proofs.Results.{texts_behind}
