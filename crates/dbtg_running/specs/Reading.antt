@@ -14,14 +14,14 @@ abbrev pub AllAccepted : Lists → List (List ℕ) → Type 0
 AllAccepted lists [] = Unit {0}
 AllAccepted lists (text ∷ texts) = (program_refusal lists text ≡ None) × AllAccepted lists texts
 
--- the texts of the first n programs, which are held and accepted
+-- the texts of the first programs, which are held and accepted; count says how many they are
 pub record ReadPrograms (holds : TextPlace → List ℕ → Type 0) (lists : Lists) (count : ℕ) : Type 0 where
   pub texts : List (List ℕ)
   pub many : length texts ≡ count
   pub held : HoldsScripts holds 1 texts
   pub accepted : AllAccepted lists texts
 
--- the fault is told of one of n programs, and all before it are held and accepted
+-- the fault is told of one of the first programs, of which count says how many they are, and all before it are held and accepted
 pub record ToldOfPrograms (holds : TextPlace → List ℕ → Type 0) (fails : TextPlace → Fault → Type 0) (fault : Fault) (lists : Lists) (count : ℕ) : Type 0 where
   pub before : ℕ
   pub read : ReadPrograms holds lists before

@@ -20,7 +20,7 @@ are_short a = list_all (λ s. nat_lt s 10000) a.statuses.items
 abbrev pub IsUntold : Meeting → Outcomes → Fault → Type 0
 IsUntold m all told = (told ≡ fault.Memory) ⊎ ((told ≡ fault.MovesOver) × (one : OneResult) × Contains all.results.items one × IsLong m one)
 
--- how many turns and moves make the script that is made first
+-- these numbers of turns and moves make the script that is made first
 pub record IsFront (m : Meeting) (front : Front) : Type 0 where
   pub turns_are : front.turns ≡ length (first_turns m.first m.scripts)
   pub before : List Move
