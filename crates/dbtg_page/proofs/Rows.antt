@@ -1,7 +1,7 @@
 -- Worked rows of the data.
 use Rattle.std.proofs.Common.{◌≡◌, [], ◌∷◌, true, refl}
 use Rattle.std.specs.Prelude.{codes, decimal}
-use Rattle.dbtg_timeline.specs.declared.event.Mark.TheVariants.{Ticket}
+use Rattle.dbtg_timeline.specs.declared.event.Mark.TheVariants.{Blocked, Ticket}
 use Rattle.dbtg_page.specs.Json.{field, quoted, row}
 use Rattle.dbtg_page.specs.Rows.{event_row}
 
@@ -25,6 +25,11 @@ unfolding row quoted field
 two_strings = refl
 
 -- the ticket of unit 2's eleventh statement, which is refused
-a_refusal : event_row (record { unit = 2; mark = Ticket 12 505; place = 10; midway = true; wait = [] }) ≡ row (codes "EVENT") (decimal 2 ∷ codes "X" ∷ decimal 10 ∷ [])
+a_refusal : event_row (record { unit = 2; mark = Ticket 12 505; place = 10; midway = true; wait = [] }) ≡ row (codes "EVENT") (decimal 2 ∷ codes "X" ∷ decimal 10 ∷ [] ∷ [])
 unfolding event_row
 a_refusal = refl
+
+-- unit 2 is blocked
+a_wait : event_row (record { unit = 2; mark = Blocked; place = 0; midway = true; wait = codes "waits for MAIN, held exclusively by unit 1" }) ≡ row (codes "EVENT") (decimal 2 ∷ codes "B" ∷ decimal 0 ∷ codes "waits for MAIN, held exclusively by unit 1" ∷ [])
+unfolding event_row
+a_wait = refl
