@@ -1,4 +1,4 @@
-"""The faults of a trace of any bytes, read against a schema without faults for so many units: docs/profile/traces.md."""
+"""The faults of a trace of any bytes, read against a schema without faults for a number of units: docs/profile/traces.md."""
 import re
 
 from script_faults import GREATEST_GENERATION, GREATEST_NUMBER, KEY, LONGEST_LINE, Line, has_statement, is_number, is_text, is_within, line_faults, lines_of
