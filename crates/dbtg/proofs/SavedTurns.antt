@@ -15,6 +15,7 @@ use Rattle.dbtg_command.specs.declared.place.TextPlace.{TextPlace}
 use Rattle.dbtg_command.specs.Refusals.{AcceptsTexts, is_count, schema_in}
 use Rattle.dbtg_command.specs.Sources.{ReadSchema, ReadScripts}
 use Rattle.dbtg_command.proofs.Public.{all_accepted, read_texts}
+use Rattle.dbtg_replay.specs.declared.replay.AnswerForm.TheVariants.{Plain}
 use Rattle.dbtg_replay.specs.Replaying.{IsShownReplay}
 use Rattle.dbtg_replay.proofs.Public.{made_again_behind}
 use Rattle.dbtg.specs.Threading.{IsHistoryOfAll, IsPrintedOnThreads, ThreadsHeld, audit_line}
@@ -39,7 +40,7 @@ sequential lists capacity scripts history image units all = record {
 
 saved_again : (first : Bool) (text : List ℕ) (scripts : List (List ℕ)) (capacity : ℕ) (out turns : List ℕ) → is_count (length scripts) ≡ true → AcceptsTexts text scripts
     → IsPrintedOnThreads first (schema_in text) capacity (map (script (schema_in text)) scripts) out turns
-    → (turns_refusal turns ≡ None) × ((printed : List ℕ) → IsShownReplay first false text scripts (Turns turns) capacity printed → out ≡ printed ++ audit_line)
+    → (turns_refusal turns ≡ None) × ((printed : List ℕ) → IsShownReplay first Plain text scripts (Turns turns) capacity printed → out ≡ printed ++ audit_line)
 saved_again first text scripts capacity out turns right accepted printed_is =
     let lists = schema_in text in
     let law = sequential lists capacity (map (script lists) scripts) printed_is.history printed_is.image printed_is.units printed_is.is_history in

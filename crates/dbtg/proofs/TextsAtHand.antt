@@ -6,11 +6,12 @@ use Rattle.dbtg_command.specs.declared.order.OrderKind.{OrderKind}
 use Rattle.dbtg_command.specs.Sources.{kind_of}
 use Rattle.dbtg_command.specs.Inside.Sources.{StandsIn}
 use Rattle.dbtg_command.proofs.Public.{all_are, order_is}
+use Rattle.dbtg_replay.specs.declared.replay.AnswerForm.TheVariants.{Plain}
 use Rattle.dbtg_replay.specs.Replaying.{IsReplay, ReplaysHeld}
 use Rattle.dbtg.specs.Threading.{IsThreads, ThreadsHeld}
 
 pub at_hand_replay : (schema : List ℕ) (scripts : List (List ℕ)) (order : Order (List ℕ)) (which : OrderKind) (capacity : ℕ) (out : List ℕ) → which ≡ kind_of order
-    → ReplaysHeld (StandsIn schema scripts order) (length scripts) which false false capacity out → IsReplay schema scripts order capacity out
+    → ReplaysHeld (StandsIn schema scripts order) (length scripts) which false Plain capacity out → IsReplay schema scripts order capacity out
 at_hand_replay schema scripts order which capacity out e held =
     let texts = held.0 in
     subst (λ (s : List ℕ). IsReplay s scripts order capacity out) texts.holds_schema

@@ -20,6 +20,7 @@ use Rattle.dbtg_command.specs.declared.place.TextPlace.{TextPlace}
 use Rattle.dbtg_command.specs.Refusals.{AcceptsTexts, is_count, schema_in}
 use Rattle.dbtg_command.specs.Sources.{Texts}
 use Rattle.dbtg_replay.specs.Ordering.{first_turns}
+use Rattle.dbtg_replay.specs.declared.replay.AnswerForm.TheVariants.{Plain}
 use Rattle.dbtg_replay.specs.Replaying.{IsShownReplay}
 
 -- the entries are those of the script's statements, in order: of all, or of as many as a journal has room for
@@ -57,7 +58,7 @@ pub record IsThreads (first : Bool) (text : List ℕ) (scripts : List (List ℕ)
   pub texts : AcceptsTexts text scripts
   pub run : IsPrintedOnThreads first (schema_in text) capacity (map (script (schema_in text)) scripts) out turns
   pub turns_too : turns_refusal turns ≡ None
-  pub again : (printed : List ℕ) → IsShownReplay first false text scripts (Turns turns) capacity printed → out ≡ printed ++ audit_line
+  pub again : (printed : List ℕ) → IsShownReplay first Plain text scripts (Turns turns) capacity printed → out ≡ printed ++ audit_line
 
 -- what `threads` prints of texts that are held, and the turns that it saves
 abbrev pub ThreadsHeld : (TextPlace → List ℕ → Type 0) → ℕ → Bool → ℕ → List ℕ → List ℕ → Type 0

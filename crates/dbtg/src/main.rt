@@ -25,7 +25,7 @@ use dbtg_command::{
 use dbtg_exploring::{Exploring, explore_programs};
 use dbtg_going::Around;
 use dbtg_outcomes::Wish;
-use dbtg_replay::replay::{check_count, replay};
+use dbtg_replay::replay::{AnswerForm, check_count, replay};
 use dbtg_replay::{moves_for_turns, refusals_of_first};
 use dbtg_running::{Printed, RunOptions, check_programs, run};
 use dbtg_schema::Schema;
@@ -121,12 +121,22 @@ fn form_of(call: &Call) -> Form {
     if call.svg { Form::Svg } else { Form::Text }
 }
 
+fn answer_form(call: &Call) -> AnswerForm {
+    if call.trace {
+        AnswerForm::Trace
+    } else if call.echo {
+        AnswerForm::Echo
+    } else {
+        AnswerForm::Plain
+    }
+}
+
 // What a command prints that is asked of files, whatever says their order.
 fn printed(rt: &HostRuntime, files: &Files<HostRuntime>, call: &Call) -> Result<Vec<u8>, Fault> {
     let alloc = rt.alloc();
     match call.named {
         Named::Draw => draw(alloc, files),
-        Named::Replay => replay(alloc, files, call.capacity, call.echo, call.first),
+        Named::Replay => replay(alloc, files, call.capacity, answer_form(call), call.first),
         Named::Timeline => timeline(alloc, files, call.capacity, form_of(call), call.first),
         Named::Page => timeline(alloc, files, call.capacity, Form::Page, call.first),
         _ => check_files(alloc, files, call.programs),

@@ -16,7 +16,7 @@ ghost use Rattle.dbtg_command.specs.declared.order.OrderKind.TheVariants.{Serial
 use crate::brief::push_difference;
 use dbtg_command::{Fault, Source, copy_scripts};
 use dbtg_outcomes::{Answered, Meeting, OneResult, Outcomes, Stop, all_outcomes};
-use dbtg_replay::replay::{push_given, schema_for_run};
+use dbtg_replay::replay::{AnswerForm, Shown, push_given, schema_for_run};
 use dbtg_replay::{behind, first_turns, moves_behind_first, read_scripts};
 use dbtg_schema::Schema;
 use dbtg_script::{MOST_MOVES, moves_words_text, push_number, push_status, turns_text};
@@ -182,13 +182,17 @@ fn push_shown(
     requires { IsMeeting meeting.now }
     ensures { OnOk result (out.new.items ≡ out.old.items ++ shown_text meeting.now (option_map (λ text. text.now) first.entry) number run.old) }
 {
+    let answers = Shown {
+        form: AnswerForm::Plain,
+        texts: &[],
+    };
     let Some(first) = first else {
-        return push_given(alloc, out, meeting.schema, None, run);
+        return push_given(alloc, out, meeting.schema, answers, run);
     };
     if number > 1 {
         push_apart(alloc, out, meeting, first, run)
     } else {
-        push_given(alloc, out, meeting.schema, None, run)
+        push_given(alloc, out, meeting.schema, answers, run)
     }
 }
 

@@ -5,7 +5,7 @@ ghost use Rattle.dbtg_command.specs.Sources.{order_map};
 ghost use Rattle.dbtg_replay.specs.Replaying.{IsReplay};
 
 use dbtg_command::{AtHand, Fault, Order};
-use dbtg_replay::replay::replay;
+use dbtg_replay::replay::{AnswerForm, replay};
 use dbtg_schema::Row;
 use std::alloc::Global;
 
@@ -25,5 +25,5 @@ pub fn replay_bytes<'a>(
         scripts,
         order,
     };
-    replay(alloc, &texts, capacity, false, false)
+    replay(alloc, &texts, capacity, AnswerForm::Plain, false)
 }

@@ -61,7 +61,7 @@ unfolding clap_on_literals
 capacity_is_7 = refl
 
 -- the trace stands behind the schema, and statuses alone are compared where that is asked
-trace_follows : given (codes "audit" ∷ codes "--status" ∷ codes "a.schema" ∷ codes "t" ∷ []) (codes "trace") ≡ Some (codes "t" ∷ [])
+trace_follows : given (codes "audit" ∷ codes "--status" ∷ codes "a.schema" ∷ codes "t" ∷ []) (codes "traced") ≡ Some (codes "t" ∷ [])
 unfolding clap_on_literals
 trace_follows = refl
 

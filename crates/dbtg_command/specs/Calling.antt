@@ -28,7 +28,7 @@ words_in found id = unwrap_or (option_map raw_values (matched_of found id)) []
 -- if there are such
 abbrev pub scripts_in : Found → List (List ℕ)
 scripts_in found =
-    ((words_in found (codes "scripts") ++ option_to_list (first_value found (codes "trace"))) ++ option_to_list (first_value found (codes "first"))) ++ option_to_list (first_value found (codes "then"))
+    ((words_in found (codes "scripts") ++ option_to_list (first_value found (codes "traced"))) ++ option_to_list (first_value found (codes "first"))) ++ option_to_list (first_value found (codes "then"))
 
 -- the number that a word says, up to a greatest one, and 0 without a word
 abbrev pub count_for : ℕ → Option (List ℕ) → Option ℕ
@@ -55,6 +55,7 @@ pub record IsCall (asked : Named) (found : Found) (call : Call) : Type 0 where
   pub explains : IsFlag found (codes "explain") call.explains
   pub no_explain : IsFlag found (codes "no-explain") call.no_explain
   pub echo : IsFlag found (codes "echo") call.echo
+  pub trace : IsFlag found (codes "trace") call.trace
   pub svg : IsFlag found (codes "svg") call.svg
   pub answers : IsFlag found (codes "answers") call.answers
   pub brief : IsFlag found (codes "brief") call.brief

@@ -100,7 +100,11 @@ abbrev pub topic : Rule
 topic = words (codes "topic")
 
 abbrev pub trace : Rule
-trace = file_word (codes "trace")
+trace = file_word (codes "traced")
+
+-- a trace in place of the answers, which excludes an echo: it is not free
+abbrev pub trace_option : Rule
+trace_option = record (flag (codes "trace")) { is_free = false }
 
 -- turns as an option of a command that takes no moves
 abbrev pub turns_alone : Rule
@@ -136,7 +140,7 @@ name_of named.Shell = codes "shell"
 -- what a command can be given, in the order of its help; words that are no options stand in this order
 abbrev pub rules_for : Named → List Rule
 rules_for named.Check = all ∷ first ∷ programs ∷ explain ∷ no_explain ∷ schema ∷ scripts ∷ []
-rules_for named.Replay = capacity ∷ first ∷ moves ∷ turns_option ∷ echo ∷ explain ∷ no_explain ∷ schema ∷ scripts ∷ []
+rules_for named.Replay = capacity ∷ first ∷ moves ∷ turns_option ∷ echo ∷ trace_option ∷ explain ∷ no_explain ∷ schema ∷ scripts ∷ []
 rules_for named.Turns = capacity ∷ explain ∷ no_explain ∷ turns_file ∷ schema ∷ scripts ∷ []
 rules_for named.Timeline = capacity ∷ first ∷ moves ∷ turns_option ∷ svg ∷ explain ∷ no_explain ∷ schema ∷ scripts ∷ []
 rules_for named.Page = capacity ∷ first ∷ moves ∷ turns_option ∷ explain ∷ no_explain ∷ schema ∷ scripts ∷ []

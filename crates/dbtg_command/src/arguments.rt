@@ -1,6 +1,6 @@
 //! What a command can be given: options, files and other words, as `clap` is told of each.
 ghost use Rattle.std.specs.Prelude.{IfOk};
-ghost use Rattle.dbtg_command.specs.Commands.{all, answers, capacity, echo, explain, file_option, file_word, first, flag, last, limit, limit_of_programs, moves, no_explain, number_option, programs, save_turns, topic, turns_file, turns_option, units, words, status, trace, always, brief, never, wish_option, turns_alone};
+ghost use Rattle.dbtg_command.specs.Commands.{all, answers, capacity, echo, explain, file_option, file_word, first, flag, last, limit, limit_of_programs, moves, no_explain, number_option, programs, save_turns, topic, turns_file, turns_option, units, words, status, trace, trace_option, always, brief, never, wish_option, turns_alone};
 ghost use Rattle.dbtg_command.specs.Inside.Commands.{IsArg, rule_for};
 
 use clap::{Arg, ArgAction};
@@ -32,6 +32,7 @@ pub enum Word<'a> {
     Svg(&'a str),
     Topic,
     Trace,
+    TraceOption,
     TurnsAlone,
     TurnsBefore,
     TurnsOption,
@@ -270,7 +271,18 @@ fn trace_word<'a>(alloc: Global) -> Arg<'a>
     ensures { IsArg trace result }
 {
     let help = "The file of the trace; - for standard input";
-    file_word(alloc, "trace", "TRACE", help)
+    file_word(alloc, "traced", "TRACE", help)
+}
+
+fn trace_option<'a>(alloc: Global) -> Result<Arg<'a>, AllocError>
+    ensures { IfOk result (IsArg trace_option) }
+{
+    flag(
+        alloc,
+        "trace",
+        "Prints a trace in place of the answers, as 'audit' reads it; not with --echo",
+    )
+    .conflicts_with("echo")
 }
 
 // Turns for a command that takes no moves.
@@ -343,6 +355,7 @@ pub fn arg_of<'a>(alloc: Global, word: Word<'a>) -> Result<Arg<'a>, AllocError>
         Word::Svg(help) => Ok(flag(alloc, "svg", help)),
         Word::Topic => Ok(topic_words(alloc)),
         Word::Trace => Ok(trace_word(alloc)),
+        Word::TraceOption => trace_option(alloc),
         Word::TurnsAlone => Ok(turns_alone(alloc)),
         Word::TurnsBefore => Ok(turns_before_option(alloc)),
         Word::TurnsOption => turns_option(alloc),

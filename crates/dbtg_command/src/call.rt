@@ -32,6 +32,8 @@ pub struct Call<'a> {
     pub no_explain: bool,
     /// Each answer has its statement in front.
     pub echo: bool,
+    /// A trace is printed in place of the answers.
+    pub trace: bool,
     /// A picture is drawn as SVG.
     pub svg: bool,
     /// Results are also told apart by the answers that units get.
@@ -84,7 +86,7 @@ fn scripts_wanted<'a>(alloc: Global, given: &ArgMatches<'a>) -> Result<Vec<&'a s
     ensures { IfOk result (λ scripts. map (λ path. path.now) scripts.items ≡ scripts_in (found_of given.now)) }
 {
     let mut scripts = words_of(alloc, given, "scripts")?;
-    push_path(&mut scripts, given.get_str("trace"))?;
+    push_path(&mut scripts, given.get_str("traced"))?;
     push_path(&mut scripts, given.get_str("first"))?;
     push_path(&mut scripts, given.get_str("then"))?;
     Ok(scripts)
@@ -209,6 +211,7 @@ fn given_call<'a>(alloc: Global, named: Named, given: &ArgMatches<'a>) -> Result
         explains: given.get_flag("explain"),
         no_explain: given.get_flag("no-explain"),
         echo: given.get_flag("echo"),
+        trace: given.get_flag("trace"),
         svg: given.get_flag("svg"),
         answers: given.get_flag("answers"),
         brief: given.get_flag("brief"),

@@ -111,6 +111,7 @@ fn replay_command<'a>(alloc: Global, name: &'a str) -> Result<Command<'a>, Alloc
             Word::Moves,
             Word::TurnsOption,
             Word::Echo,
+            Word::TraceOption,
             Word::Explain,
             Word::NoExplain,
             Word::Schema(SCHEMA),

@@ -27,6 +27,7 @@ use Rattle.dbtg_script.proofs.Public.{turns_read_back}
 use Rattle.dbtg_command.specs.declared.order.Order.TheVariants.{Turns}
 use Rattle.dbtg_command.specs.Refusals.{AcceptsTexts, AllAccepted, is_count, schema_in, turns_in}
 use Rattle.dbtg_replay.specs.Ordering.{first_turns}
+use Rattle.dbtg_replay.specs.declared.replay.AnswerForm.TheVariants.{Plain}
 use Rattle.dbtg_replay.specs.Replaying.{IsReplay, IsShownReplay}
 use Rattle.dbtg_replay.proofs.SameRun.{same_text}
 use Rattle.dbtg_replay.proofs.ScriptLength.{few_statements}
@@ -66,7 +67,7 @@ numbers n (e ∷ es) most within =
 pub made_again_behind : (first : Bool) (text : List ℕ) (scripts : List (List ℕ)) (capacity : ℕ) (history : List Entry) (image : Image) (units : List Unit) (behind turns : List ℕ) → is_count (length scripts) ≡ true
     → AcceptsTexts text scripts → IsSequential (schema_in text) capacity (map (script (schema_in text)) scripts) history image units
     → map (λ (e : Entry). e.unit) history ≡ first_turns first (map (script (schema_in text)) scripts) ++ behind → turns ≡ turns_text behind
-    → (turns_refusal turns ≡ None) × ((printed : List ℕ) → IsShownReplay first false text scripts (Turns turns) capacity printed → printed ≡ run_text (schema_in text) history image.records image.lists image.next image.usage units)
+    → (turns_refusal turns ≡ None) × ((printed : List ℕ) → IsShownReplay first Plain text scripts (Turns turns) capacity printed → printed ≡ run_text (schema_in text) history image.records image.lists image.next image.usage units)
 made_again_behind first text scripts capacity history image after behind turns right accepted law split are = (ap turns_refusal are ∙ back.0, again)
   where
     lists : Lists
@@ -115,7 +116,7 @@ made_again_behind first text scripts capacity history image after behind turns r
     says : front ++ turns_in turns ≡ units
     says = ap (λ us. front ++ us) (ap turns_in are ∙ back.1) ∙ sym split
 
-    again : (printed : List ℕ) → IsShownReplay first false text scripts (Turns turns) capacity printed → printed ≡ run_text lists history image.records image.lists image.next image.usage after
+    again : (printed : List ℕ) → IsShownReplay first Plain text scripts (Turns turns) capacity printed → printed ≡ run_text lists history image.records image.lists image.next image.usage after
     again printed r =
         let given = r.run.given in
         let same : units ≡ map (λ (e : Entry). e.unit) given.history = sym (r.run.is_run.1.in_turn ∙ ap (made_turns (map length all)) says ∙ made.0) in

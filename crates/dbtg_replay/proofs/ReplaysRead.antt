@@ -21,7 +21,9 @@ use Rattle.dbtg_command.specs.Refusals.{AcceptsOrder, is_count, turns_in}
 use Rattle.dbtg_command.specs.Sources.{HoldsOrder, ReadMoves, ReadSchema, ReadScripts, ReadTurns, kind_of}
 use Rattle.dbtg_command.proofs.Public.{all_accepted, read_texts}
 use Rattle.dbtg_replay.specs.Ordering.{AreFirstMoves, first_turns}
-use Rattle.dbtg_replay.specs.Replaying.{InTurnIs, IsPrinted, IsPrintedRun, ReplaysHeld, RunByTurnsIs, echo_of, shown_text}
+use Rattle.dbtg_replay.specs.Replaying.{InTurnIs, IsPrinted, IsPrintedRun, ReplaysHeld, RunByTurnsIs, shown_text}
+use Rattle.dbtg_replay.specs.declared.replay.AnswerForm.{AnswerForm}
+use Rattle.dbtg_replay.specs.declared.replay.AnswerForm.TheVariants.{Plain, Echo, Trace}
 
 -- statements that fit behind scripts that fit
 pub fit_behind : (lists : Lists) (statements : List Statement) (before after : List (List Statement)) → after ≡ before ++ statements ∷ [] → scripts_fit lists before ≡ true → list_all (fits lists) statements ≡ true → scripts_fit lists after ≡ true
@@ -29,39 +31,40 @@ fit_behind lists statements before after e all one =
     ap (scripts_fit lists) e ∙ list_all-append (list_all (fits lists)) before (statements ∷ []) ∙ rw (all, one) refl
 
 -- what a run of the statements that were read gives is the replay of the texts
-pub replays : (holds : TextPlace → List ℕ → Type 0) (lists : Lists) (count : ℕ) (order : Order (List ℕ)) (first echo : Bool) (capacity : ℕ) (out : List ℕ)
+pub replays : (holds : TextPlace → List ℕ → Type 0) (lists : Lists) (count : ℕ) (order : Order (List ℕ)) (first : Bool) (form : AnswerForm) (capacity : ℕ) (out : List ℕ)
     → is_count count ≡ true → ReadSchema holds lists → (scripts : ReadScripts holds lists count) → HoldsOrder holds order → AcceptsOrder order
-    → IsPrintedRun first lists capacity (map (script lists) scripts.texts) (echo_of echo scripts.texts) order out → ReplaysHeld holds count (kind_of order) first echo capacity out
-replays holds lists count order first echo capacity out right read scripts held accepted run = (
+    → IsPrintedRun first lists capacity (map (script lists) scripts.texts) form scripts.texts order out → ReplaysHeld holds count (kind_of order) first form capacity out
+replays holds lists count order first form capacity out right read scripts held accepted run = (
   read_texts holds lists count read scripts order held,
   record {
     count = ap is_count scripts.many ∙ right;
     texts = all_accepted holds lists count read scripts;
     order_too = accepted;
-    run = subst (λ (s : Lists). IsPrintedRun first s capacity (map (script s) scripts.texts) (echo_of echo scripts.texts) order out) read.says run;
+    run = subst (λ (s : Lists). IsPrintedRun first s capacity (map (script s) scripts.texts) form scripts.texts order out) read.says run;
   },
 )
 
 -- what is shown of a run does not depend on what its moves came to
-same_shown : (lists : Lists) (texts : Option (List (List ℕ))) (given : Run) (results : List Stepped) → shown_text lists texts given ≡ shown_text lists texts (record given { results = results })
-same_shown lists None given results = refl
-same_shown lists (Some texts) given results = refl
+same_shown : (lists : Lists) (form : AnswerForm) (texts : List (List ℕ)) (given : Run) (results : List Stepped) → shown_text lists form texts given ≡ shown_text lists form texts (record given { results = results })
+same_shown lists Plain texts given results = refl
+same_shown lists Echo texts given results = refl
+same_shown lists Trace texts given results = refl
 
 -- the same of what was read: nothing that says the order, moves, or turns; and the texts that are shown
 module _ (holds : TextPlace → List ℕ → Type 0) (lists : Lists) (count capacity : ℕ) (out : List ℕ) (right : is_count count ≡ true) (read : ReadSchema holds lists) (scripts : ReadScripts holds lists count)
-    (statements : List (List Statement)) (same : statements ≡ map (script lists) scripts.texts) (first echo : Bool) (texts : Option (List (List ℕ))) (are : texts ≡ echo_of echo scripts.texts) where
-  replays_in : (order : Order (List ℕ)) → HoldsOrder holds order → AcceptsOrder order → IsPrintedRun first lists capacity statements texts order out → ReplaysHeld holds count (kind_of order) first echo capacity out
+    (statements : List (List Statement)) (same : statements ≡ map (script lists) scripts.texts) (first : Bool) (form : AnswerForm) (texts : List (List ℕ)) (are : texts ≡ scripts.texts) where
+  replays_in : (order : Order (List ℕ)) → HoldsOrder holds order → AcceptsOrder order → IsPrintedRun first lists capacity statements form texts order out → ReplaysHeld holds count (kind_of order) first form capacity out
   replays_in order held accepted run =
-      let of_all = subst (λ ss. IsPrintedRun first lists capacity ss texts order out) same run in
-      replays holds lists count order first echo capacity out right read scripts held accepted
-      (subst (λ ts. IsPrintedRun first lists capacity (map (script lists) scripts.texts) ts order out) are of_all)
+      let of_all = subst (λ ss. IsPrintedRun first lists capacity ss form texts order out) same run in
+      replays holds lists count order first form capacity out right read scripts held accepted
+      (subst (λ ts. IsPrintedRun first lists capacity (map (script lists) scripts.texts) form ts order out) are of_all)
 
-  pub replays_serially : IsPrinted (InTurnIs first lists capacity statements) (shown_text lists texts) out → ReplaysHeld holds count kind.Serial first echo capacity out
+  pub replays_serially : IsPrinted (InTurnIs first lists capacity statements) (shown_text lists form texts) out → ReplaysHeld holds count kind.Serial first form capacity out
   replays_serially run = replays_in Serial tt tt run
 
   -- all moves are those of the first script, so many, and those that were read
   pub replays_moves : (moves before all : List Move) (many : ℕ) → ReadMoves holds moves → AreFirstMoves first lists capacity statements before → all ≡ before ++ moves → many ≡ length before
-      → IsPrinted (RunIs lists capacity statements all) (λ given. moves_text (drop many given.results) ++ shown_text lists texts given) out → ReplaysHeld holds count kind.Moves first echo capacity out
+      → IsPrinted (RunIs lists capacity statements all) (λ given. moves_text (drop many given.results) ++ shown_text lists form texts given) out → ReplaysHeld holds count kind.Moves first form capacity out
   replays_moves moves before all many by are_first all_is many_is run =
       let whole = run.given in
       let results = drop (length before) whole.results in
@@ -74,11 +77,11 @@ module _ (holds : TextPlace → List ℕ → Type 0) (lists : Lists) (count capa
           is_run = subst (λ ms. RunIs lists capacity statements ms whole) (all_is ∙ ap (λ (ms : List Move). before ++ ms) by.says) run.is_run;
           given_is = refl;
         };
-        is_text = run.is_text ∙ ap (λ k. moves_text (drop k whole.results) ++ shown_text lists texts whole) many_is ∙ ap (λ xs. moves_text results ++ xs) (same_shown lists texts whole results);
+        is_text = run.is_text ∙ ap (λ k. moves_text (drop k whole.results) ++ shown_text lists form texts whole) many_is ∙ ap (λ xs. moves_text results ++ xs) (same_shown lists form texts whole results);
       })
 
   pub replays_turns : (turns given used : List ℕ) → ReadTurns holds turns → given ≡ turns → used ≡ first_turns first statements ++ given
-      → IsPrinted (RunByTurnsIs lists capacity statements used) (shown_text lists texts) out → ReplaysHeld holds count kind.Turns first echo capacity out
+      → IsPrinted (RunByTurnsIs lists capacity statements used) (shown_text lists form texts) out → ReplaysHeld holds count kind.Turns first form capacity out
   replays_turns turns given used by same_turns e run =
       let says : used ≡ first_turns first statements ++ turns_in by.text = e ∙ ap (λ (us : List ℕ). first_turns first statements ++ us) (same_turns ∙ by.says) in
-      replays_in (Turns by.text) by.held by.accepted (subst (λ us. IsPrinted (RunByTurnsIs lists capacity statements us) (shown_text lists texts) out) says run)
+      replays_in (Turns by.text) by.held by.accepted (subst (λ us. IsPrinted (RunByTurnsIs lists capacity statements us) (shown_text lists form texts) out) says run)

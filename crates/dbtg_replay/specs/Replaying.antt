@@ -1,7 +1,7 @@
 -- What `replay` prints.
 -- text, scripts, moves and turns are bytes, lists the schema that a text says, given what a run gives; first says whether the last of
 -- the scripts is made before all others.
-use Rattle.std.specs.Prelude.{ℕ, ◌≡◌, ◌++◌, Bool, true, false, List, Option, Some, None, drop, map, length}
+use Rattle.std.specs.Prelude.{ℕ, ◌≡◌, ◌++◌, Bool, true, false, List, drop, map, length}
 use Rattle.dbtg_schema.specs.Lists.{Lists}
 use Rattle.dbtg_unit.specs.declared.statement.Statement.{Statement}
 use Rattle.dbtg_step.specs.declared.results.Run.{Run}
@@ -11,13 +11,16 @@ use Rattle.dbtg_step.specs.Core.Serial.{SerialRunIs}
 use Rattle.dbtg_step.specs.Core.Turns.{IsRunByTurns}
 use Rattle.dbtg_script.specs.Printing.Echo.{echoed_run_text}
 use Rattle.dbtg_script.specs.Statements.{script}
-use Rattle.dbtg_script.specs.Printing.Texts.{moves_text, run_text}
+use Rattle.dbtg_script.specs.Printing.Texts.{moves_text, run_text, text_behind}
+use Rattle.dbtg_trace.specs.Printing.{trace_text}
 use Rattle.dbtg_command.specs.declared.order.Order.{Order}
 use Rattle.dbtg_command.specs.declared.order.Order.TheVariants.{Moves, Serial, Turns}
 use Rattle.dbtg_command.specs.declared.order.OrderKind.{OrderKind}
 use Rattle.dbtg_command.specs.declared.place.TextPlace.{TextPlace}
 use Rattle.dbtg_command.specs.Refusals.{AcceptsOrder, AcceptsTexts, is_count, moves_in, schema_in, turns_in}
 use Rattle.dbtg_command.specs.Sources.{Texts}
+use Rattle.dbtg_replay.specs.declared.replay.AnswerForm.{AnswerForm}
+use Rattle.dbtg_replay.specs.declared.replay.AnswerForm.TheVariants.{Plain, Echo, Trace}
 use Rattle.dbtg_replay.specs.Ordering.{AreFirstMoves, first_turns, serial_turns}
 
 -- the run by these turns, whatever moves they stand for
@@ -47,21 +50,17 @@ Gives first lists capacity scripts (Turns text) given = RunByTurnsIs lists capac
 abbrev pub given_text : Lists → Run → List ℕ
 given_text lists given = run_text lists given.history given.image.records given.image.lists given.image.next given.image.usage given.units
 
--- the scripts' texts, where each answer is to have its statement beside it
-abbrev pub echo_of : Bool → List (List ℕ) → Option (List (List ℕ))
-echo_of false texts = None
-echo_of true texts = Some texts
-
--- the same, with the statement of each answer beside it where the scripts' texts are given
-abbrev pub shown_text : Lists → Option (List (List ℕ)) → Run → List ℕ
-shown_text lists None given = given_text lists given
-shown_text lists (Some texts) given = echoed_run_text lists texts given.history given.image.records given.image.lists given.image.next given.image.usage given.units
+-- the same; or with the statement of each answer beside it, as the scripts' texts have it; or with the trace in place of the answers
+abbrev pub shown_text : Lists → AnswerForm → List (List ℕ) → Run → List ℕ
+shown_text lists Plain texts given = given_text lists given
+shown_text lists Echo texts given = echoed_run_text lists texts given.history given.image.records given.image.lists given.image.next given.image.usage given.units
+shown_text lists Trace texts given = text_behind (trace_text lists texts given.history) lists given.image.records given.image.lists given.image.next given.image.usage given.units
 
 -- with moves, the line of what they came to stands before it
-abbrev pub printed : Lists → Option (List (List ℕ)) → Order (List ℕ) → Run → List ℕ
-printed lists texts Serial given = shown_text lists texts given
-printed lists texts (Moves moves) given = moves_text given.results ++ shown_text lists texts given
-printed lists texts (Turns turns) given = shown_text lists texts given
+abbrev pub printed : Lists → AnswerForm → List (List ℕ) → Order (List ℕ) → Run → List ℕ
+printed lists form texts Serial given = shown_text lists form texts given
+printed lists form texts (Moves moves) given = moves_text given.results ++ shown_text lists form texts given
+printed lists form texts (Turns turns) given = shown_text lists form texts given
 
 -- the text is what such a run gives, as it is printed
 pub record IsPrinted (Is : Run → Type 0) (print : Run → List ℕ) (out : List ℕ) : Type 0 where
@@ -70,21 +69,21 @@ pub record IsPrinted (Is : Run → Type 0) (print : Run → List ℕ) (out : Lis
   pub is_text : out ≡ print given
 
 -- the text is what the run of these statements gives, as it is printed
-abbrev pub IsPrintedRun : Bool → Lists → ℕ → List (List Statement) → Option (List (List ℕ)) → Order (List ℕ) → List ℕ → Type 0
-IsPrintedRun first lists capacity scripts texts order out = IsPrinted (Gives first lists capacity scripts order) (printed lists texts order) out
+abbrev pub IsPrintedRun : Bool → Lists → ℕ → List (List Statement) → AnswerForm → List (List ℕ) → Order (List ℕ) → List ℕ → Type 0
+IsPrintedRun first lists capacity scripts form texts order out = IsPrinted (Gives first lists capacity scripts order) (printed lists form texts order) out
 
--- 1 to 8 scripts, nothing is refused, and the text is what is printed of the run of what the texts say, with or without their
--- statements beside the answers
-pub record IsShownReplay (first echo : Bool) (text : List ℕ) (scripts : List (List ℕ)) (order : Order (List ℕ)) (capacity : ℕ) (out : List ℕ) : Type 0 where
+-- 1 to 8 scripts, nothing is refused, and the text is what is printed of the run of what the texts say: the answers alone, with their
+-- statements beside them, or as a trace
+pub record IsShownReplay (first : Bool) (form : AnswerForm) (text : List ℕ) (scripts : List (List ℕ)) (order : Order (List ℕ)) (capacity : ℕ) (out : List ℕ) : Type 0 where
   pub count : is_count (length scripts) ≡ true
   pub texts : AcceptsTexts text scripts
   pub order_too : AcceptsOrder order
-  pub run : IsPrintedRun first (schema_in text) capacity (map (script (schema_in text)) scripts) (echo_of echo scripts) order out
+  pub run : IsPrintedRun first (schema_in text) capacity (map (script (schema_in text)) scripts) form scripts order out
 
 -- the same of the answers alone, where no script is made first
 abbrev pub IsReplay : List ℕ → List (List ℕ) → Order (List ℕ) → ℕ → List ℕ → Type 0
-IsReplay text scripts order capacity out = IsShownReplay false false text scripts order capacity out
+IsReplay text scripts order capacity out = IsShownReplay false Plain text scripts order capacity out
 
 -- what `replay` prints of texts that are held
-abbrev pub ReplaysHeld : (TextPlace → List ℕ → Type 0) → ℕ → OrderKind → Bool → Bool → ℕ → List ℕ → Type 0
-ReplaysHeld holds count which first echo capacity out = (texts : Texts holds count which) × IsShownReplay first echo texts.schema texts.scripts texts.order capacity out
+abbrev pub ReplaysHeld : (TextPlace → List ℕ → Type 0) → ℕ → OrderKind → Bool → AnswerForm → ℕ → List ℕ → Type 0
+ReplaysHeld holds count which first form capacity out = (texts : Texts holds count which) × IsShownReplay first form texts.schema texts.scripts texts.order capacity out

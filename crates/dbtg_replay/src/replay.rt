@@ -1,5 +1,5 @@
 //! Running scripts, and the text of what comes of it.
-ghost use Rattle.std.specs.Prelude.{◌≡◌, ◌++◌, ◌≤◌, IfErr, IfOk, OnOk, true, false, drop, length, map, option_map};
+ghost use Rattle.std.specs.Prelude.{◌≡◌, ◌++◌, ◌≤◌, IfErr, IfOk, OnOk, true, false, drop, length, map};
 ghost use Rattle.dbtg_schema.specs.Sound.{IsSound};
 ghost use Rattle.dbtg_script.specs.Statements.{script};
 ghost use Rattle.dbtg_script.specs.Printing.Texts.{moves_text};
@@ -7,7 +7,7 @@ ghost use Rattle.dbtg_step.specs.Machine.Headline.{RunIs};
 ghost use Rattle.dbtg_step.specs.Laws.{scripts_fit};
 ghost use Rattle.dbtg_step.specs.Core.Serial.{SerialRunIs};
 ghost use Rattle.dbtg_command.specs.Refusals.{is_count};
-ghost use Rattle.dbtg_replay.specs.Replaying.{InTurnIs, IsPrinted, ReplaysHeld, RunByTurnsIs, echo_of, shown_text};
+ghost use Rattle.dbtg_replay.specs.Replaying.{InTurnIs, IsPrinted, ReplaysHeld, RunByTurnsIs, shown_text};
 ghost use Rattle.dbtg_command.specs.Sources.{ReadSchema, ReadScripts, ToldOfRun};
 ghost use Rattle.dbtg_command.specs.declared.fault.Fault.TheVariants.{ScriptCount};
 ghost use Rattle.dbtg_command.specs.declared.order.OrderKind.{OrderKind as Kind};
@@ -18,8 +18,24 @@ use dbtg_command::{Fault, OrderKind, Source, read_moves, read_schema, read_turns
 use dbtg_schema::{Row, Schema};
 use dbtg_script::{moves_text, push_echoed_run, push_run};
 use dbtg_step::{Run, run, run_serial, run_turns};
+use dbtg_trace::push_traced_run;
 use dbtg_unit::Statement;
 use std::alloc::{AllocError, Global};
+
+/// What stands in front of the image: the answers, the answers with the statement of each in front, or a trace.
+#[derive(Clone, Copy)]
+pub enum AnswerForm {
+    Plain,
+    Echo,
+    Trace,
+}
+
+/// The same, with the texts of the scripts, which have the statements as they are spelled.
+#[derive(Clone, Copy)]
+pub struct Shown<'a> {
+    pub form: AnswerForm,
+    pub texts: &'a [Row<u8>],
+}
 
 /// Is this a number of scripts that can be run, 1 to 8?
 pub fn check_count(count: usize) -> Result<(), Fault>
@@ -44,35 +60,48 @@ pub fn schema_for_run<S: Source>(alloc: Global, source: &S) -> Result<Schema, Fa
     read_schema(alloc, source)
 }
 
-/// Appends answers, image and units to a text. With the scripts' texts, each answer has its statement beside it.
+/// Appends to a text what stands in front of the image, the image and the units.
 pub fn push_given(
     alloc: Global,
     out: &mut Vec<u8>,
     schema: &Schema,
-    echo: Option<&[Row<u8>]>,
+    shown: Shown,
     given: &Run,
 ) -> Result<(), AllocError>
-    ensures { OnOk result (out.new.items ≡ out.old.items ++ shown_text schema.now (option_map (λ t. t.now) echo.entry) given.now) }
+    ensures { OnOk result (out.new.items ≡ out.old.items ++ shown_text schema.now shown.entry.form shown.entry.texts.now given.now) }
 {
     let history = given.history.as_slice();
     let units = given.units.as_slice();
-    match echo {
-        None => push_run(alloc, out, schema, history, &given.image, units),
-        Some(texts) => push_echoed_run(alloc, out, schema, texts, history, &given.image, units),
+    let texts = shown.texts;
+    match shown.form {
+        AnswerForm::Plain => push_run(alloc, out, schema, history, &given.image, units),
+        AnswerForm::Echo => push_echoed_run(
+            alloc,
+            out,
+            schema,
+            texts,
+            history,
+            &given.image,
+            units,
+        ),
+        AnswerForm::Trace => push_traced_run(
+            alloc,
+            out,
+            schema,
+            texts,
+            history,
+            &given.image,
+            units,
+        ),
     }
 }
 
 // What a run gives, as a text of its own.
-fn text_of(
-    alloc: Global,
-    schema: &Schema,
-    echo: Option<&[Row<u8>]>,
-    given: &Run,
-) -> Result<Vec<u8>, AllocError>
-    ensures { IfOk result (λ out. out.items ≡ shown_text schema.now (option_map (λ t. t.now) echo.entry) given.now) }
+fn text_of(alloc: Global, schema: &Schema, shown: Shown, given: &Run) -> Result<Vec<u8>, AllocError>
+    ensures { IfOk result (λ out. out.items ≡ shown_text schema.now shown.entry.form shown.entry.texts.now given.now) }
 {
     let mut out = Vec::new(alloc);
-    push_given(alloc, &mut out, schema, echo, given)?;
+    push_given(alloc, &mut out, schema, shown, given)?;
     Ok(out)
 }
 
@@ -80,14 +109,14 @@ fn text_of(
 fn text_with_moves(
     alloc: Global,
     schema: &Schema,
-    echo: Option<&[Row<u8>]>,
+    shown: Shown,
     given: &Run,
     before: usize,
 ) -> Result<Vec<u8>, AllocError>
-    ensures { IfOk result (λ out. out.items ≡ moves_text (drop before given.now.results) ++ shown_text schema.now (option_map (λ t. t.now) echo.entry) given.now) }
+    ensures { IfOk result (λ out. out.items ≡ moves_text (drop before given.now.results) ++ shown_text schema.now shown.entry.form shown.entry.texts.now given.now) }
 {
     let mut out = moves_text(alloc, behind(given.results.as_slice(), before))?;
-    push_given(alloc, &mut out, schema, echo, given)?;
+    push_given(alloc, &mut out, schema, shown, given)?;
     Ok(out)
 }
 
@@ -97,15 +126,15 @@ fn serial_text(
     schema: &Schema,
     capacity: u16,
     scripts: Row<Row<Statement>>,
-    echo: Option<&[Row<u8>]>,
+    shown: Shown,
 ) -> Result<Vec<u8>, AllocError>
     requires sound { IsSound schema.now }
     requires units { length scripts ≤ 255 }
     requires fit { scripts_fit schema.now scripts ≡ true }
-    ensures { IfOk result (λ out. IsPrinted (SerialRunIs schema.now capacity scripts) (shown_text schema.now (option_map (λ t. t.now) echo.entry)) out.items) }
+    ensures { IfOk result (λ out. IsPrinted (SerialRunIs schema.now capacity scripts) (shown_text schema.now shown.entry.form shown.entry.texts.now) out.items) }
 {
     let given = run_serial(alloc, schema, capacity, scripts)?;
-    let text = text_of(alloc, schema, echo, &given);
+    let text = text_of(alloc, schema, shown, &given);
     given.discard();
     text
 }
@@ -117,15 +146,15 @@ fn moved_text(
     capacity: u16,
     scripts: Row<Row<Statement>>,
     all: &AllMoves,
-    echo: Option<&[Row<u8>]>,
+    shown: Shown,
 ) -> Result<Vec<u8>, AllocError>
     requires sound { IsSound schema.now }
     requires units { length scripts ≤ 255 }
     requires fit { scripts_fit schema.now scripts ≡ true }
-    ensures { IfOk result (λ out. IsPrinted (RunIs schema.now capacity scripts all.now.moves.items) (λ given. moves_text (drop all.now.before given.results) ++ shown_text schema.now (option_map (λ t. t.now) echo.entry) given) out.items) }
+    ensures { IfOk result (λ out. IsPrinted (RunIs schema.now capacity scripts all.now.moves.items) (λ given. moves_text (drop all.now.before given.results) ++ shown_text schema.now shown.entry.form shown.entry.texts.now given) out.items) }
 {
     let given = run(alloc, schema, capacity, scripts, all.moves.as_slice())?;
-    let text = text_with_moves(alloc, schema, echo, &given, all.before);
+    let text = text_with_moves(alloc, schema, shown, &given, all.before);
     given.discard();
     text
 }
@@ -137,15 +166,15 @@ fn turned_text(
     capacity: u16,
     scripts: Row<Row<Statement>>,
     turns: &[u8],
-    echo: Option<&[Row<u8>]>,
+    shown: Shown,
 ) -> Result<Vec<u8>, AllocError>
     requires sound { IsSound schema.now }
     requires units { length scripts ≤ 255 }
     requires fit { scripts_fit schema.now scripts ≡ true }
-    ensures { IfOk result (λ out. IsPrinted (RunByTurnsIs schema.now capacity scripts turns.now) (shown_text schema.now (option_map (λ t. t.now) echo.entry)) out.items) }
+    ensures { IfOk result (λ out. IsPrinted (RunByTurnsIs schema.now capacity scripts turns.now) (shown_text schema.now shown.entry.form shown.entry.texts.now) out.items) }
 {
     let given = run_turns(alloc, schema, capacity, scripts, turns, 0)?;
-    let text = text_of(alloc, schema, echo, &given.run);
+    let text = text_of(alloc, schema, shown, &given.run);
     given.discard();
     text
 }
@@ -157,25 +186,19 @@ fn in_turn_text(
     capacity: u16,
     first: bool,
     scripts: Row<Row<Statement>>,
-    echo: Option<&[Row<u8>]>,
+    shown: Shown,
 ) -> Result<Vec<u8>, AllocError>
     requires sound { IsSound schema.now }
     requires units { length scripts ≤ 255 }
     requires fit { scripts_fit schema.now scripts ≡ true }
-    ensures { IfOk result (λ out. IsPrinted (InTurnIs first schema.now capacity scripts) (shown_text schema.now (option_map (λ t. t.now) echo.entry)) out.items) }
+    ensures { IfOk result (λ out. IsPrinted (InTurnIs first schema.now capacity scripts) (shown_text schema.now shown.entry.form shown.entry.texts.now) out.items) }
 {
     if !first {
-        return serial_text(alloc, schema, capacity, scripts, echo);
+        return serial_text(alloc, schema, capacity, scripts, shown);
     }
     let serial = serial_turns(alloc, scripts.as_slice())?;
     let turns = turns_behind_first(alloc, true, scripts.as_slice(), serial.as_slice())?;
-    turned_text(alloc, schema, capacity, scripts, turns.as_slice(), echo)
-}
-
-fn echo_of(echo: bool, texts: &Row<Row<u8>>) -> Option<&[Row<u8>]>
-    ensures { option_map (λ t. t.now) result ≡ echo_of echo texts.now }
-{
-    if echo { Some(texts.as_slice()) } else { None }
+    turned_text(alloc, schema, capacity, scripts, turns.as_slice(), shown)
 }
 
 /// What is printed of the run of these scripts in the given order, with their texts.
@@ -186,7 +209,7 @@ fn replay_read<S: Source>(
     capacity: u16,
     scripts: Row<Row<Statement>>,
     texts: &Row<Row<u8>>,
-    echo: bool,
+    form: AnswerForm,
     first: bool,
 ) -> Result<Vec<u8>, Fault>
     requires counted { is_count (S.count source.now) ≡ true }
@@ -195,10 +218,13 @@ fn replay_read<S: Source>(
     requires scripts { (read : ReadScripts (S.holds source.now) known.now (S.count source.now)) × (scripts ≡ map (script known.now) read.texts) × (texts.now ≡ read.texts) }
     requires many { length scripts ≡ S.count source.now }
     requires fitting { scripts_fit known.now scripts ≡ true }
-    ensures done { IfOk result (λ out. ReplaysHeld (S.holds source.now) (S.count source.now) (S.order source.now) first echo capacity out.items) }
+    ensures done { IfOk result (λ out. ReplaysHeld (S.holds source.now) (S.count source.now) (S.order source.now) first form capacity out.items) }
     ensures refused { IfErr result (λ fault. ToldOfRun (S.holds source.now) (S.fails source.now) fault (S.count source.now) (S.order source.now)) }
 {
-    let shown = echo_of(echo, texts);
+    let shown = Shown {
+        form,
+        texts: texts.as_slice(),
+    };
     let statements = scripts.as_slice();
     match source.order() {
         OrderKind::Serial => Ok(in_turn_text(alloc, known, capacity, first, scripts, shown)?),
@@ -221,36 +247,35 @@ fn replay_known<S: Source>(
     source: &S,
     known: &Schema,
     capacity: u16,
-    echo: bool,
+    form: AnswerForm,
     first: bool,
 ) -> Result<Vec<u8>, Fault>
     requires counted { is_count (S.count source.now) ≡ true }
     requires read { ReadSchema (S.holds source.now) known.now }
     requires sound { IsSound known.now }
-    ensures done { IfOk result (λ out. ReplaysHeld (S.holds source.now) (S.count source.now) (S.order source.now) first echo capacity out.items) }
+    ensures done { IfOk result (λ out. ReplaysHeld (S.holds source.now) (S.count source.now) (S.order source.now) first form capacity out.items) }
     ensures refused { IfErr result (λ fault. ToldOfRun (S.holds source.now) (S.fails source.now) fault (S.count source.now) (S.order source.now)) }
 {
     let Scripts { statements, texts } = read_scripts_with_texts(alloc, source, known)?;
     replay_read(
-        alloc, source, known, capacity, statements, &texts, echo, first,
+        alloc, source, known, capacity, statements, &texts, form, first,
     )
 }
 
 /// What `replay` prints of the schema, the scripts and the moves or turns that a source gives, or the first fault. Without moves and
-/// turns one script runs after the other. Before all others the last script is made, where it is made first. With an echo each answer
-/// has its statement beside it.
+/// turns one script runs after the other. Before all others the last script is made, where it is made first.
 pub fn replay<S: Source>(
     alloc: Global,
     source: &S,
     capacity: u16,
-    echo: bool,
+    form: AnswerForm,
     first: bool,
 ) -> Result<Vec<u8>, Fault>
-    ensures done { IfOk result (λ out. ReplaysHeld (S.holds source.now) (S.count source.now) (S.order source.now) first echo capacity out.items) }
+    ensures done { IfOk result (λ out. ReplaysHeld (S.holds source.now) (S.count source.now) (S.order source.now) first form capacity out.items) }
     ensures refused { IfErr result (λ fault. ToldOfRun (S.holds source.now) (S.fails source.now) fault (S.count source.now) (S.order source.now)) }
 {
     let known = schema_for_run(alloc, source)?;
-    let said = replay_known(alloc, source, &known, capacity, echo, first);
+    let said = replay_known(alloc, source, &known, capacity, form, first);
     known.discard();
     said
 }

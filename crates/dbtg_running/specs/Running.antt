@@ -18,6 +18,7 @@ use Rattle.dbtg_command.specs.declared.order.OrderKind.TheVariants as kind
 use Rattle.dbtg_command.specs.declared.place.TextPlace.{TextPlace}
 use Rattle.dbtg_command.specs.Refusals.{is_count}
 use Rattle.dbtg_command.specs.Sources.{ReadSchema, ReadTurns, ToldOfOrder, ToldOfSchema}
+use Rattle.dbtg_replay.specs.declared.replay.AnswerForm.TheVariants.{Echo}
 use Rattle.dbtg_replay.specs.Replaying.{shown_text}
 use Rattle.dbtg_running.specs.declared.command.Printed.{Printed}
 use Rattle.dbtg_running.specs.declared.command.RunOptions.{RunOptions}
@@ -45,7 +46,7 @@ failed GoesOn = false
 -- the text of a run of the programs of these texts; with an echo each answer has its statement beside it, as the program's text has it
 abbrev pub run_text : Lists → Bool → List (List ℕ) → ProgramRun → List ℕ
 run_text lists false texts given = given_text lists (map (program lists) texts) given
-run_text lists true texts given = shown_text lists (Some (scripts_made lists 1 texts given.run.history)) given.run ++ programs_text 1 (map (program lists) texts) given.programs
+run_text lists true texts given = shown_text lists Echo (scripts_made lists 1 texts given.run.history) given.run ++ programs_text 1 (map (program lists) texts) given.programs
 
 -- 1 to 8 programs, nothing is refused, and what is printed is the text of the run of what the texts say; it is said whether a program failed
 pub record RunsHeld (holds : TextPlace → List ℕ → Type 0) (count : ℕ) (which : OrderKind) (options : RunOptions) (printed : Printed) : Type 0 where

@@ -15,7 +15,7 @@ use crate::programs::{Programs, read_programs};
 use dbtg_command::{Fault, OrderKind, Source, read_schema, read_turns};
 use dbtg_going::{Around, ProgramRun, Reached, Standing, push_programs, run_programs, run_text};
 use dbtg_program::{End, Program};
-use dbtg_replay::replay::{check_count, push_given};
+use dbtg_replay::replay::{AnswerForm, Shown, check_count, push_given};
 use dbtg_schema::{Row, Schema};
 use std::alloc::{AllocError, Global};
 
@@ -66,7 +66,11 @@ fn echoed_text(
     let history = given.run.history.as_slice();
     let made = scripts_made(alloc, schema, list, texts, history)?;
     let mut out = Vec::new(alloc);
-    push_given(alloc, &mut out, schema, Some(made.as_slice()), &given.run)?;
+    let shown = Shown {
+        form: AnswerForm::Echo,
+        texts: made.as_slice(),
+    };
+    push_given(alloc, &mut out, schema, shown, &given.run)?;
     push_programs(&mut out, list, given.programs.as_slice())?;
     Ok(out)
 }

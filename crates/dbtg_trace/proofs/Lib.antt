@@ -3,4 +3,5 @@ mod ArrowSteps
 mod WordSteps
 mod EntrySteps
 mod TraceSteps
+mod PrintedSteps
 mod Rows

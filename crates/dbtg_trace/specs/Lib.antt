@@ -3,4 +3,5 @@ pub mod Answers
 pub mod Faults
 pub mod Traces
 pub mod Reading
+pub mod Printing
 pub mod Inside

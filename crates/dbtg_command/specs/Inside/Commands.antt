@@ -8,7 +8,7 @@ use Rattle.clap.specs.declared.builder.command.Command.{Command}
 use Rattle.clap.specs.declared.builder.command.Command.TheViews.{out-Command as fields_of}
 use Rattle.clap.specs.declared.parser.matches.ArgMatches.{ArgMatches}
 use Rattle.dbtg_command.specs.Calling.{IsCall}
-use Rattle.dbtg_command.specs.Commands.{all, answers, capacity, echo, explain, first, last, limit, limit_of_programs, moves, name_of, no_explain, programs, rules_for, save_turns, schema, scripts, shape_with, svg, topic, turns_option, turns_file, units, status, trace, always, brief, never, turns_alone}
+use Rattle.dbtg_command.specs.Commands.{all, answers, capacity, echo, explain, first, last, limit, limit_of_programs, moves, name_of, no_explain, programs, rules_for, save_turns, schema, scripts, shape_with, svg, topic, turns_option, turns_file, units, status, trace, trace_option, always, brief, never, turns_alone}
 use Rattle.dbtg_command.specs.declared.arguments.Word.{Word}
 use Rattle.dbtg_command.specs.declared.arguments.Word.TheVariants as word
 use Rattle.dbtg_command.specs.declared.command.Named.{Named}
@@ -39,6 +39,7 @@ rule_for word.Status = status
 rule_for (word.Svg help) = svg
 rule_for word.Topic = topic
 rule_for word.Trace = trace
+rule_for word.TraceOption = trace_option
 rule_for word.TurnsAlone = turns_alone
 rule_for word.TurnsBefore = turns_alone
 rule_for word.TurnsOption = turns_option

@@ -1,6 +1,7 @@
 use Rattle.std.proofs.Common.{false, length}
 use Rattle.std.proofs.lemmas.Result.{IfErr-weaker, IfOk-weaker}
 use Rattle.dbtg_command.specs.Refusals.{RefusesReplay}
+use Rattle.dbtg_replay.specs.declared.replay.AnswerForm.TheVariants.{Plain}
 use Rattle.dbtg_replay.specs.Replaying.{IsReplay, ReplaysHeld}
 use Rattle.dbtg_command.specs.Inside.Sources.{StandsIn}
 use Rattle.dbtg_command.specs.Sources.{ToldOfRun, kind_of, order_map}
@@ -13,7 +14,7 @@ returns-clause-done c =
     let schema = c.args.schema.now in
     let scripts = c.args.scripts.now in
     let order = order_map (λ t. t.now) c.args.order in
-    IfOk-weaker c.replay.result (λ out. ReplaysHeld (StandsIn schema scripts order) (length scripts) (kind_of c.args.order) false false c.args.capacity out.items) (λ out. IsReplay schema scripts order c.args.capacity out.items)
+    IfOk-weaker c.replay.result (λ out. ReplaysHeld (StandsIn schema scripts order) (length scripts) (kind_of c.args.order) false Plain c.args.capacity out.items) (λ out. IsReplay schema scripts order c.args.capacity out.items)
     (λ out held. at_hand_replay schema scripts order (kind_of c.args.order) c.args.capacity out.items (same_kind _ c.args.order) held) c.replay.ensures.done
 
 pub returns-clause-refused : goal.returns-clause-refused

@@ -1,5 +1,4 @@
 use Rattle.std.proofs.Common.{◌≡◌, ◌++◌, drop, subst}
-use Rattle.std.specs.Prelude.{option_map}
 use Rattle.std.proofs.lemmas.Result.{IfOk-weaker}
 use Rattle.dbtg_script.specs.Printing.Texts.{moves_text}
 use Rattle.dbtg_step.specs.Machine.Headline.{RunIs}
@@ -9,7 +8,8 @@ use Rattle.dbtg_replay.proofs.replay.moved_text.Goals as goal
 pub returns : goal.returns
 returns c =
     let lists = c.args.schema.now in
-    let texts = option_map (λ t. t.now) c.args.echo in
+    let form = c.args.shown.form in
+    let texts = c.args.shown.texts.now in
     let made = c.in_ok-given.given in
-    IfOk-weaker c.text_with_moves-text.result (λ out. out.items ≡ moves_text (drop c.args.all.now.before made.results) ++ shown_text lists texts made) (λ out. IsPrinted (RunIs lists c.args.capacity c.args.scripts c.args.all.now.moves.items) (λ given. moves_text (drop c.args.all.now.before given.results) ++ shown_text lists texts given) out.items)
+    IfOk-weaker c.text_with_moves-text.result (λ out. out.items ≡ moves_text (drop c.args.all.now.before made.results) ++ shown_text lists form texts made) (λ out. IsPrinted (RunIs lists c.args.capacity c.args.scripts c.args.all.now.moves.items) (λ given. moves_text (drop c.args.all.now.before given.results) ++ shown_text lists form texts given) out.items)
     (λ out text. record { given = made; is_run = subst (λ ms. RunIs lists c.args.capacity c.args.scripts ms made) c.as_slice.ensures.value c.in_ok-given.ensures; is_text = text }) c.text_with_moves-text.ensures

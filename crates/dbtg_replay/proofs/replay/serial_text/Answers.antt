@@ -1,5 +1,4 @@
 use Rattle.std.proofs.Common.{◌≡◌}
-use Rattle.std.specs.Prelude.{option_map}
 use Rattle.std.proofs.lemmas.Result.{IfOk-weaker}
 use Rattle.dbtg_step.specs.Core.Serial.{SerialRunIs}
 use Rattle.dbtg_replay.specs.Replaying.{IsPrinted, shown_text}
@@ -8,6 +7,7 @@ use Rattle.dbtg_replay.proofs.replay.serial_text.Goals as goal
 pub returns : goal.returns
 returns c =
     let lists = c.args.schema.now in
-    let texts = option_map (λ t. t.now) c.args.echo in
-    IfOk-weaker c.text_of-text.result (λ out. out.items ≡ shown_text lists texts c.in_ok-given.given) (λ out. IsPrinted (SerialRunIs lists c.args.capacity c.args.scripts) (shown_text lists texts) out.items)
+    let form = c.args.shown.form in
+    let texts = c.args.shown.texts.now in
+    IfOk-weaker c.text_of-text.result (λ out. out.items ≡ shown_text lists form texts c.in_ok-given.given) (λ out. IsPrinted (SerialRunIs lists c.args.capacity c.args.scripts) (shown_text lists form texts) out.items)
     (λ out text. record { given = c.in_ok-given.given; is_run = c.in_ok-given.ensures; is_text = text }) c.text_of-text.ensures

@@ -1,5 +1,4 @@
 use Rattle.std.proofs.Common.{◌≡◌}
-use Rattle.std.specs.Prelude.{option_map}
 use Rattle.std.proofs.lemmas.Result.{IfOk-weaker}
 use Rattle.dbtg_replay.specs.Replaying.{IsPrinted, RunByTurnsIs, shown_text}
 use Rattle.dbtg_replay.proofs.replay.turned_text.Goals as goal
@@ -7,8 +6,9 @@ use Rattle.dbtg_replay.proofs.replay.turned_text.Goals as goal
 pub returns : goal.returns
 returns c =
     let lists = c.args.schema.now in
-    let texts = option_map (λ t. t.now) c.args.echo in
+    let form = c.args.shown.form in
+    let texts = c.args.shown.texts.now in
     let made = c.in_ok-given.given.run in
     let turned = c.in_ok-given.ensures in
-    IfOk-weaker c.text_of-text.result (λ out. out.items ≡ shown_text lists texts made) (λ out. IsPrinted (RunByTurnsIs lists c.args.capacity c.args.scripts c.args.turns.now) (shown_text lists texts) out.items)
+    IfOk-weaker c.text_of-text.result (λ out. out.items ≡ shown_text lists form texts made) (λ out. IsPrinted (RunByTurnsIs lists c.args.capacity c.args.scripts c.args.turns.now) (shown_text lists form texts) out.items)
     (λ out text. record { given = made; is_run = (turned.moves, turned.run); is_text = text }) c.text_of-text.ensures
